@@ -8,7 +8,7 @@ use Rattle.moo_world.specs.declared.call.Call.{Call}
 use Rattle.moo_world.specs.Between.{CallsLead, CallKeepsNumbers}
 use Rattle.moo_world.specs.Rows.{IsGood}
 use Rattle.moo_world.specs.Outcomes.{Outcome, Done, Failed, Full}
-use Rattle.moo_world.specs.Requests.{State, request}
+use Rattle.moo_world.specs.Requests.{State, batch_call}
 use Rattle.moo_world.specs.Judge.{Ran, Through, FailedAt, FullAt, after_one, run_calls}
 use Rattle.moo_world.specs.Names.{is_grant}
 use Rattle.moo_petitions.specs.Outcomes.{state_in, KeepsGoodRows}
@@ -55,13 +55,13 @@ run-started before p all good = record { run = refl; kept = record { good = good
 first_of : State → ObjNo → List Call → Outcome State → Ran
 first_of s p calls o = elim o [ Done v next ↦ after_one v (run_calls next p calls) | Failed e ↦ FailedAt 1 e | Full ↦ FullAt 1 ]
 
-first_is : (s : State) (p : ObjNo) (call : Call) (calls : List Call) (o : Outcome State) → request s p call ≡ o → run_calls s p (call ∷ calls) ≡ first_of s p calls o
+first_is : (s : State) (p : ObjNo) (call : Call) (calls : List Call) (o : Outcome State) → batch_call s p call ≡ o → run_calls s p (call ∷ calls) ≡ first_of s p calls o
 unfolding first_of
 first_is s p call calls o e = ap (first_of s p calls) e
 
 module _ {before : Held} {p : ObjNo} {all : List Call} {answers : List Value} {now : Held} where
   pub run-one_more : (call : Call) (left : List Call) (v : Value) (more : List Value) (next : Held) → more ≡ answers ++ v ∷ [] → HaveRunSoFar before p all answers now (call ∷ left)
-      → request (state_in now) p call ≡ Done v (state_in next) → KeepsGoodRows (CallKeepsNumbers (is_grant call.name) p call.args) now next → HaveRunSoFar before p all more next left
+      → batch_call (state_in now) p call ≡ Done v (state_in next) → KeepsGoodRows (CallKeepsNumbers (is_grant call.name) p call.args) now next → HaveRunSoFar before p all more next left
   unfolding first_of
   run-one_more call left v more next e h done kept = record {
     run = h.run ∙ ap (after_all answers) (first_is (state_in now) p call left (Done v (state_in next)) done)
@@ -81,11 +81,11 @@ module _ {before : Held} {p : ObjNo} {all : List Call} {answers : List Value} {n
   run-ended h = h.run ∙ after_all-through answers (state_in now)
 
   pub run-failed : (call : Call) (left : List Call) (e : Code) → HaveRunSoFar before p all answers now (call ∷ left)
-      → request (state_in now) p call ≡ Failed e → run_calls (state_in before) p all ≡ FailedAt (length answers + 1) e
+      → batch_call (state_in now) p call ≡ Failed e → run_calls (state_in before) p all ≡ FailedAt (length answers + 1) e
   unfolding first_of
   run-failed call left e h failed = h.run ∙ ap (after_all answers) (first_is (state_in now) p call left (Failed e) failed) ∙ after_all-failed answers e
 
   pub run-full : (call : Call) (left : List Call) → HaveRunSoFar before p all answers now (call ∷ left)
-      → request (state_in now) p call ≡ Full → run_calls (state_in before) p all ≡ FullAt (length answers + 1)
+      → batch_call (state_in now) p call ≡ Full → run_calls (state_in before) p all ≡ FullAt (length answers + 1)
   unfolding first_of
   run-full call left h full = h.run ∙ ap (after_all answers) (first_is (state_in now) p call left Full full) ∙ after_all-full answers

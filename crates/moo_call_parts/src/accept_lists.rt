@@ -47,7 +47,7 @@ pub fn object_and_accept(alloc: Global, args: &[Value]) -> Result<(ObjNo, Option
     }
 }
 
-/// An accept list, as `accept_list` answers it: the list of its objects, or 0 if there is none. The only error is out of
+/// An accept list, as `accept_list` answers it: the list of its objects, or 0 if there is no such list. The only error is out of
 /// memory.
 pub fn accept_value(alloc: Global, list: &Option<ObjList>) -> Result<Value, AllocError>
     ensures { IfOk result (λ v. v ≡ accept_value list.now) }

@@ -5,7 +5,7 @@ ghost use Rattle.moo_world.specs.Objects.{nothing, same_object};
 ghost use Rattle.moo_value.specs.declared.value.ObjNo.{ObjNo};
 ghost use Rattle.moo_world.specs.World.{is_object, row_passes};
 ghost use Rattle.moo_world.specs.Rows.{slot_seen};
-ghost use Rattle.moo_world.specs.Rights.{is_wizard, controls, may_be_parent, may_own, may_name, may_read_object, may_write_object, may_read_slot, may_write_slot, may_read_verb, may_write_verb};
+ghost use Rattle.moo_world.specs.Rights.{is_wizard, controls, may_be_parent, may_make_owner, may_set_name, may_read_object, may_write_object, may_read_slot, may_write_slot, may_read_verb, may_write_verb};
 ghost use Rattle.moo_call_parts.specs.Outcomes.{world_in};
 
 use moo_rows::{Rows, SlotRow, VerbRow};
@@ -55,15 +55,15 @@ pub fn may_be_parent<R: Rows>(rows: &R, programmer: ObjNo, parent: ObjNo) -> boo
 
 /// Whether the programmer may give what it makes, or a verb that it changes, to this owner: itself, or anybody if the
 /// programmer is a wizard.
-pub fn may_own<R: Rows>(rows: &R, programmer: ObjNo, owner: ObjNo) -> bool
-    ensures { result ≡ may_own (world_in (R.held rows.now)) programmer owner }
+pub fn may_make_owner<R: Rows>(rows: &R, programmer: ObjNo, owner: ObjNo) -> bool
+    ensures { result ≡ may_make_owner (world_in (R.held rows.now)) programmer owner }
 {
     owner == programmer || is_wizard(rows, programmer)
 }
 
 /// Whether the programmer may name the object: one that it controls, and a player only if it is a wizard.
-pub fn may_name<R: Rows>(rows: &R, programmer: ObjNo, x: ObjNo) -> bool
-    ensures { result ≡ may_name (world_in (R.held rows.now)) programmer x }
+pub fn may_set_name<R: Rows>(rows: &R, programmer: ObjNo, x: ObjNo) -> bool
+    ensures { result ≡ may_set_name (world_in (R.held rows.now)) programmer x }
 {
     match rows.object(x) {
         Some(row) if row.player => is_wizard(rows, programmer),

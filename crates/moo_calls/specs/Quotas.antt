@@ -6,7 +6,7 @@ use Rattle.moo_world.specs.Objects.{nothing, same_object}
 use Rattle.moo_world.specs.Quota.{quota_of}
 use Rattle.moo_world.specs.World.{World}
 
--- the quota of the owner given; none if #-1 was given
+-- the quota of the owner given; `None` if #-1 was given
 abbrev pub quota_given : World → ObjNo → Option ℤ
 quota_given world owner = if same_object nothing owner then None else quota_of world owner
 

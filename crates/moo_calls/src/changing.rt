@@ -2,13 +2,14 @@
 
 ghost use Rattle.std.specs.Prelude.{◌≡◌, true, OnOk, [], length, nat_le, unwrap_or};
 ghost use Rattle.std.specs.List.{list_all};
-ghost use Rattle.moo_world.specs.Arguments.{is_number};
-ghost use Rattle.moo_world.specs.Calls.{set_accept, set_player_flag};
+ghost use Rattle.moo_world.specs.Arguments.{fits, is_number};
+ghost use Rattle.moo_world.specs.Calls.{set_accept, set_player_flag, named_call};
+ghost use Rattle.moo_world.specs.declared.name.CallName.TheVariants.{SetPlayerFlag, SetAccept};
 ghost use Rattle.moo_world.specs.Keeps.{Keeps};
 ghost use Rattle.moo_world.specs.Rows.{IsGood};
 ghost use Rattle.moo_call_parts.specs.Outcomes.{world_in, ComesTo};
 
-use moo_call_parts::{Fault, ZERO, change_row, rights};
+use moo_call_parts::{Fault, ZERO, change_row, object_and_accept, object_and_value, rights};
 use moo_rows::{ObjList, Rows};
 use moo_tree::valid;
 use moo_value::{Code, ObjNo, Value};
@@ -78,4 +79,35 @@ pub fn set_accept<R: Rows>(
     }
     change_row(rows, alloc, x, Change::Accept(list))?;
     Ok(ZERO)
+}
+
+/// `set_player_flag`, by what it is given.
+pub(crate) fn set_player_flag_given<R: Rows>(
+    rows: &mut R,
+    alloc: Global,
+    programmer: ObjNo,
+    args: &[Value],
+) -> Result<Value, Fault>
+    requires { IsGood (R.held rows.old).maps }
+    ensures comes { ComesTo (named_call (world_in (R.held rows.old)) programmer SetPlayerFlag args.now) (R.held rows.old) (R.held rows.new) result }
+    ensures kept { OnOk result (Keeps (R.held rows.old) (R.held rows.new)) }
+{
+    let (x, value) = object_and_value(args)?;
+    set_player_flag(rows, alloc, programmer, x, value)
+}
+
+/// `set_accept`, by what it is given.
+pub(crate) fn set_accept_given<R: Rows>(
+    rows: &mut R,
+    alloc: Global,
+    programmer: ObjNo,
+    args: &[Value],
+) -> Result<Value, Fault>
+    requires good { IsGood (R.held rows.old).maps }
+    requires fit { list_all fits args.now ≡ true }
+    ensures comes { ComesTo (named_call (world_in (R.held rows.old)) programmer SetAccept args.now) (R.held rows.old) (R.held rows.new) result }
+    ensures kept { OnOk result (Keeps (R.held rows.old) (R.held rows.new)) }
+{
+    let (x, list) = object_and_accept(alloc, args)?;
+    set_accept(rows, alloc, programmer, x, list)
 }

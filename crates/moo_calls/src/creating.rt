@@ -4,13 +4,14 @@ ghost use Rattle.std.specs.Prelude.{◌≡◌, true, OnOk};
 ghost use Rattle.moo_world.specs.Rows.{IsGood};
 ghost use Rattle.moo_world.specs.Creation.{next_object, owner_or_self};
 ghost use Rattle.moo_world.specs.Quota.{may_afford, charged};
-ghost use Rattle.moo_world.specs.Calls.{create};
+ghost use Rattle.moo_world.specs.Calls.{create, named_call};
+ghost use Rattle.moo_world.specs.declared.name.CallName.TheVariants.{Create};
 ghost use Rattle.moo_call_parts.specs.Outcomes.{world_in, ComesTo};
 ghost use Rattle.moo_world.specs.Keeps.{Keeps};
 ghost use Rattle.moo_world.specs.Numbers.{IsSameButSlots};
 ghost use Rattle.moo_calls.specs.Quotas.{has_one_left, quota_given};
 
-use moo_call_parts::{Fault, rights};
+use moo_call_parts::{Fault, parent_and_owner, rights};
 use moo_props::{make, quota_of, take_quota};
 use moo_rows::Rows;
 use moo_tree::is_nothing;
@@ -36,7 +37,7 @@ fn owner_or_self(x: ObjNo, owner: ObjNo) -> ObjNo
     if is_nothing(owner) { x } else { owner }
 }
 
-/// The quota of the owner given; none if `#-1` was given.
+/// The quota of the owner given; `None` if `#-1` was given.
 fn quota_given<R: Rows>(rows: &R, owner: ObjNo) -> Option<i64>
     requires { IsGood (R.held rows.now).maps }
     ensures quota { result ≡ quota_given (world_in (R.held rows.now)) owner }
@@ -93,7 +94,7 @@ pub fn create<R: Rows>(
     if !rights::may_be_parent(rows, programmer, parent) {
         return Err(Fault::Moo(Code::Permission));
     }
-    if !rights::may_own(rows, programmer, owner) {
+    if !rights::may_make_owner(rows, programmer, owner) {
         return Err(Fault::Moo(Code::Permission));
     }
     if !rights::valid_or_nothing(rows, owner) {
@@ -110,4 +111,19 @@ pub fn create<R: Rows>(
     make(alloc, rows, x, parent, owner_or_self(x, owner))?;
     charge(rows, owner, quota)?;
     Ok(Value::Obj(x))
+}
+
+/// `create`, by what it is given.
+pub(crate) fn create_given<R: Rows>(
+    rows: &mut R,
+    alloc: Global,
+    programmer: ObjNo,
+    args: &[Value],
+) -> Result<Value, Fault>
+    requires { IsGood (R.held rows.old).maps }
+    ensures comes { ComesTo (named_call (world_in (R.held rows.old)) programmer Create args.now) (R.held rows.old) (R.held rows.new) result }
+    ensures kept { OnOk result (Keeps (R.held rows.old) (R.held rows.new)) }
+{
+    let (parent, owner) = parent_and_owner(args, programmer)?;
+    create(rows, alloc, programmer, parent, owner)
 }

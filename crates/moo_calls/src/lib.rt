@@ -5,7 +5,6 @@ mod changing;
 mod creating;
 mod fields;
 mod moving;
-mod on_objects;
 mod on_properties;
 mod on_verbs;
 mod parents;

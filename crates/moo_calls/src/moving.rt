@@ -1,12 +1,13 @@
 //! Moving objects from place to place.
 
-ghost use Rattle.std.specs.Prelude.{◌≡◌, OnOk};
-ghost use Rattle.moo_world.specs.Calls.{move};
+ghost use Rattle.std.specs.Prelude.{OnOk};
+ghost use Rattle.moo_world.specs.Calls.{move, named_call};
+ghost use Rattle.moo_world.specs.declared.name.CallName.TheVariants.{Move};
 ghost use Rattle.moo_world.specs.Keeps.{Keeps};
 ghost use Rattle.moo_world.specs.Rows.{IsGood};
 ghost use Rattle.moo_call_parts.specs.Outcomes.{world_in, ComesTo};
 
-use moo_call_parts::{Fault, ZERO, accepts, change_row, rights};
+use moo_call_parts::{Fault, ZERO, accepts, change_row, rights, two_objects};
 use moo_rows::Rows;
 use moo_tree::{inside, valid};
 use moo_value::{Code, ObjNo, Value};
@@ -47,4 +48,19 @@ pub fn move_into<R: Rows>(
     }
     change_row(rows, alloc, x, Change::Location(destination))?;
     Ok(ZERO)
+}
+
+/// `move`, by what it is given.
+pub(crate) fn move_given<R: Rows>(
+    rows: &mut R,
+    alloc: Global,
+    programmer: ObjNo,
+    args: &[Value],
+) -> Result<Value, Fault>
+    requires { IsGood (R.held rows.old).maps }
+    ensures comes { ComesTo (named_call (world_in (R.held rows.old)) programmer Move args.now) (R.held rows.old) (R.held rows.new) result }
+    ensures kept { OnOk result (Keeps (R.held rows.old) (R.held rows.new)) }
+{
+    let (x, destination) = two_objects(args)?;
+    move_into(rows, alloc, programmer, x, destination)
 }

@@ -1,13 +1,14 @@
 //! Changes of parent.
 
 ghost use Rattle.std.specs.Prelude.{OnOk};
-ghost use Rattle.moo_world.specs.Calls.{chparent};
+ghost use Rattle.moo_world.specs.Calls.{chparent, named_call};
+ghost use Rattle.moo_world.specs.declared.name.CallName.TheVariants.{Chparent};
 ghost use Rattle.moo_world.specs.Keeps.{Keeps};
 ghost use Rattle.moo_world.specs.Rows.{IsGood};
 ghost use Rattle.moo_call_parts.specs.Outcomes.{world_in, ComesTo};
 
-use moo_call_parts::{Fault, ZERO, rights};
-use moo_props::{meets, reparent};
+use moo_call_parts::{Fault, ZERO, rights, two_objects};
+use moo_props::{reparent, shares_property_name};
 use moo_rows::Rows;
 use moo_tree::{is_under, valid};
 use moo_value::{Code, ObjNo, Value};
@@ -45,9 +46,24 @@ pub fn chparent<R: Rows>(
     if is_under(rows, new, x) {
         return Err(Fault::Moo(Code::RecursiveMove));
     }
-    if meets(rows, x, new) {
+    if shares_property_name(rows, x, new) {
         return Err(Fault::Moo(Code::InvalidArgument));
     }
     reparent(alloc, rows, x, new)?;
     Ok(ZERO)
+}
+
+/// `chparent`, by what it is given.
+pub(crate) fn chparent_given<R: Rows>(
+    rows: &mut R,
+    alloc: Global,
+    programmer: ObjNo,
+    args: &[Value],
+) -> Result<Value, Fault>
+    requires { IsGood (R.held rows.old).maps }
+    ensures comes { ComesTo (named_call (world_in (R.held rows.old)) programmer Chparent args.now) (R.held rows.old) (R.held rows.new) result }
+    ensures kept { OnOk result (Keeps (R.held rows.old) (R.held rows.new)) }
+{
+    let (x, new) = two_objects(args)?;
+    chparent(rows, alloc, programmer, x, new)
 }

@@ -7,9 +7,11 @@ ghost use Rattle.moo_call_parts.specs.declared.fault.Fault.TheVariants.{Moo};
 ghost use Rattle.moo_world.specs.Calls.{valid, parent, children, is_player, players, max_object, accept_list};
 ghost use Rattle.moo_world.specs.Rows.{IsGood};
 ghost use Rattle.moo_world.specs.World.{is_object, row_of};
+ghost use Rattle.moo_world.specs.Arguments.{no_values, one_object};
+ghost use Rattle.moo_world.specs.Outcomes.{given};
 ghost use Rattle.moo_call_parts.specs.Outcomes.{world_in, Answers};
 
-use moo_call_parts::{Fault, accept_value, flag, object_list};
+use moo_call_parts::{Fault, accept_value, flag, no_values, object_list, one_object};
 use moo_rows::{ObjRow, Rows};
 use moo_value::{Code, ObjNo, Value};
 use std::alloc::Global;
@@ -28,26 +30,28 @@ fn object<R: Rows>(rows: &R, x: ObjNo) -> Result<&ObjRow, Fault>
 
 /// `valid(object)`: 1 if the number is that of an object, and 0 if it isn't. It has no error.
 /// LambdaMOO Programmer's Manual, 'Fundamental Operations on Objects'.
-pub fn valid<R: Rows>(rows: &R, x: ObjNo) -> Result<Value, Fault>
-    ensures { Answers (valid (world_in (R.held rows.now)) x) (R.held rows.now) result }
+pub(crate) fn valid<R: Rows>(rows: &R, args: &[Value]) -> Result<Value, Fault>
+    ensures { Answers (given (one_object args.now) (valid (world_in (R.held rows.now)))) (R.held rows.now) result }
 {
+    let x = one_object(args)?;
     Ok(flag(moo_tree::valid(rows, x)))
 }
 
 /// `parent(object)`: the parent, `#-1` for none. E_INVARG if there is no such object.
 /// LambdaMOO Programmer's Manual, 'Fundamental Operations on Objects'.
-pub fn parent<R: Rows>(rows: &R, x: ObjNo) -> Result<Value, Fault>
-    ensures { Answers (parent (world_in (R.held rows.now)) x) (R.held rows.now) result }
+pub(crate) fn parent<R: Rows>(rows: &R, args: &[Value]) -> Result<Value, Fault>
+    ensures { Answers (given (one_object args.now) (parent (world_in (R.held rows.now)))) (R.held rows.now) result }
 {
-    Ok(Value::Obj(object(rows, x)?.parent))
+    Ok(Value::Obj(object(rows, one_object(args)?)?.parent))
 }
 
 /// `children(object)`: the list of its children, ascending. E_INVARG if there is no such object.
 /// LambdaMOO Programmer's Manual, 'Fundamental Operations on Objects'.
-pub fn children<R: Rows>(rows: &R, alloc: Global, x: ObjNo) -> Result<Value, Fault>
+pub(crate) fn children<R: Rows>(rows: &R, alloc: Global, args: &[Value]) -> Result<Value, Fault>
     requires { IsGood (R.held rows.now).maps }
-    ensures { Answers (children (world_in (R.held rows.now)) x) (R.held rows.now) result }
+    ensures { Answers (given (one_object args.now) (children (world_in (R.held rows.now)))) (R.held rows.now) result }
 {
+    let x = one_object(args)?;
     if !moo_tree::valid(rows, x) {
         return Err(Fault::Moo(Code::InvalidArgument));
     }
@@ -57,18 +61,19 @@ pub fn children<R: Rows>(rows: &R, alloc: Global, x: ObjNo) -> Result<Value, Fau
 
 /// `is_player(object)`: 1 if the object's player flag is set, else 0. E_INVARG if there is no such object.
 /// LambdaMOO Programmer's Manual, 'Operations on Player Objects'.
-pub fn is_player<R: Rows>(rows: &R, x: ObjNo) -> Result<Value, Fault>
-    ensures { Answers (is_player (world_in (R.held rows.now)) x) (R.held rows.now) result }
+pub(crate) fn is_player<R: Rows>(rows: &R, args: &[Value]) -> Result<Value, Fault>
+    ensures { Answers (given (one_object args.now) (is_player (world_in (R.held rows.now)))) (R.held rows.now) result }
 {
-    Ok(flag(object(rows, x)?.player))
+    Ok(flag(object(rows, one_object(args)?)?.player))
 }
 
 /// `players()`: the list of all players, ascending. It has no error.
 /// LambdaMOO Programmer's Manual, 'Operations on Player Objects'.
-pub fn players<R: Rows>(rows: &R, alloc: Global) -> Result<Value, Fault>
+pub(crate) fn players<R: Rows>(rows: &R, alloc: Global, args: &[Value]) -> Result<Value, Fault>
     requires { IsGood (R.held rows.now).maps }
-    ensures { Answers (players (world_in (R.held rows.now))) (R.held rows.now) result }
+    ensures { Answers (given (no_values args.now) (λ _. players (world_in (R.held rows.now)))) (R.held rows.now) result }
 {
+    no_values(args)?;
     let found = moo_tree::players(alloc, rows)?;
     Ok(object_list(alloc, found.as_slice())?)
 }
@@ -76,17 +81,19 @@ pub fn players<R: Rows>(rows: &R, alloc: Global) -> Result<Value, Fault>
 /// `max_object()`: the greatest number that was ever given to an object, even if that object is gone; `#-1` if
 /// none was given. It has no error.
 /// LambdaMOO Programmer's Manual, 'Fundamental Operations on Objects'.
-pub fn max_object<R: Rows>(rows: &R) -> Result<Value, Fault>
-    ensures { Answers (max_object (world_in (R.held rows.now))) (R.held rows.now) result }
+pub(crate) fn max_object<R: Rows>(rows: &R, args: &[Value]) -> Result<Value, Fault>
+    ensures { Answers (given (no_values args.now) (λ _. max_object (world_in (R.held rows.now)))) (R.held rows.now) result }
 {
+    no_values(args)?;
     Ok(Value::Obj(ObjNo(rows.head().top)))
 }
 
 /// `accept_list(object)`: the list of objects that the object itself accepts with their descendants, or 0 if it holds
 /// none. E_INVARG if there is no such object. This server's own.
-pub fn accept_list<R: Rows>(rows: &R, alloc: Global, x: ObjNo) -> Result<Value, Fault>
-    ensures { Answers (accept_list (world_in (R.held rows.now)) x) (R.held rows.now) result }
+pub(crate) fn accept_list<R: Rows>(rows: &R, alloc: Global, args: &[Value]) -> Result<Value, Fault>
+    ensures { Answers (given (one_object args.now) (accept_list (world_in (R.held rows.now)))) (R.held rows.now) result }
 {
+    let x = one_object(args)?;
     let row = object(rows, x)?;
     Ok(accept_value(alloc, &row.accept)?)
 }

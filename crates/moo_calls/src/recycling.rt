@@ -1,12 +1,13 @@
 //! The end of an object.
 
 ghost use Rattle.std.specs.Prelude.{OnOk};
-ghost use Rattle.moo_world.specs.Calls.{recycle};
+ghost use Rattle.moo_world.specs.Calls.{recycle, named_call};
+ghost use Rattle.moo_world.specs.declared.name.CallName.TheVariants.{Recycle};
 ghost use Rattle.moo_world.specs.Keeps.{Keeps};
 ghost use Rattle.moo_world.specs.Rows.{IsGood};
 ghost use Rattle.moo_call_parts.specs.Outcomes.{world_in, ComesTo};
 
-use moo_call_parts::{Fault, ZERO, rights};
+use moo_call_parts::{Fault, ZERO, one_object, rights};
 use moo_props::{drop_object, return_quota};
 use moo_rows::Rows;
 use moo_value::{Code, ObjNo, Value};
@@ -37,4 +38,18 @@ pub fn recycle<R: Rows>(
     let _dropped = drop_object(alloc, rows, x)?;
     return_quota(rows, owner)?;
     Ok(ZERO)
+}
+
+/// `recycle`, by what it is given.
+pub(crate) fn recycle_given<R: Rows>(
+    rows: &mut R,
+    alloc: Global,
+    programmer: ObjNo,
+    args: &[Value],
+) -> Result<Value, Fault>
+    requires { IsGood (R.held rows.old).maps }
+    ensures comes { ComesTo (named_call (world_in (R.held rows.old)) programmer Recycle args.now) (R.held rows.old) (R.held rows.new) result }
+    ensures kept { OnOk result (Keeps (R.held rows.old) (R.held rows.new)) }
+{
+    recycle(rows, alloc, programmer, one_object(args)?)
 }

@@ -3,7 +3,7 @@
 ghost use Rattle.std.specs.Prelude.{◌≡◌, true, OnOk};
 ghost use Rattle.moo_world.specs.Arguments.{fits};
 ghost use Rattle.moo_world.specs.Keeps.{Keeps};
-ghost use Rattle.moo_world.specs.PropertyCalls.{change_of, may_set, names_object, set_built_in};
+ghost use Rattle.moo_world.specs.PropertyCalls.{change_of, may_set, owner_is_object, set_built_in};
 ghost use Rattle.moo_world.specs.Rows.{IsGood};
 ghost use Rattle.moo_world.specs.World.{is_object};
 ghost use Rattle.moo_call_parts.specs.Outcomes.{world_in, ComesTo, GivenOrNot};
@@ -40,15 +40,15 @@ fn may_set<R: Rows>(rows: &R, programmer: ObjNo, x: ObjNo, field: BuiltIn) -> bo
     ensures { result ≡ may_set (world_in (R.held rows.now)) programmer x field }
 {
     match field {
-        BuiltIn::Name => rights::may_name(rows, programmer, x),
+        BuiltIn::Name => rights::may_set_name(rows, programmer, x),
         BuiltIn::R | BuiltIn::W | BuiltIn::F => rights::controls(rows, programmer, x),
         _ => rights::is_wizard(rows, programmer),
     }
 }
 
 /// Whether the owner that the change gives, if it gives one, is an object.
-fn names_object<R: Rows>(rows: &R, change: &Change) -> bool
-    ensures { result ≡ names_object (world_in (R.held rows.now)) change.now }
+fn owner_is_object<R: Rows>(rows: &R, change: &Change) -> bool
+    ensures { result ≡ owner_is_object (world_in (R.held rows.now)) change.now }
 {
     match change {
         Change::Owner(owner) => valid(rows, *owner),
@@ -79,7 +79,7 @@ pub fn set_built_in<R: Rows>(
     if !may_set(rows, programmer, x, field) {
         return Err(Fault::Moo(Code::Permission));
     }
-    if !names_object(rows, &change) {
+    if !owner_is_object(rows, &change) {
         return Err(Fault::Moo(Code::InvalidArgument));
     }
     change_row(rows, alloc, x, change)?;

@@ -6,9 +6,9 @@ ghost use Rattle.moo_call_parts.specs.Outcomes.{world_in, ComesTo};
 ghost use Rattle.moo_world.specs.Arguments.{fits};
 ghost use Rattle.moo_world.specs.Keeps.{Keeps};
 ghost use Rattle.moo_world.specs.Rows.{IsGood};
-ghost use Rattle.moo_world.specs.Calls.{step, named_call};
+ghost use Rattle.moo_world.specs.Calls.{world_call, named_call};
 
-use crate::{on_objects, on_properties, on_verbs};
+use crate::{changing, creating, moving, on_properties, on_verbs, parents, reading, recycling};
 use moo_call_parts::Fault;
 use moo_rows::Rows;
 use moo_tree::valid;
@@ -30,12 +30,12 @@ fn named_call<R: Rows>(
     ensures kept { OnOk result (Keeps (R.held rows.old) (R.held rows.new)) }
 {
     match name {
-        CallName::Valid => on_objects::valid(rows, args),
-        CallName::Parent => on_objects::parent(rows, args),
-        CallName::Children => on_objects::children(rows, alloc, args),
-        CallName::IsPlayer => on_objects::is_player(rows, args),
-        CallName::Players => on_objects::players(rows, alloc, args),
-        CallName::MaxObject => on_objects::max_object(rows, args),
+        CallName::Valid => reading::valid(rows, args),
+        CallName::Parent => reading::parent(rows, args),
+        CallName::Children => reading::children(rows, alloc, args),
+        CallName::IsPlayer => reading::is_player(rows, args),
+        CallName::Players => reading::players(rows, alloc, args),
+        CallName::MaxObject => reading::max_object(rows, args),
         CallName::Get => on_properties::get(rows, alloc, programmer, args),
         CallName::Properties => on_properties::properties(rows, alloc, programmer, args),
         CallName::PropertyInfo => on_properties::property_info(rows, alloc, programmer, args),
@@ -43,12 +43,12 @@ fn named_call<R: Rows>(
         CallName::Verbs => on_verbs::verbs(rows, alloc, programmer, args),
         CallName::VerbInfo => on_verbs::verb_info(rows, alloc, programmer, args),
         CallName::VerbArgs => on_verbs::verb_args(rows, alloc, programmer, args),
-        CallName::AcceptList => on_objects::accept_list(rows, alloc, args),
-        CallName::Create => on_objects::create(rows, alloc, programmer, args),
-        CallName::Chparent => on_objects::chparent(rows, alloc, programmer, args),
-        CallName::Recycle => on_objects::recycle(rows, alloc, programmer, args),
-        CallName::Move => on_objects::move_into(rows, alloc, programmer, args),
-        CallName::SetPlayerFlag => on_objects::set_player_flag(rows, alloc, programmer, args),
+        CallName::AcceptList => reading::accept_list(rows, alloc, args),
+        CallName::Create => creating::create_given(rows, alloc, programmer, args),
+        CallName::Chparent => parents::chparent_given(rows, alloc, programmer, args),
+        CallName::Recycle => recycling::recycle_given(rows, alloc, programmer, args),
+        CallName::Move => moving::move_given(rows, alloc, programmer, args),
+        CallName::SetPlayerFlag => changing::set_player_flag_given(rows, alloc, programmer, args),
         CallName::Set => on_properties::set(rows, alloc, programmer, args),
         CallName::AddProperty => on_properties::add_property(rows, alloc, programmer, args),
         CallName::DeleteProperty => on_properties::delete_property(rows, alloc, programmer, args),
@@ -60,7 +60,7 @@ fn named_call<R: Rows>(
         CallName::DeleteVerb => on_verbs::delete_verb(rows, alloc, programmer, args),
         CallName::SetVerbInfo => on_verbs::set_verb_info(rows, alloc, programmer, args),
         CallName::SetVerbArgs => on_verbs::set_verb_args(rows, alloc, programmer, args),
-        CallName::SetAccept => on_objects::set_accept(rows, alloc, programmer, args),
+        CallName::SetAccept => changing::set_accept_given(rows, alloc, programmer, args),
         CallName::Petition | CallName::Petitions | CallName::Grant | CallName::Decline => {
             Err(Fault::Moo(Code::InvalidArgument))
         }
@@ -70,7 +70,7 @@ fn named_call<R: Rows>(
 /// One call on the world, of the programmer's. E_PERM if the programmer isn't an object; then E_ARGS and E_TYPE; then the errors of the
 /// call. At an error, and if a number is wanted and none is left (Full), the rows are as they were. Out of memory, they may be
 /// half changed, and the caller drops them.
-#[tactic(auto, unfolding(moo_world::specs::Calls::step))]
+#[tactic(auto, unfolding(moo_world::specs::Calls::world_call))]
 pub fn step<R: Rows>(
     rows: &mut R,
     alloc: Global,
@@ -78,14 +78,14 @@ pub fn step<R: Rows>(
     call: &Call,
 ) -> Result<Value, Fault>
     requires good { IsGood (R.held rows.old).maps }
-    ensures comes { ComesTo (step (world_in (R.held rows.old)) programmer call.now) (R.held rows.old) (R.held rows.new) result }
+    ensures comes { ComesTo (world_call (world_in (R.held rows.old)) programmer call.now) (R.held rows.old) (R.held rows.new) result }
     ensures kept { OnOk result (Keeps (R.held rows.old) (R.held rows.new)) }
 {
     step_named(rows, alloc, programmer, call.name, call.args.items())
 }
 
 /// The same of a call whose name and arguments are apart.
-#[tactic(auto, unfolding(moo_world::specs::Calls::step))]
+#[tactic(auto, unfolding(moo_world::specs::Calls::world_call))]
 pub fn step_named<R: Rows>(
     rows: &mut R,
     alloc: Global,
@@ -95,7 +95,7 @@ pub fn step_named<R: Rows>(
 ) -> Result<Value, Fault>
     requires good { IsGood (R.held rows.old).maps }
     requires fit { list_all fits args.now ≡ true }
-    ensures comes { ComesTo (step (world_in (R.held rows.old)) programmer (record { name = name; args = args.now })) (R.held rows.old) (R.held rows.new) result }
+    ensures comes { ComesTo (world_call (world_in (R.held rows.old)) programmer (record { name = name; args = args.now })) (R.held rows.old) (R.held rows.new) result }
     ensures kept { OnOk result (Keeps (R.held rows.old) (R.held rows.new)) }
 {
     if !valid(rows, programmer) {

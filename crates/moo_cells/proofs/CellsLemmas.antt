@@ -1,5 +1,5 @@
 -- Damage of tables, and damage of the rows that they show.
-use Rattle.moo_cells.proofs.Words.{◌≡◌, ◌⊎◌, inl, inr, ◌<◌, pos, negsuc, Option, Some, None, refl, sym, subst, ◌∙◌, arith, get, Row, Maps, IsGood, Tables, head_cells, version_number, Kind, BadHead, BadCell, PastHead, NoParent, ParentLoop, NoPlace, PlaceLoop, NoDefiner, DoubleName, StrangeSlot, MissingSlot, ClearDefiner, StrangeVerb, Mismatch, Key, Object, Prop, Slot, Verb, Petition, place, NoneBefore, IsLeast, IsFirstInRows, InRows, AreWithin, HeadIs, ReadsHead, IsRead, ObjectFits, PropFits, SlotFits, VerbFits, PetitionFits, ShowsOrNone, ShowsObject, ShowsProp, ShowsSlot, ShowsVerb, ShowsPetition, ShowsRows, IsNewer, IsBadHead, IsBadCell, IsMet, Damage, SaysOfCells, CellFault, Damaged, NewerVersion, OutOfMemory}
+use Rattle.moo_cells.proofs.Words.{◌≡◌, ◌⊎◌, inl, inr, ◌<◌, pos, negsuc, Option, Some, None, refl, sym, subst, ◌∙◌, arith, get, Row, Maps, IsGood, Tables, head_cells, version_number, Kind, BadHead, BadCell, PastHead, NoParent, ParentLoop, NoPlace, PlaceLoop, NoDefiner, DoubleName, StrangeSlot, MissingSlot, ClearDefiner, StrangeVerb, Mismatch, Key, Object, Prop, Slot, Verb, Petition, rank, NoneBefore, IsLeast, IsFirstInRows, InRows, AreWithin, HeadIs, ReadsHead, IsRead, ObjectFits, PropFits, SlotFits, VerbFits, PetitionFits, ShowsOrNone, ShowsObject, ShowsProp, ShowsSlot, ShowsVerb, ShowsPetition, ShowsRows, IsNewer, IsBadHead, IsBadCell, IsMet, Damage, SaysOfCells, CellFault, Damaged, NewerVersion, OutOfMemory}
 use Rattle.moo_damage.specs.declared.kind.Key.TheVariants.{Head}
 use Rattle.moo_damage.proofs.Clean.{clean}
 use Rattle.moo_damage.proofs.Told.{none_told}
@@ -44,14 +44,14 @@ module _ (t : Tables) (m : Maps) (shown : ShowsRows t m) (good : IsGood m) where
 
   not_bad_cell : (key : Key) → ¬ (IsBadCell t key)
   not_bad_cell Head bad = bad
-  not_bad_cell (Object n) bad = bad.2 (is_read ShowsObject ObjectFits (record { 0 = n }) bad.0 (t.object n) (get m.objects (record { 0 = n })) (object_fits m good (record { 0 = n })) (shown.maps.objects (record { 0 = n })) bad.1)
-  not_bad_cell (Prop (pos i)) bad = bad.2 (is_read ShowsProp PropFits (record { 0 = i }) bad.0 (t.prop (pos i)) (get m.props (record { 0 = i })) (prop_fits m good (record { 0 = i })) (shown.maps.props (record { 0 = i })) bad.1)
+  not_bad_cell (Object n) bad = bad.2 (is_read (ShowsObject t.version) ObjectFits (record { 0 = n }) bad.0 (t.object n) (get m.objects (record { 0 = n })) (object_fits m good (record { 0 = n })) (shown.maps.objects (record { 0 = n })) bad.1)
+  not_bad_cell (Prop (pos i)) bad = bad.2 (is_read (ShowsProp t.version) PropFits (record { 0 = i }) bad.0 (t.prop (pos i)) (get m.props (record { 0 = i })) (prop_fits m good (record { 0 = i })) (shown.maps.props (record { 0 = i })) bad.1)
   not_bad_cell (Prop (negsuc i)) bad = none_is (t.prop (negsuc i)) bad.0 (shown.maps.no_prop i) bad.1
   not_bad_cell (Slot n (pos i)) bad = bad.2 (is_read (ShowsSlot t.version) SlotFits (record { 0 = n }, record { 0 = i }) bad.0 (t.slot (n, pos i)) (get m.slots (record { 0 = n }, record { 0 = i })) (slot_fits_here m good (record { 0 = n }, record { 0 = i })) (shown.maps.slots (record { 0 = n }, record { 0 = i })) bad.1)
   not_bad_cell (Slot n (negsuc i)) bad = none_is (t.slot (n, negsuc i)) bad.0 (shown.maps.no_slot n i) bad.1
-  not_bad_cell (Verb n (pos i)) bad = bad.2 (is_read ShowsVerb VerbFits (record { 0 = n }, record { 0 = i }) bad.0 (t.verb (n, pos i)) (get m.verbs (record { 0 = n }, record { 0 = i })) (verb_fits_here m good (record { 0 = n }, record { 0 = i })) (shown.maps.verbs (record { 0 = n }, record { 0 = i })) bad.1)
+  not_bad_cell (Verb n (pos i)) bad = bad.2 (is_read (ShowsVerb t.version) VerbFits (record { 0 = n }, record { 0 = i }) bad.0 (t.verb (n, pos i)) (get m.verbs (record { 0 = n }, record { 0 = i })) (verb_fits_here m good (record { 0 = n }, record { 0 = i })) (shown.maps.verbs (record { 0 = n }, record { 0 = i })) bad.1)
   not_bad_cell (Verb n (negsuc i)) bad = none_is (t.verb (n, negsuc i)) bad.0 (shown.maps.no_verb n i) bad.1
-  not_bad_cell (Petition (pos i)) bad = bad.2 (is_read ShowsPetition PetitionFits (record { 0 = i }) bad.0 (t.petition (pos i)) (get m.petitions (record { 0 = i })) (petition_fits_here m good (record { 0 = i })) (shown.maps.petitions (record { 0 = i })) bad.1)
+  not_bad_cell (Petition (pos i)) bad = bad.2 (is_read (ShowsPetition t.version) PetitionFits (record { 0 = i }) bad.0 (t.petition (pos i)) (get m.petitions (record { 0 = i })) (petition_fits_here m good (record { 0 = i })) (shown.maps.petitions (record { 0 = i })) bad.1)
   not_bad_cell (Petition (negsuc i)) bad = none_is (t.petition (negsuc i)) bad.0 (shown.maps.no_petition i) bad.1
 
 -- ---- the other kinds
@@ -65,7 +65,7 @@ in_rows : (t : Tables) (m n : Maps) (kind : Kind) (key : Key) → ShowsRows t m 
 in_rows t m n kind key sm wm sn wn met = subst (λ m. InRows m kind key) (one_rows t n m sn wn sm wm) met
 
 -- each kind but the first two is of rows
-kind_of : (t : Tables) (kind : Kind) → (place kind < 3) ⊎ OfRows t kind
+kind_of : (t : Tables) (kind : Kind) → (rank kind < 3) ⊎ OfRows t kind
 kind_of t BadHead = inl (omega arith)
 kind_of t BadCell = inl (omega arith)
 kind_of t PastHead = inr (record { up = λ m key s w met. (m, s, w, met); down = λ m key s w met. in_rows t m met.0 PastHead key s w met.1 met.2 met.3 })
@@ -81,7 +81,7 @@ kind_of t ClearDefiner = inr (record { up = λ m key s w met. (m, s, w, met); do
 kind_of t StrangeVerb = inr (record { up = λ m key s w met. (m, s, w, met); down = λ m key s w met. in_rows t m met.0 StrangeVerb key s w met.1 met.2 met.3 })
 kind_of t Mismatch = inr (record { up = λ m key s w met. (m, s, w, met); down = λ m key s w met. in_rows t m met.0 Mismatch key s w met.1 met.2 met.3 })
 
-no_rows : (m : Maps) (kind : Kind) → place kind < 3 → (key : Key) → InRows m kind key → ⊥
+no_rows : (m : Maps) (kind : Kind) → rank kind < 3 → (key : Key) → InRows m kind key → ⊥
 no_rows m BadHead under Head met = met
 no_rows m BadHead under (Object n) met = met
 no_rows m BadHead under (Prop (pos i)) met = met
@@ -119,14 +119,14 @@ no_rows m Mismatch under key met = absurd (omega arith)
 pub rows_damage : (t : Tables) (m : Maps) → ShowsRows t m → AreWithin m → ¬ (IsNewer t) × NoneBefore (IsMet t) 3 → (kind : Kind) (key : Key) → IsFirstInRows m kind key → Damage t kind key
 rows_damage t m shown within none kind key first = (none.0, (before, least (kind_of t kind)))
   where
-    before : NoneBefore (IsMet t) (place kind)
+    before : NoneBefore (IsMet t) (rank kind)
     before other under at met = go (kind_of t other)
       where
-        go : (place other < 3) ⊎ OfRows t other → ⊥
+        go : (rank other < 3) ⊎ OfRows t other → ⊥
         go (inl low) = none.1 other low at met
         go (inr of) = first.0 other under at (of.down m at shown within met)
 
-    least : (place kind < 3) ⊎ OfRows t kind → IsLeast (IsMet t kind) (Some key)
+    least : (rank kind < 3) ⊎ OfRows t kind → IsLeast (IsMet t kind) (Some key)
     least (inl low) = absurd (no_rows m kind low key first.1.0)
     least (inr of) = (of.up m key shown within first.1.0, λ other under met. first.1.1 other under (of.down m other shown within met))
 
@@ -134,7 +134,7 @@ rows_damage t m shown within none kind key first = (none.0, (before, least (kind
 pub none_met : (t : Tables) (m : Maps) → ShowsRows t m → IsGood m → (kind : Kind) (key : Key) → ¬ (IsMet t kind key)
 none_met t m shown good kind key met = go kind (kind_of t kind) met
   where
-    low : (kind : Kind) → place kind < 3 → IsMet t kind key → ⊥
+    low : (kind : Kind) → rank kind < 3 → IsMet t kind key → ⊥
     low BadHead under met = not_bad_head t m shown good key met
     low BadCell under met = not_bad_cell t m shown good key met
     low PastHead under met = absurd (omega arith)
@@ -150,7 +150,7 @@ none_met t m shown good kind key met = go kind (kind_of t kind) met
     low StrangeVerb under met = absurd (omega arith)
     low Mismatch under met = absurd (omega arith)
 
-    go : (kind : Kind) → (place kind < 3) ⊎ OfRows t kind → IsMet t kind key → ⊥
+    go : (kind : Kind) → (rank kind < 3) ⊎ OfRows t kind → IsMet t kind key → ⊥
     go kind (inl under) met = low kind under met
     go kind (inr of) met = none_told m (clean m good) kind key (of.down m key shown (good_within m good) met)
 

@@ -10,19 +10,19 @@ use Rattle.moo_cells.proofs.RowsLemmas.{rows_shown}
 -- tables whose rows show a head, its number of the next petition and the entries of five maps show these rows
 pub all_shown : (lists : CellLists) (m : Maps) → (cells : Row) × HeadIs (λ n. find (has_rowid n) lists.head.items) cells × ReadsHead (version_number lists.version) m.head cells
     → ReadsCounter lists.version (λ n. find (has_rowid n) lists.petition_head.items) m.head.next_petition
-    → ShowEach ReadsObject lists.object.items (entries m.objects) → ShowEach ReadsProp lists.prop.items (entries m.props) → ShowEach (ReadsSlot lists.version) lists.slot.items (entries m.slots) → ShowEach ReadsVerb lists.verb.items (entries m.verbs)
-    → ShowEach ReadsPetition lists.petition.items (entries m.petitions)
+    → ShowEach (ReadsObject lists.version) lists.object.items (entries m.objects) → ShowEach (ReadsProp lists.version) lists.prop.items (entries m.props) → ShowEach (ReadsSlot lists.version) lists.slot.items (entries m.slots) → ShowEach (ReadsVerb lists.version) lists.verb.items (entries m.verbs)
+    → ShowEach (ReadsPetition lists.version) lists.petition.items (entries m.petitions)
     → ShowsRows (tables_of lists) m
 all_shown lists m head counter objects props slots verbs petitions = rows_shown lists m (record {
   cells = head.0;
   head_is = head.1;
   head_read = head.2;
   counter = counter;
-  objects = each_held objects_bear object_total object_exact lists.object.items m.objects objects;
-  props = each_held props_bear prop_total prop_exact lists.prop.items m.props props;
+  objects = each_held (objects_bear lists.version) object_total object_exact lists.object.items m.objects objects;
+  props = each_held (props_bear lists.version) prop_total prop_exact lists.prop.items m.props props;
   slots = each_held (slots_bear lists.version) slot_total slot_exact lists.slot.items m.slots slots;
-  verbs = each_held verbs_bear verb_total verb_exact lists.verb.items m.verbs verbs;
-  petitions = each_held petitions_bear petition_total petition_exact lists.petition.items m.petitions petitions;
+  verbs = each_held (verbs_bear lists.version) verb_total verb_exact lists.verb.items m.verbs verbs;
+  petitions = each_held (petitions_bear lists.version) petition_total petition_exact lists.petition.items m.petitions petitions;
 })
 
 -- a difference from the rows of a world that the tables show is one from the tables

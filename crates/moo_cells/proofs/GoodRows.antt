@@ -1,5 +1,5 @@
 -- Sound rows of a well formed world are within the limits.
-use Rattle.moo_cells.proofs.Words.{◌≡◌, ℕ, zero, suc, ◌<◌, ◌≤◌, ℤ, pos, negsuc, Bool, true, List, [], ◌∷◌, Option, Some, None, refl, sym, ap, subst, ◌∙◌, arith, ◌≤ℤ◌, is_some, unwrap_or, if◌then◌else◌, option_map, option_and_then, filter_map, list_all, cons_option, get, and_parts, and_from, lt-ltb, ints, ObjNo, Maps, in_range, is_number, IsGood, look_ups, world_of, world_shown, record_of, numbers_below, name_on, slot_seen, Record, KeepsLimits, Climbs, is_object, row_fits, is_property_name, state_fits, verb_fits, without_slots, AreWithin, HeadFits, IsCounter, ObjectFits, PropFits, SlotFits, VerbFits, PetitionFits}
+use Rattle.moo_cells.proofs.Words.{◌≡◌, ℕ, zero, suc, ◌<◌, ◌≤◌, ℤ, pos, negsuc, Bool, true, List, [], ◌∷◌, Option, Some, None, refl, sym, ap, subst, ◌∙◌, arith, ◌≤ℤ◌, is_some, unwrap_or, if◌then◌else◌, option_map, option_and_then, filter_map, list_all, cons_option, get, and_parts, and_from, lt-ltb, ints, ObjNo, Maps, in_range, is_number, IsGood, look_ups, world_of, world_shown, object_shown, numbers_below, name_on, slot_seen, WorldObject, KeepsLimits, Climbs, is_object, row_fits, is_property_name, state_fits, verb_fits, without_slots, AreWithin, HeadFits, IsCounter, ObjectFits, PropFits, SlotFits, VerbFits, PetitionFits}
 use borrow.Author.Count.{below_more}
 use Rattle.std.proofs.lemmas.Option.{same_Some}
 use Rattle.std.proofs.lemmas.List.Elements.{filter_map-append}
@@ -17,8 +17,8 @@ use Rattle.moo_world.proofs.Shown.PairLists.{some_of}
 use Rattle.moo_world.proofs.Shown.Seen.{is_object_seen}
 use Rattle.moo_props.proofs.Walked.{slot_here}
 use Rattle.moo_props.specs.Names.{name_of}
-use Rattle.moo_damage.specs.declared.trees.Link.{Link}
-use Rattle.moo_damage.specs.declared.trees.Link.TheVariants.{Parent, Place}
+use Rattle.moo_damage.specs.declared.trees.TreeLink.{TreeLink}
+use Rattle.moo_damage.specs.declared.trees.TreeLink.TheVariants.{Parent, Location}
 use Rattle.moo_damage.specs.Damage.{next_of, link_of, HasEnd}
 use Rattle.moo_damage.proofs.Clean.{clean}
 
@@ -46,15 +46,15 @@ head_limits m good = let k = good.formed.limits in record { top = k.top; next_pr
 
 row_limits : (m : Maps) → Limits m → (x : ObjNo) (row : ObjRow) → get m.objects x ≡ Some row → row_fits row ≡ true
 unfolding world_shown
-row_limits m k x row e = subst (λ (o : Option ObjRow). unwrap_or (option_map row_fits (option_map (λ (r : Record). r.row) (option_map (λ (r : Record). record r { slot = λ n. None }) (option_map (record_of (look_ups m) x) o)))) true ≡ true) e (k.rows x)
+row_limits m k x row e = subst (λ (o : Option ObjRow). unwrap_or (option_map row_fits (option_map (λ (r : WorldObject). r.row) (option_map (λ (r : WorldObject). record r { slot = λ n. None }) (option_map (object_shown (look_ups m) x) o)))) true ≡ true) e (k.rows x)
 
 name_limits : (m : Maps) → Limits m → (x : ObjNo) (row : ObjRow) → get m.objects x ≡ Some row → list_all is_property_name (filter_map (name_on (look_ups m) x) (numbers_below m.head.next_prop)) ≡ true
 unfolding world_shown
-name_limits m k x row e = subst (λ (o : Option ObjRow). list_all is_property_name (unwrap_or (option_map (λ (r : Record). r.defines) (option_map (λ (r : Record). record r { slot = λ n. None }) (option_map (record_of (look_ups m) x) o))) []) ≡ true) e (k.names x)
+name_limits m k x row e = subst (λ (o : Option ObjRow). list_all is_property_name (unwrap_or (option_map (λ (r : WorldObject). r.defines) (option_map (λ (r : WorldObject). record r { slot = λ n. None }) (option_map (object_shown (look_ups m) x) o))) []) ≡ true) e (k.names x)
 
 verb_limits : (m : Maps) → Limits m → (x : ObjNo) (row : ObjRow) → get m.objects x ≡ Some row → list_all verb_fits (filter_map ((look_ups m).verb x) (numbers_below m.head.next_verb)) ≡ true
 unfolding world_shown
-verb_limits m k x row e = subst (λ (o : Option ObjRow). list_all verb_fits (unwrap_or (option_map (λ (r : Record). r.verbs) (option_map (λ (r : Record). record r { slot = λ n. None }) (option_map (record_of (look_ups m) x) o))) []) ≡ true) e (k.directories x)
+verb_limits m k x row e = subst (λ (o : Option ObjRow). list_all verb_fits (unwrap_or (option_map (λ (r : WorldObject). r.verbs) (option_map (λ (r : WorldObject). record r { slot = λ n. None }) (option_map (object_shown (look_ups m) x) o))) []) ≡ true) e (k.directories x)
 
 in_limits : (z top : ℤ) → (pos 0 ≤ℤ z) × (z ≤ℤ top) → top ≤ℤ pos 2147483647 → in_range z ≡ true
 in_limits (pos n) top within low = lt-ltb n 2147483648 (let a = within.1 in omega (arith, ints))
@@ -74,7 +74,7 @@ module _ (m : Maps) (good : IsGood m) where
   there_number : (x : ObjNo) → is_some (get m.objects x) ≡ true → is_number x ≡ true
   there_number x is = let row = some_of (get m.objects x) is in object_number x row.0 row.1
 
-  end_number : (link : Link) (x : ObjNo) (l : List ObjNo) → Climbs (next_of link m) x l → is_number x ≡ true
+  end_number : (link : TreeLink) (x : ObjNo) (l : List ObjNo) → Climbs (next_of link m) x l → is_number x ≡ true
   end_number link x [] climbs = ap is_number climbs
   end_number link x (y ∷ l) climbs = go (get m.objects x) refl climbs.2
     where
@@ -82,7 +82,7 @@ module _ (m : Maps) (good : IsGood m) where
       go None e is = absurd (none_some climbs.1 (ap (option_map (link_of link)) (sym e) ∙ is))
       go (Some row) e is = object_number x row e
 
-  link_number : (link : Link) (x : ObjNo) (row : ObjRow) → get m.objects x ≡ Some row → HasEnd link m x → is_number (link_of link row) ≡ true
+  link_number : (link : TreeLink) (x : ObjNo) (row : ObjRow) → get m.objects x ≡ Some row → HasEnd link m x → is_number (link_of link row) ≡ true
   link_number link x row e ends = go ends.0 ends.1
     where
       go : (l : List ObjNo) → Climbs (next_of link m) x l → is_number (link_of link row) ≡ true
@@ -99,7 +99,7 @@ module _ (m : Maps) (good : IsGood m) where
       let k = clean m good in record {
         number = object_number x row e;
         parent = link_number Parent x row e (k.chains x row e);
-        location = link_number Place x row e (k.places x row e);
+        location = link_number Location x row e (k.locations x row e);
         fits = row_limits m good.formed.limits x row e;
       }
 

@@ -1,5 +1,5 @@
 -- The head, from the rows of its table, and the number of the next petition, from those of its own.
-use Rattle.moo_cells.proofs.Words.{◌≡◌, ◌≢◌, inl, inr, ℕ, ℤ, pos, ◌<ℤ◌, ◌≤ℤ◌, List, [], ◌∷◌, length, get_or, find, cond, Bool, true, false, true≢false, Option, Some, None, refl, sym, ap, subst, ◌∙◌, arith, IsTrue, ints, Row, column, rowid, has_rowid, Head, Version, First, Second, version_number, petition_head_cells, greatest, head_row, HeadIs, ReadsHead, ReadsNewer, ReadsKnown, IsNewerThan, HasHead, IsCounter, ReadsCounter, HasCounter, SaysOfHead, ShowsCounter, CellFault, Damaged, NewerVersion, OutOfMemory}
+use Rattle.moo_cells.proofs.Words.{◌≡◌, ◌≢◌, inl, inr, ℕ, ℤ, pos, ◌<ℤ◌, ◌≤ℤ◌, List, [], ◌∷◌, length, get_or, find, cond, Bool, true, false, true≢false, Option, Some, None, refl, sym, ap, subst, ◌∙◌, arith, IsTrue, ints, Row, column, rowid, has_rowid, Head, Version, First, Second, version_number, petition_head_cells, greatest, head_row, HeadIs, ReadsHead, ReadsNewer, ReadsKnown, IsNewerThan, HasHead, IsCounter, ReadsCounter, HasCounter, SaysOfHead, ShowsCounter, CellFault, Damaged, NewerVersion, OutOfMemory, has_petitions, ShowsNext}
 use Rattle.sqlite.specs.declared.types.Value.TheVariants.{Int as Number}
 use Rattle.sqlite_rules.specs.Lists.{Has}
 use Rattle.sqlite_rules.proofs.ListLemmas.{all_has}
@@ -183,13 +183,16 @@ head_not_newer version table cells head is reads newer =
 
 -- ---- the number of the next petition
 
-only_counter : (rows : List Row) → AreKeyed rows → (next : ℕ) → ShowsCounter Second (λ n. find (has_rowid n) rows) next → rows ≡ petition_head_cells next ∷ []
-only_counter rows keyed next shows = only_head rows keyed (petition_head_cells next) (record { row = shows.0; alone = shows.1 })
+only_counter : (version : Version) → IsTrue (has_petitions version) → (rows : List Row) → AreKeyed rows → (next : ℕ) → ShowsCounter version (λ n. find (has_rowid n) rows) next → rows ≡ petition_head_cells next ∷ []
+only_counter version has rows keyed next shows =
+    let one = subst (λ b. ShowsNext b (λ n. find (has_rowid n) rows) next) has shows in
+    only_head rows keyed (petition_head_cells next) (record { row = one.0; alone = one.1 })
 
-pub no_counter : (rows : List Row) → AreKeyed rows → (length rows ≡ 1 → ⊥) → ¬ (HasCounter Second (λ n. find (has_rowid n) rows))
-no_counter rows keyed many has = many (ap length (only_counter rows keyed has.0 has.1.0))
+pub no_counter : (version : Version) → IsTrue (has_petitions version) → (rows : List Row) → AreKeyed rows → (length rows ≡ 1 → ⊥) → ¬ (HasCounter version (λ n. find (has_rowid n) rows))
+no_counter version has rows keyed many counted = many (ap length (only_counter version has rows keyed counted.0 counted.1.0))
 
-pub counter_read : (rows : List Row) (r : Row) → rows ≡ r ∷ [] → (next : ℕ) → r ≡ petition_head_cells next → IsCounter next → ReadsCounter Second (λ n. find (has_rowid n) rows) next
-counter_read rows r whole next is fits =
+pub counter_read : (version : Version) → IsTrue (has_petitions version) → (rows : List Row) (r : Row) → rows ≡ r ∷ [] → (next : ℕ) → r ≡ petition_head_cells next → IsCounter next → ReadsCounter version (λ n. find (has_rowid n) rows) next
+counter_read version has rows r whole next is fits =
     let P : List Row → Type 0 = λ l. HeadIs (λ n. find (has_rowid n) l) r in
-    let head = subst P (sym whole) (head_alone r (ap (λ (c : Row). column c 0) is)) in ((head.row ∙ ap Some is, head.alone), fits)
+    let head = subst P (sym whole) (head_alone r (ap (λ (c : Row). column c 0) is)) in
+    (subst (λ b. ShowsNext b (λ n. find (has_rowid n) rows) next) (sym has) (head.row ∙ ap Some is, head.alone), fits)

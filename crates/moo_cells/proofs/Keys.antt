@@ -42,8 +42,8 @@ number_same : (j k : ℤ) (r : Row) → has_rowid j r ≡ true → has_rowid k r
 number_same j k r p q under =
     irreflexive j k under (int_ranked j k Equal (sym (sym (ties (rowid r) (rowid r) j k (tied _ p) (tied _ q)) ∙ tied_itself value_cmp_total (rowid r))))
 
-pub objects_bear : Bears has_rowid object_number ReadsObject rises IsLess
-objects_bear = record {
+pub objects_bear : (version : Version) → Bears has_rowid object_number (ReadsObject version) rises IsLess
+objects_bear version = record {
   mine = λ k r x read. self_tied (rowid r) k.0 (ap (λ (c : Row). column c 0) read.0.2);
   only = λ j k r x read h. tied_number (rowid r) k.0 j (ap (λ (c : Row). column c 0) read.0.2) h;
   one = λ k l e i. record { 0 = e i };
@@ -59,8 +59,8 @@ number_in (negsuc n) = n
 pub pos_inj : (m n : ℕ) → pos m ≡ pos n → m ≡ n
 pos_inj m n e = ap number_in e
 
-pub props_bear : Bears has_rowid prop_number ReadsProp rises IsLess
-props_bear = record {
+pub props_bear : (version : Version) → Bears has_rowid prop_number (ReadsProp version) rises IsLess
+props_bear version = record {
   mine = λ k r x read. self_tied (rowid r) (pos k.0) (ap (λ (c : Row). column c 0) read.0);
   only = λ j k r x read h. tied_number (rowid r) (pos k.0) j (ap (λ (c : Row). column c 0) read.0) h;
   one = λ k l e. let same = pos_inj k.0 l.0 e in λ i. record { 0 = same i };
@@ -69,8 +69,8 @@ props_bear = record {
   same = number_same;
 }
 
-pub petitions_bear : Bears has_rowid petition_number ReadsPetition rises IsLess
-petitions_bear = record {
+pub petitions_bear : (version : Version) → Bears has_rowid petition_number (ReadsPetition version) rises IsLess
+petitions_bear version = record {
   mine = λ k r x read. self_tied (rowid r) (pos k.0) (ap (λ (c : Row). column c 0) read.0.2);
   only = λ j k r x read h. tied_number (rowid r) (pos k.0) j (ap (λ (c : Row). column c 0) read.0.2) h;
   one = λ k l e. let same = pos_inj k.0 l.0 e in λ i. record { 0 = same i };
@@ -143,8 +143,8 @@ slots_bear version = record {
   same = pair_same;
 }
 
-pub verbs_bear : Bears has_key_pair verb_number ReadsVerb IsRowBelow IsPairLess
-verbs_bear = record {
+pub verbs_bear : (version : Version) → Bears has_key_pair verb_number (ReadsVerb version) IsRowBelow IsPairLess
+verbs_bear version = record {
   mine = λ k r x read. pair_mine r k.0.0 (pos k.1.0) (ap (λ (c : Row). column c 0) read.0.2) (ap (λ (c : Row). column c 1) read.0.2);
   only = λ j k r x read h. pair_only j r k.0.0 (pos k.1.0) (ap (λ (c : Row). column c 0) read.0.2) (ap (λ (c : Row). column c 1) read.0.2) h;
   one = λ k l e. let x = ap (λ (p : ℤ × ℤ). p.0) e in let id = pos_inj k.1.0 l.1.0 (ap (λ (p : ℤ × ℤ). p.1) e) in λ i. (record { 0 = x i }, record { 0 = id i });

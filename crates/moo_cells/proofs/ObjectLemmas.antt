@@ -1,5 +1,5 @@
 -- The cells of an object, column by column.
-use Rattle.moo_cells.proofs.Words.{◌≡◌, ℕ, true, List, [], ◌∷◌, Option, length, ap, sym, subst, ◌∙◌, and_parts, Row, column, ObjNo, row_fits, IsRead, ReadsObject}
+use Rattle.moo_cells.proofs.Words.{◌≡◌, ℕ, true, List, [], ◌∷◌, Option, length, ap, sym, subst, ◌∙◌, and_parts, Row, column, ObjNo, row_fits, IsRead, ReadsObject, Version}
 use Rattle.sqlite.specs.declared.types.Value.TheVariants.{Int as Number, Text}
 use Rattle.moo_rows.specs.declared.row.ObjRow.{ObjRow}
 use Rattle.moo_cells.specs.declared.object.Flags.{Flags}
@@ -39,8 +39,8 @@ pub record HasColumns (cells : Row) (n : ObjNo) (row : ObjRow) (text : List ℕ)
   pub flags : HasFlags cells (flags_in row)
   pub accept : column cells 11 ≡ Text text
 
-pub columns_read : (cells : Row) (read : IsRead ReadsObject cells) → HasColumns cells read.0 read.1 read.2.0.0
-columns_read cells read =
+pub columns_read : (version : Version) (cells : Row) (read : IsRead (ReadsObject version) cells) → HasColumns cells read.0 read.1 read.2.0.0
+columns_read version cells read =
     let at : (k : ℕ) → column cells k ≡ column (object_row_cells read.0 read.1 read.2.0.0) k = λ k. ap (λ (c : Row). column c k) read.2.0.2 in record {
       number = at 0;
       name = at 1;
@@ -58,8 +58,8 @@ cells_shown cells n row text long has =
     ∷ has.flags.player i ∷ has.flags.programmer i ∷ has.flags.wizard i ∷ has.flags.r i ∷ has.flags.w i ∷ has.flags.f i ∷ has.accept i ∷ [])
 
 -- cells show one row within the limits at most
-pub object_one : (n : ObjNo) (c : Row) (x y : ObjRow) → row_fits x ≡ true → row_fits y ≡ true → ShowsObject n c x → ShowsObject n c y → x ≡ y
-object_one n c x y f g p q =
+pub object_one : (version : Version) (n : ObjNo) (c : Row) (x y : ObjRow) → row_fits x ≡ true → row_fits y ≡ true → ShowsObject version n c x → ShowsObject version n c y → x ≡ y
+object_one version n c x y f g p q =
     let e : object_row_cells n x p.0 ≡ object_row_cells n y q.0 = sym p.2 ∙ q.2 in
     let at : (k : ℕ) → column (object_row_cells n x p.0) k ≡ column (object_row_cells n y q.0) k = λ k. ap (λ (c : Row). column c k) e in
     let text : p.0 ≡ q.0 = ap (text_at 11) e in

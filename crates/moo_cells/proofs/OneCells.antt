@@ -1,5 +1,5 @@
 -- A cell shows one thing within the limits at most.
-use Rattle.moo_cells.proofs.Words.{◌≡◌, ℕ, pos, List, [], ◌∷◌, map, find, Bool, true, false, Option, Some, None, Result, Ok, Err, refl, sym, ap, subst, ◌∙◌, Value, Row, column, ObjNo, Spells, Fits, spread, one_spelled, whole, accept_fits, state_fits, fits_tested, Version, First, Second, flag_cell, object_list, ShowsAccept, ShowsBits, ShowsSlotState}
+use Rattle.moo_cells.proofs.Words.{◌≡◌, ℕ, pos, List, [], ◌∷◌, map, find, Bool, true, false, Option, Some, None, Result, Ok, Err, refl, sym, ap, subst, ◌∙◌, Value, Row, column, ObjNo, Spells, Fits, spread, one_spelled, whole, accept_fits, state_fits, fits_tested, Version, flag_cell, object_list, ShowsAccept, ShowsBits, ShowsSlotState, has_lettered_bits, ShowsRights}
 use Rattle.std.specs.Str.{bytes_eq}
 use Rattle.sqlite.specs.declared.types.Value.TheVariants.{Null, Int as Number, Real, Text, Blob}
 use Rattle.moo_value.specs.declared.value.Value.{Value as MooValue}
@@ -10,15 +10,15 @@ use Rattle.moo_value.specs.declared.fault.LiteralFault.TheVariants.{NotALiteral}
 use Rattle.moo_value.proofs.Literals.{front_again}
 use Rattle.moo_rows.specs.declared.row.SlotState.{SlotState}
 use Rattle.moo_rows.specs.declared.row.SlotState.TheVariants.{Clear, Set}
-use Rattle.moo_rows.specs.declared.row.Place.{Place}
-use Rattle.moo_rows.specs.declared.row.Place.TheVariants.{This, Any as any_object, None as no_object}
+use Rattle.moo_rows.specs.declared.row.ObjectSpec.{ObjectSpec}
+use Rattle.moo_rows.specs.declared.row.ObjectSpec.TheVariants.{This, Any as any_object, None as no_object}
 use Rattle.moo_rows.specs.declared.row.Preposition.{Preposition}
 use Rattle.moo_rows.specs.declared.row.Preposition.TheVariants.{None as no_preposition, Any as any_preposition, Set as a_set}
 use Rattle.moo_rows.specs.declared.row.PrepositionSet.TheVariants.{With, At, InFrontOf, In, OnTopOf, OutOf, Over, Through, Under, Behind, Beside, For, Is, As, Off}
 use Rattle.moo_rows.specs.Bits.{bits_of}
 use Rattle.moo_rows.specs.declared.row.Bits.{Bits}
 use Rattle.moo_rows.proofs.BitsNumber.{bits_number-injective}
-use Rattle.moo_world.specs.Prepositions.{all_sets, prep_text, place_text}
+use Rattle.moo_world.specs.Prepositions.{all_sets, prep_text, object_spec_text}
 use Rattle.moo_cells.proofs.Texts.{int_inj, text_inj, fits_list, spread_objects}
 
 pub one_some : {A : Type 0} (x y : A) → Some x ≡ Some y → x ≡ y
@@ -32,15 +32,15 @@ flag_inj false false e = refl
 flag_inj true false e = let one : pos 1 ≡ pos 0 = int_inj (pos 1) (pos 0) e in cc
 flag_inj false true e = let one : pos 0 ≡ pos 1 = int_inj (pos 0) (pos 1) e in cc
 
-abbrev place_in : List ℕ → Option Place
-place_in text = find (λ p. bytes_eq (place_text p) text) (This ∷ any_object ∷ no_object ∷ [])
+abbrev place_in : List ℕ → Option ObjectSpec
+place_in text = find (λ p. bytes_eq (object_spec_text p) text) (This ∷ any_object ∷ no_object ∷ [])
 
-place_again : (p : Place) → place_in (place_text p) ≡ Some p
+place_again : (p : ObjectSpec) → place_in (object_spec_text p) ≡ Some p
 place_again This = refl
 place_again any_object = refl
 place_again no_object = refl
 
-pub place_inj : (p q : Place) → place_text p ≡ place_text q → p ≡ q
+pub place_inj : (p q : ObjectSpec) → object_spec_text p ≡ object_spec_text q → p ≡ q
 place_inj p q e = one_some p q (sym (place_again p) ∙ ap place_in e ∙ place_again q)
 
 abbrev prep_in : List ℕ → Option Preposition
@@ -68,9 +68,12 @@ prep_again (a_set Off) = refl
 pub prep_inj : (p q : Preposition) → prep_text p ≡ prep_text q → p ≡ q
 prep_inj p q e = one_some p q (sym (prep_again p) ∙ ap prep_in e ∙ prep_again q)
 
+rights_one : (lettered : Bool) (cell : Value) (x y : Bits) → ShowsRights lettered cell x → ShowsRights lettered cell y → x ≡ y
+rights_one true cell x y p q = one_some x y (sym p.1 ∙ ap bits_of (text_inj p.0 q.0 (sym p.2 ∙ q.2)) ∙ q.1)
+rights_one false cell x y p q = bits_number-injective x y (int_inj _ _ (sym p ∙ q))
+
 pub bits_one : (version : Version) (cell : Value) (x y : Bits) → ShowsBits version cell x → ShowsBits version cell y → x ≡ y
-bits_one First cell x y p q = one_some x y (sym p.1 ∙ ap bits_of (text_inj p.0 q.0 (sym p.2 ∙ q.2)) ∙ q.1)
-bits_one Second cell x y p q = bits_number-injective x y (int_inj _ _ (sym p ∙ q))
+bits_one version = rights_one (has_lettered_bits version)
 
 abbrev text_of : Value → List ℕ
 text_of Null = []

@@ -1,5 +1,5 @@
 -- Damage is of one kind, at one key.
-use Rattle.moo_cells.proofs.Words.{◌≡◌, ◌⊎◌, inl, inr, ℕ, ◌<◌, ◌-◌, ℤ, ◌<ℤ◌, [], ◌∷◌, get_or, refl, sym, ap, subst, ◌∙◌, arith, int_cmp, nat_cmp, int_ranked, ranked, Ordering, Less, Equal, Greater, Kind, BadHead, BadCell, PastHead, NoParent, ParentLoop, NoPlace, PlaceLoop, NoDefiner, DoubleName, StrangeSlot, MissingSlot, ClearDefiner, StrangeVerb, Mismatch, Key, Object, Prop, Slot, Verb, Petition, place, IsBelow, IsFirstMet}
+use Rattle.moo_cells.proofs.Words.{◌≡◌, ◌⊎◌, inl, inr, ℕ, ◌<◌, ◌-◌, ℤ, ◌<ℤ◌, [], ◌∷◌, get_or, refl, sym, ap, subst, ◌∙◌, arith, int_cmp, nat_cmp, int_ranked, ranked, Ordering, Less, Equal, Greater, Kind, BadHead, BadCell, PastHead, NoParent, ParentLoop, NoPlace, PlaceLoop, NoDefiner, DoubleName, StrangeSlot, MissingSlot, ClearDefiner, StrangeVerb, Mismatch, Key, Object, Prop, Slot, Verb, Petition, rank, IsBelow, IsFirstMet}
 use Rattle.moo_damage.specs.declared.kind.Key.TheVariants.{Head}
 
 -- ---- orders
@@ -90,7 +90,7 @@ key_order (Petition n) (Verb k j) = above (omega arith)
 abbrev kind_at : ℕ → Kind
 kind_at n = get_or (BadHead ∷ BadCell ∷ PastHead ∷ NoParent ∷ ParentLoop ∷ NoPlace ∷ PlaceLoop ∷ NoDefiner ∷ DoubleName ∷ StrangeSlot ∷ MissingSlot ∷ ClearDefiner ∷ StrangeVerb ∷ Mismatch ∷ []) (n - 1) BadHead
 
-kind_again : (kind : Kind) → kind_at (place kind) ≡ kind
+kind_again : (kind : Kind) → kind_at (rank kind) ≡ kind
 kind_again BadHead = refl
 kind_again BadCell = refl
 kind_again PastHead = refl
@@ -106,7 +106,7 @@ kind_again ClearDefiner = refl
 kind_again StrangeVerb = refl
 kind_again Mismatch = refl
 
-kind_inj : (a b : Kind) → place a ≡ place b → a ≡ b
+kind_inj : (a b : Kind) → rank a ≡ rank b → a ≡ b
 kind_inj a b e = sym (kind_again a) ∙ ap kind_at e ∙ kind_again b
 
 -- ---- one damage
@@ -120,9 +120,9 @@ one_key meets kind key at f g = go (key_order key at)
     go (above h) = absurd (f.1.1 at h g.1.0)
 
 pub one_damage : (meets : Kind → Key → Type 0) (kind other : Kind) (key at : Key) → IsFirstMet meets kind key → IsFirstMet meets other at → (kind ≡ other) × (key ≡ at)
-one_damage meets kind other key at f g = go (nat_order (place kind) (place other))
+one_damage meets kind other key at f g = go (nat_order (rank kind) (rank other))
   where
-    go : Order3 (place kind < place other) (place kind ≡ place other) (place other < place kind) → (kind ≡ other) × (key ≡ at)
+    go : Order3 (rank kind < rank other) (rank kind ≡ rank other) (rank other < rank kind) → (kind ≡ other) × (key ≡ at)
     go (below h) = absurd (g.0 kind h key f.1.0)
     go (same e) = let is = kind_inj kind other e in (is, one_key meets other key at (subst (λ k. IsFirstMet meets k key) is f) g)
     go (above h) = absurd (f.0 other h at g.1.0)

@@ -1,5 +1,5 @@
 -- Tables show one lot of rows within the limits at most.
-use Rattle.moo_cells.proofs.Words.{◌≡◌, ℕ, ℤ, pos, true, Option, Some, None, refl, sym, ap, subst, ◌∙◌, same_map, and_parts, Row, column, ObjNo, Spells, one_spelled, Head, Maps, object_exact, prop_exact, slot_exact, verb_exact, petition_exact, object_total, prop_total, slot_total, verb_total, petition_total, is_number, petition_fits, row_fits, state_fits, Version, First, Second, Tables, head_cells, petition_head_cells, AreWithin, calls_fit, ShowsOrNone, ShowsBits, ShowsSlotState, ShowsObject, ShowsProp, ShowsSlot, ShowsVerb, ShowsPetition, ShowsCounter, ShowsRows}
+use Rattle.moo_cells.proofs.Words.{◌≡◌, ℕ, ℤ, pos, true, Option, Some, None, refl, sym, ap, subst, ◌∙◌, same_map, and_parts, Row, column, ObjNo, Spells, one_spelled, Head, Maps, object_exact, prop_exact, slot_exact, verb_exact, petition_exact, object_total, prop_total, slot_total, verb_total, petition_total, is_number, petition_fits, row_fits, state_fits, Version, Tables, head_cells, petition_head_cells, AreWithin, calls_fit, ShowsOrNone, ShowsBits, ShowsSlotState, ShowsObject, ShowsProp, ShowsSlot, ShowsVerb, ShowsPetition, ShowsCounter, ShowsRows, Bool, false, has_petitions, ShowsNext}
 use Rattle.moo_value.specs.declared.value.Value.TheVariants.{List as a_list}
 use Rattle.moo_rows.specs.declared.row.PetitionId.{PetitionId}
 use Rattle.moo_rows.specs.declared.row.PetitionRow.{PetitionRow}
@@ -16,8 +16,8 @@ use Rattle.moo_cells.proofs.ObjectLemmas.{object_one}
 
 -- ---- rows
 
-prop_one : (id : PropId) (c : Row) (x y : PropRow) → ShowsProp id c x → ShowsProp id c y → x ≡ y
-prop_one id c x y p q =
+prop_one : (version : Version) (id : PropId) (c : Row) (x y : PropRow) → ShowsProp version id c x → ShowsProp version id c y → x ≡ y
+prop_one version id c x y p q =
     let e = sym p ∙ q in
     let definer = int_inj x.definer.0 y.definer.0 (ap (λ (c : Row). column c 1) e) in
     let name : x.name ≡ y.name = ap (text_at 2) e in
@@ -33,8 +33,8 @@ slot_one version key c x y f g p q =
     let state = state_one q.1 x.state y.state f g (subst (λ t. ShowsSlotState t x.state) text p.3) q.3 in
     λ i. record { owner = record { 0 = owner i }; bits = bits i; state = state i }
 
-verb_one : (key : ObjNo × VerbId) (c : Row) (x y : VerbRow) → ShowsVerb key c x → ShowsVerb key c y → x ≡ y
-verb_one key c x y p q =
+verb_one : (version : Version) (key : ObjNo × VerbId) (c : Row) (x y : VerbRow) → ShowsVerb version key c x → ShowsVerb version key c y → x ≡ y
+verb_one version key c x y p q =
     let e = sym p.2 ∙ q.2 in
     let names : x.names ≡ y.names = ap (text_at 2) e in
     let owner = int_inj x.owner.0 y.owner.0 (ap (λ (c : Row). column c 3) e) in
@@ -45,8 +45,8 @@ verb_one key c x y p q =
     let iobj = place_inj x.args.iobj y.args.iobj (ap (text_at 7) e) in
     λ i. record { names = names i; owner = record { 0 = owner i }; bits = bits i; args = record { dobj = dobj i; prep = prep i; iobj = iobj i } }
 
-petition_one : (id : PetitionId) (c : Row) (x y : PetitionRow) → petition_fits x ≡ true → petition_fits y ≡ true → ShowsPetition id c x → ShowsPetition id c y → x ≡ y
-petition_one id c x y f g p q =
+petition_one : (version : Version) (id : PetitionId) (c : Row) (x y : PetitionRow) → petition_fits x ≡ true → petition_fits y ≡ true → ShowsPetition version id c x → ShowsPetition version id c y → x ≡ y
+petition_one version id c x y f g p q =
     let e = sym p.2 ∙ q.2 in
     let who = int_inj x.who.0 y.who.0 (ap (λ (c : Row). column c 1) e) in
     let text : p.0 ≡ q.0 = ap (text_at 2) e in
@@ -65,9 +65,12 @@ same_row shows fits one None (Some x) y f g p q = absurd p
 same_row shows fits one (Some c) None y f g p q = absurd p
 same_row shows fits one (Some c) (Some x) None f g p q = absurd q
 
+next_one : (petitions : Bool) (table : ℤ → Option Row) (m n : ℕ) → ShowsNext petitions table m → ShowsNext petitions table n → m ≡ n
+next_one false table m n p q = p ∙ sym q
+next_one true table m n p q = let e = one_some (petition_head_cells m) (petition_head_cells n) (sym p.0 ∙ q.0) in pos_inj m n (int_inj (pos m) (pos n) (ap (λ (c : Row). column c 1) e))
+
 counter_one : (version : Version) (table : ℤ → Option Row) (m n : ℕ) → ShowsCounter version table m → ShowsCounter version table n → m ≡ n
-counter_one First table m n p q = p ∙ sym q
-counter_one Second table m n p q = let e = one_some (petition_head_cells m) (petition_head_cells n) (sym p.0 ∙ q.0) in pos_inj m n (int_inj (pos m) (pos n) (ap (λ (c : Row). column c 1) e))
+counter_one version = next_one (has_petitions version)
 
 head_one : (version : Version) (g h : Head) → Some (head_cells version g) ≡ Some (head_cells version h) → g.next_petition ≡ h.next_petition → g ≡ h
 head_one version g h same next_petition =
@@ -81,9 +84,9 @@ head_one version g h same next_petition =
 pub one_rows : (t : Tables) (m n : Maps) → ShowsRows t m → AreWithin m → ShowsRows t n → AreWithin n → m ≡ n
 one_rows t m n p f q g =
     let head = head_one t.version m.head n.head (sym p.head ∙ q.head) (counter_one t.version t.petition_head m.head.next_petition n.head.next_petition p.counter q.counter) in
-    let objects = same_map object_total object_exact m.objects n.objects (λ x. same_row (ShowsObject x) (λ row. row_fits row ≡ true) (object_one x) (t.object x.0) _ _ (f.objects x) (g.objects x) (p.maps.objects x) (q.maps.objects x)) in
-    let props = same_map prop_total prop_exact m.props n.props (λ id. same_row (ShowsProp id) (λ row. Unit {0}) (λ c x y _ _. prop_one id c x y) (t.prop (pos id.0)) _ _ (λ r e. tt) (λ r e. tt) (p.maps.props id) (q.maps.props id)) in
+    let objects = same_map object_total object_exact m.objects n.objects (λ x. same_row (ShowsObject t.version x) (λ row. row_fits row ≡ true) (object_one t.version x) (t.object x.0) _ _ (f.objects x) (g.objects x) (p.maps.objects x) (q.maps.objects x)) in
+    let props = same_map prop_total prop_exact m.props n.props (λ id. same_row (ShowsProp t.version id) (λ row. Unit {0}) (λ c x y _ _. prop_one t.version id c x y) (t.prop (pos id.0)) _ _ (λ r e. tt) (λ r e. tt) (p.maps.props id) (q.maps.props id)) in
     let slots = same_map slot_total slot_exact m.slots n.slots (λ key. same_row (ShowsSlot t.version key) (λ row. state_fits row.state ≡ true) (slot_one t.version key) (t.slot (key.0.0, pos key.1.0)) _ _ (λ s e. (and_parts _ _ (f.slots key s e)).1) (λ s e. (and_parts _ _ (g.slots key s e)).1) (p.maps.slots key) (q.maps.slots key)) in
-    let verbs = same_map verb_total verb_exact m.verbs n.verbs (λ key. same_row (ShowsVerb key) (λ row. Unit {0}) (λ c x y _ _. verb_one key c x y) (t.verb (key.0.0, pos key.1.0)) _ _ (λ r e. tt) (λ r e. tt) (p.maps.verbs key) (q.maps.verbs key)) in
-    let petitions = same_map petition_total petition_exact m.petitions n.petitions (λ id. same_row (ShowsPetition id) (λ row. petition_fits row ≡ true) (petition_one id) (t.petition (pos id.0)) _ _ (λ row e. (f.petitions id row e).1) (λ row e. (g.petitions id row e).1) (p.maps.petitions id) (q.maps.petitions id)) in
+    let verbs = same_map verb_total verb_exact m.verbs n.verbs (λ key. same_row (ShowsVerb t.version key) (λ row. Unit {0}) (λ c x y _ _. verb_one t.version key c x y) (t.verb (key.0.0, pos key.1.0)) _ _ (λ r e. tt) (λ r e. tt) (p.maps.verbs key) (q.maps.verbs key)) in
+    let petitions = same_map petition_total petition_exact m.petitions n.petitions (λ id. same_row (ShowsPetition t.version id) (λ row. petition_fits row ≡ true) (petition_one t.version id) (t.petition (pos id.0)) _ _ (λ row e. (f.petitions id row e).1) (λ row e. (g.petitions id row e).1) (p.maps.petitions id) (q.maps.petitions id)) in
     λ i. record { head = head i; objects = objects i; props = props i; slots = slots i; verbs = verbs i; petitions = petitions i }

@@ -17,10 +17,10 @@ pub use Rattle.moo_cells.specs.Each.{ShowEach}
 pub use Rattle.moo_cells.specs.Head.{HasCounter, HasHead, HeadFits, HeadIs, IsCounter, IsNewerThan, ReadsCounter, ReadsHead, ReadsKnown, ReadsNewer, SaysOfHead, greatest, head_row}
 pub use Rattle.moo_cells.specs.Holding.{HoldsTable, IsLess, IsPairLess, SaysUnread, TakesRow, object_key, object_number, petition_key, petition_number, prop_key, prop_number, slot_key, slot_number, verb_key, verb_number}
 pub use Rattle.moo_cells.specs.Reading.{IsRead, ObjectFits, PetitionFits, PropFits, ReadsObject, ReadsPetition, ReadsProp, ReadsSlot, ReadsVerb, SlotFits, VerbFits, calls_fit}
-pub use Rattle.moo_cells.specs.Shows.{ShowsAccept, ShowsBits, ShowsCounter, ShowsObject, ShowsOrNone, ShowsPetition, ShowsProp, ShowsRows, ShowsSlot, ShowsSlotState, ShowsVerb}
+pub use Rattle.moo_cells.specs.Shows.{ShowsAccept, ShowsBits, ShowsCounter, ShowsNext, ShowsObject, ShowsOrNone, ShowsPetition, ShowsProp, ShowsRights, ShowsRows, ShowsSlot, ShowsSlotState, ShowsVerb}
 pub use Rattle.moo_cells.specs.declared.fault.CellFault.{CellFault}
 pub use Rattle.moo_cells.specs.declared.fault.CellFault.TheVariants.{Damaged, NewerVersion, OutOfMemory}
-pub use Rattle.moo_damage.specs.Kinds.{InRows, IsBelow, IsFirstInRows, IsFirstMet, IsLeast, NoneBefore, place}
+pub use Rattle.moo_damage.specs.Kinds.{InRows, IsBelow, IsFirstInRows, IsFirstMet, IsLeast, NoneBefore, rank}
 pub use Rattle.moo_damage.specs.Limits.{AreWithin}
 pub use Rattle.moo_damage.specs.declared.kind.Key.{Key}
 pub use Rattle.moo_damage.specs.declared.kind.Key.TheVariants.{Object, Petition, Prop, Slot, Verb}
@@ -33,7 +33,7 @@ pub use Rattle.moo_rows.specs.declared.row.Head.{Head}
 pub use Rattle.moo_tables.specs.Cells.{flag_cell, head_cells, petition_head_cells}
 pub use Rattle.moo_tables.specs.Listing.{IsRowBelow, has_key_pair, tables_of}
 pub use Rattle.moo_tables.specs.Tables.{Tables}
-pub use Rattle.moo_tables.specs.Version.{version_number}
+pub use Rattle.moo_tables.specs.Version.{has_lettered_bits, has_petitions, present, version_number}
 pub use Rattle.moo_tables.specs.declared.version.Version.{Version}
 pub use Rattle.moo_tables.specs.declared.version.Version.TheVariants.{First, Second}
 pub use Rattle.moo_value.proofs.Printed.{one_spelled, whole}
@@ -44,9 +44,9 @@ pub use Rattle.moo_world.proofs.Form.Ranges.{fits_of, fits_signed, fits_tested, 
 pub use Rattle.moo_world.specs.Answers.{object_list}
 pub use Rattle.moo_world.specs.Arguments.{all_within_limits, in_range, is_number, is_text}
 pub use Rattle.moo_world.specs.Petitions.{are_few, are_shallow, is_named, petition_fits}
-pub use Rattle.moo_world.specs.Rows.{IsGood, look_ups, name_on, numbers_below, record_of, slot_seen, world_of}
+pub use Rattle.moo_world.specs.Rows.{IsGood, look_ups, name_on, numbers_below, object_shown, slot_seen, world_of}
 unfoldable pub use Rattle.moo_world.specs.Rows.{world_shown}
-pub use Rattle.moo_world.specs.World.{Climbs, KeepsLimits, Record, accept_fits, has_word, is_object, is_property_name, row_fits, state_fits, verb_fits, without_slots}
+pub use Rattle.moo_world.specs.World.{Climbs, KeepsLimits, WorldObject, accept_fits, has_word, is_object, is_property_name, row_fits, state_fits, verb_fits, without_slots}
 pub use Rattle.sqlite.specs.Order.{Row, column, value_cmp}
 pub use Rattle.sqlite.specs.Tree.{has_rowid, rowid}
 pub use Rattle.sqlite.specs.declared.types.Value.{Value}

@@ -3,10 +3,10 @@ use Rattle.std.specs.Prelude.{◌≡◌}
 use Rattle.sqlite.specs.Order.{Row, column}
 use Rattle.sqlite.specs.declared.types.Value.TheVariants.{Text}
 use Rattle.moo_rows.specs.declared.row.ArgSpec.{ArgSpec}
-use Rattle.moo_world.specs.Prepositions.{prep_text, place_text}
+use Rattle.moo_world.specs.Prepositions.{prep_text, object_spec_text}
 
 -- these arguments are in their columns
 pub record HasArgs (cells : Row) (args : ArgSpec) : Type 0 where
-  pub dobj : column cells 5 ≡ Text (place_text args.dobj)
+  pub dobj : column cells 5 ≡ Text (object_spec_text args.dobj)
   pub prep : column cells 6 ≡ Text (prep_text args.prep)
-  pub iobj : column cells 7 ≡ Text (place_text args.iobj)
+  pub iobj : column cells 7 ≡ Text (object_spec_text args.iobj)

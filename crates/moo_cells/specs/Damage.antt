@@ -28,11 +28,11 @@ IsBadHead t _ = ⊥
 -- a row is there that can't be read
 abbrev pub IsBadCell : Tables → Key → Type 0
 IsBadCell t Head = ⊥
-IsBadCell t (Object n) = IsUnread ReadsObject t.object n
-IsBadCell t (Prop id) = IsUnread ReadsProp t.prop id
+IsBadCell t (Object n) = IsUnread (ReadsObject t.version) t.object n
+IsBadCell t (Prop id) = IsUnread (ReadsProp t.version) t.prop id
 IsBadCell t (Slot n id) = IsUnread (ReadsSlot t.version) t.slot (n, id)
-IsBadCell t (Verb n id) = IsUnread ReadsVerb t.verb (n, id)
-IsBadCell t (Petition id) = IsUnread ReadsPetition t.petition id
+IsBadCell t (Verb n id) = IsUnread (ReadsVerb t.version) t.verb (n, id)
+IsBadCell t (Petition id) = IsUnread (ReadsPetition t.version) t.petition id
 
 -- the kind is met at the key: the first two in the cells, each other one in the rows that the cells show
 abbrev pub IsMet : Tables → Kind → Key → Type 0

@@ -4,6 +4,7 @@ use Rattle.sqlite.specs.Order.{Row}
 use Rattle.sqlite.specs.declared.types.Value.TheVariants.{Int as Number}
 use Rattle.moo_rows.specs.declared.row.Head.{Head}
 use Rattle.moo_tables.specs.declared.version.Version.{Version}
+use Rattle.moo_tables.specs.Version.{present, version_number}
 use Rattle.moo_damage.specs.declared.kind.Kind.TheVariants.{BadHead}
 use Rattle.moo_damage.specs.declared.kind.Key.TheVariants.{Head as the_head}
 use Rattle.moo_cells.specs.Shows.{ShowsCounter}
@@ -12,7 +13,7 @@ use Rattle.moo_cells.specs.declared.fault.CellFault.TheVariants.{Damaged, NewerV
 
 -- the greatest version of tables that is known
 abbrev pub greatest : ℤ
-greatest = pos 2
+greatest = version_number present
 
 -- the cells of a head, in the order of the columns
 abbrev pub head_row : (version seq top next_prop next_verb : ℤ) → Row
@@ -58,7 +59,7 @@ IsCounter next = (0 < next) × (next ≤ 4294967295)
 abbrev pub ReadsCounter : Version → (ℤ → Option Row) → ℕ → Type 0
 ReadsCounter version table next = ShowsCounter version table next × IsCounter next
 
--- the table has such a number, as that of the first version always does
+-- the table has such a number, as that of a version without petitions always does
 abbrev pub HasCounter : Version → (ℤ → Option Row) → Type 0
 HasCounter version table = (next : ℕ) × ReadsCounter version table next
 

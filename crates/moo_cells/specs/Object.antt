@@ -6,6 +6,7 @@ use Rattle.moo_value.specs.Literal.{Spells}
 use Rattle.moo_rows.specs.declared.row.ObjRow.{ObjRow}
 use Rattle.moo_world.specs.Answers.{object_list}
 use Rattle.moo_tables.specs.Cells.{flag_cell}
+use Rattle.moo_tables.specs.declared.version.Version.{Version}
 use Rattle.moo_tables.specs.Object.{object_row_cells}
 use Rattle.moo_cells.specs.declared.object.Flags.{Flags}
 
@@ -14,9 +15,9 @@ abbrev pub ShowsAccept : List ℕ → Option (List ObjNo) → Type 0
 ShowsAccept text None = text ≡ []
 ShowsAccept text (Some objects) = Spells (object_list objects) text
 
--- the cells show the row
-abbrev pub ShowsObject : ObjNo → Row → ObjRow → Type 0
-ShowsObject n cells row = (accept : List ℕ) × ShowsAccept accept row.accept × (cells ≡ object_row_cells n row accept)
+-- the cells show the row, in every version alike
+abbrev pub ShowsObject : Version → ObjNo → Row → ObjRow → Type 0
+ShowsObject version n cells row = (accept : List ℕ) × ShowsAccept accept row.accept × (cells ≡ object_row_cells n row accept)
 
 -- these flags are in their columns
 pub record HasFlags (cells : Row) (flags : Flags) : Type 0 where

@@ -55,20 +55,20 @@ abbrev pub calls_fit : Values → Bool
 calls_fit calls = list_all is_named (spread calls) && (are_few calls && (are_shallow calls && all_within_limits calls))
 
 -- the cells show this row of this key, and it is within its limits
-abbrev pub ReadsObject : ObjNo → Row → ObjRow → Type 0
-ReadsObject n cells row = ShowsObject n cells row × ObjectFits n row
+abbrev pub ReadsObject : Version → ObjNo → Row → ObjRow → Type 0
+ReadsObject version n cells row = ShowsObject version n cells row × ObjectFits n row
 
-abbrev pub ReadsProp : PropId → Row → PropRow → Type 0
-ReadsProp id cells row = ShowsProp id cells row × PropFits id row
+abbrev pub ReadsProp : Version → PropId → Row → PropRow → Type 0
+ReadsProp version id cells row = ShowsProp version id cells row × PropFits id row
 
 abbrev pub ReadsSlot : Version → ObjNo × PropId → Row → SlotRow → Type 0
 ReadsSlot version key cells row = ShowsSlot version key cells row × SlotFits key row
 
-abbrev pub ReadsVerb : ObjNo × VerbId → Row → VerbRow → Type 0
-ReadsVerb key cells row = ShowsVerb key cells row × VerbFits key row
+abbrev pub ReadsVerb : Version → ObjNo × VerbId → Row → VerbRow → Type 0
+ReadsVerb version key cells row = ShowsVerb version key cells row × VerbFits key row
 
-abbrev pub ReadsPetition : PetitionId → Row → PetitionRow → Type 0
-ReadsPetition id cells row = ShowsPetition id cells row × PetitionFits id row
+abbrev pub ReadsPetition : Version → PetitionId → Row → PetitionRow → Type 0
+ReadsPetition version id cells row = ShowsPetition version id cells row × PetitionFits id row
 
 -- the cells show such a row
 abbrev pub IsRead : {K X : Type 0} → (K → Row → X → Type 0) → Row → Type 0

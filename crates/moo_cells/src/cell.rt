@@ -1,6 +1,6 @@
 //! Single cells.
 
-ghost use Rattle.std.specs.Prelude.{◌≡◌, ◌≢◌, ℕ, ℤ, pos, ◌<◌, Bool, true, List, Some, IfOk, IfErr, IsTrue, FitsSigned};
+ghost use Rattle.std.specs.Prelude.{◌≡◌, ◌≢◌, ℕ, ℤ, pos, ◌<◌, Bool, true, false, List, Some, IfOk, IfErr, IsTrue, FitsSigned};
 ghost use Rattle.std.specs.Int.{w64};
 ghost use Rattle.sqlite.specs.Order.{column};
 ghost use Rattle.sqlite.specs.declared.types.Value.TheVariants.{Int as Number, Text};
@@ -8,18 +8,18 @@ ghost use Rattle.sqlite_trees.specs.View.{is_int};
 ghost use Rattle.moo_value.specs.declared.value.ObjNo.{ObjNo};
 ghost use Rattle.moo_rows.specs.declared.row.Bits.{Bits};
 ghost use Rattle.moo_rows.specs.declared.row.VerbBits.{VerbBits};
-ghost use Rattle.moo_rows.specs.declared.row.Place.{Place};
+ghost use Rattle.moo_rows.specs.declared.row.ObjectSpec.{ObjectSpec};
 ghost use Rattle.moo_rows.specs.declared.row.Preposition.{Preposition};
 ghost use Rattle.moo_rows.specs.Bits.{verb_bits_of};
-ghost use Rattle.moo_world.specs.Arguments.{in_range, is_number, is_text};
-ghost use Rattle.moo_world.specs.Prepositions.{prep_text, place_text};
+ghost use Rattle.moo_world.specs.Arguments.{is_number, is_text};
+ghost use Rattle.moo_world.specs.Prepositions.{prep_text, object_spec_text};
 ghost use Rattle.moo_tables.specs.Cells.{flag_cell};
 ghost use Rattle.moo_cells.specs.Reading.{IsId};
-ghost use Rattle.moo_cells.specs.Shows.{ShowsBits};
+ghost use Rattle.moo_cells.specs.Shows.{ShowsBits, ShowsRights};
 ghost use Rattle.moo_cells.specs.declared.fault.RowFault.TheVariants.{Unreadable};
 
 use crate::fault::RowFault;
-use moo_rows::{Bits, Place, Preposition, VerbBits};
+use moo_rows::{Bits, ObjectSpec, Preposition, VerbBits};
 use moo_tables::Version;
 use moo_value::{MooStr, ObjNo};
 use moo_verbs::{read_place_cell, read_prep_cell};
@@ -112,8 +112,8 @@ pub(crate) fn string_at(alloc: Global, cells: &Row, at: usize) -> Result<MooStr,
 
 /// The rights on a property whose letters are in a column.
 fn lettered_bits_at(cells: &Row, at: usize) -> Result<Bits, RowFault>
-    ensures ok { IfOk result (λ bits. ShowsBits Version.First (column cells.now at) bits) }
-    ensures err { IfErr result (λ _. (bits : Bits) → ¬ (ShowsBits Version.First (column cells.now at) bits)) }
+    ensures ok { IfOk result (λ bits. ShowsRights true (column cells.now at) bits) }
+    ensures err { IfErr result (λ _. (bits : Bits) → ¬ (ShowsRights true (column cells.now at) bits)) }
 {
     match Bits::of_letters(text_at(cells, at)?) {
         Some(bits) => Ok(bits),
@@ -123,8 +123,8 @@ fn lettered_bits_at(cells: &Row, at: usize) -> Result<Bits, RowFault>
 
 /// The rights on a property whose number is in a column.
 fn numbered_bits_at(cells: &Row, at: usize) -> Result<Bits, RowFault>
-    ensures ok { IfOk result (λ bits. ShowsBits Version.Second (column cells.now at) bits) }
-    ensures err { IfErr result (λ _. (bits : Bits) → ¬ (ShowsBits Version.Second (column cells.now at) bits)) }
+    ensures ok { IfOk result (λ bits. ShowsRights false (column cells.now at) bits) }
+    ensures err { IfErr result (λ _. (bits : Bits) → ¬ (ShowsRights false (column cells.now at) bits)) }
 {
     match Bits::from_number(int_at(cells, at)?) {
         Some(bits) => Ok(bits),
@@ -132,15 +132,15 @@ fn numbered_bits_at(cells: &Row, at: usize) -> Result<Bits, RowFault>
     }
 }
 
-/// The rights on a property in a column: letters in tables of the first version, a number in those of the second.
+/// The rights on a property in a column: letters or a number, as the version has them.
 pub(crate) fn bits_at(version: Version, cells: &Row, at: usize) -> Result<Bits, RowFault>
     ensures ok { IfOk result (λ bits. ShowsBits version (column cells.now at) bits) }
     ensures err { IfErr result (λ _. (bits : Bits) → ¬ (ShowsBits version (column cells.now at) bits)) }
 {
-    match version {
-        Version::First => lettered_bits_at(cells, at),
-        Version::Second => numbered_bits_at(cells, at),
+    if version.has_lettered_bits() {
+        return lettered_bits_at(cells, at);
     }
+    numbered_bits_at(cells, at)
 }
 
 /// The rights on a verb whose letters are in a column.
@@ -155,9 +155,9 @@ pub(crate) fn verb_bits_at(cells: &Row, at: usize) -> Result<VerbBits, RowFault>
 }
 
 /// The place of a verb's arguments in a column.
-pub(crate) fn place_at(cells: &Row, at: usize) -> Result<Place, RowFault>
-    ensures ok { IfOk result (λ place. column cells.now at ≡ Text (place_text place)) }
-    ensures err { IfErr result (λ _. (place : Place) → column cells.now at ≢ Text (place_text place)) }
+pub(crate) fn object_spec_at(cells: &Row, at: usize) -> Result<ObjectSpec, RowFault>
+    ensures ok { IfOk result (λ place. column cells.now at ≡ Text (object_spec_text place)) }
+    ensures err { IfErr result (λ _. (place : ObjectSpec) → column cells.now at ≢ Text (object_spec_text place)) }
 {
     match read_place_cell(text_at(cells, at)?) {
         Some(place) => Ok(place),

@@ -45,16 +45,18 @@ fn counter_of(cells: &Row) -> Option<u32>
     counter_in(next)
 }
 
-/// The number of the next petition, from the rows of its table; in tables of the first version, which have no petition, that
-/// of the first. None if the table isn't one row of id 1 with a counter.
+/// The number of the next petition, from the rows of its table; that of the first, if the version has no petitions. None if the
+/// table isn't one row of id 1 with a counter.
 pub(crate) fn read_counter(version: Version, rows: &[Row]) -> Option<u32>
     requires { AreKeyed rows.now }
     ensures some { IfSome result (λ next. ReadsCounter version (λ n. find (has_rowid n) rows.now) next) }
     ensures none { IfNone result (¬ (HasCounter version (λ n. find (has_rowid n) rows.now))) }
 {
-    match version {
-        Version::First => Some(FIRST_PETITION),
-        Version::Second if rows.len() == 1 => counter_of(&rows[0]),
-        Version::Second => None,
+    if !version.has_petitions() {
+        return Some(FIRST_PETITION);
     }
+    if rows.len() != 1 {
+        return None;
+    }
+    counter_of(&rows[0])
 }

@@ -21,9 +21,6 @@ use sqlite::Row;
 /// How many columns the table of the head has.
 const COLUMNS: usize = 6;
 
-/// The greatest version of tables that is known.
-const VERSION: i64 = 2;
-
 const BAD_HEAD: CellFault = CellFault::Damaged(Kind::BadHead, Key::Head);
 
 /// The numbers in the cells of the head.
@@ -117,7 +114,7 @@ fn head_of(version: Version, cells: &Row) -> Result<Head, CellFault>
     if numbers.id != 1 {
         return Err(BAD_HEAD);
     }
-    if VERSION < numbers.version {
+    if Version::PRESENT.number() < numbers.version {
         return Err(CellFault::NewerVersion);
     }
     if numbers.version != version.number() {
@@ -143,11 +140,11 @@ fn head_in(version: Version, rows: &[Row]) -> Result<Head, CellFault>
 }
 
 /// The head of tables of this version, from the rows of its table, with the number of the next petition from the rows of
-/// `petition_head`: in the first version, which has no such table, it is 1.
+/// `petition_head`: if the version has no petitions, it is 1.
 ///
 /// Errors: `Damaged(BadHead, Head)` if the table of the head isn't one row of id 1 with the number of the version and with
-/// counters within their limits, or in the second version `petition_head` isn't one row of id 1 with a counter within its
-/// limits; `NewerVersion` if the table of the head is one row of id 1 with whole numbers, the version above 2.
+/// counters within their limits, or in a version with petitions `petition_head` isn't one row of id 1 with a counter within its
+/// limits; `NewerVersion` if the table of the head is one row of id 1 with whole numbers, the version above the present one.
 pub fn read_head(version: Version, rows: &[Row], counters: &[Row]) -> Result<Head, CellFault>
     requires head { AreKeyed rows.now }
     requires counter { AreKeyed counters.now }

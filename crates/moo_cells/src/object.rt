@@ -10,6 +10,7 @@ use crate::cell::{flag_at, object_at, string_at};
 use crate::fault::RowFault;
 use crate::literal::accept_at;
 use moo_rows::ObjRow;
+use moo_tables::Version;
 use moo_value::ObjNo;
 use sqlite::Row;
 use std::alloc::Global;
@@ -46,9 +47,13 @@ fn flags_of(cells: &Row) -> Result<Flags, RowFault>
 /// The object that these cells show.
 ///
 /// Errors: `Unreadable` if they show no row within its limits, and `OutOfMemory`.
-pub fn read_object(alloc: Global, cells: &Row) -> Result<(ObjNo, ObjRow), RowFault>
-    ensures ok { IfOk result (λ r. ReadsObject r.0 cells.now r.1) }
-    ensures err { IfErr result (λ fault. fault ≡ Unreadable → ¬ (IsRead ReadsObject cells.now)) }
+pub fn read_object(
+    alloc: Global,
+    version: Version,
+    cells: &Row,
+) -> Result<(ObjNo, ObjRow), RowFault>
+    ensures ok { IfOk result (λ r. ReadsObject version r.0 cells.now r.1) }
+    ensures err { IfErr result (λ fault. fault ≡ Unreadable → ¬ (IsRead (ReadsObject version) cells.now)) }
 {
     if cells.column_count() != COLUMNS {
         return Err(RowFault::Unreadable);

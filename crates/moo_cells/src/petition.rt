@@ -8,6 +8,7 @@ use crate::cell::{id_at, object_at};
 use crate::fault::RowFault;
 use crate::literal::calls_at;
 use moo_rows::{PetitionId, PetitionRow};
+use moo_tables::Version;
 use sqlite::Row;
 use std::alloc::Global;
 
@@ -17,9 +18,13 @@ const COLUMNS: usize = 3;
 /// The petition that these cells show.
 ///
 /// Errors: `Unreadable` if they show no row within its limits, and `OutOfMemory`.
-pub fn read_petition(alloc: Global, cells: &Row) -> Result<(PetitionId, PetitionRow), RowFault>
-    ensures ok { IfOk result (λ r. ReadsPetition r.0 cells.now r.1) }
-    ensures err { IfErr result (λ fault. fault ≡ Unreadable → ¬ (IsRead ReadsPetition cells.now)) }
+pub fn read_petition(
+    alloc: Global,
+    version: Version,
+    cells: &Row,
+) -> Result<(PetitionId, PetitionRow), RowFault>
+    ensures ok { IfOk result (λ r. ReadsPetition version r.0 cells.now r.1) }
+    ensures err { IfErr result (λ fault. fault ≡ Unreadable → ¬ (IsRead (ReadsPetition version) cells.now)) }
 {
     if cells.column_count() != COLUMNS {
         return Err(RowFault::Unreadable);

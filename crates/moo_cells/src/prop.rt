@@ -8,6 +8,7 @@ ghost use Rattle.moo_cells.specs.declared.fault.RowFault.TheVariants.{Unreadable
 use crate::cell::{id_at, object_at, string_at};
 use crate::fault::RowFault;
 use moo_rows::{PropId, PropRow};
+use moo_tables::Version;
 use moo_value::MooStr;
 use moo_world::BuiltIn;
 use sqlite::Row;
@@ -30,9 +31,13 @@ fn is_property_name(name: &MooStr) -> bool
 /// The property that these cells show.
 ///
 /// Errors: `Unreadable` if they show no row within its limits, and `OutOfMemory`.
-pub fn read_prop(alloc: Global, cells: &Row) -> Result<(PropId, PropRow), RowFault>
-    ensures ok { IfOk result (λ r. ReadsProp r.0 cells.now r.1) }
-    ensures err { IfErr result (λ fault. fault ≡ Unreadable → ¬ (IsRead ReadsProp cells.now)) }
+pub fn read_prop(
+    alloc: Global,
+    version: Version,
+    cells: &Row,
+) -> Result<(PropId, PropRow), RowFault>
+    ensures ok { IfOk result (λ r. ReadsProp version r.0 cells.now r.1) }
+    ensures err { IfErr result (λ fault. fault ≡ Unreadable → ¬ (IsRead (ReadsProp version) cells.now)) }
 {
     if cells.column_count() != COLUMNS {
         return Err(RowFault::Unreadable);

@@ -51,10 +51,10 @@ pub fn read_rows(alloc: Global, lists: Cells) -> Result<Flat, CellFault>
     } = lists;
     let head = read_head(version, &head, &petition_head)?;
     let mut rows = under(alloc, head);
-    read_objects(alloc, object, &mut rows)?;
-    read_props(alloc, prop, &mut rows)?;
+    read_objects(alloc, version, object, &mut rows)?;
+    read_props(alloc, version, prop, &mut rows)?;
     read_slots(alloc, version, slot, &mut rows)?;
-    read_verbs(alloc, verb, &mut rows)?;
-    read_petitions(alloc, petition, &mut rows)?;
+    read_verbs(alloc, version, verb, &mut rows)?;
+    read_petitions(alloc, version, petition, &mut rows)?;
     Ok(rows)
 }

@@ -1,18 +1,18 @@
 //! The rows of a table, compared with rows that were known before.
 
-ghost use Rattle.std.specs.Prelude.{◌≡◌, true, List, Option, IfOk};
+ghost use Rattle.std.specs.Prelude.{◌≡◌, true, List, IfOk};
 ghost use Rattle.std.specs.Iterator.{YieldsFirstBy, IsFinite};
 ghost use Rattle.moo_cells.specs.Each.{ShowEach};
 
 use crate::fault::RowFault;
-use crate::table_row::TableRow;
+use crate::table_row::ReadRow;
 use moo_rows::Row as _;
 use moo_tables::Version;
 use sqlite::Row;
 use std::alloc::{AllocError, Global};
 
 /// Whether these cells show this row. An `Err` means that memory ran out.
-fn shows<R: TableRow>(
+fn shows<R: ReadRow>(
     alloc: Global,
     version: Version,
     cells: &Row,
@@ -29,7 +29,7 @@ fn shows<R: TableRow>(
 }
 
 /// Whether the rows of a table of this version show the entries that are left, one for one. An `Err` means that memory ran out.
-pub(crate) fn show_each<'a, R: TableRow + 'a, I: Iterator<Item = (R::Key, &'a R)> + Drop>(
+pub(crate) fn show_each<'a, R: ReadRow + 'a, I: Iterator<Item = (R::Key, &'a R)> + Drop>(
     alloc: Global,
     version: Version,
     cells: &[Row],

@@ -16,8 +16,7 @@ use std::alloc::Global;
 /// How many columns the table of slots has.
 const COLUMNS: usize = 5;
 
-/// The slot that these cells of a table of slots show. Its rights are letters in tables of the first version, and a number
-/// from 0 to 7 in those of the second.
+/// The slot that these cells of a table of slots show. Its rights are letters or a number from 0 to 7, as the version has them.
 ///
 /// Errors: `Unreadable` if they show no row within its limits, and `OutOfMemory`.
 pub fn read_slot(

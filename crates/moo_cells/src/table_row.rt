@@ -5,14 +5,14 @@ ghost use Rattle.sqlite.specs.Order.{Row as Cells};
 ghost use Rattle.moo_tables.specs.declared.version.Version.{Version};
 
 use crate::fault::RowFault;
-use moo_ordered::Key;
+use moo_ordered::OrderedKey;
 use moo_tables::Version;
 use sqlite::Row;
 use std::alloc::Global;
 
 /// A row that the cells of a table show.
-pub(crate) trait TableRow: moo_rows::Row {
-    type Key: Key;
+pub(crate) trait ReadRow: moo_rows::Row {
+    type Key: OrderedKey;
 
     /// Whether cells of tables of a version show a row of a key.
     ghost reads: { Version → Self.Key → Cells → Self → Type 0 };

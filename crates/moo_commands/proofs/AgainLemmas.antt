@@ -1,19 +1,9 @@
 -- From what a crash left of a run to the next run.
-use Rattle.std.proofs.Common.{◌≡◌, ◌≢◌, ◌⊎◌, inl, inr, ℕ, zero, suc, Bool, true, false, List, length, Option, codes, refl, sym, ap, subst}
-use Rattle.std.proofs.lemmas.Bool.{true≢false, false_from_ne_true}
-use Rattle.std.specs.Str.{bytes_eq}
-use Rattle.sqlite_disk.specs.declared.Disk.{Ghosts}
+use Rattle.moo_commands.proofs.Words.{◌≡◌, ◌≢◌, ◌⊎◌, inl, inr, ℕ, zero, suc, Bool, true, false, List, length, Option, codes, refl, sym, ap, subst, true≢false, false_from_ne_true, ◌||◌, bytes_eq, Ghosts, Image, HasCleanDisk, Held, file_state, Maps, Batch, IsGood, State, state_of, LeavesLed, LeavesRows, LeavesState, Task, Given, makes_world, begins_anew, HoldsRows, RunsRows, RunsFile, EndsWith, RunsOver, IsClosedEnd, RunsClosed}
 use Rattle.sqlite_store.specs.declared.store.FileStore.{FileStore}
-use Rattle.sqlite_wal.specs.Recovery.{Image}
-use Rattle.sqlite.specs.State.{State as Database, HasCleanDisk}
-use Rattle.sqlite.specs.Held.{Held}
-use Rattle.sqlite.specs.Files.{file_state}
+use Rattle.sqlite.specs.State.{State as Database}
 use Rattle.sqlite.specs.Schema.{Schema}
 use Rattle.sqlite.specs.Tree.{Trees}
-use Rattle.moo_rows.specs.Maps.{Maps}
-use Rattle.moo_world.specs.declared.call.Batch.{Batch}
-use Rattle.moo_world.specs.Rows.{IsGood}
-use Rattle.moo_world.specs.Judge.{State, state_of}
 use Rattle.moo_tables.specs.declared.version.Version.{Version}
 use Rattle.moo_tables.specs.declared.version.Version.TheVariants.{First, Second}
 use Rattle.moo_tables.specs.Tables.{Tables, schema_of, no_schema}
@@ -21,10 +11,8 @@ use Rattle.moo_tables.specs.Inside.{Leaves}
 use Rattle.moo_tables.proofs.SchemaLemmas.{one_schema}
 use Rattle.moo_cells.proofs.CellsLemmas.{one_good}
 use Rattle.moo_cells.proofs.GoodRows.{good_within}
-use Rattle.moo_store.specs.Led.{LeavesLed}
 use Rattle.sqlite.specs.declared.file.Leftover.{Leftover}
 use Rattle.sqlite.specs.declared.file.Leftover.TheVariants as left
-use Rattle.moo_store.specs.States.{LeavesRows, LeavesState}
 use Rattle.moo_files.specs.Contents.{HoldsSuch, HoldsState, HasAnyTable, IsKept, IsLeftBy}
 use Rattle.moo_files.specs.Remains.{IsCleanRemains, LeftoverKeeps, KeepsSuch, StillHolds}
 use Rattle.moo_files.specs.Closing.{IsLeftOf, IsClosedFrom}
@@ -32,31 +20,24 @@ use Rattle.moo_files.specs.declared.remains.Remains.{Remains}
 use Rattle.moo_files.specs.declared.remains.Remains.TheVariants as remains
 use Rattle.moo_files.proofs.AgainLemmas.{held_after}
 use Rattle.moo_files.proofs.RemainsLemmas.{keeps_more}
-use Rattle.moo_words.specs.declared.task.Task.{Task}
-use Rattle.moo_words.specs.declared.task.Task.TheVariants.{Init, Apply, Ask, Dump, Load, Check, Serve}
-use Rattle.moo_commands.specs.Given.{Given}
-use Rattle.moo_commands.specs.Run.{begins_anew, file_of}
-use Rattle.moo_commands.specs.Ends.{HoldsRows, RunsRows, RunsFile, EndsWith, RunsOver, IsClosedEnd, RunsClosed}
 use Rattle.moo_commands.specs.Again.{Started, StartedRows, LeadTo, RanFrom, TakesUp, TakesRows, IsLeftAfter, CrashesTo, LeadsOn, ClosesOn, IsFoundIn, ClosesTo}
 use Rattle.moo_commands.proofs.Connections.{runs_when, unled}
 use Rattle.moo_commands.specs.declared.ends.Ends.{Ends}
 use Rattle.moo_commands.specs.declared.ends.Ends.TheVariants as variant
 
--- a task that doesn't begin anew is on a file
-on_file : (task : Task) → begins_anew task ≡ false → bytes_eq (file_of task) (codes ":memory:") ≡ false
-on_file (Init file) other = absurd (true≢false other)
-on_file (Apply file batches) other = other
-on_file (Ask file batches) other = other
-on_file (Dump file) other = other
-on_file (Load file dump) other = absurd (true≢false other)
-on_file (Check file) other = other
-on_file (Serve file port count) other = other
+later_false : (a b : Bool) → (a || b) ≡ false → b ≡ false
+later_false true b either = absurd (true≢false either)
+later_false false b either = either
 
-started_map : (task : Task) (image : Image) (given : Given) (From Then : State → Type 0) → ((s : State) → From s → Then s) → Started task image given From → Started task image given Then
+-- a task that doesn't begin anew is on a file
+on_file : (task : Task) → begins_anew task ≡ false → bytes_eq task.file.now (codes ":memory:") ≡ false
+on_file task other = later_false (makes_world task.action) _ other
+
+pub started_map : (task : Task) (image : Image) (given : Given) (From Then : State → Type 0) → ((s : State) → From s → Then s) → Started task image given From → Started task image given Then
 started_map task image given From Then on it = ((λ other s holds. on s (it.0 other s holds)), (λ anew. let begun = it.1 anew in (begun.0, begun.1, on begun.0 begun.2)))
 
-started_rows_map : (task : Task) (image : Image) (given : Given) (From Then : Maps → Type 0) → ((rows : Maps) → From rows → Then rows) → StartedRows task image given From → StartedRows task image given Then
-started_rows_map task image given From Then on it = ((λ other rows holds. on rows (it.0 other rows holds)), (λ anew. let begun = it.1 anew in (begun.0, begun.1, begun.2, on begun.0 begun.3)))
+pub started_rows_map : (task : Task) (image : Image) (given : Given) (From Then : Maps → Type 0) → ((rows : Maps) → From rows → Then rows) → StartedRows task image given From → StartedRows task image given Then
+started_rows_map task image given From Then on it = ((λ other rows holds. on rows (it.0 other rows holds)), (λ anew. let begun = it.1 anew in (begun.0, begun.1, on begun.0 begun.2)))
 
 module _ {D : Type 0} {g : Ghosts D} where
   -- what is found after a connection was closed is what a crash might have left before
@@ -104,12 +85,12 @@ module _ {T D : Type 0} {g : Ghosts D} where
   -- it started from the state that the file held, or from one that it may begin with
   ran_from : (task : Task) (image : Image) (conn : Held (FileStore D g)) (given : Given) (old new : Option (List ℕ)) (status : ℕ) (After : State → Type 0)
       → HasCleanDisk (file_state conn) → RunsFile {T = T} task image (variant.Ran conn) given old new status → ((s : State) → RanFrom task s conn given old new status → After s) → Started task image given After
-  ran_from task image conn given old new status After clean it after = ((λ other s holds. after s (it.kept s other holds clean)), (λ anew. let begun = it.anew anew in (state_of begun.0, begun.2, after (state_of begun.0) (unled _ _ _ _ _ _ _ _ _ _ begun.3))))
+  ran_from task image conn given old new status After clean it after = ((λ other s holds. after s (it.kept s other holds clean)), (λ anew. let begun = it.anew anew in (state_of begun.0, begun.1.world, after (state_of begun.0) (unled _ _ _ _ _ _ _ _ _ _ begun.2))))
 
   -- the same of rows
   rows_from : (task : Task) (image : Image) (conn : Held (FileStore D g)) (given : Given) (old new : Option (List ℕ)) (status : ℕ) (After : Maps → Type 0)
       → HasCleanDisk (file_state conn) → RunsFile {T = T} task image (variant.Ran conn) given old new status → ((rows : Maps) → RunsRows task rows conn given old new status → After rows) → StartedRows task image given After
-  rows_from task image conn given old new status After clean it after = ((λ other rows holds. after rows (it.led rows other holds clean)), (λ anew. let begun = it.anew anew in (begun.0, begun.1, begun.2, after begun.0 begun.3)))
+  rows_from task image conn given old new status After clean it after = ((λ other rows holds. after rows (it.led rows other holds clean)), (λ anew. let begun = it.anew anew in (begun.0, begun.1, after begun.0 begun.2)))
 
   -- words over a file whose tables show rows run from these
   pub takes_rows : (words : List (List ℕ)) (image : Image) (ends : Ends T D g) (given : Given) (old new : Option (List ℕ)) (status : ℕ)

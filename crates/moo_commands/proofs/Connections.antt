@@ -1,27 +1,13 @@
 -- A task over a connection.
-use Rattle.std.proofs.Common.{◌≡◌, ◌⊎◌, inl, inr, ℕ, List, [], Option, Result, Ok, Err, IfOk, IfErr, refl, sym, subst, subst₂, ap, ◌∙◌, Bool, true, false, IsTrue}
-use Rattle.std.specs.Prelude.{MatchResult, ⊤}
-use Rattle.sqlite.specs.State.{State as Database, HasCleanDisk, Survives}
+use Rattle.moo_commands.proofs.Words.{◌≡◌, ◌⊎◌, inl, inr, ℕ, List, [], Option, Result, Ok, Err, IfOk, IfErr, refl, sym, subst, subst₂, ap, ◌∙◌, Bool, true, false, IsTrue, MatchResult, ⊤, HasCleanDisk, Survives, Held, state, Task, Stand, Failure, Usage, NoFile, Store, Damaged, NewerVersion, NotADump, NoBatches, Read, Write, TooLong, Port, NoMemory, Reports, store_failure, Given, Leads, MayLead, Done, StopsTask, ShowsTables, EndsTask, RunsFrom, RunsUnseen, IsOpening, MayRefuse, LeavesAsBefore, LeavesNothingNew, only_reads, serves, Batch, State, LeavesLed, World, store_of, CrashLeaves, ShowsState}
+use Rattle.sqlite.specs.State.{State as Database}
 use Rattle.sqlite.specs.Store.{Ghosts}
-use Rattle.sqlite.specs.Held.{Held, state}
-use Rattle.moo_words.specs.declared.task.Task.{Task}
-use Rattle.moo_words.specs.declared.task.Task.TheVariants.{Init, Apply, Ask, Dump, Load, Check, Serve}
-use Rattle.moo_store.specs.Stand.{Stand}
-use Rattle.moo_commands.specs.declared.failure.Failure.{Failure}
-use Rattle.moo_commands.specs.declared.failure.Failure.TheVariants.{Usage, NoFile, Store, Damaged, NewerVersion, NotADump, NoBatches, Read, Write, TooLong, Port, NoMemory}
+use Rattle.moo_words.specs.declared.task.Action.{Action}
+use Rattle.moo_words.specs.declared.task.Action.TheVariants.{Apply, Check, Serve}
 use Rattle.sqlite.specs.declared.error.Error.{Error}
-use Rattle.moo_commands.specs.Lines.{Reports, store_failure}
-use Rattle.moo_commands.specs.Given.{Given}
-use Rattle.moo_commands.specs.Run.{Leads, MayLead, Done, StopsTask, ShowsTables, EndsTask, RunsFrom, RunsUnseen, IsOpening, MayRefuse, LeavesAsBefore, LeavesNothingNew, only_reads, serves}
-use Rattle.moo_world.specs.declared.call.Batch.{Batch}
-use Rattle.moo_world.specs.Judge.{State}
-use Rattle.moo_store.specs.Led.{LeavesLed}
-use Rattle.moo_store.specs.Kept.{World}
-use Rattle.moo_store.specs.World.{store_of, CrashLeaves}
 use Rattle.moo_store.specs.declared.fault.StoreFault.{StoreFault}
 use Rattle.moo_store.specs.declared.fault.StoreFault.TheVariants as store_fault
 use Rattle.moo_store.specs.Opening.{IsOfStore, Adopts}
-use Rattle.moo_store.specs.States.{ShowsState}
 
 -- why a new world can't be made, and why the opening of a world fails
 pub of_making : {A : Type 0} (fault : StoreFault) (failure : Failure) → failure ≡ store_failure fault → ((fault ≡ store_fault.OutOfMemory) × A) ⊎ ((error : Error) × (fault ≡ store_fault.Store error)) → IsOpening failure
@@ -44,74 +30,68 @@ module _ {S : Type 0} (g : Ghosts S) (known : Bool) (was world : World S) (conn 
 
   -- what a task that only reads leaves, and whether the ports rest
   pub record Keeps : Type 0 where
-    pub rests : serves task ≡ false → given.ports.rests
-    pub quiet : only_reads task ≡ true → LeavesNothingNew (store_of g was) (store_of g world)
+    pub rests : serves task.action ≡ false → given.ports.rests
+    pub quiet : only_reads task.action ≡ true → LeavesNothingNew (store_of g was) (store_of g world)
     pub before : MayLead g known was was [] []
 
   pub late_clean : (End : Stand → Type 0) → EndsTask g known was world End → HasCleanDisk (state g conn) → HasCleanDisk (store_of g was)
   late_clean End it clean = it.clean (subst (λ h. HasCleanDisk (state g h)) is clean)
 
-  still_led : (End : Stand → Type 0) → EndsTask g known was world End → Keeps → only_reads task ≡ true → IsTrue known × HasCleanDisk (state g conn) → LeavesLed (state g conn) was.rows.maps [] []
+  still_led : (End : Stand → Type 0) → EndsTask g known was world End → Keeps → only_reads task.action ≡ true → IsTrue known × HasCleanDisk (state g conn) → LeavesLed (state g conn) was.rows.maps [] []
   still_led End it keeps reads both trees may =
       keeps.before (both.0, late_clean End it both.1) trees (subst (λ h. LeavesNothingNew (store_of g was) (state g h)) (sym is) (keeps.quiet reads) both.1 trees may)
 
-  pub runs_done : (new : Option (List ℕ)) (status : ℕ) → Keeps → EndsTask g known was world (λ end. Done task s end (MayLead g known was world) (ShowsTables g was (store_of g world)) given old new status) → RunsTo new status
+  pub runs_done : (new : Option (List ℕ)) (status : ℕ) → Keeps → EndsTask g known was world (λ end. Done task.action s end (MayLead g known was world) (ShowsTables g was (store_of g world)) given old new status) → RunsTo new status
   runs_done new status keeps it = record {
     end = it.end;
     rests = keeps.rests;
-    still = still_led (λ end. Done task s end (MayLead g known was world) (ShowsTables g was (store_of g world)) given old new status) it keeps;
+    still = still_led (λ end. Done task.action s end (MayLead g known was world) (ShowsTables g was (store_of g world)) given old new status) it keeps;
     crash = λ both. subst (λ h. HasCleanDisk (state g h) → CrashLeaves (state g h) it.end) (sym is) (it.crash both.0) both.1;
-    writes = inl (subst (λ h. Done task s it.end (λ batches others. IsTrue known × HasCleanDisk (state g h) → LeavesLed (state g h) was.rows.maps batches others) (ShowsTables g was (state g h)) given old new status) (sym is) it.ends);
+    writes = inl (subst (λ h. Done task.action s it.end (λ batches others. IsTrue known × HasCleanDisk (state g h) → LeavesLed (state g h) was.rows.maps batches others) (ShowsTables g was (state g h)) given old new status) (sym is) it.ends);
   }
 
-  pub runs_stops : (between new : Option (List ℕ)) (failure : Failure) (status : ℕ) → Keeps → EndsTask g known was world (λ end. StopsTask task s end failure (MayLead g known was world) (IsTrue known × HasCleanDisk (store_of g world)) given old between) → Reports failure between new status
+  pub runs_stops : (between new : Option (List ℕ)) (failure : Failure) (status : ℕ) → Keeps → EndsTask g known was world (λ end. StopsTask task.action s end failure (MayLead g known was world) (IsTrue known × HasCleanDisk (store_of g world)) given old between) → Reports failure between new status
       → RunsTo new status
   runs_stops between new failure status keeps it reports = record {
     end = it.end;
     rests = keeps.rests;
-    still = still_led (λ end. StopsTask task s end failure (MayLead g known was world) (IsTrue known × HasCleanDisk (store_of g world)) given old between) it keeps;
+    still = still_led (λ end. StopsTask task.action s end failure (MayLead g known was world) (IsTrue known × HasCleanDisk (store_of g world)) given old between) it keeps;
     crash = λ both. subst (λ h. HasCleanDisk (state g h) → CrashLeaves (state g h) it.end) (sym is) (it.crash both.0) both.1;
     writes = inr (
       failure,
       between,
-      subst (λ h. StopsTask task s it.end failure (λ batches others. IsTrue known × HasCleanDisk (state g h) → LeavesLed (state g h) was.rows.maps batches others) (IsTrue known × HasCleanDisk (state g h)) given old between) (sym is) it.ends,
+      subst (λ h. StopsTask task.action s it.end failure (λ batches others. IsTrue known × HasCleanDisk (state g h) → LeavesLed (state g h) was.rows.maps batches others) (IsTrue known × HasCleanDisk (state g h)) given old between) (sym is) it.ends,
       reports,
     );
   }
 
-  pub runs_to : (r : Result ℕ Failure) (mid new : Option (List ℕ)) (status : ℕ) → Keeps → IfOk r (λ value. EndsTask g known was world (λ end. Done task s end (MayLead g known was world) (ShowsTables g was (store_of g world)) given old mid value))
-      → IfErr r (λ failure. EndsTask g known was world (λ end. StopsTask task s end failure (MayLead g known was world) (IsTrue known × HasCleanDisk (store_of g world)) given old mid))
+  pub runs_to : (r : Result ℕ Failure) (mid new : Option (List ℕ)) (status : ℕ) → Keeps → IfOk r (λ value. EndsTask g known was world (λ end. Done task.action s end (MayLead g known was world) (ShowsTables g was (store_of g world)) given old mid value))
+      → IfErr r (λ failure. EndsTask g known was world (λ end. StopsTask task.action s end failure (MayLead g known was world) (IsTrue known × HasCleanDisk (store_of g world)) given old mid))
       → MatchResult r (λ value. (status ≡ value) × (new ≡ mid)) (λ failure. Reports failure mid new status) → RunsTo new status
   runs_to (Ok value) mid new status keeps done stops (same, unwritten) = subst₂ RunsTo (sym unwritten) (sym same) (runs_done mid value keeps done)
   runs_to (Err failure) mid new status keeps done stops reports = runs_stops mid new failure status keeps stops reports
 
-  pub late_clean_of : (r : Result ℕ Failure) (mid : Option (List ℕ)) → IfOk r (λ value. EndsTask g known was world (λ end. Done task s end (MayLead g known was world) (ShowsTables g was (store_of g world)) given old mid value))
-      → IfErr r (λ failure. EndsTask g known was world (λ end. StopsTask task s end failure (MayLead g known was world) (IsTrue known × HasCleanDisk (store_of g world)) given old mid)) → HasCleanDisk (state g conn) → HasCleanDisk (store_of g was)
-  late_clean_of (Ok value) mid done stops = late_clean (λ end. Done task s end (MayLead g known was world) (ShowsTables g was (store_of g world)) given old mid value) done
-  late_clean_of (Err failure) mid done stops = late_clean (λ end. StopsTask task s end failure (MayLead g known was world) (IsTrue known × HasCleanDisk (store_of g world)) given old mid) stops
+  pub late_clean_of : (r : Result ℕ Failure) (mid : Option (List ℕ)) → IfOk r (λ value. EndsTask g known was world (λ end. Done task.action s end (MayLead g known was world) (ShowsTables g was (store_of g world)) given old mid value))
+      → IfErr r (λ failure. EndsTask g known was world (λ end. StopsTask task.action s end failure (MayLead g known was world) (IsTrue known × HasCleanDisk (store_of g world)) given old mid)) → HasCleanDisk (state g conn) → HasCleanDisk (store_of g was)
+  late_clean_of (Ok value) mid done stops = late_clean (λ end. Done task.action s end (MayLead g known was world) (ShowsTables g was (store_of g world)) given old mid value) done
+  late_clean_of (Err failure) mid done stops = late_clean (λ end. StopsTask task.action s end failure (MayLead g known was world) (IsTrue known × HasCleanDisk (store_of g world)) given old mid) stops
 
 -- what is known if more is known of the disk, and less is said of the batches
-stops_when : (task : Task) (s : State) (end : Stand) (failure : Failure) (Led Then : Leads) → ((batches others : List Batch) → Led batches others → Then batches others) → (Clean More : Type 0) → (More → Clean) → (given : Given) (old new : Option (List ℕ))
-    → StopsTask task s end failure Led Clean given old new → StopsTask task s end failure Then More given old new
-stops_when (Init file) s end failure Led Then lead Clean More on given old new it = it
-stops_when (Apply file texts) s end failure Led Then lead Clean More on given old new (inl (fault, is, run, led)) = inl (fault, is, run, lead _ _ led)
-stops_when (Apply file texts) s end failure Led Then lead Clean More on given old new (inr (is, same, unwritten, led)) = inr (is, same, unwritten, lead _ _ led)
-stops_when (Ask file texts) s end failure Led Then lead Clean More on given old new it = it
-stops_when (Dump file) s end failure Led Then lead Clean More on given old new it = it
-stops_when (Load file dump) s end failure Led Then lead Clean More on given old new it = it
-stops_when (Check file) s end failure Led Then lead Clean More on given old new (e, inl (fault, is, of_store, same)) = (e, inl (fault, is, (λ more. of_store (on more)), same))
-stops_when (Check file) s end failure Led Then lead Clean More on given old new (e, inr front) = (e, inr front)
-stops_when (Serve file port count) s end failure Led Then lead Clean More on given old new (stops, (batches, others, led)) = (stops, (batches, others, lead batches others led))
+stops_when : (action : Action) (s : State) (end : Stand) (failure : Failure) (Led Then : Leads) → ((batches others : List Batch) → Led batches others → Then batches others) → (Clean More : Type 0) → (More → Clean) → (given : Given) (old new : Option (List ℕ))
+    → StopsTask action s end failure Led Clean given old new → StopsTask action s end failure Then More given old new
+stops_when (Apply texts) s end failure Led Then lead Clean More on given old new (inl (fault, is, run, led)) = inl (fault, is, run, lead _ _ led)
+stops_when (Apply texts) s end failure Led Then lead Clean More on given old new (inr (is, same, unwritten, led)) = inr (is, same, unwritten, lead _ _ led)
+stops_when Check s end failure Led Then lead Clean More on given old new (e, inl (fault, is, of_store, same)) = (e, inl (fault, is, (λ more. of_store (on more)), same))
+stops_when Check s end failure Led Then lead Clean More on given old new (e, inr front) = (e, inr front)
+stops_when (Serve service) s end failure Led Then lead Clean More on given old new (stops, (batches, others, led)) = (stops, (batches, others, lead batches others led))
+stops_when action s end failure Led Then lead Clean More on given old new it = it
 
-done_when : (task : Task) (s : State) (end : Stand) (Led Then : Leads) → ((batches others : List Batch) → Led batches others → Then batches others) → (Shown Less : Type 0) → (Shown → Less) → (given : Given) (old new : Option (List ℕ)) (status : ℕ)
-    → Done task s end Led Shown given old new status → Done task s end Then Less given old new status
-done_when (Init file) s end Led Then lead Shown Less on given old new status it = it
-done_when (Apply file texts) s end Led Then lead Shown Less on given old new status (count, lost, run, is, led) = (count, lost, run, is, lead _ _ led)
-done_when (Ask file texts) s end Led Then lead Shown Less on given old new status it = it
-done_when (Dump file) s end Led Then lead Shown Less on given old new status it = it
-done_when (Load file dump) s end Led Then lead Shown Less on given old new status it = it
-done_when (Check file) s end Led Then lead Shown Less on given old new status (e, shown, written, zero) = (e, on shown, written, zero)
-done_when (Serve file port count) s end Led Then lead Shown Less on given old new status (serving, (batches, others, led)) = (serving, (batches, others, lead batches others led))
+done_when : (action : Action) (s : State) (end : Stand) (Led Then : Leads) → ((batches others : List Batch) → Led batches others → Then batches others) → (Shown Less : Type 0) → (Shown → Less) → (given : Given) (old new : Option (List ℕ)) (status : ℕ)
+    → Done action s end Led Shown given old new status → Done action s end Then Less given old new status
+done_when (Apply texts) s end Led Then lead Shown Less on given old new status (count, lost, run, is, led) = (count, lost, run, is, lead _ _ led)
+done_when Check s end Led Then lead Shown Less on given old new status (e, shown, written, zero) = (e, on shown, written, zero)
+done_when (Serve service) s end Led Then lead Shown Less on given old new status (serving, (batches, others, led)) = (serving, (batches, others, lead batches others led))
+done_when action s end Led Then lead Shown Less on given old new status it = it
 
 -- what is known if less is known of the disk, and nothing of what a check found
 pub runs_when : (task : Task) (s : State) (given : Given) (old new : Option (List ℕ)) (status : ℕ) (Clean More : Type 0) (Crash Then : Stand → Type 0) (Led Lead : Leads) (Shown : Type 0) → (More → Clean) → ((end : Stand) → More → Crash end → Then end)
@@ -124,11 +104,11 @@ runs_when task s given old new status Clean More Crash Then Led Lead Shown on le
       still = λ reads. lead [] [] (it.still reads);
       crash = λ more. leaves it.end more (it.crash (on more));
       writes = elim it.writes [
-        | inl done ↦ inl (done_when task s it.end (λ batches others. Clean → Led batches others) (λ batches others. More → Lead batches others) lead Shown ⊤ (λ _. tt) given old new status done)
+        | inl done ↦ inl (done_when task.action s it.end (λ batches others. Clean → Led batches others) (λ batches others. More → Lead batches others) lead Shown ⊤ (λ _. tt) given old new status done)
         | inr stops ↦ inr (
           stops.0,
           stops.1,
-          stops_when task s it.end stops.0 (λ batches others. Clean → Led batches others) (λ batches others. More → Lead batches others) lead Clean More on given old stops.1 stops.2,
+          stops_when task.action s it.end stops.0 (λ batches others. Clean → Led batches others) (λ batches others. More → Lead batches others) lead Clean More on given old stops.1 stops.2,
           stops.3,
         )
       ];
@@ -144,7 +124,7 @@ unled task s given old new status Clean Crash Led Shown it =
     runs_when task s given old new status Clean Clean Crash Crash Led (λ _ _. ⊤) Shown (λ clean. clean) (λ end clean crash. crash) (λ batches others clean led. tt) it
 
 pub as_before : (old new : Database) (s : State) → ShowsState old s → Survives old new (Adopts old) → HasCleanDisk new → LeavesAsBefore s old new
-as_before old new s shown it clean trees may = elim (it.crash clean trees may) [ inl before ↦ inl before | inr adopts ↦ inr (adopts.1 s shown) ]
+as_before old new s shown it clean trees may = elim (it.crash clean trees may) [ inl before ↦ inl before | inr adopts ↦ inr (adopts.3 s shown) ]
 
 -- any fault of opening is a refusal
 each_refusal : (fault : StoreFault) → MayRefuse (store_failure fault)

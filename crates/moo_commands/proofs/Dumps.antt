@@ -1,16 +1,10 @@
 -- Why a dump gives no world.
-use Rattle.std.proofs.Common.{◌≡◌, ◌≢◌, ◌<◌, ◌≤◌, ℕ, List, length, Option, Some, None, IfSome, refl, sym, subst, ◌∙◌, arith}
-use Rattle.moo_world.specs.Judge.{State}
+use Rattle.moo_commands.proofs.Words.{◌≡◌, ◌≢◌, ◌<◌, ◌≤◌, ℕ, List, length, Option, Some, None, IfSome, refl, sym, subst, ◌∙◌, arith, State, IsHeld, read_failure, load_failure, RefusesDump, Failure, NoBatches}
 use Rattle.moo_dump.specs.Dump.{dump as dump_of}
-use Rattle.moo_load.specs.OneState.{IsHeld}
-use Rattle.moo_load.specs.declared.input.ReadFault.{ReadFault}
-use Rattle.moo_load.specs.declared.input.ReadFault.TheVariants as read_fault
+use Rattle.moo_load.specs.declared.input.InputFault.{InputFault}
+use Rattle.moo_load.specs.declared.input.InputFault.TheVariants as read_fault
 use Rattle.moo_load.specs.declared.fault.LoadFault.{LoadFault}
 use Rattle.moo_load.specs.declared.fault.LoadFault.TheVariants as load_fault
-use Rattle.moo_commands.specs.Lines.{read_failure, load_failure}
-use Rattle.moo_commands.specs.Run.{RefusesDump}
-use Rattle.moo_commands.specs.declared.failure.Failure.{Failure}
-use Rattle.moo_commands.specs.declared.failure.Failure.TheVariants.{NoBatches}
 
 -- what is said of any text
 of_any : (text : Option (List ℕ)) (P : List ℕ → Type 0) → ((bytes : List ℕ) → P bytes) → IfSome text P
@@ -24,7 +18,7 @@ pub no_file : (text : Option (List ℕ)) → RefusesDump text NoBatches
 no_file text = (tt, of_any text _ (λ bytes s held same short. tt))
 
 -- its text can't be read
-pub unread : (text : Option (List ℕ)) (fault : ReadFault) (failure : Failure) → failure ≡ read_failure fault → (fault ≡ read_fault.TooLong → IfSome text (λ bytes. 1073741824 < length bytes)) → RefusesDump text failure
+pub unread : (text : Option (List ℕ)) (fault : InputFault) (failure : Failure) → failure ≡ read_failure fault → (fault ≡ read_fault.TooLong → IfSome text (λ bytes. 1073741824 < length bytes)) → RefusesDump text failure
 unread text read_fault.Read failure is long = subst (RefusesDump text) (sym is) (tt, of_any text _ (λ bytes s held same short. tt))
 unread text read_fault.OutOfMemory failure is long = subst (RefusesDump text) (sym is) (tt, of_any text _ (λ bytes s held same short. tt))
 unread None read_fault.TooLong failure is long = subst (RefusesDump None) (sym is) (tt, tt)

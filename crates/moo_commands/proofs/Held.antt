@@ -1,26 +1,11 @@
 -- The rows that files hold, and the run of a task from them.
-use Rattle.std.proofs.Common.{◌≡◌, ℕ, List, Option, refl, sym, subst}
-use Rattle.std.specs.Bool.{⊤}
-use Rattle.sqlite_disk.specs.declared.Disk.{Ghosts}
+use Rattle.moo_commands.proofs.Words.{◌≡◌, ℕ, List, Option, refl, sym, subst, ⊤, Ghosts, Image, HasCleanDisk, Held, file_state, Maps, IsGood, state_of, LeavesLed, CrashLeaves, Task, Given, RunsFrom, HoldsRows, RunsRows}
 use Rattle.sqlite_store.specs.declared.store.FileStore.{FileStore}
-use Rattle.sqlite_wal.specs.Recovery.{Image}
-use Rattle.sqlite.specs.State.{HasCleanDisk}
-use Rattle.sqlite.specs.Held.{Held}
-use Rattle.sqlite.specs.Files.{file_state}
-use Rattle.moo_rows.specs.Maps.{Maps}
-use Rattle.moo_world.specs.Rows.{IsGood}
-use Rattle.moo_world.specs.Judge.{state_of}
 use Rattle.moo_tables.specs.Tables.{Tables}
 use Rattle.moo_cells.specs.Shows.{ShowsRows}
 use Rattle.moo_cells.proofs.CellsLemmas.{one_good}
 use Rattle.moo_cells.proofs.GoodRows.{good_within}
-use Rattle.moo_store.specs.Led.{LeavesLed}
-use Rattle.moo_store.specs.World.{CrashLeaves}
 use Rattle.moo_files.specs.Contents.{HoldsTables, HoldsState}
-use Rattle.moo_words.specs.declared.task.Task.{Task}
-use Rattle.moo_commands.specs.Given.{Given}
-use Rattle.moo_commands.specs.Run.{RunsFrom}
-use Rattle.moo_commands.specs.Ends.{HoldsRows, RunsRows}
 
 -- files that hold rows hold their tables and their state
 pub rows_tables : (image : Image) (rows : Maps) (it : HoldsRows image rows) → HoldsTables image it.1.such.tables

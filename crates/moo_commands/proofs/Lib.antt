@@ -1,3 +1,4 @@
+pub mod Words
 mod AgainLemmas
 mod Beginning
 mod Connections
@@ -5,5 +6,5 @@ mod Dumps
 mod Held
 mod Refusals
 mod Reporting
-mod Service
+mod Stopped
 mod Tasks

@@ -1,18 +1,9 @@
 -- What is reported of a file that is refused.
-use Rattle.std.proofs.Common.{inl, inr, ℕ, List, Option, refl, sym, subst}
-use Rattle.sqlite_disk.specs.declared.Disk.{Ghosts}
-use Rattle.sqlite_wal.specs.Recovery.{Image}
-use Rattle.moo_world.specs.Judge.{state_of}
+use Rattle.moo_commands.proofs.Words.{inl, inr, ℕ, List, Option, refl, sym, subst, Ghosts, Image, state_of, Task, Reports, Tells, store_failure, Given, RunsTask, FailsAtOnce, RefusesFile, RunsFile, Failure}
 use Rattle.moo_store.specs.Opening.{IsOfStore}
 use Rattle.moo_store.specs.declared.fault.StoreFault.{StoreFault}
-use Rattle.moo_words.specs.declared.task.Task.{Task}
-use Rattle.moo_commands.specs.Lines.{Reports, Tells, store_failure}
-use Rattle.moo_commands.specs.Given.{Given}
-use Rattle.moo_commands.specs.Run.{RunsTask, FailsAtOnce, RefusesFile}
-use Rattle.moo_commands.specs.Ends.{RunsFile}
 use Rattle.moo_commands.specs.declared.ends.Ends.{Ends}
 use Rattle.moo_commands.specs.declared.ends.Ends.TheVariants as variant
-use Rattle.moo_commands.specs.declared.failure.Failure.{Failure}
 use Rattle.moo_commands.proofs.Connections.{of_opening, of_refusal, unseen}
 
 module _ (fault : StoreFault) where
@@ -31,6 +22,6 @@ module _ (fault : StoreFault) where
 module _ {T D : Type 0} {g : Ghosts D} (task : Task) (image : Image) where
   -- what a run over a file writes, whatever the file holds
   pub runs_task : (end : Ends T D g) (given : Given) (old new : Option (List ℕ)) (status : ℕ) → RunsFile task image end given old new status → RunsTask task given old new status
-  runs_task (variant.Ran conn) given old new status it = record { anew = λ anew. let run = it.anew anew in inr (state_of run.0, run.2, unseen _ _ _ _ _ _ _ _ _ _ run.3); opened = λ other. inr (it.opened other) }
+  runs_task (variant.Ran conn) given old new status it = record { anew = λ anew. let run = it.anew anew in inr (state_of run.0, run.1.world, unseen _ _ _ _ _ _ _ _ _ _ run.2); opened = λ other. inr (it.opened other) }
   runs_task (variant.Refused remains) given old new status it = record { anew = λ anew. inl (it.rests, it.anew anew); opened = λ other. inl (it.rests, it.opened other) }
   runs_task (variant.NoFile start) given old new status it = record { anew = λ anew. absurd (it.anew anew); opened = λ other. absurd (it.opened other) }

@@ -1,8 +1,5 @@
 -- How a failure is reported.
-use Rattle.std.proofs.Common.{◌≡◌, ◌⊎◌, inl, inr, ℕ, List, Option, Result, Ok, Err, IfOk, subst₂}
-use Rattle.std.specs.Prelude.{MatchResult}
-use Rattle.moo_commands.specs.Lines.{WritesLine, word_of, status_of}
-use Rattle.moo_commands.specs.declared.failure.Failure.TheVariants.{NoMemory}
+use Rattle.moo_commands.proofs.Words.{◌≡◌, ◌⊎◌, inl, inr, ℕ, List, Option, Result, Ok, Err, IfOk, subst₂, MatchResult, WritesLine, word_of, status_of, NoMemory}
 
 -- a line that was made is written, or that memory ran out
 pub writes_made : {A E : Type 0} (made : Result A E) (bytes : A → List ℕ) (line : List ℕ) (known wanted : ℕ) (old new : Option (List ℕ)) (status : ℕ)

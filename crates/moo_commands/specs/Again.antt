@@ -1,4 +1,4 @@
--- What words come to over a file, and the next words over what a crash left of it.
+-- What words do to a file, and the next words to what a crash left of it.
 use Rattle.std.specs.Prelude.{◌≡◌, ◌<◌, ◌⊎◌, ℕ, ◌≤◌, true, false, List, ◌++◌, take, Option, length, ⊤}
 use Rattle.sqlite_disk.specs.declared.Disk.{Ghosts}
 use Rattle.sqlite_store.specs.declared.store.FileStore.{FileStore}
@@ -12,19 +12,19 @@ use Rattle.sqlite.specs.Files.{file_state, image_of}
 use Rattle.sqlite.specs.declared.file.Leftover.TheVariants as left
 use Rattle.moo_rows.specs.Maps.{Maps}
 use Rattle.moo_world.specs.declared.call.Batch.{Batch}
-use Rattle.moo_world.specs.Rows.{IsGood}
 use Rattle.moo_world.specs.Judge.{State, state_of}
 use Rattle.moo_store.specs.Stand.{MayLeave}
 use Rattle.moo_store.specs.Led.{BatchesLead}
 use Rattle.moo_store.specs.World.{CrashLeaves}
 use Rattle.moo_files.specs.Contents.{HoldsSuch, HoldsState, HasNoSums, IsLeftBy}
 use Rattle.moo_files.specs.Remains.{IsCleanRemains}
+use Rattle.moo_files.specs.Stop.{DiskLeaves}
 use Rattle.moo_files.specs.declared.remains.Remains.{Remains}
 use Rattle.moo_files.specs.declared.remains.Remains.TheVariants as remains
 use Rattle.moo_words.specs.declared.task.Task.{Task}
 use Rattle.moo_words.specs.Tasks.{NamesTask, mistakes}
 use Rattle.moo_commands.specs.Given.{Given}
-use Rattle.moo_commands.specs.Run.{begins_anew, BeginsWith, RunsFrom, FailsAtOnce, EndsUsage}
+use Rattle.moo_commands.specs.Run.{begins_anew, BeginsWith, BeginsFrom, RunsFrom, FailsAtOnce, EndsUsage}
 use Rattle.moo_commands.specs.Ends.{MatchFile, HasNoFile, HoldsRows, RunsRows, RunsOver, IsClosedEnd}
 use Rattle.moo_commands.specs.declared.ends.Ends.{Ends}
 use Rattle.moo_commands.specs.declared.ends.Ends.TheVariants as variant
@@ -33,13 +33,13 @@ use Rattle.moo_commands.specs.declared.ends.Ends.TheVariants as variant
 abbrev pub Started : Task → Image → Given → (State → Type 0) → Type 0
 Started task image given From =
     (begins_anew task ≡ false → (s : State) → HoldsState image s → From s)
-    × (begins_anew task ≡ true → (s : State) × BeginsWith task given s × From s)
+    × (begins_anew task ≡ true → (s : State) × BeginsWith task.action given s × From s)
 
 -- the same of rows: those that the tables of its file show, or those of the new world that it begins with
 abbrev pub StartedRows : Task → Image → Given → (Maps → Type 0) → Type 0
 StartedRows task image given From =
     (begins_anew task ≡ false → (rows : Maps) → HoldsRows image rows → From rows)
-    × (begins_anew task ≡ true → (rows : Maps) × IsGood rows × BeginsWith task given (state_of rows) × From rows)
+    × (begins_anew task ≡ true → (rows : Maps) × BeginsFrom task.action given rows × From rows)
 
 -- these batches lead from rows to those, or these and one of the others
 abbrev pub LeadTo : Maps → Maps → List Batch → List Batch → Type 0
@@ -69,7 +69,7 @@ module _ {T D : Type 0} {g : Ghosts D} where
       ⊎ ((1 < length words) × HasNoFile ends)
 
   -- This is true of the connection, if a task ran over the file. Otherwise that is true of what is left of the file, which is untouched
-  -- if the words have none: they have a mistake, or run on `:memory:`.
+  -- if the words name none: they have a mistake, or run on `:memory:`.
   abbrev pub IfRan : Ends T D g → (Held (FileStore D g) → Type 0) → (Remains T D g → Type 0) → Type 0
   IfRan (variant.Ran conn) Ran Left = Ran conn
   IfRan (variant.Refused rest) Ran Left = Left rest
@@ -125,3 +125,19 @@ module _ {T D : Type 0} {g : Ghosts D} where
       RunsFrom task (state_of rows) given old new status (HasCleanDisk (file_state conn)) (CrashLeaves (file_state conn))
       (λ batches others. IsFoundIn closed next → (end : Maps) × LeadTo rows end batches others × HoldsRows next end × Next end) ⊤))
       (λ remains. IsCleanRemains closed → (rows : Maps) → HoldsRows image rows → IsLeftAfter image closed next → HoldsRows next rows × Next rows)
+
+  -- As `CrashesTo`, from the bytes on the disk: if a task ran over the file, the process stopped before it was closed, and the next image
+  -- is any that the disk may then leave of the bytes of the two files.
+  abbrev pub StopsTo : List (List ℕ) → Image → Remains T D g → Given → Option (List ℕ) → Option (List ℕ) → ℕ → Image → (State → Type 0) → Type 0
+  StopsTo words image closed given old new status next Next = (ends : Ends T D g) × RunsOver words image ends given old new status × IsClosedEnd ends closed × IfRan ends
+      (λ conn. IsCleanRemains closed → (task : Task) × NamesTask words task × Started task image given (λ s.
+      (run : RanFrom task s conn given old new status) × (DiskLeaves conn next → (t : State) × MayLeave run.end t × HoldsState next t × Next t)))
+      (λ remains. IsCleanRemains closed → (s : State) → HoldsState image s → IsLeftAfter image remains next → HoldsState next s × Next s)
+
+  -- As `LeadsOn`, from the bytes on the disk.
+  abbrev pub StopsOn : List (List ℕ) → Image → Remains T D g → Given → Option (List ℕ) → Option (List ℕ) → ℕ → Image → (Maps → Type 0) → Type 0
+  StopsOn words image closed given old new status next Next = (ends : Ends T D g) × RunsOver words image ends given old new status × IsClosedEnd ends closed × IfRan ends
+      (λ conn. IsCleanRemains closed → (task : Task) × NamesTask words task × StartedRows task image given (λ rows.
+      RunsFrom task (state_of rows) given old new status (HasCleanDisk (file_state conn)) (CrashLeaves (file_state conn))
+      (λ batches others. DiskLeaves conn next → (end : Maps) × LeadTo rows end batches others × HoldsRows next end × Next end) ⊤))
+      (λ remains. IsCleanRemains closed → (rows : Maps) → HoldsRows image rows → IsLeftAfter image remains next → HoldsRows next rows × Next rows)

@@ -1,4 +1,4 @@
--- What a run over a file comes to, by what the file holds.
+-- The outcome of a run over a file, by what the file holds.
 use Rattle.std.specs.Prelude.{IsTrue, ◌≡◌, ◌<◌, ◌⊎◌, ℕ, true, false, List, Option, length, codes, ⊤}
 use Rattle.std.specs.Str.{bytes_eq}
 use Rattle.sqlite_disk.specs.declared.Disk.{Ghosts}
@@ -28,7 +28,7 @@ use Rattle.moo_words.specs.declared.task.Task.{Task}
 use Rattle.moo_words.specs.Tasks.{NamesTask, NamesAlone, mistakes}
 use Rattle.moo_commands.specs.Lines.{Reports, store_failure}
 use Rattle.moo_commands.specs.Given.{Given}
-use Rattle.moo_commands.specs.Run.{file_of, begins_anew, only_reads, is_load, dump_word, RefusesDump, BeginsWith, FailsToBegin, RunsFrom, RunsUnseen, RunsTask, FailsAtOnce, RefusesFile, EndsUsage}
+use Rattle.moo_commands.specs.Run.{begins_anew, only_reads, is_load, dump_word, RefusesDump, BeginsWith, BeginsFrom, FailsToBegin, RunsFrom, RunsUnseen, RunsTask, FailsAtOnce, RefusesFile, EndsUsage}
 use Rattle.moo_commands.specs.declared.failure.Failure.{Failure}
 use Rattle.moo_commands.specs.declared.ends.Ends.{Ends}
 use Rattle.moo_commands.specs.declared.ends.Ends.TheVariants as variant
@@ -64,7 +64,7 @@ module _ {T D : Type 0} {g : Ghosts D} where
   pub record RunsFile (task : Task) (image : Image) (ends : Ends T D g) (given : Given) (old new : Option (List ℕ)) (status : ℕ) : Type 0 where
     -- a task that begins with a new world runs from that, or it can't be made
     pub anew : begins_anew task ≡ true → MatchFile ends
-        (λ conn. (rows : Maps) × IsGood rows × BeginsWith task given (state_of rows) × RunsRows task rows conn given old new status)
+        (λ conn. (rows : Maps) × BeginsFrom task.action given rows × RunsRows task rows conn given old new status)
         (λ remains. FailsToBegin task given old new status)
     -- and never over another world
     pub taken : (s : State) → begins_anew task ≡ true → HoldsState image s → MatchFile ends (λ conn. HasCleanDisk (file_state conn) → ⊥) (λ remains. ⊤)
@@ -93,7 +93,7 @@ module _ {T D : Type 0} {g : Ghosts D} where
     pub room : begins_anew task ≡ true → MatchFile ends (λ conn. HasCleanDisk (file_state conn) → HoldsNoTable image) (λ remains. ⊤)
     pub occupied : (trees : Trees) → begins_anew task ≡ true → HoldsTrees image trees → HasAnyTable trees → MatchFile ends (λ conn. HasCleanDisk (file_state conn) → ⊥) (λ remains. ⊤)
     -- After a task that only reads, a crash leaves the database that the file held, each cell as it was; or what that was migrated to.
-    pub still : (trees : Trees) → begins_anew task ≡ false → only_reads task ≡ true → HoldsTrees image trees → MatchFile ends
+    pub still : (trees : Trees) → begins_anew task ≡ false → only_reads task.action ≡ true → HoldsTrees image trees → MatchFile ends
         (λ conn. HasCleanDisk (file_state conn) → (found : Trees) → (file_state conn).may_leave found → IsKept trees found)
         (λ remains. ⊤)
     -- whatever the file holds, it is refused, or the task runs from a well formed world
@@ -103,31 +103,31 @@ module _ {T D : Type 0} {g : Ghosts D} where
     -- a file that is refused holds its state still, and so does what a crash leaves of it
     pub left : (s : State) → HoldsState image s → MatchFile ends (λ conn. ⊤) (λ remains. IsCleanRemains remains → StillHolds image remains s)
     -- And if it held no state: the database is kept, damaged or of other tables as it is, or migrated. No new world is put in its place,
-    -- but into a database without tables, and there one that is whole or none.
+    -- but into a database without tables, and then whole or not at all.
     pub trees : (trees : Trees) → begins_anew task ≡ false → HoldsTrees image trees → MatchFile ends (λ conn. ⊤) (λ remains. IsCleanRemains remains → StillHoldsTrees image remains trees)
     pub spared : (trees : Trees) → begins_anew task ≡ true → HoldsTrees image trees → HasAnyTable trees → MatchFile ends (λ conn. ⊤) (λ remains. IsCleanRemains remains → KeepsSuch (λ found. found ≡ trees) image remains)
     pub unmade : (trees : Trees) → begins_anew task ≡ true → HoldsTrees image trees → MatchFile ends (λ conn. ⊤)
-        (λ remains. IsCleanRemains remains → KeepsSuch (λ found. (found ≡ trees) ⊎ ((s : State) × BeginsWith task given s × LeavesState found s)) image remains)
+        (λ remains. IsCleanRemains remains → KeepsSuch (λ found. (found ≡ trees) ⊎ ((s : State) × BeginsWith task.action given s × LeavesState found s)) image remains)
     -- files that are refused are spared, sound or not
     pub spares : ¬ IsNothing image → (begins_anew task ≡ true → ¬ IsBlank image) → MatchFile ends (λ conn. ⊤) (λ remains. IsCleanRemains remains → Spares image remains)
     -- Of files that held nothing, or half a first page, a new world that can't be made leaves no more than they held, a database without
     -- rows, or that world, whole.
     pub fresh : begins_anew task ≡ true → IsNothing image → MatchFile ends (λ conn. ⊤)
-        (λ remains. IsCleanRemains remains → KeepsNothingBut (λ found. (s : State) × BeginsWith task given s × LeavesState found s) image remains)
+        (λ remains. IsCleanRemains remains → KeepsNothingBut (λ found. (s : State) × BeginsWith task.action given s × LeavesState found s) image remains)
     pub begun : begins_anew task ≡ true → IsBlank image → MatchFile ends (λ conn. ⊤)
-        (λ remains. IsCleanRemains remains → KeepsNothingBut (λ found. (s : State) × BeginsWith task given s × LeavesState found s) image remains)
+        (λ remains. IsCleanRemains remains → KeepsNothingBut (λ found. (s : State) × BeginsWith task.action given s × LeavesState found s) image remains)
     pub blank : begins_anew task ≡ false → IsNothing image → MatchFile ends (λ conn. ⊤) (λ remains. IsCleanRemains remains → KeepsNothingBut (λ _. ⊥) image remains)
     -- if no world was opened or made, nothing is asked of the ports
     pub rests : MatchFile ends (λ conn. ⊤) (λ remains. given.ports.rests)
     -- if no file was opened, the line tells why; or the start is unspent, and the line tells why a dump gives no world
-    pub told : MatchFile ends (λ conn. ⊤) (λ remains. ((fault : StoreFault) × MayStopAs fault remains × Reports (store_failure fault) old new status) ⊎ (IsTrue (is_load task) × IsUntouched remains × (failure : Failure) × RefusesDump (given.text (dump_word task)) failure × Reports failure old new status))
+    pub told : MatchFile ends (λ conn. ⊤) (λ remains. ((fault : StoreFault) × MayStopAs fault remains × Reports (store_failure fault) old new status) ⊎ (IsTrue (is_load task.action) × IsUntouched remains × (failure : Failure) × RefusesDump (given.text (dump_word task.action)) failure × Reports failure old new status))
 
   -- a task on a file runs over it, and one on `:memory:` over none, whatever file there is
   pub record EndsWith (task : Task) (image : Image) (ends : Ends T D g) (given : Given) (old new : Option (List ℕ)) (status : ℕ) : Type 0 where
-    pub file : bytes_eq (file_of task) (codes ":memory:") ≡ false → RunsFile task image ends given old new status
-    pub memory : bytes_eq (file_of task) (codes ":memory:") ≡ true → HasNoFile ends
+    pub file : bytes_eq task.file.now (codes ":memory:") ≡ false → RunsFile task image ends given old new status
+    pub memory : bytes_eq task.file.now (codes ":memory:") ≡ true → HasNoFile ends
 
-  -- what the words come to if their file held this image
+  -- the outcome of the words if their file held this image
   abbrev pub RunsOver : List (List ℕ) → Image → Ends T D g → Given → Option (List ℕ) → Option (List ℕ) → ℕ → Type 0
   RunsOver words image ends given old new status =
       ((task : Task) × NamesTask words task × NamesAlone words task × RunsTask task given old new status × EndsWith task image ends given old new status)

@@ -15,8 +15,8 @@ use Rattle.moo_store.specs.declared.dumping.DumpFault.{DumpFault}
 use Rattle.moo_store.specs.declared.dumping.DumpFault.TheVariants as dump_fault
 use Rattle.moo_http.specs.declared.service.ServiceFault.{ServiceFault}
 use Rattle.moo_http.specs.declared.service.ServiceFault.TheVariants as service_fault
-use Rattle.moo_load.specs.declared.input.ReadFault.{ReadFault}
-use Rattle.moo_load.specs.declared.input.ReadFault.TheVariants as read_fault
+use Rattle.moo_load.specs.declared.input.InputFault.{InputFault}
+use Rattle.moo_load.specs.declared.input.InputFault.TheVariants as read_fault
 use Rattle.moo_load.specs.declared.fault.LoadFault.{LoadFault}
 use Rattle.moo_load.specs.declared.fault.LoadFault.TheVariants as load_fault
 use Rattle.moo_commands.specs.declared.failure.Failure.{Failure}
@@ -88,7 +88,7 @@ service_failure service_fault.Port = Port
 service_failure service_fault.Write = Write
 service_failure service_fault.OutOfMemory = NoMemory
 
-abbrev pub read_failure : ReadFault → Failure
+abbrev pub read_failure : InputFault → Failure
 read_failure read_fault.Read = Read
 read_failure read_fault.TooLong = TooLong
 read_failure read_fault.OutOfMemory = NoMemory

@@ -1,5 +1,5 @@
 -- What a run of the program writes, the status that it ends with, and what a crash then leaves.
-use Rattle.std.specs.Prelude.{◌≡◌, ◌<◌, ◌≤◌, ◌⊎◌, ◌==◌, ℕ, Bool, true, List, [], take, length, Option, Some, None, ◌++◌, IfSome, codes, if◌then◌else◌, ⊤, IsTrue, false}
+use Rattle.std.specs.Prelude.{◌≡◌, ◌<◌, ◌≤◌, ◌⊎◌, ◌==◌, ◌||◌, ℕ, Bool, true, List, [], take, length, Option, Some, None, ◌++◌, IfSome, codes, if◌then◌else◌, ⊤, IsTrue, false}
 use Rattle.std.specs.Str.{bytes_eq}
 use Rattle.std.specs.Io.KnownBytes.{Appends}
 use Rattle.clap.specs.Kinds.{Kinds, IsAmong}
@@ -21,6 +21,7 @@ use Rattle.moo_text.specs.Items.{items}
 use Rattle.moo_text.specs.declared.fault.TextFault.{TextFault}
 use Rattle.moo_dump.specs.Dump.{dump as dump_of}
 use Rattle.moo_load.specs.OneState.{IsHeld}
+use Rattle.moo_load.specs.RowsOf.{AreRowsOf}
 use Rattle.moo_store.specs.declared.fault.StoreFault.{StoreFault}
 use Rattle.moo_store.specs.Stand.{Stand, Works, RunsBatch, AsksBatch}
 use Rattle.moo_store.specs.Turns.{Completes, Halts}
@@ -31,66 +32,37 @@ use Rattle.moo_store.specs.States.{LeavesState}
 use Rattle.moo_store.specs.Kept.{World}
 use Rattle.moo_store.specs.World.{store_of, CrashLeaves}
 use Rattle.moo_words.specs.declared.task.Task.{Task}
+use Rattle.moo_words.specs.declared.task.Action.{Action}
+use Rattle.moo_words.specs.declared.task.Action.TheVariants.{Init, Apply, Ask, Dump, Load, Check, Serve}
 use Rattle.moo_http.specs.Lines.{listening_line}
 use Rattle.moo_http.specs.Turns.{Attendance, SaysAttended}
 use Rattle.moo_commands.specs.Given.{Given}
-use Rattle.moo_words.specs.declared.task.Task.TheVariants.{Init, Apply, Ask, Dump, Load, Check, Serve}
-use Rattle.moo_words.specs.Tasks.{NamesTask, NamesAlone, mistakes}
+use Rattle.moo_words.specs.Tasks.{NamesTask, NamesAlone, text_word, mistakes}
 use Rattle.moo_commands.specs.Lines.{Reports, WritesLine, text_failure, store_failure, created_line, loaded_line, checked_line}
 use Rattle.moo_commands.specs.declared.failure.Failure.{Failure}
 use Rattle.moo_commands.specs.declared.failure.Failure.TheVariants.{Usage, NoFile, Store, Damaged, NewerVersion, NotADump, NoBatches, Read, TooLong, Write, Port, NoMemory}
 
 -- ---- tasks
 
--- the file of a task
-abbrev pub file_of : Task → List ℕ
-file_of (Init file) = file.now
-file_of (Apply file batches) = file.now
-file_of (Ask file batches) = file.now
-file_of (Dump file) = file.now
-file_of (Load file dump) = file.now
-file_of (Check file) = file.now
-file_of (Serve file port count) = file.now
+-- `init` and `load` make the world of their file
+abbrev pub makes_world : Action → Bool
+makes_world Init = true
+makes_world (Load dump) = true
+makes_world action = false
 
 -- the task begins with a new world: `init`, `load`, and each task on `:memory:`
 abbrev pub begins_anew : Task → Bool
-begins_anew (Init file) = true
-begins_anew (Apply file batches) = bytes_eq file.now (codes ":memory:")
-begins_anew (Ask file batches) = bytes_eq file.now (codes ":memory:")
-begins_anew (Dump file) = bytes_eq file.now (codes ":memory:")
-begins_anew (Load file dump) = true
-begins_anew (Check file) = bytes_eq file.now (codes ":memory:")
-begins_anew (Serve file port count) = bytes_eq file.now (codes ":memory:")
+begins_anew task = makes_world task.action || bytes_eq task.file.now (codes ":memory:")
 
--- the world that the task begins with is read from a dump
-abbrev pub is_load : Task → Bool
-is_load (Init file) = false
-is_load (Apply file batches) = false
-is_load (Ask file batches) = false
-is_load (Dump file) = false
-is_load (Load file dump) = true
-is_load (Check file) = false
-is_load (Serve file port count) = false
+-- the world that it makes is read from a dump
+abbrev pub is_load : Action → Bool
+is_load (Load dump) = true
+is_load action = false
 
 -- the word for that dump
-abbrev pub dump_word : Task → List ℕ
-dump_word (Init file) = []
-dump_word (Apply file batches) = []
-dump_word (Ask file batches) = []
-dump_word (Dump file) = []
-dump_word (Load file dump) = dump.now
-dump_word (Check file) = []
-dump_word (Serve file port count) = []
-
--- the word for the batches or the dump that a task reads
-abbrev pub text_word : Task → Option (List ℕ)
-text_word (Init file) = None
-text_word (Apply file batches) = Some batches.now
-text_word (Ask file batches) = Some batches.now
-text_word (Dump file) = None
-text_word (Load file dump) = Some dump.now
-text_word (Check file) = None
-text_word (Serve file port count) = None
+abbrev pub dump_word : Action → List ℕ
+dump_word (Load dump) = dump.now
+dump_word action = []
 
 -- the word names the input
 abbrev pub is_input : Option (List ℕ) → Bool
@@ -99,44 +71,47 @@ is_input (Some word) = bytes_eq word (codes "-")
 
 -- the task reads the input
 abbrev pub reads_input : Task → Bool
-reads_input task = is_input (text_word task)
+reads_input task = is_input (text_word task.action)
 
 -- the task reads the file of this path
 abbrev pub ReadsFile : Task → List ℕ → Type 0
-ReadsFile task path = (text_word task ≡ Some path) × (bytes_eq path (codes "-") ≡ false)
+ReadsFile task path = (text_word task.action ≡ Some path) × (bytes_eq path (codes "-") ≡ false)
 
 -- the input is as it was, unless the words name a task that reads it
 abbrev pub KeepsInput : {R : Type 0} → List (List ℕ) → R → R → Type 0
 KeepsInput words old new = ((task : Task) → NamesTask words task → reads_input task ≡ false) → new ≡ old
 
 -- Once its world is open or made, the task only reads it: all but `apply` and `serve`.
-abbrev pub only_reads : Task → Bool
-only_reads (Init file) = true
-only_reads (Apply file batches) = false
-only_reads (Ask file batches) = true
-only_reads (Dump file) = true
-only_reads (Load file dump) = true
-only_reads (Check file) = true
-only_reads (Serve file port count) = false
+abbrev pub only_reads : Action → Bool
+only_reads (Apply batches) = false
+only_reads (Serve service) = false
+only_reads action = true
 
 -- the task answers connections
-abbrev pub serves : Task → Bool
-serves (Init file) = false
-serves (Apply file batches) = false
-serves (Ask file batches) = false
-serves (Dump file) = false
-serves (Load file dump) = false
-serves (Check file) = false
-serves (Serve file port count) = true
+abbrev pub serves : Action → Bool
+serves (Serve service) = true
+serves action = false
 
 -- the dump of this state is the text, byte for byte, if it is known
 abbrev pub IsDumpedAs : Option (List ℕ) → State → Type 0
 IsDumpedAs text s = IfSome text (λ bytes. dump_of s ≡ bytes)
 
 -- The state of the new world that a task begins with: a well formed one that is dumped as the text of the dump, or the opening state.
-abbrev pub BeginsWith : Task → Given → State → Type 0
-BeginsWith (Load file dump) given s = IsDumpedAs (given.text dump.now) s × IsHeld s
-BeginsWith task given s = s ≡ state_of opening_maps
+abbrev pub BeginsWith : Action → Given → State → Type 0
+BeginsWith (Load dump) given s = IsDumpedAs (given.text dump.now) s × IsHeld s
+BeginsWith action given s = s ≡ state_of opening_maps
+
+-- The numbers in the rows of that world: properties and verbs are numbered from 1, in the order of the dump; or they are those of the
+-- opening world.
+abbrev pub BeginsNumbered : Action → Maps → Type 0
+BeginsNumbered (Load dump) rows = AreRowsOf (state_of rows) rows
+BeginsNumbered action rows = rows ≡ opening_maps
+
+-- the rows of the new world that a task begins with
+pub record BeginsFrom (action : Action) (given : Given) (rows : Maps) : Type 0 where
+  pub good : IsGood rows
+  pub world : BeginsWith action given (state_of rows)
+  pub numbers : BeginsNumbered action rows
 
 -- 1 if an answer is `fault` or `closed`
 abbrev pub lost_status : ℕ → ℕ
@@ -178,16 +153,16 @@ abbrev pub Serving : Attendance → ℕ → ℕ → State → Stand → Option (
 Serving ports port count s end old new status = (text : List ℕ) × SaysAttended ports port count (Works s) end text × Appends old new text × (status ≡ 0)
 
 -- The task is done. `Led` is true of the batches that it ran, and a check found the tables as `Shown` says.
-abbrev pub Done : Task → State → Stand → Leads → Type 0 → Given → Option (List ℕ) → Option (List ℕ) → ℕ → Type 0
-Done (Init file) s end Led Shown given old new status = (end ≡ Works s) × Appends old new created_line × (status ≡ 0)
-Done (Apply file batches) s end Led Shown given old new status = AppliesText Led s end (given.text batches.now) old new status
-Done (Ask file batches) s end Led Shown given old new status = (end ≡ Works s) × AsksText s (given.text batches.now) old new status
-Done (Dump file) s end Led Shown given old new status = (end ≡ Works s) × Appends old new (dump_of s) × (status ≡ 0)
-Done (Load file dump) s end Led Shown given old new status = (end ≡ Works s) × Appends old new (loaded_line s.seq (length (objects_of s.world))) × (status ≡ 0)
-Done (Check file) s end Led Shown given old new status =
+abbrev pub Done : Action → State → Stand → Leads → Type 0 → Given → Option (List ℕ) → Option (List ℕ) → ℕ → Type 0
+Done Init s end Led Shown given old new status = (end ≡ Works s) × Appends old new created_line × (status ≡ 0)
+Done (Apply batches) s end Led Shown given old new status = AppliesText Led s end (given.text batches.now) old new status
+Done (Ask batches) s end Led Shown given old new status = (end ≡ Works s) × AsksText s (given.text batches.now) old new status
+Done Dump s end Led Shown given old new status = (end ≡ Works s) × Appends old new (dump_of s) × (status ≡ 0)
+Done (Load dump) s end Led Shown given old new status = (end ≡ Works s) × Appends old new (loaded_line s.seq (length (objects_of s.world))) × (status ≡ 0)
+Done Check s end Led Shown given old new status =
     (end ≡ Works s) × Shown × Appends old new (checked_line s.seq (length (objects_of s.world))) × (status ≡ 0)
-Done (Serve file port count) s end Led Shown given old new status =
-    Serving given.ports port count s end old new status × ((batches others : List Batch) × Led batches others)
+Done (Serve service) s end Led Shown given old new status =
+    Serving given.ports service.port service.count s end old new status × ((batches others : List Batch) × Led batches others)
 
 -- a front of a text is written, since the writer failed or memory ran out
 abbrev pub StopsIn : List ℕ → Failure → Option (List ℕ) → Option (List ℕ) → Type 0
@@ -202,18 +177,18 @@ StopsServing ports port count s end failure old new =
     ⊎ ((text : List ℕ) × SaysAttended ports port count (Works s) end text × StopsIn text failure old new)
 
 -- It stops with this failure, and so much is written. On a clean disk no check of a World that stands for a state finds a damage.
-abbrev pub StopsTask : Task → State → Stand → Failure → Leads → Type 0 → Given → Option (List ℕ) → Option (List ℕ) → Type 0
-StopsTask (Init file) s end failure Led Clean given old new = (end ≡ Works s) × StopsIn created_line failure old new
-StopsTask (Apply file batches) s end failure Led Clean given old new = StopsApplying Led s end failure (given.text batches.now) old new
-StopsTask (Ask file batches) s end failure Led Clean given old new = (end ≡ Works s) × StopsAsking s failure (given.text batches.now) old new
-StopsTask (Dump file) s end failure Led Clean given old new = (end ≡ Works s) × StopsIn (dump_of s) failure old new
-StopsTask (Load file dump) s end failure Led Clean given old new = (end ≡ Works s) × StopsIn (loaded_line s.seq (length (objects_of s.world))) failure old new
-StopsTask (Check file) s end failure Led Clean given old new =
+abbrev pub StopsTask : Action → State → Stand → Failure → Leads → Type 0 → Given → Option (List ℕ) → Option (List ℕ) → Type 0
+StopsTask Init s end failure Led Clean given old new = (end ≡ Works s) × StopsIn created_line failure old new
+StopsTask (Apply batches) s end failure Led Clean given old new = StopsApplying Led s end failure (given.text batches.now) old new
+StopsTask (Ask batches) s end failure Led Clean given old new = (end ≡ Works s) × StopsAsking s failure (given.text batches.now) old new
+StopsTask Dump s end failure Led Clean given old new = (end ≡ Works s) × StopsIn (dump_of s) failure old new
+StopsTask (Load dump) s end failure Led Clean given old new = (end ≡ Works s) × StopsIn (loaded_line s.seq (length (objects_of s.world))) failure old new
+StopsTask Check s end failure Led Clean given old new =
     (end ≡ Works s)
     × (((fault : StoreFault) × (failure ≡ store_failure fault) × (Clean → IsOfStore fault) × (new ≡ old))
     ⊎ StopsIn (checked_line s.seq (length (objects_of s.world))) failure old new)
-StopsTask (Serve file port count) s end failure Led Clean given old new =
-    StopsServing given.ports port count s end failure old new × ((batches others : List Batch) × Led batches others)
+StopsTask (Serve service) s end failure Led Clean given old new =
+    StopsServing given.ports service.port service.count s end failure old new × ((batches others : List Batch) × Led batches others)
 
 -- a crash leaves nothing that it couldn't leave before
 abbrev pub LeavesNothingNew : Database → Database → Type 0
@@ -243,12 +218,12 @@ ShowsTables g world after = HasCleanDisk after → (tables : Tables) → Rests (
 pub record RunsFrom (task : Task) (s : State) (given : Given) (old new : Option (List ℕ)) (status : ℕ) (Clean : Type 0) (Crash : Stand → Type 0) (Led : Leads) (Shown : Type 0) : Type 0 where
   pub end : Stand
   pub crash : Clean → Crash end
-  pub still : only_reads task ≡ true → Clean → Led [] []
+  pub still : only_reads task.action ≡ true → Clean → Led [] []
   -- only a task that serves asks anything of the ports
-  pub rests : serves task ≡ false → given.ports.rests
+  pub rests : serves task.action ≡ false → given.ports.rests
   pub writes :
-      Done task s end (λ batches others. Clean → Led batches others) Shown given old new status
-      ⊎ ((failure : Failure) × (between : Option (List ℕ)) × StopsTask task s end failure (λ batches others. Clean → Led batches others) Clean given old between × Reports failure between new status)
+      Done task.action s end (λ batches others. Clean → Led batches others) Shown given old new status
+      ⊎ ((failure : Failure) × (between : Option (List ℕ)) × StopsTask task.action s end failure (λ batches others. Clean → Led batches others) Clean given old between × Reports failure between new status)
 
 -- the same, if nothing is known of the disk and the tables
 abbrev pub RunsUnseen : Task → State → Given → Option (List ℕ) → Option (List ℕ) → ℕ → Type 0
@@ -296,16 +271,16 @@ GivesNoText failure = ⊥
 abbrev pub RefusesDump : Option (List ℕ) → Failure → Type 0
 RefusesDump text failure = IsOfDump failure × IfSome text (λ bytes. (s : State) → IsHeld s → dump_of s ≡ bytes → length bytes ≤ 1073741824 → GivesNoText failure)
 
--- why a new world can't be made: as any, or the dump gives none
+-- why a new world can't be made: a failure of opening, or the dump gives no world
 abbrev pub MayNotBegin : Task → Given → Failure → Type 0
-MayNotBegin task given failure = IsOpening failure ⊎ (IsTrue (is_load task) × RefusesDump (given.text (dump_word task)) failure)
+MayNotBegin task given failure = IsOpening failure ⊎ (IsTrue (is_load task.action) × RefusesDump (given.text (dump_word task.action)) failure)
 
 abbrev pub FailsToBegin : Task → Given → Option (List ℕ) → Option (List ℕ) → ℕ → Type 0
 FailsToBegin task given old new status = (failure : Failure) × MayNotBegin task given failure × Reports failure old new status
 
 -- a new world can't be made, and nothing is asked of the ports; or the task runs from the one that it begins with
 abbrev pub RunsNew : Task → Given → Option (List ℕ) → Option (List ℕ) → ℕ → Type 0
-RunsNew task given old new status = (given.ports.rests × FailsToBegin task given old new status) ⊎ ((s : State) × BeginsWith task given s × RunsUnseen task s given old new status)
+RunsNew task given old new status = (given.ports.rests × FailsToBegin task given old new status) ⊎ ((s : State) × BeginsWith task.action given s × RunsUnseen task s given old new status)
 
 -- a crash leaves nothing that it couldn't leave before, but tables that show this state
 abbrev pub LeavesAsBefore : State → Database → Database → Type 0
@@ -318,7 +293,7 @@ mistake_status DisplayVersion = 0
 mistake_status mistake = 2
 
 -- The words have one of these mistakes, and what their reader says of it is written, with its status. Or a line of our own says that
--- memory ran out, or that they have none and yet name no task.
+-- memory ran out, or that they have no mistake and yet name no task.
 abbrev pub EndsUsage : Kinds → Option (List ℕ) → Option (List ℕ) → ℕ → Type 0
 EndsUsage found old new status =
     ((mistake : ErrorKind) × IsAmong mistake found × (text : List ℕ) × WritesLine text (mistake_status mistake) old new status)
@@ -335,7 +310,7 @@ RunsShown task tables given old new status =
     (given.ports.rests × (fault : StoreFault) × Says tables fault × Reports (store_failure fault) old new status)
     ⊎ ((rows : Maps) × IsGood rows × ShowsRows tables rows × RunsUnseen task (state_of rows) given old new status)
 
--- What a task comes to, whatever its file holds. If it begins with a new world, it runs from that, or it can't be made. Any
+-- The outcome of a task, whatever its file holds. If it begins with a new world, it runs from that, or it can't be made. Any
 -- other runs from the world that was found in its file, or the file is refused. (That it is the world which the file's tables
 -- show, `RunsFile` says.)
 pub record RunsTask (task : Task) (given : Given) (old new : Option (List ℕ)) (status : ℕ) : Type 0 where

@@ -25,7 +25,7 @@ use moo_dump::put_all;
 use moo_http::{Ports, serve_port};
 use moo_reasons::StandardNotes;
 use moo_store::{Tally, World, apply_text, ask_text};
-use moo_words::Task;
+use moo_words::{Action, Service, Task};
 use sqlite::Alter;
 use std::alloc::Global;
 use std::io::{Eprint, Read, Write};
@@ -38,8 +38,8 @@ fn status_after(tally: Tally) -> u8
     if tally.lost == 0 { 0 } else { 1 }
 }
 
-/// Runs the batches of a text, that of this path if it isn't the input's. Standard error says why a batch isn't accepted, and what to do if the
-/// store failed in one.
+/// Runs the batches of a text. The path is that of its file; the input has no path. Standard error says why a batch isn't accepted, and what
+/// to do if the store failed in one.
 fn run_text<C: Eprint, R: Read + Drop, W: Write, S: Alter + Drop>(
     alloc: Global,
     console: &C,
@@ -92,7 +92,8 @@ fn apply<H: BatchFiles, C: Eprint, R: Read + Drop, W: Write, S: Alter + Drop>(
     }
 }
 
-/// Says what the batches of a text would answer, that of this path if it isn't the input's. Standard error says why a batch isn't accepted.
+/// Says what the batches of a text would answer. The path is that of its file; the input has no path. Standard error says why a batch isn't
+/// accepted.
 fn ask_batches<C: Eprint, R: Read + Drop, W: Write, S: Alter + Drop>(
     alloc: Global,
     console: &C,
@@ -118,7 +119,7 @@ fn ask_batches<C: Eprint, R: Read + Drop, W: Write, S: Alter + Drop>(
     }
 }
 
-/// Says what the batches of a file, or of the input for `-`, would come to.
+/// Says what the batches of a file, or of the input for `-`, would answer.
 fn ask<H: BatchFiles, C: Eprint, R: Read + Drop, W: Write, S: Alter + Drop>(
     alloc: Global,
     console: &C,
@@ -220,13 +221,13 @@ fn serve<P: Ports, C: Clock + Eprint, W: Write, S: Alter + Drop>(
     console: &C,
     ports: &mut P,
     world: &mut World<S>,
-    port: u16,
-    count: u32,
+    service: Service,
     output: &mut W,
 ) -> Result<u8, Failure>
-    ensures done { (known : Bool) (s : State) → StandsFor S.Store known world.old s → IfOk result (λ status. EndsTask S.Store known world.old world.new (λ end. Serving (attended P.Ports P.Source.Arrivals P.Source.Reader.Read P.Source.Writer.Write ports.old ports.new) port count s end (W.contents output.old) (W.contents output.new) status × ((batches others : List Batch) × (MayLead S.Store known world.old world.new) batches others))) }
-    ensures stops { (known : Bool) (s : State) → StandsFor S.Store known world.old s → IfErr result (λ failure. EndsTask S.Store known world.old world.new (λ end. StopsServing (attended P.Ports P.Source.Arrivals P.Source.Reader.Read P.Source.Writer.Write ports.old ports.new) port count s end failure (W.contents output.old) (W.contents output.new) × ((batches others : List Batch) × (MayLead S.Store known world.old world.new) batches others))) }
+    ensures done { (known : Bool) (s : State) → StandsFor S.Store known world.old s → IfOk result (λ status. EndsTask S.Store known world.old world.new (λ end. Serving (attended P.Ports P.Source.Arrivals P.Source.Reader.Read P.Source.Writer.Write ports.old ports.new) service.port service.count s end (W.contents output.old) (W.contents output.new) status × ((batches others : List Batch) × (MayLead S.Store known world.old world.new) batches others))) }
+    ensures stops { (known : Bool) (s : State) → StandsFor S.Store known world.old s → IfErr result (λ failure. EndsTask S.Store known world.old world.new (λ end. StopsServing (attended P.Ports P.Source.Arrivals P.Source.Reader.Read P.Source.Writer.Write ports.old ports.new) service.port service.count s end failure (W.contents output.old) (W.contents output.new) × ((batches others : List Batch) × (MayLead S.Store known world.old world.new) batches others))) }
 {
+    let Service { port, count } = service;
     world.has_good_rows();
     match serve_port(alloc, console, ports, world, port, count, output) {
         Ok(()) => Ok(0),
@@ -252,24 +253,24 @@ pub(crate) fn do_task<
 ) -> Result<u8, Failure>
     requires read { (path : List ℕ) → ReadsFile task path → H.may_read host.old path }
     ensures done { (known : Bool) (s : State) → StandsFor S.Store known world.old s → IfOk result (λ status. EndsTask S.Store known world.old world.new (λ end.
-        Done task.entry s end (MayLead S.Store known world.old world.new) (ShowsTables S.Store world.old (store_of S.Store world.new)) (given_to R.Read H.BatchFiles H.Ports H.Source.Arrivals H.Source.Reader.Read H.Source.Writer.Write input.old host.old host.new) (W.contents output.old) (W.contents output.new) status)) }
+        Done task.entry.action s end (MayLead S.Store known world.old world.new) (ShowsTables S.Store world.old (store_of S.Store world.new)) (given_to R.Read H.BatchFiles H.Ports H.Source.Arrivals H.Source.Reader.Read H.Source.Writer.Write input.old host.old host.new) (W.contents output.old) (W.contents output.new) status)) }
     ensures stops { (known : Bool) (s : State) → StandsFor S.Store known world.old s → IfErr result (λ failure. EndsTask S.Store known world.old world.new (λ end.
-        StopsTask task.entry s end failure (MayLead S.Store known world.old world.new) (IsTrue known × HasCleanDisk (store_of S.Store world.new)) (given_to R.Read H.BatchFiles H.Ports H.Source.Arrivals H.Source.Reader.Read H.Source.Writer.Write input.old host.old host.new) (W.contents output.old) (W.contents output.new))) }
+        StopsTask task.entry.action s end failure (MayLead S.Store known world.old world.new) (IsTrue known × HasCleanDisk (store_of S.Store world.new)) (given_to R.Read H.BatchFiles H.Ports H.Source.Arrivals H.Source.Reader.Read H.Source.Writer.Write input.old host.old host.new) (W.contents output.old) (W.contents output.new))) }
     // Only a task that serves asks anything of the ports.
-    ensures rests { serves task.entry ≡ false → host.new ≡ host.old }
+    ensures rests { serves task.entry.action ≡ false → host.new ≡ host.old }
     // A task that only reads commits nothing.
-    ensures still { only_reads task.entry ≡ true → LeavesNothingNew (store_of S.Store world.old) (store_of S.Store world.new) }
+    ensures still { only_reads task.entry.action ≡ true → LeavesNothingNew (store_of S.Store world.old) (store_of S.Store world.new) }
     // Only a task whose text is `-` reads the input.
     ensures input { reads_input task.entry ≡ false → input.new ≡ input.old }
 {
     world.leaves();
-    match task {
-        Task::Init { .. } => put_text("created\n", output),
-        Task::Apply { batches, .. } => apply(alloc, console, world, batches, host, input, output),
-        Task::Ask { batches, .. } => ask(alloc, console, world, batches, host, input, output),
-        Task::Dump { .. } => show(world, output),
-        Task::Load { .. } => show_loaded(alloc, world, output),
-        Task::Check { .. } => check(alloc, world, output),
-        Task::Serve { port, count, .. } => serve(alloc, console, host, world, port, count, output),
+    match task.action {
+        Action::Init => put_text("created\n", output),
+        Action::Apply { batches } => apply(alloc, console, world, batches, host, input, output),
+        Action::Ask { batches } => ask(alloc, console, world, batches, host, input, output),
+        Action::Dump => show(world, output),
+        Action::Load { .. } => show_loaded(alloc, world, output),
+        Action::Check => check(alloc, world, output),
+        Action::Serve(service) => serve(alloc, console, host, world, service, output),
     }
 }

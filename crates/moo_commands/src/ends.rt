@@ -18,7 +18,7 @@ pub enum Ends<T, D: Disk> {
 }
 
 impl<T: Drop, D: Disk + Drop> Ends<T, D> {
-    /// Closes the file, and hands back what is left of it, to be dropped. If the words have no file that is the unspent start.
+    /// Closes the file, and hands back what is left of it, to be dropped. If the words name no file, that is the unspent start.
     ///
     /// If it can't be closed, a part of what was committed is in its log alone, which the next open reads.
     pub fn close(self) -> Remains<T, D>

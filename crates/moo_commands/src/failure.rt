@@ -5,7 +5,7 @@ ghost use Rattle.moo_commands.specs.Lines.{word_of, status_of, text_failure, sto
 
 use moo_damage::{Key, Kind};
 use moo_http::ServiceFault;
-use moo_load::{LoadFault, ReadFault};
+use moo_load::{InputFault, LoadFault};
 use moo_store::{DumpFault, StoreFault};
 use moo_text::TextFault;
 use sqlite::{Error, ErrorCode};
@@ -23,7 +23,7 @@ pub enum Failure {
     Damaged(Kind, Key),
     /// The tables are those of a later version.
     NewerVersion,
-    /// This line of a text, from 1 on, isn't as a dump has it.
+    /// This line of a text, counted from 1, isn't one of a dump.
     NotADump(u64),
     /// There is no such file of batches or dump, or it can't be opened.
     NoBatches,
@@ -129,14 +129,14 @@ impl From<ServiceFault> for Failure {
     }
 }
 
-impl From<ReadFault> for Failure {
+impl From<InputFault> for Failure {
     ghost from_gives = { λ fault failure. failure ≡ read_failure fault };
 
-    fn from(fault: ReadFault) -> Failure {
+    fn from(fault: InputFault) -> Failure {
         match fault {
-            ReadFault::Read => Failure::Read,
-            ReadFault::TooLong => Failure::TooLong,
-            ReadFault::OutOfMemory => Failure::NoMemory,
+            InputFault::Read => Failure::Read,
+            InputFault::TooLong => Failure::TooLong,
+            InputFault::OutOfMemory => Failure::NoMemory,
         }
     }
 }

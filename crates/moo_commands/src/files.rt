@@ -19,7 +19,7 @@ ghost use Rattle.moo_files.specs.Remains.{IsCleanRemains, MayStopAs, Spares, Kee
 ghost use Rattle.moo_files.specs.Blank.{IsBlank};
 ghost use Rattle.moo_commands.specs.Given.{given_to};
 ghost use Rattle.moo_commands.specs.Lines.{Tells, store_failure};
-ghost use Rattle.moo_commands.specs.Run.{begins_anew, file_of, is_load, dump_word, reads_input, ReadsFile, only_reads, LeavesNothingNew, RunsFrom, RunsTask, ShowsTables};
+ghost use Rattle.moo_commands.specs.Run.{begins_anew, is_load, dump_word, reads_input, ReadsFile, only_reads, LeavesNothingNew, RunsFrom, RunsTask, ShowsTables};
 ghost use Rattle.moo_commands.specs.Ends.{RunsFile, EndsWith};
 
 use crate::ends::Ends;
@@ -40,21 +40,6 @@ use std::time::Clock;
 
 const CANNOT_OPEN: Failure = Failure::Store(Error::SqliteFailure(ErrorCode::CannotOpen));
 
-/// The file of a task.
-fn file_of<'a>(task: Task<'a>) -> &'a str
-    ensures { result.now ≡ file_of task.entry }
-{
-    match task {
-        Task::Init { file }
-        | Task::Apply { file, .. }
-        | Task::Ask { file, .. }
-        | Task::Dump { file }
-        | Task::Load { file, .. }
-        | Task::Check { file }
-        | Task::Serve { file, .. } => file,
-    }
-}
-
 /// `run_in` at the store in files, over any disk. What is known of that store weighs on each function that calls a generic one at it,
 /// so this call has a function of its own.
 fn run_in_files<H: BatchFiles + Ports, C: Clock + Eprint, R: Read + Drop, W: Write, D: Disk + Drop>(
@@ -71,7 +56,7 @@ fn run_in_files<H: BatchFiles + Ports, C: Clock + Eprint, R: Read + Drop, W: Wri
     ensures runs { (known : Bool) (s : State) → StandsFor over_files known world s → RunsFrom task.entry s (given_to R.Read H.BatchFiles H.Ports H.Source.Arrivals H.Source.Reader.Read H.Source.Writer.Write input.old host.old host.new) (W.contents output.old) (W.contents output.new) status.new (IsTrue known × HasCleanDisk (file_state result)) (CrashLeaves (file_state result)) (LeavesLed (file_state result) world.rows.maps) (ShowsTables over_files world (file_state result)) }
     ensures clean { (known : Bool) (s : State) → StandsFor over_files known world s → HasCleanDisk (file_state result) → HasCleanDisk (store_of over_files world) }
     ensures good { world.failed ≡ false → IsGood world.rows.maps }
-    ensures still { only_reads task.entry ≡ true → LeavesNothingNew (store_of over_files world) (file_state result) }
+    ensures still { only_reads task.entry.action ≡ true → LeavesNothingNew (store_of over_files world) (file_state result) }
     ensures input { reads_input task.entry ≡ false → input.new ≡ input.old }
 {
     run_in(alloc, console, world, task, host, input, output, status)
@@ -111,6 +96,7 @@ fn world_of<T: Start, H: WorldFiles<T>>(
 ) -> Result<World<FileStore<H::Disk>>, (StoreFault, Remains<T, H::Disk>)>
     requires may { H.may_open host.now file.now }
     ensures anew { begins_anew task.entry ≡ true → IfOk result (λ world. StandsFor over_files true world (state_of opening_maps)) }
+    ensures rows { begins_anew task.entry ≡ true → IfOk result (λ world. world.rows.maps ≡ opening_maps) }
     ensures made { begins_anew task.entry ≡ true → IfErr result (λ e. IsOfStore e.0) }
     ensures taken { begins_anew task.entry ≡ true → (s : State) → HoldsState (image_at T.Start) s → IfOk result (λ world. HasCleanDisk (store_of over_files world) → ⊥) }
     ensures opened { begins_anew task.entry ≡ false → IfOk result (λ world. IsGood world.rows.maps × StandsFor over_files false world (state_of world.rows.maps)) }
@@ -164,8 +150,8 @@ fn run_loaded<
 ) -> Ends<T, H::Disk>
     requires may { H.may_open host.old file.now }
     requires read { (path : List ℕ) → ReadsFile task path → H.may_read host.old path }
-    requires load { is_load task ≡ true }
-    requires word { dump_word task ≡ dump.now }
+    requires load { is_load task.action ≡ true }
+    requires word { dump_word task.action ≡ dump.now }
     ensures runs { RunsFile task.entry (image_at T.Start) result (given_to R.Read H.BatchFiles H.Ports H.Source.Arrivals H.Source.Reader.Read H.Source.Writer.Write input.old host.old host.new) (W.contents output.old) (W.contents output.new) status.new }
     ensures input { reads_input task.entry ≡ false → input.new ≡ input.old }
 {
@@ -207,7 +193,7 @@ fn run_begun<
 ) -> Ends<T, H::Disk>
     requires may { H.may_open host.old file.now }
     requires read { (path : List ℕ) → ReadsFile task path → H.may_read host.old path }
-    requires load { is_load task ≡ false }
+    requires load { is_load task.action ≡ false }
     ensures runs { RunsFile task.entry (image_at T.Start) result (given_to R.Read H.BatchFiles H.Ports H.Source.Arrivals H.Source.Reader.Read H.Source.Writer.Write input.old host.old host.new) (W.contents output.old) (W.contents output.new) status.new }
     ensures input { reads_input task.entry ≡ false → input.new ≡ input.old }
 {
@@ -280,7 +266,7 @@ fn run_in_memory<H: BatchFiles + Ports, C: Clock + Eprint, R: Read + Drop, W: Wr
     status
 }
 
-/// Does what a task says, and hands back what is left of its file: on `:memory:`, the unspent start. The status is that of `run_words`.
+/// Does what a task says, and hands back what is left of its file. On `:memory:` that is the unspent start. The status is that of `run_words`.
 pub(crate) fn run_task<
     T: Start,
     H: WorldFiles<T> + BatchFiles + Ports,
@@ -297,13 +283,13 @@ pub(crate) fn run_task<
     output: &mut W,
     status: &mut u8,
 ) -> Ends<T, H::Disk>
-    requires may { H.may_open host.old (file_of task) }
+    requires may { H.may_open host.old task.file.now }
     requires read { (path : List ℕ) → ReadsFile task path → H.may_read host.old path }
     ensures runs { RunsTask task.entry (given_to R.Read H.BatchFiles H.Ports H.Source.Arrivals H.Source.Reader.Read H.Source.Writer.Write input.old host.old host.new) (W.contents output.old) (W.contents output.new) status.new }
     ensures ends { EndsWith task.entry (image_at T.Start) result (given_to R.Read H.BatchFiles H.Ports H.Source.Arrivals H.Source.Reader.Read H.Source.Writer.Write input.old host.old host.new) (W.contents output.old) (W.contents output.new) status.new }
     ensures input { reads_input task.entry ≡ false → input.new ≡ input.old }
 {
-    let file = file_of(task);
+    let file = task.file;
     if file == ":memory:" {
         *status = run_in_memory(alloc, console, task, host, input, output);
         Ends::NoFile(start)

@@ -2,7 +2,7 @@
 
 ghost use Rattle.std.specs.Prelude.{◌≡◌, IfOk, ℕ, List, Option, None, ⊤};
 
-use moo_disk::{Changes, Telling, telling_files};
+use moo_disk::{DiskChanges, Telling, telling_files};
 use moo_files::{WorldFiles, fresh_files_hold_start};
 use moo_http::{Ports, Sockets};
 use sqlite::{FileFrom, Files, Start};
@@ -23,7 +23,7 @@ pub trait BatchFiles {
     /// The file of this path may be read.
     ghost may_read: { Self → List ℕ → Type 0 } = { λ _ _. ⊤ };
 
-    /// Opens the file of a path. An error if there is none, or it can't be opened.
+    /// Opens the file of a path. An error if it is missing, or can't be opened.
     fn open(&self, path: &str) -> Result<Self::Text>
         requires { may_read self.now path.now }
         ensures { IfOk result (λ file. Self.Text.remaining file ≡ text self.now path.now) };
@@ -33,11 +33,11 @@ pub trait BatchFiles {
 #[derive(Drop)]
 pub struct System<'a> {
     rt: &'a HostRuntime,
-    changes: &'a Changes,
+    changes: &'a DiskChanges,
 }
 
 impl<'a> System<'a> {
-    pub fn new(rt: &'a HostRuntime, changes: &'a Changes) -> System<'a> {
+    pub fn new(rt: &'a HostRuntime, changes: &'a DiskChanges) -> System<'a> {
         System { rt, changes }
     }
 }

@@ -13,7 +13,7 @@ mod over;
 mod run;
 mod standard;
 
-pub use again::{run_close_run, run_crash_run};
+pub use again::{run_close_run, run_crash_run, run_stop_run};
 pub use ends::Ends;
 pub use failure::Failure;
 pub use files::run_from;

@@ -4,6 +4,7 @@ ghost use Rattle.std.specs.Prelude.{◌≡◌, ◌<◌, ◌^◌, true, false, co
 ghost use Rattle.std.specs.Str.{bytes_eq};
 ghost use Rattle.moo_world.specs.Rows.{IsGood};
 ghost use Rattle.moo_world.specs.Judge.{state_of};
+ghost use Rattle.moo_load.specs.RowsOf.{AreRowsOf};
 ghost use Rattle.moo_commands.specs.Given.{texts_by};
 ghost use Rattle.moo_commands.specs.Run.{IsDumpedAs, RefusesDump, is_load, dump_word};
 
@@ -11,22 +12,17 @@ use crate::failure::Failure;
 use crate::host::BatchFiles;
 use moo_flat::Flat;
 use moo_load::{read_dump, read_text};
-use moo_words::Task;
+use moo_words::{Action, Task};
 use std::alloc::Global;
 use std::io::Read;
 
 /// The word for the dump of a task, if it begins with the world of one.
 pub(crate) fn dump_word<'a>(task: Task<'a>) -> Option<&'a str>
-    ensures { MatchOption result (is_load task.entry ≡ false) (λ dump. (is_load task.entry ≡ true) × (dump_word task.entry ≡ dump.now)) }
+    ensures { MatchOption result (is_load task.entry.action ≡ false) (λ dump. (is_load task.entry.action ≡ true) × (dump_word task.entry.action ≡ dump.now)) }
 {
-    match task {
-        Task::Load { dump, .. } => Some(dump),
-        Task::Init { .. }
-        | Task::Apply { .. }
-        | Task::Ask { .. }
-        | Task::Dump { .. }
-        | Task::Check { .. }
-        | Task::Serve { .. } => None,
+    match task.action {
+        Action::Load { dump } => Some(dump),
+        _ => None,
     }
 }
 
@@ -34,6 +30,7 @@ pub(crate) fn dump_word<'a>(task: Task<'a>) -> Option<&'a str>
 fn rows_of<R: Read + Drop>(alloc: Global, mut text: R) -> Result<Flat, Failure>
     ensures good { IfOk result (λ rows. IsGood rows.maps) }
     ensures limit { IfOk result (λ rows. rows.maps.head.seq < 2 ^ 63) }
+    ensures numbered { IfOk result (λ rows. AreRowsOf (state_of rows.maps) rows.maps) }
     ensures dumped { IfOk result (λ rows. IsDumpedAs (R.remaining text) (state_of rows.maps)) }
     ensures failure { IfErr result (RefusesDump (R.remaining text)) }
 {
@@ -52,6 +49,7 @@ pub(crate) fn read_world<H: BatchFiles, R: Read + Drop>(
     requires read { bytes_eq dump.now (codes "-") ≡ false → H.may_read host.now dump.now }
     ensures good { IfOk result (λ rows. IsGood rows.maps) }
     ensures limit { IfOk result (λ rows. rows.maps.head.seq < 2 ^ 63) }
+    ensures numbered { IfOk result (λ rows. AreRowsOf (state_of rows.maps) rows.maps) }
     ensures dumped { IfOk result (λ rows. IsDumpedAs (texts_by (R.remaining input.old) (H.text host.now) dump.now) (state_of rows.maps)) }
     ensures failure { IfErr result (RefusesDump (texts_by (R.remaining input.old) (H.text host.now) dump.now)) }
     ensures input { bytes_eq dump.now (codes "-") ≡ false → input.new ≡ input.old }

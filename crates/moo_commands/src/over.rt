@@ -22,7 +22,7 @@ use crate::loading::{dump_word, read_world};
 use crate::output::report;
 use moo_http::Ports;
 use moo_store::{World, adopt, create_in, load_in};
-use moo_words::Task;
+use moo_words::{Action, Task};
 use sqlite::{Alter, Connection};
 use std::alloc::Global;
 use std::io::{Eprint, Read, Write};
@@ -32,14 +32,7 @@ use std::time::Clock;
 pub(crate) fn begins_anew(task: Task<'_>) -> bool
     ensures { result ≡ begins_anew task.entry }
 {
-    match task {
-        Task::Init { .. } | Task::Load { .. } => true,
-        Task::Apply { file, .. }
-        | Task::Ask { file, .. }
-        | Task::Dump { file }
-        | Task::Check { file }
-        | Task::Serve { file, .. } => file == ":memory:",
-    }
+    matches!(task.action, Action::Init | Action::Load { .. }) || task.file == ":memory:"
 }
 
 /// The status of a task that is done; or the line of its failure, and the status of that.
@@ -72,13 +65,14 @@ pub fn run_in<H: BatchFiles + Ports, C: Clock + Eprint, R: Read + Drop, W: Write
     status: &mut u8,
 ) -> Connection<S>
     requires read { (path : List ℕ) → ReadsFile task path → H.may_read host.old path }
-    // The task runs from the state that the World stands for, and its batches lead on from the World's rows. A check that is done found that the tables show the World's rows.
+    // The task runs from the state that the World stands for, and its batches lead on from the World's rows. A check that is done found that
+    // the tables show the World's rows.
     ensures runs { (known : Bool) (s : State) → StandsFor S.Store known world s → RunsFrom task.entry s (given_to R.Read H.BatchFiles H.Ports H.Source.Arrivals H.Source.Reader.Read H.Source.Writer.Write input.old host.old host.new) (W.contents output.old) (W.contents output.new) status.new (IsTrue known × HasCleanDisk (state S.Store result)) (CrashLeaves (state S.Store result)) (LeavesLed (state S.Store result) world.rows.maps) (ShowsTables S.Store world (state S.Store result)) }
     ensures clean { (known : Bool) (s : State) → StandsFor S.Store known world s → HasCleanDisk (state S.Store result) → HasCleanDisk (store_of S.Store world) }
     // The rows of a World that works are good.
     ensures good { world.failed ≡ false → IsGood world.rows.maps }
     // A task that only reads commits nothing.
-    ensures still { only_reads task.entry ≡ true → LeavesNothingNew (store_of S.Store world) (state S.Store result) }
+    ensures still { only_reads task.entry.action ≡ true → LeavesNothingNew (store_of S.Store world) (state S.Store result) }
     ensures input { reads_input task.entry ≡ false → input.new ≡ input.old }
 {
     world.has_good_rows();
@@ -100,9 +94,9 @@ fn run_anew<H: BatchFiles + Ports, C: Clock + Eprint, R: Read + Drop, W: Write, 
 ) -> Connection<S>
     requires read { (path : List ℕ) → ReadsFile task path → H.may_read host.old path }
     requires outside { conn.in_transaction ≡ false }
-    requires load { is_load task ≡ false }
+    requires load { is_load task.action ≡ false }
     ensures runs { ((host.new ≡ host.old) × FailsToBegin task.entry (given_to R.Read H.BatchFiles H.Ports H.Source.Arrivals H.Source.Reader.Read H.Source.Writer.Write input.old host.old host.new) (W.contents output.old) (W.contents output.new) status.new)
-        ⊎ ((s : State) × BeginsWith task.entry (given_to R.Read H.BatchFiles H.Ports H.Source.Arrivals H.Source.Reader.Read H.Source.Writer.Write input.old host.old host.new) s × RunsFrom task.entry s (given_to R.Read H.BatchFiles H.Ports H.Source.Arrivals H.Source.Reader.Read H.Source.Writer.Write input.old host.old host.new) (W.contents output.old) (W.contents output.new) status.new (HasCleanDisk (state S.Store result)) (CrashLeaves (state S.Store result)) (λ _ _. ⊤) ⊤) }
+        ⊎ ((s : State) × BeginsWith task.entry.action (given_to R.Read H.BatchFiles H.Ports H.Source.Arrivals H.Source.Reader.Read H.Source.Writer.Write input.old host.old host.new) s × RunsFrom task.entry s (given_to R.Read H.BatchFiles H.Ports H.Source.Arrivals H.Source.Reader.Read H.Source.Writer.Write input.old host.old host.new) (W.contents output.old) (W.contents output.new) status.new (HasCleanDisk (state S.Store result)) (CrashLeaves (state S.Store result)) (λ _ _. ⊤) ⊤) }
     ensures input { reads_input task.entry ≡ false → input.new ≡ input.old }
 {
     match create_in(alloc, conn) {
@@ -128,10 +122,10 @@ fn run_loaded<H: BatchFiles + Ports, C: Clock + Eprint, R: Read + Drop, W: Write
 ) -> Connection<S>
     requires read { (path : List ℕ) → ReadsFile task path → H.may_read host.old path }
     requires outside { conn.in_transaction ≡ false }
-    requires load { is_load task ≡ true }
-    requires word { dump_word task ≡ dump.now }
+    requires load { is_load task.action ≡ true }
+    requires word { dump_word task.action ≡ dump.now }
     ensures runs { ((host.new ≡ host.old) × FailsToBegin task.entry (given_to R.Read H.BatchFiles H.Ports H.Source.Arrivals H.Source.Reader.Read H.Source.Writer.Write input.old host.old host.new) (W.contents output.old) (W.contents output.new) status.new)
-        ⊎ ((s : State) × BeginsWith task.entry (given_to R.Read H.BatchFiles H.Ports H.Source.Arrivals H.Source.Reader.Read H.Source.Writer.Write input.old host.old host.new) s × RunsFrom task.entry s (given_to R.Read H.BatchFiles H.Ports H.Source.Arrivals H.Source.Reader.Read H.Source.Writer.Write input.old host.old host.new) (W.contents output.old) (W.contents output.new) status.new (HasCleanDisk (state S.Store result)) (CrashLeaves (state S.Store result)) (λ _ _. ⊤) ⊤) }
+        ⊎ ((s : State) × BeginsWith task.entry.action (given_to R.Read H.BatchFiles H.Ports H.Source.Arrivals H.Source.Reader.Read H.Source.Writer.Write input.old host.old host.new) s × RunsFrom task.entry s (given_to R.Read H.BatchFiles H.Ports H.Source.Arrivals H.Source.Reader.Read H.Source.Writer.Write input.old host.old host.new) (W.contents output.old) (W.contents output.new) status.new (HasCleanDisk (state S.Store result)) (CrashLeaves (state S.Store result)) (λ _ _. ⊤) ⊤) }
     ensures input { reads_input task.entry ≡ false → input.new ≡ input.old }
 {
     let rows = match read_world(alloc, dump, host, input) {
@@ -204,7 +198,7 @@ pub fn run_over<
     requires outside { conn.in_transaction ≡ false }
     // A task that begins with a new world runs from that.
     ensures anew { begins_anew task.entry ≡ true → ((host.new ≡ host.old) × FailsToBegin task.entry (given_to R.Read H.BatchFiles H.Ports H.Source.Arrivals H.Source.Reader.Read H.Source.Writer.Write input.old host.old host.new) (W.contents output.old) (W.contents output.new) status.new)
-        ⊎ ((s : State) × BeginsWith task.entry (given_to R.Read H.BatchFiles H.Ports H.Source.Arrivals H.Source.Reader.Read H.Source.Writer.Write input.old host.old host.new) s × RunsFrom task.entry s (given_to R.Read H.BatchFiles H.Ports H.Source.Arrivals H.Source.Reader.Read H.Source.Writer.Write input.old host.old host.new) (W.contents output.old) (W.contents output.new) status.new (HasCleanDisk (state S.Store result)) (CrashLeaves (state S.Store result)) (λ _ _. ⊤) ⊤) }
+        ⊎ ((s : State) × BeginsWith task.entry.action (given_to R.Read H.BatchFiles H.Ports H.Source.Arrivals H.Source.Reader.Read H.Source.Writer.Write input.old host.old host.new) s × RunsFrom task.entry s (given_to R.Read H.BatchFiles H.Ports H.Source.Arrivals H.Source.Reader.Read H.Source.Writer.Write input.old host.old host.new) (W.contents output.old) (W.contents output.new) status.new (HasCleanDisk (state S.Store result)) (CrashLeaves (state S.Store result)) (λ _ _. ⊤) ⊤) }
     // Any other runs from the state that the tables of the connection show, of either version, on a disk that returns what was written.
     ensures kept { (s : State) → begins_anew task.entry ≡ false → ShowsState (state S.Store conn) s → HasCleanDisk (state S.Store result) →
         ((host.new ≡ host.old) × FailsAtOnce (W.contents output.old) (W.contents output.new) status.new × LeavesAsBefore s (state S.Store conn) (state S.Store result))

@@ -6,7 +6,7 @@ ghost use Rattle.moo_words.specs.declared.task.Task.{Task};
 ghost use Rattle.moo_words.specs.Tasks.{NamesTask, IsRefusal, mistakes};
 ghost use Rattle.sqlite.specs.WalFiles.{image_at};
 ghost use Rattle.moo_commands.specs.Given.{given_to};
-ghost use Rattle.moo_commands.specs.Run.{mistake_status, file_of, EndsUsage, ReadsFile, KeepsInput, RunsWords};
+ghost use Rattle.moo_commands.specs.Run.{mistake_status, EndsUsage, ReadsFile, KeepsInput, RunsWords};
 ghost use Rattle.moo_commands.specs.Ends.{RunsOver, RunsClosed};
 
 use crate::ends::Ends;
@@ -79,8 +79,8 @@ fn report_usage<C: Eprint, W: Write>(
 ///
 /// `T` is what the file of the words holds, and `H` the host, with its files and its ports: it is proved for all contents and all connections, and
 /// no code looks at them. It looks at and opens no file of a world but that of the words, and reads no file of batches
-/// and no dump but theirs. What is left of the file is handed back, to be closed: if the
-/// words have none, the unspent start.
+/// and no dump but theirs. What is left of the file is handed back, to be closed. If the
+/// words name no file, that is the unspent start.
 pub fn run_words<
     T: Start,
     H: WorldFiles<T> + BatchFiles + Ports,
@@ -97,7 +97,7 @@ pub fn run_words<
     output: &mut W,
     status: &mut u8,
 ) -> Ends<T, H::Disk>
-    requires may { (task : Task) → NamesTask (map (λ word. word.now) words.now) task → H.may_open host.old (file_of task) }
+    requires may { (task : Task) → NamesTask (map (λ word. word.now) words.now) task → H.may_open host.old task.file.now }
     requires read { (task : Task) (path : List ℕ) → NamesTask (map (λ word. word.now) words.now) task → ReadsFile task path → H.may_read host.old path }
     // What is written, whatever the file holds.
     ensures words { RunsWords (map (λ word. word.now) words.now) (given_to R.Read H.BatchFiles H.Ports H.Source.Arrivals H.Source.Reader.Read H.Source.Writer.Write input.old host.old host.new) (W.contents output.old) (W.contents output.new) status.new }
@@ -118,7 +118,7 @@ pub fn run_words<
 /// `run_words`, and then the file is closed. It holds all that was committed, and its log FILE-wal beside it is short. If closing fails,
 /// and after a kill, a part of what was committed is in the log alone; the next open reads it, and the status is the same.
 ///
-/// What is left of the file is handed back, to be dropped: if the words have none, the unspent start.
+/// What is left of the file is handed back, to be dropped. If the words name no file, that is the unspent start.
 pub fn run_to_end<
     T: Start,
     H: WorldFiles<T> + BatchFiles + Ports,
@@ -135,7 +135,7 @@ pub fn run_to_end<
     output: &mut W,
     status: &mut u8,
 ) -> Remains<T, H::Disk>
-    requires may { (task : Task) → NamesTask (map (λ word. word.now) words.now) task → H.may_open host.old (file_of task) }
+    requires may { (task : Task) → NamesTask (map (λ word. word.now) words.now) task → H.may_open host.old task.file.now }
     requires read { (task : Task) (path : List ℕ) → NamesTask (map (λ word. word.now) words.now) task → ReadsFile task path → H.may_read host.old path }
     ensures words { RunsWords (map (λ word. word.now) words.now) (given_to R.Read H.BatchFiles H.Ports H.Source.Arrivals H.Source.Reader.Read H.Source.Writer.Write input.old host.old host.new) (W.contents output.old) (W.contents output.new) status.new }
     // The file is closed after a run over what it held.

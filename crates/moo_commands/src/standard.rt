@@ -7,14 +7,14 @@ ghost use Rattle.moo_commands.specs.Lines.{Reports};
 ghost use Rattle.sqlite.specs.WalFiles.{image_at};
 ghost use Rattle.moo_words.specs.declared.task.Task.{Task};
 ghost use Rattle.moo_words.specs.Tasks.{NamesTask};
-ghost use Rattle.moo_commands.specs.Run.{file_of, ReadsFile, KeepsInput};
+ghost use Rattle.moo_commands.specs.Run.{ReadsFile, KeepsInput};
 ghost use Rattle.moo_commands.specs.Ends.{IsUntouched, RunsClosed};
 
 use crate::failure::Failure;
 use crate::host::{BatchFiles, System};
 use crate::output::report;
 use crate::run::run_to_end;
-use moo_disk::Changes;
+use moo_disk::DiskChanges;
 use moo_files::{Remains, WorldFiles};
 use moo_http::Ports;
 use sqlite::{Start, Unknown};
@@ -60,7 +60,7 @@ fn words_failure(error: &io::Error) -> Failure
 }
 
 /// Does what the words say and closes their file, or says why the words can't be read. The exit status is handed back, with what is left of
-/// the file, to be dropped: if no file was opened for them, the unspent start.
+/// the file, to be dropped. If no file was opened for them, that is the unspent start.
 pub fn run_given<
     T: Start,
     H: WorldFiles<T> + BatchFiles + Ports,
@@ -76,9 +76,9 @@ pub fn run_given<
     input: &mut R,
     output: &mut W,
 ) -> (u8, Remains<T, H::Disk>)
-    requires may { IfOk words (λ words. (task : Task) → NamesTask (map string_bytes words.items) task → H.may_open host.old (file_of task)) }
+    requires may { IfOk words (λ words. (task : Task) → NamesTask (map string_bytes words.items) task → H.may_open host.old task.file.now) }
     requires read { IfOk words (λ words. (task : Task) (path : List ℕ) → NamesTask (map string_bytes words.items) task → ReadsFile task path → H.may_read host.old path) }
-    // What the words come to, as `run_to_end` says it; or memory runs out before that, and their file isn't opened.
+    // The outcome of the words is that of `run_to_end`; or memory runs out before that, and their file isn't opened.
     ensures read { IfOk words (λ words. (Reports Failure.NoMemory (W.contents output.old) (W.contents output.new) result.0 × IsUntouched result.1 × (host.new ≡ host.old))
         ⊎ RunsClosed (map string_bytes words.items) (image_at T.Start) result.1 (given_to R.Read H.BatchFiles H.Ports H.Source.Arrivals H.Source.Reader.Read H.Source.Writer.Write input.old host.old host.new) (W.contents output.old) (W.contents output.new) result.0) }
     ensures input { IfOk words (λ words. KeepsInput (map string_bytes words.items) input.old input.new) }
@@ -125,7 +125,7 @@ pub fn run_command(rt: &HostRuntime) -> u8 {
         rt,
         command_words(rt),
         Unknown,
-        &mut System::new(rt, &Changes::new()),
+        &mut System::new(rt, &DiskChanges::new()),
         &mut rt.stdin(),
         &mut rt.stdout(),
     )

@@ -1,12 +1,7 @@
 -- With good rows nothing is wrong.
-use Rattle.moo_damage.proofs.Words.{◌≡◌, ℕ, ◌<◌, ℤ, pos, Bool, true, false, ◌||◌, ◌&&◌, Option, None, Some, List, [], ◌∷◌, refl, sym, ap, ◌∙◌, subst, inl, inr, arith, ◌≤ℤ◌, int_lt, nat_lt, nat_le, not, is_some, unwrap_or, option_map, get, entries, false≢true, and_parts, or_cases, nat_tests, ints, none-some, same_Some, ObjNo, ObjRow, PropId, PropRow, SlotRow, Clear, Maps, Pair, same_object, same_text, folded, is_among, same_object-Decides, same_text-Decides, IsGood, look_ups, world_of, world_shown, prop_id, World, Climbs, Chain, is_object, chain, owed_by, pair_named, some_of, is_object_seen, Chain-chain, chain_of_none, nothing_is_no_object, entries_held, is_clear, share_name, is_double, is_owed, IsClean, defines}
+use Rattle.moo_damage.proofs.Words.{◌≡◌, ℕ, ◌<◌, ℤ, pos, Bool, true, false, ◌||◌, ◌&&◌, Option, None, Some, List, [], ◌∷◌, refl, sym, ap, ◌∙◌, subst, inl, inr, arith, ◌≤ℤ◌, int_lt, nat_lt, nat_le, not, is_some, unwrap_or, option_map, get, entries, false≢true, and_parts, or_cases, nat_tests, ints, none-some, same_Some, ObjNo, ObjRow, PropId, PropRow, SlotRow, Clear, Maps, Property, same_object, same_text, folded, is_among, same_object-Decides, same_text-Decides, IsGood, look_ups, world_of, world_shown, prop_id, World, Climbs, Chain, is_object, chain, defined_by_any, property_named, some_of, is_object_seen, Chain-chain, chain_of_none, nothing_is_no_object, entries_held, is_clear, share_name, is_double, is_owed, IsClean, defines, Set, slot_seen, named_owed, definer_among, slot_shown, slot_on_heir}
 use Rattle.moo_rows.specs.declared.row.SlotState.{SlotState}
-use Rattle.moo_rows.specs.declared.row.SlotState.TheVariants.{Set}
-use Rattle.moo_world.specs.Rows.{slot_seen}
 use Rattle.moo_world.specs.World.{Slot}
-use Rattle.moo_world.proofs.Inheritance.Owed.{named_owed, definer_among}
-use Rattle.moo_world.proofs.Shown.RowLaws.{slot_shown}
-use Rattle.moo_props.proofs.Gains.{slot_on_heir}
 use Rattle.moo_damage.proofs.Apart.{one_passing}
 use Rattle.moo_damage.proofs.Good.{parents_seen, places_seen}
 
@@ -47,10 +42,10 @@ module _ (m : Maps) (g : IsGood m) where
       let o : is_object w x ≡ true = is_object_seen (look_ups m) x ∙ k.0 in
       let r = some_of (get m.objects x) k.0 in
       let shown = slot_shown (look_ups m) g.sound x r.0 r.1 id p.0 s p.1 e in
-      let is : Some p.0.definer ≡ option_map (λ q. q.0) (pair_named (owed_by w (chain w x)) (folded p.0.name)) = sym (ap (option_map (λ (z : Slot). z.definer)) shown) ∙ g.formed.slots x (chain w x) (folded p.0.name) o (Chain-chain w g.formed.tree x o) in
-      (p.0, p.1, found p.0 (pair_named (owed_by w (chain w x)) (folded p.0.name)) refl is)
+      let is : Some p.0.definer ≡ option_map (λ q. q.0) (property_named (defined_by_any w (chain w x)) (folded p.0.name)) = sym (ap (option_map (λ (z : Slot). z.definer)) shown) ∙ g.formed.slots x (chain w x) (folded p.0.name) o (Chain-chain w g.formed.tree x o) in
+      (p.0, p.1, found p.0 (property_named (defined_by_any w (chain w x)) (folded p.0.name)) refl is)
     where
-      found : (p : PropRow) (o : Option Pair) → pair_named (owed_by w (chain w x)) (folded p.name) ≡ o → Some p.definer ≡ option_map (λ q. q.0) o → is_among p.definer (chain w x) ≡ true
+      found : (p : PropRow) (o : Option Property) → property_named (defined_by_any w (chain w x)) (folded p.name) ≡ o → Some p.definer ≡ option_map (λ q. q.0) o → is_among p.definer (chain w x) ≡ true
       found p None h k = absurd (none-some p.definer (sym k))
       found p (Some q) h k =
           let among = (definer_among w q (chain w x) (named_owed w (chain w x) (folded p.name) q h)).0 in
@@ -112,7 +107,7 @@ module _ (m : Maps) (g : IsGood m) where
       petitions = λ id row e. below id.0 m.head.next_petition (g.petitions.numbered id (ap is_some e)).1;
     };
     chains = λ x row e. let c = g.formed.tree.chains x (object_there x row e) in (c.0, subst (λ link. Climbs link x c.0) (parents_seen m) c.1);
-    places = λ x row e. let c = g.formed.tree.places x (object_there x row e) in (c.0, subst (λ link. Climbs link x c.0) (places_seen m) c.1);
+    locations = λ x row e. let c = g.formed.tree.locations x (object_there x row e) in (c.0, subst (λ link. Climbs link x c.0) (places_seen m) c.1);
     props = record {
       definers = λ id p e. ap not (is_object_seen (look_ups m) p.definer ∙ g.sound.definers id.0 p e);
       names = λ id p e. not_double id p e (is_double m id p) refl;

@@ -1,8 +1,5 @@
 -- Where two lots of rows differ first.
-use Rattle.moo_damage.proofs.Words.{◌≡◌, ◌≢◌, pos, negsuc, None, Some, Less, sym, arith, int_cmp_is, get, ObjNo, PetitionId, PropId, VerbId, object_exact, prop_exact, slot_exact, verb_exact, petition_exact, Maps, object_total, prop_total, slot_total, verb_total, petition_total, Key, Head, Object, Prop, Verb, Petition, IsFirstUnlike, IsBelow}
-use Rattle.std.specs.FinMap.{same_map}
-use Rattle.moo_damage.specs.declared.kind.Key.TheVariants.{Slot}
-use Rattle.moo_damage.specs.Differences.{AgreeAt, IsFirstDifference}
+use Rattle.moo_damage.proofs.Words.{◌≡◌, pos, negsuc, None, Some, arith, get, ObjNo, PetitionId, PropId, VerbId, object_exact, prop_exact, slot_exact, verb_exact, petition_exact, Maps, object_total, prop_total, slot_total, verb_total, petition_total, Key, Head, Object, Prop, Verb, Petition, IsFirstUnlike, IsBelow, same_map, Slot, AgreeAt, IsFirstDifference}
 use Rattle.moo_damage.proofs.Least.{number_less, pair_less}
 
 module _ (a b : Maps) where
@@ -25,15 +22,7 @@ module _ (a b : Maps) where
       by (Petition (pos i)) l = r (record { 0 = i }) l
       by (Petition (negsuc i)) l = tt
 
-  pub in_head : a.head ≢ b.head → IsFirstDifference a b Head
-  in_head d = first_at Head d (λ l. absurd (omega (arith, l))) (λ x l. absurd (omega (arith, l))) (λ i l. absurd (omega (arith, l))) (λ k l. absurd (omega (arith, l))) (λ k l. absurd (omega (arith, l))) (λ i l. absurd (omega (arith, l)))
-
   module _ (head : a.head ≡ b.head) where
-    pub in_objects : (x : ObjNo) → IsFirstUnlike a.objects b.objects (Some x) → IsFirstDifference a b (Object x.0)
-    in_objects x f =
-        first_at (Object x.0) f.0 (λ l. head) (λ y l. f.1 y (sym (int_cmp_is y.0 x.0 Less l)))
-        (λ i l. absurd (omega (arith, l))) (λ k l. absurd (omega (arith, l))) (λ k l. absurd (omega (arith, l))) (λ i l. absurd (omega (arith, l)))
-
     module _ (objects : IsFirstUnlike a.objects b.objects None) where
       pub in_props : (id : PropId) → IsFirstUnlike a.props b.props (Some id) → IsFirstDifference a b (Prop (pos id.0))
       in_props id f =
@@ -47,15 +36,7 @@ module _ (a b : Maps) where
             (λ k l. absurd (omega (arith, l))) (λ i l. absurd (omega (arith, l)))
 
         module _ (slots : IsFirstUnlike a.slots b.slots None) where
-          pub in_verbs : (key : ObjNo × VerbId) → IsFirstUnlike a.verbs b.verbs (Some key) → IsFirstDifference a b (Verb key.0.0 (pos key.1.0))
-          in_verbs key f =
-              first_at (Verb key.0.0 (pos key.1.0)) f.0 (λ l. head) (λ y l. objects y) (λ i l. props i) (λ k l. slots k) (λ k l. f.1 k (pair_less k.0.0 key.0.0 k.1.0 key.1.0 l))
-              (λ i l. absurd (omega (arith, l)))
-
           module _ (verbs : IsFirstUnlike a.verbs b.verbs None) where
-            pub in_petitions : (id : PetitionId) → IsFirstUnlike a.petitions b.petitions (Some id) → IsFirstDifference a b (Petition (pos id.0))
-            in_petitions id f = first_at (Petition (pos id.0)) f.0 (λ l. head) (λ y l. objects y) (λ i l. props i) (λ k l. slots k) (λ k l. verbs k) (λ i l. f.1 i (number_less i.0 id.0 l))
-
             pub nowhere : IsFirstUnlike a.petitions b.petitions None → a ≡ b
             nowhere petitions =
                 let o : a.objects ≡ b.objects = same_map object_total object_exact _ _ objects in

@@ -1,6 +1,5 @@
 -- Chains of links among rows: how long they are, and one step along them.
-use Rattle.moo_damage.proofs.Words.{◌≡◌, suc, ◌≤◌, Bool, true, false, cond, Option, None, Some, List, [], ◌∷◌, length, Ordering, refl, sym, ap, ◌∙◌, subst, ◌⊎◌, inl, inr, is_some, option_map, eq_by_cmp, list_any, IsDistinct, AllByRecursion, FinMap, get, insert, find, entries, get-entries, get-insert, lookup, false≢true, or_parts, or_cases, none-some, same_Some, ObjNo, ObjRow, Maps, object_cmp, object_exact, object_total, nothing, same_object, is_among, same_object-Decides, Climbs, Climbs-once, decided_alike, key-Decides, Link, link_of, next_of, HasEnd, LinksHold, AreEnding}
-use Rattle.std.specs.Cmp.{eq_by_cmp_equiv}
+use Rattle.moo_damage.proofs.Words.{◌≡◌, suc, ◌≤◌, Bool, true, false, cond, Option, None, Some, List, [], ◌∷◌, length, Ordering, refl, sym, ap, ◌∙◌, subst, ◌⊎◌, inl, inr, is_some, option_map, eq_by_cmp, list_any, IsDistinct, AllByRecursion, FinMap, get, insert, find, entries, get-entries, get-insert, lookup, false≢true, or_parts, or_cases, none-some, same_Some, ObjNo, ObjRow, Maps, object_cmp, object_exact, object_total, nothing, same_object, is_among, same_object-Decides, Climbs, Climbs-once, decided_alike, key-Decides, TreeLink, link_of, next_of, HasEnd, LinksHold, AreEnding, eq_by_cmp_equiv}
 use Rattle.std.proofs.lemmas.Map.Steps.{length-le_from_keys}
 
 find-lookup : {K X : Type 0} (cmp : K → K → Ordering) (q : K) (es : List (K × X)) → lookup (eq_by_cmp cmp q) es ≡ find cmp q es
@@ -18,7 +17,7 @@ pub some_mapped : {A B : Type 0} (o : Option A) (f : A → B) (b : B) → option
 some_mapped None f b e = absurd (none-some b e)
 some_mapped (Some a) f b e = refl
 
-module _ (link : Link) (m : Maps) (h : LinksHold link m) where
+module _ (link : TreeLink) (m : Maps) (h : LinksHold link m) where
   abbrev next : ObjNo → Option ObjNo
   next = next_of link m
 
@@ -63,7 +62,7 @@ module _ (link : Link) (m : Maps) (h : LinksHold link m) where
   ends_here x (inr e) g = absurd (false≢true (sym (ap is_some g) ∙ e))
 
 -- one more that is known
-pub AreEnding-noted : (link : Link) (m : Maps) (known : FinMap object_cmp (Unit {0})) (x : ObjNo) → HasEnd link m x → AreEnding link m known → AreEnding link m (insert known x tt)
+pub AreEnding-noted : (link : TreeLink) (m : Maps) (known : FinMap object_cmp (Unit {0})) (x : ObjNo) → HasEnd link m x → AreEnding link m known → AreEnding link m (insert known x tt)
 AreEnding-noted link m known x ends are z e = by (eq_by_cmp object_cmp z x) refl (sym (get-insert object_total known x tt z) ∙ e)
   where
     by : (b : Bool) → eq_by_cmp object_cmp z x ≡ b → cond b (Some tt) (get known z) ≡ Some tt → HasEnd link m z

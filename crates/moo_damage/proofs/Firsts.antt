@@ -1,10 +1,7 @@
 -- The first bad row of a map, found by going through its entries in order.
-use Rattle.moo_damage.proofs.Words.{◌≡◌, Bool, true, false, cond, Option, None, Some, List, [], ◌∷◌, Ordering, Less, refl, sym, ap, ◌∙◌, subst, ◌⊎◌, inl, inr, IsTotalOrder, tied_itself, eq_by_cmp, is_eq, ordering_reverse, AllByRecursion, FinMap, get, find, entries, get-entries, CmpEqualImpliesEq, none-some, same_Some, key-Decides, IsLeastBad}
-use Rattle.std.proofs.Common.{T}
-use Rattle.std.specs.FinMap.{is_sorted, entries_sorted}
+use Rattle.moo_damage.proofs.Words.{◌≡◌, Bool, true, false, cond, Option, None, Some, List, [], ◌∷◌, Ordering, Less, refl, sym, ap, ◌∙◌, subst, ◌⊎◌, inl, inr, IsTotalOrder, tied_itself, eq_by_cmp, is_eq, ordering_reverse, AllByRecursion, FinMap, get, find, entries, get-entries, CmpEqualImpliesEq, none-some, same_Some, key-Decides, IsLeastBad, T, is_sorted, entries_sorted, own_entries}
 use Rattle.std.specs.FinMap.Entries.{below_all}
 use Rattle.moo_rows.proofs.Walking.{first_of, second_of, less_of, elsewhere, here}
-use Rattle.moo_world.proofs.Shown.EntriesInOrder.{own_entries}
 
 module _ {K X : Type 0} (right bad : K → X → Type 0) where
   -- the first bad one of a list of entries, or none

@@ -1,10 +1,7 @@
 -- The first bad row of a map, as `find` over a walk of the map answers it.
-use Rattle.moo_damage.proofs.Words.{◌≡◌, ℕ, zero, suc, ◌<◌, Bool, true, false, Option, None, Some, List, [], ◌∷◌, length, Ordering, refl, sym, ap, subst, inl, inr, arith, IsTotalOrder, FinMap, entries, option_map, CmpEqualImpliesEq, IsLeastBad}
-use Rattle.std.specs.Prelude.{⊤}
+use Rattle.moo_damage.proofs.Words.{◌≡◌, ℕ, zero, suc, ◌<◌, Bool, true, false, Option, None, Some, List, [], ◌∷◌, length, Ordering, refl, sym, ap, subst, inl, inr, arith, IsTotalOrder, FinMap, entries, option_map, CmpEqualImpliesEq, IsLeastBad, ⊤, AllWithin, HoldsAt, FoldsTo, MatchOption}
 use Rattle.std.specs.Fn.{CalledAt}
 use Rattle.std.specs.Iterator.{YieldsFirstBy, YieldsThen}
-use Rattle.std.specs.List.{AllWithin, HoldsAt, FoldsTo}
-use Rattle.std.specs.Option.{MatchOption}
 use Rattle.std.proofs.lemmas.Iterator.{first_from_find}
 use Rattle.std.proofs.lemmas.Iterator.Consumers.{YieldsList-from_first}
 use denote.Param.Members.{Mut}

@@ -1,17 +1,10 @@
 -- Rows within the limits that nothing is wrong with are sound, their world is well formed, and petitions stand as they may.
-use Rattle.moo_damage.proofs.Words.{◌≡◌, ◌≢◌, ℕ, ◌<◌, ◌≤◌, ℤ, pos, negsuc, Bool, true, false, ◌||◌, ◌&&◌, Option, None, Some, List, [], ◌∷◌, refl, sym, ap, ◌∙◌, subst, ◌⊎◌, inl, inr, arith, ◌≤ℤ◌, int_lt, nat_lt, nat_le, not, is_some, unwrap_or, if◌then◌else◌, option_map, filter_map, list_any, list_all, IsDistinct, AllByRecursion, get, entries, get-entries, false≢true, both_ways, and_parts, or_parts, or_cases, or_left, or_right, cases_lt, nat_tests, ints, none-some, same_Some, ObjNo, ObjRow, PropRow, SlotRow, Clear, prop_exact, Maps, prop_cmp, prop_total, Name, Pair, nothing, same_object, same_text, folded, is_among, same_object-Decides, same_text-Decides, IsGood, look_ups, world_of, world_shown, numbers_below, prop_id, World, Climbs, IsTree, Chain, is_object, parent_of, chain, owed_by, pair_named, Climbs-once, some_of, is_object_seen, chain_is, Chain-chain, chain_of_none, no_parent, entries_held, any_held, Link, Parent, Place, is_clear, next_of, link_of, share_name, is_double, is_clear_definer, is_lost, LinksEnd, LinksHold, IsClean}
-use Rattle.std.specs.Option.{option_and_then}
+use Rattle.moo_damage.proofs.Words.{◌≡◌, ◌≢◌, ℕ, ◌<◌, ◌≤◌, ℤ, pos, negsuc, Bool, true, false, ◌||◌, ◌&&◌, Option, None, Some, List, [], ◌∷◌, refl, sym, ap, ◌∙◌, subst, ◌⊎◌, inl, inr, arith, ◌≤ℤ◌, int_lt, nat_lt, nat_le, not, is_some, unwrap_or, if◌then◌else◌, option_map, filter_map, list_any, list_all, IsDistinct, AllByRecursion, get, entries, get-entries, false≢true, both_ways, and_parts, or_parts, or_cases, or_left, or_right, cases_lt, nat_tests, ints, none-some, same_Some, ObjNo, ObjRow, PropRow, SlotRow, Clear, prop_exact, Maps, prop_cmp, prop_total, Name, Property, nothing, same_object, same_text, folded, is_among, same_object-Decides, same_text-Decides, IsGood, look_ups, world_of, world_shown, numbers_below, prop_id, World, Climbs, IsTree, Chain, is_object, parent_of, chain, defined_by_any, property_named, Climbs-once, some_of, is_object_seen, chain_is, Chain-chain, chain_of_none, no_parent, entries_held, any_held, TreeLink, Parent, Location, is_clear, next_of, link_of, share_name, is_double, is_clear_definer, is_lost, LinksEnd, LinksHold, IsClean, option_and_then, LookUps, AreSound, object_shown, name_on, verb_id, WorldObject, KeepsLimits, NamesDiffer, location_of, property_names_of, defined_by, slot_of, slot_fits, row_fits, verb_fits, is_property_name, without_slots, named_so, found_among, names_shown, defines_pair, any_owed, NumbersGiven}
 use Rattle.moo_world.specs.Petitions.{PetitionsStand}
-use Rattle.moo_world.specs.Rows.{LookUps, AreSound, record_of, name_on, verb_id}
-use Rattle.moo_world.specs.World.{Record, Slot, KeepsLimits, NamesDiffer, location_of, names_of, defined_by, slot_of, slot_fits, row_fits, verb_fits, is_property_name, without_slots}
+use Rattle.moo_world.specs.World.{Slot}
 use Rattle.moo_world.proofs.Inheritance.Keeping.{named_is}
-use Rattle.moo_world.proofs.Inheritance.Owed.{named_so, found_among}
-use Rattle.moo_world.proofs.Shown.RowLaws.{names_shown}
 use Rattle.moo_world.proofs.Shown.Slots.{SlotHere, slot_from, no_slot_from}
 use Rattle.moo_world.proofs.Ancestry.Subtrees.{owed_listed}
-use Rattle.moo_props.proofs.Gains.{defines_pair}
-use Rattle.moo_props.proofs.Owing.{any_owed}
-use Rattle.moo_damage.specs.Damage.{NumbersGiven}
 use Rattle.moo_damage.specs.Limits.{AreWithin}
 use Rattle.moo_damage.proofs.Apart.{both_true, all_map, none_any, one_passing, all_made, distinct_append, all_numbers, distinct_numbers, distinct_mapped}
 
@@ -38,15 +31,15 @@ pub parents_seen : (m : Maps) → parent_of (world_of m) ≡ next_of Parent m
 unfolding world_shown
 parents_seen m = λ i x. by x (get m.objects x) i
   where
-    by : (x : ObjNo) (o : Option ObjRow) → option_map (λ (r : Record). r.row.parent) (option_map (record_of (look_ups m) x) o) ≡ option_map (link_of Parent) o
+    by : (x : ObjNo) (o : Option ObjRow) → option_map (λ (r : WorldObject). r.row.parent) (option_map (object_shown (look_ups m) x) o) ≡ option_map (link_of Parent) o
     by x None = refl
     by x (Some row) = refl
 
-pub places_seen : (m : Maps) → location_of (world_of m) ≡ next_of Place m
+pub places_seen : (m : Maps) → location_of (world_of m) ≡ next_of Location m
 unfolding world_shown
 places_seen m = λ i x. by x (get m.objects x) i
   where
-    by : (x : ObjNo) (o : Option ObjRow) → option_map (λ (r : Record). r.row.location) (option_map (record_of (look_ups m) x) o) ≡ option_map (link_of Place) o
+    by : (x : ObjNo) (o : Option ObjRow) → option_map (λ (r : WorldObject). r.row.location) (option_map (object_shown (look_ups m) x) o) ≡ option_map (link_of Location) o
     by x None = refl
     by x (Some row) = refl
 
@@ -61,10 +54,10 @@ limits_seen m fit = record {
   rows = λ x. rows x (get m.objects x) refl;
 }
   where
-    bare : ObjNo → Option ObjRow → Option Record
-    bare x o = option_map (λ (r : Record). record r { slot = λ n. None }) (option_map (record_of (look_ups m) x) o)
+    bare : ObjNo → Option ObjRow → Option WorldObject
+    bare x o = option_map (λ (r : WorldObject). record r { slot = λ n. None }) (option_map (object_shown (look_ups m) x) o)
 
-    names : (x : ObjNo) (o : Option ObjRow) → list_all is_property_name (unwrap_or (option_map (λ (r : Record). r.defines) (option_map (λ (r : Record). record r { slot = λ n. None }) (option_map (record_of (look_ups m) x) o))) []) ≡ true
+    names : (x : ObjNo) (o : Option ObjRow) → list_all is_property_name (unwrap_or (option_map (λ (r : WorldObject). r.defines) (option_map (λ (r : WorldObject). record r { slot = λ n. None }) (option_map (object_shown (look_ups m) x) o))) []) ≡ true
     names x None = refl
     names x (Some row) = all_made (name_on (look_ups m) x) is_property_name (numbers_below m.head.next_prop) (λ i u e. named i u (get m.props (prop_id i)) refl e)
       where
@@ -76,11 +69,11 @@ limits_seen m fit = record {
             tested false k = absurd (none-some u k)
             tested true k = subst (λ v. is_property_name v ≡ true) (same_Some p.name u k) (fit.props (prop_id i) p g).1
 
-    verbs : (x : ObjNo) (o : Option ObjRow) → list_all verb_fits (unwrap_or (option_map (λ (r : Record). r.verbs) (option_map (λ (r : Record). record r { slot = λ n. None }) (option_map (record_of (look_ups m) x) o))) []) ≡ true
+    verbs : (x : ObjNo) (o : Option ObjRow) → list_all verb_fits (unwrap_or (option_map (λ (r : WorldObject). r.verbs) (option_map (λ (r : WorldObject). record r { slot = λ n. None }) (option_map (object_shown (look_ups m) x) o))) []) ≡ true
     verbs x None = refl
     verbs x (Some row) = all_made ((look_ups m).verb x) verb_fits (numbers_below m.head.next_verb) (λ i u e. (fit.verbs (x, verb_id i) u e).1)
 
-    rows : (x : ObjNo) (o : Option ObjRow) → get m.objects x ≡ o → unwrap_or (option_map row_fits (option_map (λ (r : Record). r.row) (option_map (λ (r : Record). record r { slot = λ n. None }) (option_map (record_of (look_ups m) x) o)))) true ≡ true
+    rows : (x : ObjNo) (o : Option ObjRow) → get m.objects x ≡ o → unwrap_or (option_map row_fits (option_map (λ (r : WorldObject). r.row) (option_map (λ (r : WorldObject). record r { slot = λ n. None }) (option_map (object_shown (look_ups m) x) o)))) true ≡ true
     rows x None e = refl
     rows x (Some row) e = fit.objects x row e
 
@@ -92,11 +85,11 @@ row_in : (m : Maps) (x : ObjNo) → is_object (world_of m) x ≡ true → (row :
 row_in m x o = some_of (get m.objects x) (sym (is_object_seen (look_ups m) x) ∙ o)
 
 -- given numbers, and chains that end, are trees
-pub tree_of : (m : Maps) → NumbersGiven m → LinksEnd Parent m → LinksEnd Place m → IsTree (world_of m)
-tree_of m numbers chains places = record {
+pub tree_of : (m : Maps) → NumbersGiven m → LinksEnd Parent m → LinksEnd Location m → IsTree (world_of m)
+tree_of m numbers chains locations = record {
   numbers = λ x o. let k = row_in m x o in numbers_seen m x (given x.0 m.head.top (numbers.objects x k.0 k.1));
   chains = λ x o. let k = row_in m x o in let c = chains x k.0 k.1 in (c.0, subst (λ link. Climbs link x c.0) (sym (parents_seen m)) c.1);
-  places = λ x o. let k = row_in m x o in let c = places x k.0 k.1 in (c.0, subst (λ link. Climbs link x c.0) (sym (places_seen m)) c.1);
+  locations = λ x o. let k = row_in m x o in let c = locations x k.0 k.1 in (c.0, subst (λ link. Climbs link x c.0) (sym (places_seen m)) c.1);
 }
 
 -- what has been given its number is not nothing
@@ -108,7 +101,7 @@ nothing_there m numbers = by (get m.objects nothing) refl
     by (Some row) e = absurd (false≢true (sym (numbers.objects nothing row e)))
 
 -- links that are not lost hold
-pub links_hold : (link : Link) (m : Maps) → NumbersGiven m → ((x : ObjNo) (row : ObjRow) → get m.objects x ≡ Some row → is_lost link m row ≡ false) → LinksHold link m
+pub links_hold : (link : TreeLink) (m : Maps) → NumbersGiven m → ((x : ObjNo) (row : ObjRow) → get m.objects x ≡ Some row → is_lost link m row ≡ false) → LinksHold link m
 links_hold link m numbers found = record { links = λ x row e. by (link_of link row) (found x row e); nothing = nothing_there m numbers }
   where
     by : (y : ObjNo) → (not (same_object nothing y) && not (is_object (world_of m) y)) ≡ false → (y ≡ nothing) ⊎ (is_some (get m.objects y) ≡ true)
@@ -130,7 +123,7 @@ module _ (m : Maps) (fit : AreWithin m) (clean : IsClean m) where
   row_there x o = row_in m x o
 
   pub tree : IsTree w
-  tree = tree_of m clean.numbers clean.chains clean.places
+  tree = tree_of m clean.numbers clean.chains clean.locations
 
   -- a slot is of a property that is owed
   owed_row : (x : ObjNo) (id : ℕ) (s : SlotRow) → get m.slots (x, prop_id id) ≡ Some s → (p : PropRow) × (get m.props (prop_id id) ≡ Some p) × (is_among p.definer (chain w x) ≡ true)
@@ -225,10 +218,10 @@ module _ (m : Maps) (fit : AreWithin m) (clean : IsClean m) where
     there : is_object w d ≡ true
     there = chain_object d d (ap (is_among d) chain_d ∙ or_left (same_object d d) (is_among d l) ((same_object-Decides d d).1 refl))
 
-    listed : names_of w d ≡ filter_map (name_on r d) (numbers_below m.head.next_prop)
+    listed : property_names_of w d ≡ filter_map (name_on r d) (numbers_below m.head.next_prop)
     listed = let k = row_there d there in names_shown r d k.0 k.1
 
-    own_names : IsDistinct (λ a b. same_text (folded a) (folded b)) (names_of w d)
+    own_names : IsDistinct (λ a b. same_text (folded a) (folded b)) (property_names_of w d)
     own_names =
         subst (IsDistinct (λ a b. same_text (folded a) (folded b))) (sym listed)
         (distinct_numbers (λ a b. same_text (folded a) (folded b)) (name_on r d) m.head.next_prop (λ i j u v l e k. differ i j u v l (name_row d i u e) (name_row d j v k) (same_text (folded u) (folded v)) refl))
@@ -244,13 +237,13 @@ module _ (m : Maps) (fit : AreWithin m) (clean : IsClean m) where
             absurd (omega arith)
 
     -- a name of d is none of those that its ancestors define
-    none_above : (i : ℕ) (n : Name) → name_on r d i ≡ Some n → list_any (λ k. same_text (folded n) (folded k.1)) (owed_by w l) ≡ false
-    none_above i n e = by (list_any (λ k. same_text (folded n) (folded k.1)) (owed_by w l)) refl
+    none_above : (i : ℕ) (n : Name) → name_on r d i ≡ Some n → list_any (λ k. same_text (folded n) (folded k.1)) (defined_by_any w l) ≡ false
+    none_above i n e = by (list_any (λ k. same_text (folded n) (folded k.1)) (defined_by_any w l)) refl
       where
-        test : Pair → Bool
+        test : Property → Bool
         test k = same_text (folded n) (folded k.1)
 
-        by : (b : Bool) → list_any (λ k. same_text (folded n) (folded k.1)) (owed_by w l) ≡ b → b ≡ false
+        by : (b : Bool) → list_any (λ k. same_text (folded n) (folded k.1)) (defined_by_any w l) ≡ b → b ≡ false
         by false h = refl
         by true h =
             let p = name_row d i n e in
@@ -263,30 +256,30 @@ module _ (m : Maps) (fit : AreWithin m) (clean : IsClean m) where
             let row : p.0 ≡ k.0.1 = same_Some p.0 k.0.1 (sym p.1 ∙ ap (λ z. get m.props (prop_id z)) one ∙ k.1) in
             absurd (both_ways (is_among d l) not_again (ap (λ z. is_among z l) (sym p.2 ∙ ap (λ (z : PropRow). z.definer) row) ∙ parts.0))
 
-    apart : AllByRecursion (λ p. AllByRecursion (λ q. same_text (folded p.1) (folded q.1) ≡ false) (owed_by w l)) (defined_by w d)
+    apart : AllByRecursion (λ p. AllByRecursion (λ q. same_text (folded p.1) (folded q.1) ≡ false) (defined_by_any w l)) (defined_by w d)
     apart =
-        all_map (λ p. AllByRecursion (λ q. same_text (folded p.1) (folded q.1) ≡ false) (owed_by w l)) (λ n. (d, n)) (names_of w d)
-        (subst (AllByRecursion (λ n. AllByRecursion (λ q. same_text (folded n) (folded q.1) ≡ false) (owed_by w l))) (sym listed)
-        (all_numbers (λ a b. same_text (folded a) (folded b)) (name_on r d) (λ n. AllByRecursion (λ q. same_text (folded n) (folded q.1) ≡ false) (owed_by w l)) m.head.next_prop
-        (λ i n k e. none_any (λ q. same_text (folded n) (folded q.1)) (owed_by w l) (none_above i n e))))
+        all_map (λ p. AllByRecursion (λ q. same_text (folded p.1) (folded q.1) ≡ false) (defined_by_any w l)) (λ n. (d, n)) (property_names_of w d)
+        (subst (AllByRecursion (λ n. AllByRecursion (λ q. same_text (folded n) (folded q.1) ≡ false) (defined_by_any w l))) (sym listed)
+        (all_numbers (λ a b. same_text (folded a) (folded b)) (name_on r d) (λ n. AllByRecursion (λ q. same_text (folded n) (folded q.1) ≡ false) (defined_by_any w l)) m.head.next_prop
+        (λ i n k e. none_any (λ q. same_text (folded n) (folded q.1)) (defined_by_any w l) (none_above i n e))))
 
-  names : (l : List ObjNo) (x : ObjNo) → Chain w x l → NamesDiffer (owed_by w l)
+  names : (l : List ObjNo) (x : ObjNo) → Chain w x l → NamesDiffer (defined_by_any w l)
   unfolding IsDistinct
   names [] x c = tt
   names (d ∷ l) x c =
       let own : Chain w d (d ∷ l) = subst (λ z. Chain w z (d ∷ l)) c.0 c in
-      distinct_append (λ p q. same_text (folded p.1) (folded q.1)) (defined_by w d) (owed_by w l)
-      (distinct_mapped (λ p q. same_text (folded p.1) (folded q.1)) (λ n. (d, n)) (names_of w d) (own_names d l own)) (names l c.1 c.3) (apart d l own)
+      distinct_append (λ p q. same_text (folded p.1) (folded q.1)) (defined_by w d) (defined_by_any w l)
+      (distinct_mapped (λ p q. same_text (folded p.1) (folded q.1)) (λ n. (d, n)) (property_names_of w d) (own_names d l own)) (names l c.1 c.3) (apart d l own)
 
   -- ---- slots
 
-  slots : (x : ObjNo) (l : List ObjNo) (n : Name) → is_object w x ≡ true → Chain w x l → option_map (λ s. s.definer) (slot_of w x n) ≡ option_map (λ p. p.0) (pair_named (owed_by w l) n)
-  slots x l n o c = by (slot_of w x n) refl (pair_named (owed_by w l) n) refl
+  slots : (x : ObjNo) (l : List ObjNo) (n : Name) → is_object w x ≡ true → Chain w x l → option_map (λ s. s.definer) (slot_of w x n) ≡ option_map (λ p. p.0) (property_named (defined_by_any w l) n)
+  slots x l n o c = by (slot_of w x n) refl (property_named (defined_by_any w l) n) refl
     where
       row : (row : ObjRow) × (get m.objects x ≡ Some row)
       row = row_there x o
 
-      by : (a : Option Slot) → slot_of w x n ≡ a → (b : Option Pair) → pair_named (owed_by w l) n ≡ b → option_map (λ s. s.definer) a ≡ option_map (λ p. p.0) b
+      by : (a : Option Slot) → slot_of w x n ≡ a → (b : Option Property) → property_named (defined_by_any w l) n ≡ b → option_map (λ s. s.definer) a ≡ option_map (λ p. p.0) b
       by (Some s) e b f =
           let k = slot_from r x n (row_there x o).0 (row_there x o).1 s e in
           let h = k.1 in
@@ -294,12 +287,12 @@ module _ (m : Maps) (fit : AreWithin m) (clean : IsClean m) where
           let same : u.0 ≡ h.prop = same_Some u.0 h.prop (sym u.1 ∙ h.there) in
           let among : is_among h.prop.definer l ≡ true = ap (is_among h.prop.definer) (sym (chain_is w tree x l c)) ∙ subst (λ p. is_among p.definer (chain w x) ≡ true) same u.2 in
           let owed = owed_listed w l h.prop.definer (h.prop.definer, h.prop.name) among (defines_pair m sound k.0 h.prop h.there) in
-          let found : pair_named (owed_by w l) n ≡ Some (h.prop.definer, h.prop.name) = ap (pair_named (owed_by w l)) (sym h.name) ∙ named_is (owed_by w l) (h.prop.definer, h.prop.name) (names l x c) owed in
-          ap (λ z. Some z.definer) k.2 ∙ ap (option_map (λ (p : Pair). p.0)) (sym found ∙ f)
+          let found : property_named (defined_by_any w l) n ≡ Some (h.prop.definer, h.prop.name) = ap (property_named (defined_by_any w l)) (sym h.name) ∙ named_is (defined_by_any w l) (h.prop.definer, h.prop.name) (names l x c) owed in
+          ap (λ z. Some z.definer) k.2 ∙ ap (option_map (λ (p : Property). p.0)) (sym found ∙ f)
       by None e None f = refl
       by None e (Some q) f =
-          let named : folded q.1 ≡ n = named_so (owed_by w l) n q f in
-          let any = found_among (λ k. same_text (folded k.1) n) (λ k. same_text (folded k.1) n) (owed_by w l) q ((same_text-Decides (folded q.1) n).1 named) f in
+          let named : folded q.1 ≡ n = named_so (defined_by_any w l) n q f in
+          let any = found_among (λ k. same_text (folded k.1) n) (λ k. same_text (folded k.1) n) (defined_by_any w l) q ((same_text-Decides (folded q.1) n).1 named) f in
           let k = one_passing (λ e. get m.props e.0 ≡ Some e.1) (λ e. is_among e.1.definer l && same_text (folded e.1.name) n) (entries m.props) (entries_held m sound)
           (sym (any_owed m sound (λ k. same_text (folded k.1) n) l) ∙ any) in
           let parts = and_parts (is_among k.0.1.definer l) (same_text (folded k.0.1.name) n) k.2 in
@@ -317,7 +310,7 @@ module _ (m : Maps) (fit : AreWithin m) (clean : IsClean m) where
   slot_object : (x : ObjNo) (n : Name) (s : Slot) → slot_of w x n ≡ Some s → is_object w x ≡ true
   slot_object x n s e = by (w.object x) e
     where
-      by : (o : Option Record) → option_and_then (λ (k : Record). k.slot n) o ≡ Some s → is_some o ≡ true
+      by : (o : Option WorldObject) → option_and_then (λ (k : WorldObject). k.slot n) o ≡ Some s → is_some o ≡ true
       by None k = absurd (none-some s k)
       by (Some k) h = refl
 

@@ -1,7 +1,5 @@
 -- What the tests of all rows say of each.
-use Rattle.moo_damage.proofs.Words.{◌≡◌, ◌<◌, Bool, true, false, ◌&&◌, ◌||◌, cond, Some, List, [], ◌∷◌, Ordering, Less, refl, sym, ap, ◌∙◌, not, IsTotalOrder, tied_itself, nat_cmp_is, int_eq, ordering_then, list_any, FinMap, get, entries, get-entries, false≢true, both_ways, Decides-int_eq, CmpEqualImpliesEq, ObjNo, PropId, PropRow, SlotRow, object_exact, prop_exact, slot_exact, Maps, prop_cmp, slot_cmp, slots_of_left, is_past, object_total, prop_total, slot_total, some_of, any_held, NamesApart, has_slot, comes_down, lacks_one_of, AreLocal}
-use Rattle.std.specs.Ordering.{is_lt}
-use Rattle.std.specs.List.{filter}
+use Rattle.moo_damage.proofs.Words.{◌≡◌, ◌<◌, Bool, true, false, ◌&&◌, ◌||◌, cond, Some, List, [], ◌∷◌, Ordering, Less, refl, sym, ap, ◌∙◌, not, IsTotalOrder, tied_itself, nat_cmp_is, int_eq, ordering_then, list_any, FinMap, get, entries, get-entries, false≢true, both_ways, Decides-int_eq, CmpEqualImpliesEq, ObjNo, PropId, PropRow, SlotRow, object_exact, prop_exact, slot_exact, Maps, prop_cmp, slot_cmp, slots_of_left, is_past, object_total, prop_total, slot_total, some_of, any_held, NamesApart, has_slot, comes_down, lacks_one_of, AreLocal, is_lt, filter}
 
 not_false : (b : Bool) → not b ≡ false → b ≡ true
 not_false true e = refl

@@ -1,9 +1,8 @@
 -- What each search found, as the least key at which its kind is met.
-use Rattle.moo_damage.proofs.Words.{◌≡◌, pos, Bool, true, false, Option, None, Some, sym, subst, option_map, both_ways, ObjNo, PetitionId, PropId, VerbId, Maps, Kind, PastHead, NoParent, ParentLoop, NoPlace, PlaceLoop, NoDefiner, DoubleName, StrangeSlot, MissingSlot, ClearDefiner, StrangeVerb, Key, Object, Prop, Verb, Petition, Link, Parent, Place, HasEnd, Loops, is_object_past, is_prop_past, is_verb_past, is_petition_past, is_lost, lacks_definer, is_double, is_strange, is_clear_definer, is_strange_verb, IsLeastBad, place, lost_kind, loop_kind, InRows, NoneBefore, IsLeast, IsFirstMet, IsFirstMissing}
-use Rattle.moo_damage.specs.declared.kind.Key.TheVariants.{Slot}
+use Rattle.moo_damage.proofs.Words.{◌≡◌, pos, Bool, true, false, Option, None, Some, sym, subst, option_map, both_ways, ObjNo, PropId, VerbId, Maps, Kind, NoParent, ParentLoop, NoPlace, PlaceLoop, NoDefiner, StrangeSlot, MissingSlot, ClearDefiner, StrangeVerb, Key, Object, Prop, Verb, TreeLink, Parent, Location, HasEnd, Loops, is_lost, lacks_definer, is_strange, is_clear_definer, is_strange_verb, IsLeastBad, rank, lost_kind, loop_kind, InRows, NoneBefore, IsLeast, IsFirstMet, IsFirstMissing, Slot}
 use Rattle.moo_damage.proofs.InTurn.{none_more}
 use Rattle.moo_damage.proofs.Lacking.{none_missing, missing_first}
-use Rattle.moo_damage.proofs.Least.{no_bad, none_met, object_first, prop_first, slot_first, verb_first, petition_first}
+use Rattle.moo_damage.proofs.Least.{no_bad, none_met, object_first, prop_first, slot_first, verb_first}
 
 abbrev pub of_object : Option ObjNo → Option Key
 of_object o = option_map (λ x. Object x.0) o
@@ -17,35 +16,28 @@ of_slot o = option_map (λ key. Slot key.0.0 (pos key.1.0)) o
 abbrev pub of_verb : Option (ObjNo × VerbId) → Option Key
 of_verb o = option_map (λ key. Verb key.0.0 (pos key.1.0)) o
 
-abbrev pub of_petition : Option PetitionId → Option Key
-of_petition o = option_map (λ id. Petition (pos id.0)) o
-
 apart : (b : Bool) → b ≡ false → ¬ (b ≡ true)
 apart b e f = both_ways b e f
 
 module _ (m : Maps) where
-  pub lost_least : (link : Link) (o : Option ObjNo) → IsLeastBad m.objects (λ k r. is_lost link m r ≡ false) (λ k r. is_lost link m r ≡ true) o → IsLeast (InRows m (lost_kind link)) (of_object o)
+  pub lost_least : (link : TreeLink) (o : Option ObjNo) → IsLeastBad m.objects (λ k r. is_lost link m r ≡ false) (λ k r. is_lost link m r ≡ true) o → IsLeast (InRows m (lost_kind link)) (of_object o)
   lost_least Parent None f = none_met m NoParent (no_bad m.objects (λ k r. is_lost Parent m r ≡ false) (λ k r. is_lost Parent m r ≡ true) (λ k r. apart (is_lost Parent m r)) f) (λ id h. h) (λ key h. h) (λ key h. h) (λ id h. h)
   lost_least Parent (Some x) f = object_first m NoParent (λ k r. is_lost Parent m r ≡ false) (λ k r. is_lost Parent m r ≡ true) (λ x h. h) (λ x h. h) (λ k r. apart (is_lost Parent m r)) x f
-  lost_least Place None f = none_met m NoPlace (no_bad m.objects (λ k r. is_lost Place m r ≡ false) (λ k r. is_lost Place m r ≡ true) (λ k r. apart (is_lost Place m r)) f) (λ id h. h) (λ key h. h) (λ key h. h) (λ id h. h)
-  lost_least Place (Some x) f = object_first m NoPlace (λ k r. is_lost Place m r ≡ false) (λ k r. is_lost Place m r ≡ true) (λ x h. h) (λ x h. h) (λ k r. apart (is_lost Place m r)) x f
+  lost_least Location None f = none_met m NoPlace (no_bad m.objects (λ k r. is_lost Location m r ≡ false) (λ k r. is_lost Location m r ≡ true) (λ k r. apart (is_lost Location m r)) f) (λ id h. h) (λ key h. h) (λ key h. h) (λ id h. h)
+  lost_least Location (Some x) f = object_first m NoPlace (λ k r. is_lost Location m r ≡ false) (λ k r. is_lost Location m r ≡ true) (λ x h. h) (λ x h. h) (λ k r. apart (is_lost Location m r)) x f
 
-  ending : (link : Link) (x : ObjNo) → HasEnd link m x → ¬ (Loops link m x)
+  ending : (link : TreeLink) (x : ObjNo) → HasEnd link m x → ¬ (Loops link m x)
   ending link x c f = f c.0 c.1
 
-  pub loops_least : (link : Link) (o : Option ObjNo) → IsLeastBad m.objects (λ x _. HasEnd link m x) (λ x _. Loops link m x) o → IsLeast (InRows m (loop_kind link)) (of_object o)
+  pub loops_least : (link : TreeLink) (o : Option ObjNo) → IsLeastBad m.objects (λ x _. HasEnd link m x) (λ x _. Loops link m x) o → IsLeast (InRows m (loop_kind link)) (of_object o)
   loops_least Parent None f = none_met m ParentLoop (no_bad m.objects (λ x _. HasEnd Parent m x) (λ x _. Loops Parent m x) (λ k r. ending Parent k) f) (λ id h. h) (λ key h. h) (λ key h. h) (λ id h. h)
   loops_least Parent (Some x) f = object_first m ParentLoop (λ x _. HasEnd Parent m x) (λ x _. Loops Parent m x) (λ x h. h) (λ x h. h) (λ k r. ending Parent k) x f
-  loops_least Place None f = none_met m PlaceLoop (no_bad m.objects (λ x _. HasEnd Place m x) (λ x _. Loops Place m x) (λ k r. ending Place k) f) (λ id h. h) (λ key h. h) (λ key h. h) (λ id h. h)
-  loops_least Place (Some x) f = object_first m PlaceLoop (λ x _. HasEnd Place m x) (λ x _. Loops Place m x) (λ x h. h) (λ x h. h) (λ k r. ending Place k) x f
+  loops_least Location None f = none_met m PlaceLoop (no_bad m.objects (λ x _. HasEnd Location m x) (λ x _. Loops Location m x) (λ k r. ending Location k) f) (λ id h. h) (λ key h. h) (λ key h. h) (λ id h. h)
+  loops_least Location (Some x) f = object_first m PlaceLoop (λ x _. HasEnd Location m x) (λ x _. Loops Location m x) (λ x h. h) (λ x h. h) (λ k r. ending Location k) x f
 
   pub definer_least : (o : Option PropId) → IsLeastBad m.props (λ k r. lacks_definer m r ≡ false) (λ k r. lacks_definer m r ≡ true) o → IsLeast (InRows m NoDefiner) (of_prop o)
   definer_least None f = none_met m NoDefiner (λ x h. h) (no_bad m.props (λ k r. lacks_definer m r ≡ false) (λ k r. lacks_definer m r ≡ true) (λ k r. apart (lacks_definer m r)) f) (λ key h. h) (λ key h. h) (λ id h. h)
   definer_least (Some id) f = prop_first m NoDefiner (λ k r. lacks_definer m r ≡ false) (λ k r. lacks_definer m r ≡ true) (λ id h. h) (λ id h. h) (λ k r. apart (lacks_definer m r)) (λ y h. h) id f
-
-  pub double_least : (o : Option PropId) → IsLeastBad m.props (λ k r. is_double m k r ≡ false) (λ k r. is_double m k r ≡ true) o → IsLeast (InRows m DoubleName) (of_prop o)
-  double_least None f = none_met m DoubleName (λ x h. h) (no_bad m.props (λ k r. is_double m k r ≡ false) (λ k r. is_double m k r ≡ true) (λ k r. apart (is_double m k r)) f) (λ key h. h) (λ key h. h) (λ id h. h)
-  double_least (Some id) f = prop_first m DoubleName (λ k r. is_double m k r ≡ false) (λ k r. is_double m k r ≡ true) (λ id h. h) (λ id h. h) (λ k r. apart (is_double m k r)) (λ y h. h) id f
 
   pub strange_least : (o : Option (ObjNo × PropId)) → IsLeastBad m.slots (λ k r. is_strange m k ≡ false) (λ k r. is_strange m k ≡ true) o → IsLeast (InRows m StrangeSlot) (of_slot o)
   strange_least None f = none_met m StrangeSlot (λ x h. h) (λ id h. h) (no_bad m.slots (λ k r. is_strange m k ≡ false) (λ k r. is_strange m k ≡ true) (λ k r. apart (is_strange m k)) f) (λ key h. h) (λ id h. h)
@@ -65,50 +57,12 @@ module _ (m : Maps) where
 
   -- ---- numbers past the head, in five maps
 
-  abbrev ObjectPast : Option ObjNo → Type 0
-  ObjectPast o = IsLeastBad m.objects (λ k r. is_object_past m.head k ≡ false) (λ k r. is_object_past m.head k ≡ true) o
-
-  abbrev PropPast : Option PropId → Type 0
-  PropPast o = IsLeastBad m.props (λ k r. is_prop_past m.head k ≡ false) (λ k r. is_prop_past m.head k ≡ true) o
-
-  abbrev VerbPast : Option (ObjNo × VerbId) → Type 0
-  VerbPast o = IsLeastBad m.verbs (λ k r. is_verb_past m.head k ≡ false) (λ k r. is_verb_past m.head k ≡ true) o
-
-  abbrev PetitionPast : Option PetitionId → Type 0
-  PetitionPast o = IsLeastBad m.petitions (λ k r. is_petition_past m.head k ≡ false) (λ k r. is_petition_past m.head k ≡ true) o
-
-  pub object_past : (x : ObjNo) → ObjectPast (Some x) → IsLeast (InRows m PastHead) (of_object (Some x))
-  object_past x f = object_first m PastHead (λ k r. is_object_past m.head k ≡ false) (λ k r. is_object_past m.head k ≡ true) (λ x h. h) (λ x h. h) (λ k r. apart (is_object_past m.head k)) x f
-
-  pub prop_past : ObjectPast None → (id : PropId) → PropPast (Some id) → IsLeast (InRows m PastHead) (of_prop (Some id))
-  prop_past a id f =
-      prop_first m PastHead (λ k r. is_prop_past m.head k ≡ false) (λ k r. is_prop_past m.head k ≡ true) (λ x h. h) (λ x h. h) (λ k r. apart (is_prop_past m.head k))
-      (no_bad m.objects (λ k r. is_object_past m.head k ≡ false) (λ k r. is_object_past m.head k ≡ true) (λ k r. apart (is_object_past m.head k)) a) id f
-
-  pub verb_past : ObjectPast None → PropPast None → (key : ObjNo × VerbId) → VerbPast (Some key) → IsLeast (InRows m PastHead) (of_verb (Some key))
-  verb_past a b key f =
-      verb_first m PastHead (λ k r. is_verb_past m.head k ≡ false) (λ k r. is_verb_past m.head k ≡ true) (λ x h. h) (λ x h. h) (λ k r. apart (is_verb_past m.head k))
-      (no_bad m.objects (λ k r. is_object_past m.head k ≡ false) (λ k r. is_object_past m.head k ≡ true) (λ k r. apart (is_object_past m.head k)) a)
-      (no_bad m.props (λ k r. is_prop_past m.head k ≡ false) (λ k r. is_prop_past m.head k ≡ true) (λ k r. apart (is_prop_past m.head k)) b) (λ key h. h) key f
-
-  pub petition_past : ObjectPast None → PropPast None → VerbPast None → (o : Option PetitionId) → PetitionPast o → IsLeast (InRows m PastHead) (of_petition o)
-  petition_past a b c None f =
-      none_met m PastHead (no_bad m.objects (λ k r. is_object_past m.head k ≡ false) (λ k r. is_object_past m.head k ≡ true) (λ k r. apart (is_object_past m.head k)) a)
-      (no_bad m.props (λ k r. is_prop_past m.head k ≡ false) (λ k r. is_prop_past m.head k ≡ true) (λ k r. apart (is_prop_past m.head k)) b) (λ key h. h)
-      (no_bad m.verbs (λ k r. is_verb_past m.head k ≡ false) (λ k r. is_verb_past m.head k ≡ true) (λ k r. apart (is_verb_past m.head k)) c)
-      (no_bad m.petitions (λ k r. is_petition_past m.head k ≡ false) (λ k r. is_petition_past m.head k ≡ true) (λ k r. apart (is_petition_past m.head k)) f)
-  petition_past a b c (Some id) f =
-      petition_first m PastHead (λ k r. is_petition_past m.head k ≡ false) (λ k r. is_petition_past m.head k ≡ true) (λ x h. h) (λ x h. h) (λ k r. apart (is_petition_past m.head k))
-      (no_bad m.objects (λ k r. is_object_past m.head k ≡ false) (λ k r. is_object_past m.head k ≡ true) (λ k r. apart (is_object_past m.head k)) a)
-      (no_bad m.props (λ k r. is_prop_past m.head k ≡ false) (λ k r. is_prop_past m.head k ≡ true) (λ k r. apart (is_prop_past m.head k)) b) (λ key h. h)
-      (no_bad m.verbs (λ k r. is_verb_past m.head k ≡ false) (λ k r. is_verb_past m.head k ≡ true) (λ k r. apart (is_verb_past m.head k)) c) id f
-
   -- ---- one after another
 
-  pub told : (kind given : Kind) (key made : Key) → given ≡ kind → made ≡ key → NoneBefore (InRows m) (place kind) → IsLeast (InRows m kind) (Some key) → IsFirstMet (InRows m) given made
+  pub told : (kind given : Kind) (key made : Key) → given ≡ kind → made ≡ key → NoneBefore (InRows m) (rank kind) → IsLeast (InRows m kind) (Some key) → IsFirstMet (InRows m) given made
   told kind given key made e f before least =
       subst (λ k. IsFirstMet (InRows m) k made) (sym e) (subst (λ k. IsFirstMet (InRows m) kind k) (sym f) (before, least))
 
-  pub after_lost : (link : Link) → NoneBefore (InRows m) (place (lost_kind link)) → IsLeast (InRows m (lost_kind link)) None → NoneBefore (InRows m) (place (loop_kind link))
+  pub after_lost : (link : TreeLink) → NoneBefore (InRows m) (rank (lost_kind link)) → IsLeast (InRows m (lost_kind link)) None → NoneBefore (InRows m) (rank (loop_kind link))
   after_lost Parent before none = none_more (InRows m) NoParent before none
-  after_lost Place before none = none_more (InRows m) NoPlace before none
+  after_lost Location before none = none_more (InRows m) NoPlace before none

@@ -1,6 +1,5 @@
 -- With clean rows no kind of damage is met.
-use Rattle.moo_damage.proofs.Words.{◌≡◌, Bool, true, ◌&&◌, List, [], ◌∷◌, Some, sym, ap, ◌∙◌, subst, not, option_map, get, and_parts, both_ways, none-some, same_Some, ObjNo, ObjRow, PropId, Maps, nothing, same_object, same_object-Decides, look_ups, world_of, Climbs, is_object, some_of, is_object_seen, Kind, BadHead, BadCell, PastHead, NoParent, ParentLoop, NoPlace, PlaceLoop, NoDefiner, DoubleName, StrangeSlot, MissingSlot, ClearDefiner, StrangeVerb, Mismatch, Key, Link, Parent, Place, link_of, next_of, HasEnd, is_missing, IsClean, InRows}
-use Rattle.std.specs.Prelude.{IsSome}
+use Rattle.moo_damage.proofs.Words.{◌≡◌, Bool, true, ◌&&◌, List, [], ◌∷◌, Some, sym, ap, ◌∙◌, subst, not, option_map, get, and_parts, both_ways, none-some, same_Some, ObjNo, ObjRow, PropId, Maps, nothing, same_object, same_object-Decides, look_ups, world_of, Climbs, is_object, some_of, is_object_seen, Kind, BadHead, BadCell, PastHead, NoParent, ParentLoop, NoPlace, PlaceLoop, NoDefiner, DoubleName, StrangeSlot, MissingSlot, ClearDefiner, StrangeVerb, Mismatch, Key, TreeLink, Parent, Location, link_of, next_of, HasEnd, is_missing, IsClean, InRows, IsSome}
 use Rattle.moo_damage.proofs.Ending.{some_mapped}
 use Rattle.moo_damage.proofs.Good.{nothing_there}
 use Rattle.moo_damage.proofs.Least.{none_met}
@@ -9,7 +8,7 @@ use Rattle.moo_damage.proofs.Lacking.{owed_prop}
 not_true : (b : Bool) → not b ≡ true → b ≡ true → ⊥
 not_true b n e = both_ways (not b) (ap not e) n
 
-module _ (link : Link) (m : Maps) where
+module _ (link : TreeLink) (m : Maps) where
   -- from where a chain ends on, each is nothing or an object
   at_end : (y : ObjNo) (l : List ObjNo) → Climbs (next_of link m) y l → ¬ ((not (same_object nothing y) && not (is_object (world_of m) y)) ≡ true)
   at_end y [] c e = not_true _ (and_parts _ _ e).0 ((same_object-Decides nothing y).1 (sym c))
@@ -39,8 +38,8 @@ module _ (m : Maps) (clean : IsClean m) where
       (λ key h. both_ways _ (clean.numbers.verbs key h.0 h.1) h.2) (λ id h. both_ways _ (clean.numbers.petitions id h.0 h.1) h.2)
   none_told NoParent = none_met m NoParent (λ x h. not_lost Parent m clean x h.0 h.1 (clean.chains x h.0 h.1) h.2) (λ id h. h) (λ key h. h) (λ key h. h) (λ id h. h)
   none_told ParentLoop = none_met m ParentLoop (λ x h. let c = clean.chains x h.0 h.1 in h.2 c.0 c.1) (λ id h. h) (λ key h. h) (λ key h. h) (λ id h. h)
-  none_told NoPlace = none_met m NoPlace (λ x h. not_lost Place m clean x h.0 h.1 (clean.places x h.0 h.1) h.2) (λ id h. h) (λ key h. h) (λ key h. h) (λ id h. h)
-  none_told PlaceLoop = none_met m PlaceLoop (λ x h. let c = clean.places x h.0 h.1 in h.2 c.0 c.1) (λ id h. h) (λ key h. h) (λ key h. h) (λ id h. h)
+  none_told NoPlace = none_met m NoPlace (λ x h. not_lost Location m clean x h.0 h.1 (clean.locations x h.0 h.1) h.2) (λ id h. h) (λ key h. h) (λ key h. h) (λ id h. h)
+  none_told PlaceLoop = none_met m PlaceLoop (λ x h. let c = clean.locations x h.0 h.1 in h.2 c.0 c.1) (λ id h. h) (λ key h. h) (λ key h. h) (λ id h. h)
   none_told NoDefiner = none_met m NoDefiner (λ x h. h) (λ id h. both_ways _ (clean.props.definers id h.0 h.1) h.2) (λ key h. h) (λ key h. h) (λ id h. h)
   none_told DoubleName = none_met m DoubleName (λ x h. h) (λ id h. both_ways _ (clean.props.names id h.0 h.1) h.2) (λ key h. h) (λ key h. h) (λ id h. h)
   none_told StrangeSlot = none_met m StrangeSlot (λ x h. h) (λ id h. h) (λ key h. both_ways _ (clean.slots.owed key h.0 h.1) h.2) (λ key h. h) (λ id h. h)

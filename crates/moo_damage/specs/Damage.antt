@@ -19,8 +19,8 @@ use Rattle.moo_world.specs.PropertyCalls.{is_clear}
 use Rattle.moo_world.specs.Rows.{world_of}
 use Rattle.moo_world.specs.World.{World, Climbs, is_object, chain}
 use Rattle.moo_props.specs.Names.{defines}
-use Rattle.moo_damage.specs.declared.trees.Link.{Link}
-use Rattle.moo_damage.specs.declared.trees.Link.TheVariants.{Parent, Place}
+use Rattle.moo_damage.specs.declared.trees.TreeLink.{TreeLink}
+use Rattle.moo_damage.specs.declared.trees.TreeLink.TheVariants.{Parent, Location}
 
 -- past-head: a number that was never given
 abbrev pub is_object_past : Head → ObjNo → Bool
@@ -36,24 +36,24 @@ abbrev pub is_petition_past : Head → PetitionId → Bool
 is_petition_past head id = nat_le head.next_petition id.0
 
 -- what a row links its object to
-abbrev pub link_of : Link → ObjRow → ObjNo
+abbrev pub link_of : TreeLink → ObjRow → ObjNo
 link_of Parent row = row.parent
-link_of Place row = row.location
+link_of Location row = row.location
 
 -- no-parent, no-place: the link names neither an object nor nothing
-abbrev pub is_lost : Link → Maps → ObjRow → Bool
+abbrev pub is_lost : TreeLink → Maps → ObjRow → Bool
 is_lost link m row = not (same_object nothing (link_of link row)) && not (is_object (world_of m) (link_of link row))
 
 -- what an object links to
-abbrev pub next_of : Link → Maps → ObjNo → Option ObjNo
+abbrev pub next_of : TreeLink → Maps → ObjNo → Option ObjNo
 next_of link m x = option_map (link_of link) (get m.objects x)
 
 -- the chain of links from x ends
-abbrev pub HasEnd : Link → Maps → ObjNo → Type 0
+abbrev pub HasEnd : TreeLink → Maps → ObjNo → Type 0
 HasEnd link m x = (l : List ObjNo) × Climbs (next_of link m) x l
 
 -- parent-loop, place-loop: and it doesn't
-abbrev pub Loops : Link → Maps → ObjNo → Type 0
+abbrev pub Loops : TreeLink → Maps → ObjNo → Type 0
 Loops link m x = (l : List ObjNo) → ¬ (Climbs (next_of link m) x l)
 
 -- no-definer
@@ -89,7 +89,7 @@ abbrev pub is_strange_verb : Maps → ObjNo × VerbId → Bool
 is_strange_verb m key = not (is_object (world_of m) key.0)
 
 -- each link names an object, or nothing, which isn't an object
-pub record LinksHold (link : Link) (m : Maps) : Type 0 where
+pub record LinksHold (link : TreeLink) (m : Maps) : Type 0 where
   pub links : (x : ObjNo) (row : ObjRow) → get m.objects x ≡ Some row → (link_of link row ≡ nothing) ⊎ (is_some (get m.objects (link_of link row)) ≡ true)
   pub nothing : get m.objects nothing ≡ None
 
@@ -101,7 +101,7 @@ pub record NumbersGiven (m : Maps) : Type 0 where
   pub verbs : (key : ObjNo × VerbId) (v : VerbRow) → get m.verbs key ≡ Some v → is_verb_past m.head key ≡ false
   pub petitions : (id : PetitionId) (row : PetitionRow) → get m.petitions id ≡ Some row → is_petition_past m.head id ≡ false
 
-abbrev pub LinksEnd : Link → Maps → Type 0
+abbrev pub LinksEnd : TreeLink → Maps → Type 0
 LinksEnd link m = (x : ObjNo) (row : ObjRow) → get m.objects x ≡ Some row → HasEnd link m x
 
 pub record PropsRight (m : Maps) : Type 0 where
@@ -117,6 +117,6 @@ pub record SlotsRight (m : Maps) : Type 0 where
 pub record IsClean (m : Maps) : Type 0 where
   pub numbers : NumbersGiven m
   pub chains : LinksEnd Parent m
-  pub places : LinksEnd Place m
+  pub locations : LinksEnd Location m
   pub props : PropsRight m
   pub slots : SlotsRight m

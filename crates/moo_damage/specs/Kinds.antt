@@ -10,28 +10,28 @@ use Rattle.moo_damage.specs.declared.kind.Kind.{Kind}
 use Rattle.moo_damage.specs.declared.kind.Kind.TheVariants.{BadHead, BadCell, PastHead, NoParent, ParentLoop, NoPlace, PlaceLoop, NoDefiner, DoubleName, StrangeSlot, MissingSlot, ClearDefiner, StrangeVerb, Mismatch}
 use Rattle.moo_damage.specs.declared.kind.Key.{Key}
 use Rattle.moo_damage.specs.declared.kind.Key.TheVariants.{Head, Object, Prop, Slot, Verb, Petition}
-use Rattle.moo_damage.specs.declared.trees.Link.{Link}
-use Rattle.moo_damage.specs.declared.trees.Link.TheVariants.{Parent, Place}
+use Rattle.moo_damage.specs.declared.trees.TreeLink.{TreeLink}
+use Rattle.moo_damage.specs.declared.trees.TreeLink.TheVariants.{Parent, Location}
 use Rattle.moo_damage.specs.Damage.{is_object_past, is_prop_past, is_verb_past, is_petition_past, is_lost, Loops, lacks_definer, is_double, is_strange, is_missing, is_clear_definer, is_strange_verb}
 
 -- ---- the order of kinds and of keys
 
 -- the place of a kind in the order in which they are looked for
-abbrev pub place : Kind → ℕ
-place BadHead = 1
-place BadCell = 2
-place PastHead = 3
-place NoParent = 4
-place ParentLoop = 5
-place NoPlace = 6
-place PlaceLoop = 7
-place NoDefiner = 8
-place DoubleName = 9
-place StrangeSlot = 10
-place MissingSlot = 11
-place ClearDefiner = 12
-place StrangeVerb = 13
-place Mismatch = 14
+abbrev pub rank : Kind → ℕ
+rank BadHead = 1
+rank BadCell = 2
+rank PastHead = 3
+rank NoParent = 4
+rank ParentLoop = 5
+rank NoPlace = 6
+rank PlaceLoop = 7
+rank NoDefiner = 8
+rank DoubleName = 9
+rank StrangeSlot = 10
+rank MissingSlot = 11
+rank ClearDefiner = 12
+rank StrangeVerb = 13
+rank Mismatch = 14
 
 -- the head before objects before properties before slots before verbs before petitions
 abbrev pub table : Key → ℕ
@@ -61,8 +61,8 @@ abbrev pub AtObject : Maps → Kind → ObjNo → Type 0
 AtObject m PastHead = Has (get m.objects) (λ x row. is_object_past m.head x ≡ true)
 AtObject m NoParent = Has (get m.objects) (λ x row. is_lost Parent m row ≡ true)
 AtObject m ParentLoop = Has (get m.objects) (λ x row. Loops Parent m x)
-AtObject m NoPlace = Has (get m.objects) (λ x row. is_lost Place m row ≡ true)
-AtObject m PlaceLoop = Has (get m.objects) (λ x row. Loops Place m x)
+AtObject m NoPlace = Has (get m.objects) (λ x row. is_lost Location m row ≡ true)
+AtObject m PlaceLoop = Has (get m.objects) (λ x row. Loops Location m x)
 AtObject m _ = λ x. ⊥
 
 abbrev pub AtProp : Maps → Kind → PropId → Type 0
@@ -100,19 +100,19 @@ InRows m kind (Petition (pos id)) = AtPetition m kind (record { 0 = id })
 InRows m kind (Petition (negsuc i)) = ⊥
 
 -- the kinds of a link: it names no object; the chain of links doesn't end
-abbrev pub lost_kind : Link → Kind
+abbrev pub lost_kind : TreeLink → Kind
 lost_kind Parent = NoParent
-lost_kind Place = NoPlace
+lost_kind Location = NoPlace
 
-abbrev pub loop_kind : Link → Kind
+abbrev pub loop_kind : TreeLink → Kind
 loop_kind Parent = ParentLoop
-loop_kind Place = PlaceLoop
+loop_kind Location = PlaceLoop
 
 -- ---- the first of all
 
 -- no kind before this place is met
 abbrev pub NoneBefore : (Kind → Key → Type 0) → ℕ → Type 0
-NoneBefore meets n = (kind : Kind) → place kind < n → (key : Key) → ¬ (meets kind key)
+NoneBefore meets n = (kind : Kind) → rank kind < n → (key : Key) → ¬ (meets kind key)
 
 -- the key is the least of those that meet it; none meets it
 abbrev pub IsLeast : (Key → Type 0) → Option Key → Type 0
@@ -121,9 +121,9 @@ IsLeast meets (Some key) = meets key × ((other : Key) → IsBelow other key →
 
 -- the kind is met at the key and at none below it, and no kind before it is met anywhere
 abbrev pub IsFirstMet : (Kind → Key → Type 0) → Kind → Key → Type 0
-IsFirstMet meets kind key = NoneBefore meets (place kind) × IsLeast (meets kind) (Some key)
+IsFirstMet meets kind key = NoneBefore meets (rank kind) × IsLeast (meets kind) (Some key)
 
--- the first that is met of the kinds before this place; none if none of them is met
+-- the first that is met of the kinds before this place, or None if no such kind is met
 abbrev pub IsFirstBefore : (Kind → Key → Type 0) → ℕ → Option (Kind × Key) → Type 0
 IsFirstBefore meets n None = NoneBefore meets n
 IsFirstBefore meets n (Some d) = IsFirstMet meets d.0 d.1

@@ -33,7 +33,7 @@ comes_down m key = unwrap_or (option_map (λ row. defines m key.0 key.1 || has_s
 abbrev pub lacks_one_of : Maps → ObjNo → ObjNo → Bool
 lacks_one_of m x y = list_any (λ e. not (has_slot m x e.0.1)) (slots_of_left y (record { 0 = 0 }) m)
 
--- what holds of each row and its neighbours where the slots are just those that are owed
+-- what holds of each row and its neighbours if the slots are just those that are owed
 pub record AreLocal (m : Maps) : Type 0 where
   pub numbered : (id : PropId) (p : PropRow) → get m.props id ≡ Some p → 0 < id.0
   pub own : (id : PropId) (p : PropRow) → get m.props id ≡ Some p → has_slot m p.definer id ≡ true
@@ -41,11 +41,11 @@ pub record AreLocal (m : Maps) : Type 0 where
   pub down : (x : ObjNo) (row : ObjRow) → get m.objects x ≡ Some row → (id : PropId) → 0 < id.0 → has_slot m row.parent id ≡ true → has_slot m x id ≡ true
   pub apart : (i j : PropId) (p q : PropRow) → get m.props i ≡ Some p → get m.props j ≡ Some q → has_slot m p.definer j ≡ true → folded p.name ≡ folded q.name → i ≡ j
 
--- where it holds along chains that end, the slots are just those that are owed, and their names are apart
+-- if it holds along chains that end, the slots are just those that are owed, and their names are apart
 abbrev pub LocalSlotsHold : Type 0
 LocalSlotsHold = (m : Maps) → IsTree (world_of m) → AreLocal m → SlotsHold m
 
--- and the other way: where it holds of the slots, with definers that are there, it holds of each row and its neighbours
+-- and the other way: if it holds of the slots, with definers that are there, it holds of each row and its neighbours
 abbrev pub HeldSlotsAreLocal : Type 0
 HeldSlotsAreLocal =
     (m : Maps) → IsTree (world_of m) → ((id : PropId) (p : PropRow) → get m.props id ≡ Some p → 0 < id.0)

@@ -1,8 +1,8 @@
 //! Tests of each row of a map: the first one that fails.
 
-ghost use Rattle.std.specs.Prelude.{◌≡◌, true, false, not, IfSome, IfNone};
+ghost use Rattle.std.specs.Prelude.{◌≡◌, true, false, not};
 ghost use Rattle.std.specs.List.{list_any};
-ghost use Rattle.std.specs.FinMap.{entries, get};
+ghost use Rattle.std.specs.FinMap.{entries};
 ghost use Rattle.moo_world.specs.PropertyCalls.{is_clear};
 ghost use Rattle.moo_world.specs.Rows.{world_of};
 ghost use Rattle.moo_world.specs.World.{IsTree};
@@ -12,7 +12,7 @@ ghost use Rattle.moo_damage.specs.Damage.{is_object_past, is_prop_past, is_verb_
 ghost use Rattle.moo_damage.specs.OwnClear.{has_clear};
 ghost use Rattle.moo_damage.specs.Missing.{IsFirstMissing};
 
-use crate::trees::Link;
+use crate::trees::TreeLink;
 use moo_rows::{
     Head, ObjRow, PetitionId, PropId, PropRow, Rows, SlotRow, SlotState, VerbId, each_object,
     each_petition, each_prop, each_slot, each_verb,
@@ -45,7 +45,7 @@ fn is_petition_past(head: Head, id: PetitionId) -> bool
 }
 
 /// Whether the link of a row names neither an object nor `#-1`.
-fn is_lost<R: Rows>(rows: &R, link: Link, row: &ObjRow) -> bool
+fn is_lost<R: Rows>(rows: &R, link: TreeLink, row: &ObjRow) -> bool
     ensures { result ≡ is_lost link (R.held rows.now).maps row.now }
 {
     let next = link.of(row);
@@ -192,7 +192,7 @@ pub(crate) fn first_petition_past<R: Rows>(rows: &R) -> Option<PetitionId>
 }
 
 /// The least object whose link names neither an object nor `#-1`, or none.
-pub(crate) fn first_lost<R: Rows>(rows: &R, link: Link) -> Option<ObjNo>
+pub(crate) fn first_lost<R: Rows>(rows: &R, link: TreeLink) -> Option<ObjNo>
     ensures { IsLeastBad (R.held rows.now).maps.objects (λ k r. is_lost link (R.held rows.now).maps r ≡ false) (λ k r. is_lost link (R.held rows.now).maps r ≡ true) result }
 {
     each_object(rows)

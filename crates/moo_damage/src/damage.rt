@@ -1,11 +1,10 @@
 //! What is wrong with rows, if anything.
 
 ghost use Rattle.std.specs.Prelude.{◌≡◌, ◌<◌, suc, true, IfOk, IfSome, IfNone, Some};
-ghost use Rattle.std.specs.FinMap.{get};
 ghost use Rattle.moo_world.specs.Rows.{world_of, IsGood};
 ghost use Rattle.moo_world.specs.World.{IsTree};
 ghost use Rattle.moo_damage.specs.Damage.{NumbersGiven, LinksEnd, PropsRight, SlotsRight};
-ghost use Rattle.moo_damage.specs.Kinds.{place, lost_kind, loop_kind, InRows, NoneBefore, IsFirstBefore, IsFirstInRows};
+ghost use Rattle.moo_damage.specs.Kinds.{rank, lost_kind, loop_kind, InRows, NoneBefore, IsFirstBefore, IsFirstInRows};
 ghost use Rattle.moo_damage.specs.Limits.{AreWithin};
 ghost use Rattle.moo_damage.specs.Local.{SlotsHold};
 
@@ -15,7 +14,7 @@ use crate::checks::{
 };
 use crate::kind::{Key, Kind, object_key, petition_key, prop_key, slot_key, verb_key};
 use crate::local::{double_name, missing_slot, slots_hold, strange_slot};
-use crate::trees::{Link, first_loop};
+use crate::trees::{TreeLink, first_loop};
 use moo_rows::Rows;
 use std::alloc::{AllocError, Global};
 
@@ -43,11 +42,11 @@ fn wrong_number<R: Rows>(rows: &R) -> Option<(Kind, Key)>
 fn wrong_link<R: Rows>(
     alloc: Global,
     rows: &R,
-    link: Link,
+    link: TreeLink,
 ) -> Result<Option<(Kind, Key)>, AllocError>
     requires numbers { NumbersGiven (R.held rows.now).maps }
-    requires before { NoneBefore (InRows (R.held rows.now).maps) (place (lost_kind link)) }
-    ensures first { IfOk result (IsFirstBefore (InRows (R.held rows.now).maps) (suc (place (loop_kind link)))) }
+    requires before { NoneBefore (InRows (R.held rows.now).maps) (rank (lost_kind link)) }
+    ensures first { IfOk result (IsFirstBefore (InRows (R.held rows.now).maps) (suc (rank (loop_kind link)))) }
     ensures ends { IfOk result (λ o. IfNone o (LinksEnd link (R.held rows.now).maps)) }
 {
     if let Some(x) = first_lost(rows, link) {
@@ -99,8 +98,8 @@ fn wrong_slot<R: Rows>(rows: &R, hold: bool) -> Option<(Kind, Key)>
     None
 }
 
-/// What is wrong with rows: the first of the kinds of damage from `PastHead` to `StrangeVerb` that is met, with its least key, where
-/// objects come before properties before slots before verbs before petitions. None if nothing is: the rows then show a well formed
+/// What is wrong with rows: the first of the kinds of damage from `PastHead` to `StrangeVerb` that is met, with its least key: objects
+/// come before properties, and these before slots, verbs and petitions, in this order. None if no kind is met: the rows then show a well formed
 /// world, and petitions as they may be beside it. An `Err` is a lack of memory.
 ///
 /// Its time is that of going over the rows and of looking up each one's neighbours. Only rows of which a slot is wrong take longer.
@@ -112,10 +111,10 @@ pub fn damage_of<R: Rows>(alloc: Global, rows: &R) -> Result<Option<(Kind, Key)>
     if let Some(damage) = wrong_number(rows) {
         return Ok(Some(damage));
     }
-    if let Some(damage) = wrong_link(alloc, rows, Link::Parent)? {
+    if let Some(damage) = wrong_link(alloc, rows, TreeLink::Parent)? {
         return Ok(Some(damage));
     }
-    if let Some(damage) = wrong_link(alloc, rows, Link::Place)? {
+    if let Some(damage) = wrong_link(alloc, rows, TreeLink::Location)? {
         return Ok(Some(damage));
     }
     let hold = slots_hold(alloc, rows)?;

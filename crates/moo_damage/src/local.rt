@@ -107,7 +107,7 @@ pub(crate) fn slots_hold<R: Rows>(alloc: Global, rows: &R) -> Result<bool, Alloc
     names_apart(alloc, rows)
 }
 
-/// The least property whose name one of lesser number has, or none: not looked for where the slots are known to hold.
+/// The least property whose name one of lesser number has, or None. It isn't looked for if the slots are known to hold.
 pub(crate) fn double_name<R: Rows>(rows: &R, hold: bool) -> Option<PropId>
     requires tree { IsTree (world_of (R.held rows.now).maps) }
     requires hold { hold ≡ true → SlotsHold (R.held rows.now).maps }
@@ -119,7 +119,7 @@ pub(crate) fn double_name<R: Rows>(rows: &R, hold: bool) -> Option<PropId>
     first_double(rows)
 }
 
-/// The least slot that its object is not owed, or none: not looked for where the slots are known to hold.
+/// The least slot that its object is not owed, or None. It isn't looked for if the slots are known to hold.
 pub(crate) fn strange_slot<R: Rows>(rows: &R, hold: bool) -> Option<(ObjNo, PropId)>
     requires tree { IsTree (world_of (R.held rows.now).maps) }
     requires hold { hold ≡ true → SlotsHold (R.held rows.now).maps }
@@ -131,7 +131,7 @@ pub(crate) fn strange_slot<R: Rows>(rows: &R, hold: bool) -> Option<(ObjNo, Prop
     first_strange(rows)
 }
 
-/// The least slot that is owed and isn't there, or none: not looked for where the slots are known to hold.
+/// The least slot that is owed and isn't there, or None. It isn't looked for if the slots are known to hold.
 pub(crate) fn missing_slot<R: Rows>(rows: &R, hold: bool) -> Option<(ObjNo, PropId)>
     requires tree { IsTree (world_of (R.held rows.now).maps) }
     requires hold { hold ≡ true → SlotsHold (R.held rows.now).maps }

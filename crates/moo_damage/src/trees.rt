@@ -1,6 +1,6 @@
 //! Chains of links that don't end.
 
-ghost use Rattle.std.specs.Prelude.{◌≡◌, ◌≤◌, IfOk, IfSome, IfNone, OnOk, IsSome, true, is_some, length, map};
+ghost use Rattle.std.specs.Prelude.{◌≡◌, ◌≤◌, IfOk, IfSome, IfNone, OnOk, true, is_some, length};
 ghost use Rattle.std.specs.List.{AllByRecursion};
 ghost use Rattle.std.specs.FinMap.{entries, get};
 ghost use Rattle.moo_ordered.specs.Ordered.{contents};
@@ -9,7 +9,7 @@ ghost use Rattle.moo_damage.specs.First.{IsLeastBad};
 ghost use Rattle.moo_damage.specs.Damage.{link_of, HasEnd, Loops, LinksHold};
 ghost use Rattle.moo_damage.specs.Kinds.{lost_kind, loop_kind};
 ghost use Rattle.moo_damage.specs.Noted.{AreEnding};
-ghost use Rattle.moo_damage.specs.declared.trees.Link.{Link};
+ghost use Rattle.moo_damage.specs.declared.trees.TreeLink.{TreeLink};
 
 use crate::kind::Kind;
 use moo_rows::{ObjRow, Rows, each_object};
@@ -19,19 +19,19 @@ use std::collections::BTreeMap;
 
 /// What an object's row links it to.
 #[derive(Clone, Copy, Debug, PartialEq, Eq)]
-pub enum Link {
+pub enum TreeLink {
     Parent,
-    Place,
+    Location,
 }
 
-impl Link {
+impl TreeLink {
     /// The object that the row links to, `#-1` for none.
     pub(crate) fn of(self, row: &ObjRow) -> ObjNo
         ensures { result ≡ link_of self row.now }
     {
         match self {
-            Link::Parent => row.parent,
-            Link::Place => row.location,
+            TreeLink::Parent => row.parent,
+            TreeLink::Location => row.location,
         }
     }
 
@@ -40,8 +40,8 @@ impl Link {
         ensures { result ≡ lost_kind self }
     {
         match self {
-            Link::Parent => Kind::NoParent,
-            Link::Place => Kind::NoPlace,
+            TreeLink::Parent => Kind::NoParent,
+            TreeLink::Location => Kind::NoPlace,
         }
     }
 
@@ -50,8 +50,8 @@ impl Link {
         ensures { result ≡ loop_kind self }
     {
         match self {
-            Link::Parent => Kind::ParentLoop,
-            Link::Place => Kind::PlaceLoop,
+            TreeLink::Parent => Kind::ParentLoop,
+            TreeLink::Location => Kind::PlaceLoop,
         }
     }
 }
@@ -67,11 +67,11 @@ fn object_count<R: Rows>(alloc: Global, rows: &R) -> Result<usize, AllocError>
     Ok(objects.len())
 }
 
-/// The objects from x up to one that is known to end, or to the end itself; none if the chain doesn't end.
+/// The objects from x up to one that is known to end, or to the end itself; None if the chain doesn't end.
 fn climb<R: Rows>(
     alloc: Global,
     rows: &R,
-    link: Link,
+    link: TreeLink,
     known: &BTreeMap<ObjNo, ()>,
     count: usize,
     x: ObjNo,
@@ -104,7 +104,7 @@ fn climb<R: Rows>(
 
 /// Notes that the chains of these objects end.
 fn note(known: &mut BTreeMap<ObjNo, ()>, path: &[ObjNo]) -> Result<(), AllocError>
-    ensures { OnOk result ((link : Link) (m : Maps) → AllByRecursion (HasEnd link m) path.now → AreEnding link m (contents object_cmp known.old) → AreEnding link m (contents object_cmp known.new)) }
+    ensures { OnOk result ((link : TreeLink) (m : Maps) → AllByRecursion (HasEnd link m) path.now → AreEnding link m (contents object_cmp known.old) → AreEnding link m (contents object_cmp known.new)) }
 {
     for x in path {
         moo_ordered::put(known, *x, ())?;
@@ -116,7 +116,11 @@ fn note(known: &mut BTreeMap<ObjNo, ()>, path: &[ObjNo]) -> Result<(), AllocErro
 ///
 /// Each object is climbed over once: what is known to end is noted, and the first chain that is longer than there are
 /// objects is the answer.
-pub fn first_loop<R: Rows>(alloc: Global, rows: &R, link: Link) -> Result<Option<ObjNo>, AllocError>
+pub fn first_loop<R: Rows>(
+    alloc: Global,
+    rows: &R,
+    link: TreeLink,
+) -> Result<Option<ObjNo>, AllocError>
     requires { LinksHold link (R.held rows.now).maps }
     ensures { IfOk result (IsLeastBad (R.held rows.now).maps.objects (λ x _. HasEnd link (R.held rows.now).maps x) (λ x _. Loops link (R.held rows.now).maps x)) }
 {

@@ -5,14 +5,14 @@ use std::cell::Cell;
 /// How often the files of a world were changed. Their disks share it, since a commit writes the log alone and reads the database file: a
 /// change of one file ends the reading of the other too.
 #[derive(Drop)]
-pub struct Changes {
+pub struct DiskChanges {
     count: Cell<u64>,
 }
 
-impl Changes {
+impl DiskChanges {
     /// Before the first change.
-    pub fn new() -> Changes {
-        Changes {
+    pub fn new() -> DiskChanges {
+        DiskChanges {
             count: Cell::new(0),
         }
     }

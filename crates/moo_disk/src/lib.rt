@@ -9,5 +9,5 @@ mod telling;
 #[cfg(test)]
 mod tests;
 
-pub use changes::Changes;
+pub use changes::DiskChanges;
 pub use telling::{Telling, telling_files};

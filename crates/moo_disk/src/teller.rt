@@ -1,6 +1,6 @@
 //! Who tells of what is read of one file.
 
-use crate::changes::Changes;
+use crate::changes::DiskChanges;
 use crate::line::{Line, Subject};
 use crate::reading::Reading;
 use std::io::Eprint;
@@ -13,7 +13,7 @@ const STEP: u32 = 64;
 #[derive(Drop)]
 pub(crate) struct Teller<'a, C> {
     console: &'a C,
-    changes: &'a Changes,
+    changes: &'a DiskChanges,
     subject: Subject,
     /// The length of the file in bytes, if it was asked for after the last change.
     length: Option<u64>,
@@ -23,7 +23,7 @@ pub(crate) struct Teller<'a, C> {
 }
 
 impl<'a, C: Clock + Eprint> Teller<'a, C> {
-    pub(crate) fn new(console: &'a C, changes: &'a Changes, subject: Subject) -> Teller<'a, C> {
+    pub(crate) fn new(console: &'a C, changes: &'a DiskChanges, subject: Subject) -> Teller<'a, C> {
         Teller {
             console,
             changes,

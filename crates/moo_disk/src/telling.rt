@@ -3,7 +3,7 @@
 ghost use Rattle.std.specs.Prelude.{◌≡◌};
 ghost use Rattle.moo_disk.specs.Telling.{inner_of};
 
-use crate::changes::Changes;
+use crate::changes::DiskChanges;
 use crate::line::Subject;
 use crate::teller::Teller;
 use sqlite_disk::{Disk, Files, Tally};
@@ -13,7 +13,7 @@ use std::time::Clock;
 /// A disk that passes each call on, and tells of long reading on standard error.
 ///
 /// Nothing is told in the first five seconds of a run of reads, and then a line each five seconds. A run ends with a change of any file that
-/// shares its `Changes`, and with a pause of more than a minute. The clock is read at the first of each 64 reads. Errors of the clock and of
+/// shares its `DiskChanges`, and with a pause of more than a minute. The clock is read at the first of each 64 reads. Errors of the clock and of
 /// standard error are ignored.
 #[derive(Drop)]
 pub struct Telling<'a, D: Disk, C: Clock + Eprint> {
@@ -25,7 +25,7 @@ pub struct Telling<'a, D: Disk, C: Clock + Eprint> {
 pub fn telling_files<'a, D: Disk, C: Clock + Eprint>(
     files: Files<D>,
     console: &'a C,
-    changes: &'a Changes,
+    changes: &'a DiskChanges,
 ) -> Files<Telling<'a, D, C>>
     ensures log { inner_of result.log ≡ files.log }
     ensures db { inner_of result.db ≡ files.db }

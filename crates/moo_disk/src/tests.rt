@@ -1,7 +1,7 @@
 ghost use Rattle.std.specs.Prelude.{IsTrue, OnOk};
 
 use crate::line::{Line, Subject};
-use crate::{Changes, Telling, telling_files};
+use crate::{DiskChanges, Telling, telling_files};
 use sqlite_disk::{Disk, Files, Memory};
 use std::alloc::Global;
 use std::cell::{Cell, RefCell};
@@ -71,7 +71,7 @@ fn files_of<'a>(
     alloc: Global,
     bytes: usize,
     console: &'a Console,
-    changes: &'a Changes,
+    changes: &'a DiskChanges,
 ) -> io::Result<Files<Telling<'a, Memory, Console>>> {
     let mut log = Memory::new(alloc);
     log.set_len(bytes)?;
@@ -117,7 +117,7 @@ fn read<D: Disk>(disk: &mut D, looks: u32) -> io::Result<()> {
 #[test]
 fn long_reading_is_told_of_every_five_seconds(rt: HostRuntime) -> Result<(), Fail> {
     let console = Console::new(rt.alloc(), 1000);
-    let changes = Changes::new();
+    let changes = DiskChanges::new();
     let mut files = files_of(rt.alloc(), 2_500_000, &console, &changes)?;
     ask_length(&mut files.db)?;
     read(&mut files.db, 11)?;
@@ -132,7 +132,7 @@ fn long_reading_is_told_of_every_five_seconds(rt: HostRuntime) -> Result<(), Fai
 #[test]
 fn the_log_is_told_of_as_such(rt: HostRuntime) -> Result<(), Fail> {
     let console = Console::new(rt.alloc(), 3000);
-    let changes = Changes::new();
+    let changes = DiskChanges::new();
     let mut files = files_of(rt.alloc(), 4096, &console, &changes)?;
     read(&mut files.log, 3)?;
     assert_eq!(rt;
@@ -145,7 +145,7 @@ fn the_log_is_told_of_as_such(rt: HostRuntime) -> Result<(), Fail> {
 #[test]
 fn a_change_of_either_file_ends_the_reading(rt: HostRuntime) -> Result<(), Fail> {
     let console = Console::new(rt.alloc(), 1000);
-    let changes = Changes::new();
+    let changes = DiskChanges::new();
     let mut files = files_of(rt.alloc(), 4096, &console, &changes)?;
     for _ in 0..4 {
         read(&mut files.db, 5)?;
@@ -161,7 +161,7 @@ fn a_change_of_either_file_ends_the_reading(rt: HostRuntime) -> Result<(), Fail>
 fn a_pause_of_more_than_a_minute_ends_it(rt: HostRuntime) -> Result<(), Fail> {
     for (step, lines) in [(60_000, 3), (60_001, 0)] {
         let console = Console::new(rt.alloc(), step);
-        let changes = Changes::new();
+        let changes = DiskChanges::new();
         let mut files = files_of(rt.alloc(), 4096, &console, &changes)?;
         read(&mut files.db, 4)?;
         assert_eq!(rt; console.said()?.lines().count(), lines);

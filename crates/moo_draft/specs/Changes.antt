@@ -6,7 +6,7 @@ use Rattle.moo_rows.specs.Maps.{Maps, object_cmp, prop_cmp, slot_cmp, verb_cmp, 
 use Rattle.moo_draft.specs.Overlay.{changed}
 use Rattle.moo_draft.specs.declared.changes.Changes.{Changes}
 
--- exactly the keys whose rows differ, each once with its new row or none, in ascending order
+-- exactly the keys whose rows differ, each once with its new row or `None`, in ascending order
 pub record IsChanges {K X : Type 0} (cmp : K → K → Ordering) (base new : K → Option X) (changes : List (K × Option X)) : Type 0 where
   pub ascending : T (is_sorted cmp changes)
   -- a key of the list has its new row there, and that isn't the base's

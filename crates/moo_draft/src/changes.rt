@@ -9,7 +9,7 @@ ghost use Rattle.moo_draft.specs.Changes.{IsChanges, AreChanges, changed_each};
 
 use crate::overlay::Base;
 use moo_flat::Flat;
-use moo_ordered::Key;
+use moo_ordered::OrderedKey;
 use moo_rows::{
     Head, ObjRow, PetitionId, PetitionRow, PropId, PropRow, Row, Rows, SlotRow, VerbId, VerbRow,
 };
@@ -18,7 +18,7 @@ use std::alloc::{AllocError, Global};
 use std::collections::BTreeMap;
 use std::marker::Model;
 
-/// Keys, each with its new row, or none if the row was removed. `Draft::into_changes` gives them ascending, each once.
+/// Keys, each with its new row, or `None` if the row was removed. `Draft::into_changes` gives them ascending, each once.
 #[derive(Drop)]
 pub struct ChangeList<K, V> {
     items: Vec<(K, Option<V>)>,
@@ -66,7 +66,7 @@ pub struct Changes {
     pub petitions: ChangeList<PetitionId, PetitionRow>,
 }
 
-/// Whether a key has this row, or has none if there is none.
+/// Whether a key has this row, or isn't there if this is `None`.
 fn has_row<V: Row>(held: Option<&V>, row: &Option<V>) -> bool
     ensures { IsTrue result ↔ (option_map (λ held. held.now) held.entry ≡ row.now) }
 {
@@ -78,7 +78,7 @@ fn has_row<V: Row>(held: Option<&V>, row: &Option<V>) -> bool
 }
 
 /// The keys of these changes whose rows differ from the base, with their new rows. The only error is that memory runs out.
-fn differing_rows<'a, K: Key, V: Row + 'a, B: Base<'a, K, V>>(
+fn differing_rows<'a, K: OrderedKey, V: Row + 'a, B: Base<'a, K, V>>(
     alloc: Global,
     base: B,
     changes: BTreeMap<K, Option<V>>,
@@ -96,7 +96,7 @@ fn differing_rows<'a, K: Key, V: Row + 'a, B: Base<'a, K, V>>(
 
 /// The keys whose rows differ from the base, with their new rows. The only error is that memory runs out. Most drafts change rows of one
 /// map or two, so that a map without changes isn't gone over.
-pub(crate) fn changed_rows<'a, K: Key, V: Row + 'a, B: Base<'a, K, V>>(
+pub(crate) fn changed_rows<'a, K: OrderedKey, V: Row + 'a, B: Base<'a, K, V>>(
     alloc: Global,
     base: B,
     changes: BTreeMap<K, Option<V>>,

@@ -20,7 +20,7 @@ use std::alloc::{AllocError, Global};
 use std::collections::BTreeMap;
 use std::marker::Model;
 
-/// Changes over rows that stay as they are: for each changed key a new row, or none if it is removed.
+/// Changes over rows that stay as they are: for each changed key a new row, or `None` if it is removed.
 ///
 /// The links and definers are those of changed rows; those that a later change removed may still be among them.
 #[derive(Drop)]

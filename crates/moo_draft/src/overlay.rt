@@ -5,11 +5,11 @@ ghost use Rattle.std.specs.FinMap as map;
 ghost use Rattle.moo_ordered.specs.Ordered.{contents, IsNextAt};
 ghost use Rattle.moo_draft.specs.Overlay.{row_over, IsNextOfEither};
 
-use moo_ordered::Key;
+use moo_ordered::OrderedKey;
 use std::collections::BTreeMap;
 
 /// The map below the changes.
-pub trait Base<'a, K: Key, V>: Copy + Drop {
+pub trait Base<'a, K: OrderedKey, V>: Copy + Drop {
     ghost use Rattle.std.specs.Prelude.{◌≡◌, Option, option_map};
     ghost use Rattle.moo_ordered.specs.Ordered.{IsNextAt};
 
@@ -26,7 +26,7 @@ pub trait Base<'a, K: Key, V>: Copy + Drop {
 }
 
 /// The row of a key.
-pub fn get<'a, K: Key, V, B: Base<'a, K, V>>(
+pub fn get<'a, K: OrderedKey, V, B: Base<'a, K, V>>(
     base: B,
     changes: &'a BTreeMap<K, Option<V>>,
     key: K,
@@ -42,7 +42,7 @@ pub fn get<'a, K: Key, V, B: Base<'a, K, V>>(
 }
 
 /// The next key that is in the base or changed.
-fn next_of_either<'a, K: Key, V, B: Base<'a, K, V>>(
+fn next_of_either<'a, K: OrderedKey, V, B: Base<'a, K, V>>(
     base: B,
     changes: &BTreeMap<K, Option<V>>,
     from: Option<K>,
@@ -53,7 +53,7 @@ fn next_of_either<'a, K: Key, V, B: Base<'a, K, V>>(
 }
 
 /// The next held key.
-pub fn next<'a, K: Key, V, B: Base<'a, K, V>>(
+pub fn next<'a, K: OrderedKey, V, B: Base<'a, K, V>>(
     base: B,
     changes: &BTreeMap<K, Option<V>>,
     from: Option<K>,
@@ -74,7 +74,7 @@ pub fn next<'a, K: Key, V, B: Base<'a, K, V>>(
 }
 
 /// Whether the changes remove the row of a key.
-fn is_removed<K: Key, V>(changes: &BTreeMap<K, Option<V>>, key: K) -> bool
+fn is_removed<K: OrderedKey, V>(changes: &BTreeMap<K, Option<V>>, key: K) -> bool
     ensures { IsTrue result ↔ (map.get (contents K.cmp changes.now) key ≡ Some None) }
 {
     match moo_ordered::get(changes, key) {

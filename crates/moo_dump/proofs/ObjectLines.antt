@@ -8,8 +8,8 @@ use Rattle.moo_rows.specs.declared.row.SlotRow.{SlotRow}
 use Rattle.moo_rows.specs.Maps.{prop_cmp}
 use Rattle.moo_rows.proofs.Orders.{prop_total}
 use Rattle.moo_world.specs.Objects.{Name, folded, is_among}
-use Rattle.moo_world.specs.World.{World, Record, Slot, is_object, chain, names_of, defined_by, owed_by, directory_of, slot_of}
-use Rattle.moo_world.specs.Rows.{IsSound, IsGood, look_ups, world_shown, record_of, slot_seen}
+use Rattle.moo_world.specs.World.{World, WorldObject, Slot, is_object, chain, property_names_of, defined_by, defined_by_any, directory_of, slot_of}
+use Rattle.moo_world.specs.Rows.{IsSound, IsGood, look_ups, world_shown, object_shown, slot_seen}
 use Rattle.moo_world.proofs.Shown.EntriesInOrder.{own_entries, all_weaker}
 use Rattle.moo_world.proofs.Shown.ObjectEntries.{objects_listed}
 use Rattle.moo_world.proofs.Shown.PairLists.{some_of}
@@ -42,7 +42,7 @@ module _ (t : Maps) where
   defined_among d = filter (λ e. same_object e.1.definer d) (entries t.props)
 
   -- what is made of the numbers that d defines is made of its names, where the two are made alike
-  defined_alike : IsSound t → (d : ObjNo) (f : PropId → List ℕ) (g : Name → List ℕ) → ((id : PropId) (p : PropRow) → get t.props id ≡ Some p → p.definer ≡ d → f id ≡ g p.name) → flat_map f (ids_defined t d) ≡ flat_map g (names_of w d)
+  defined_alike : IsSound t → (d : ObjNo) (f : PropId → List ℕ) (g : Name → List ℕ) → ((id : PropId) (p : PropRow) → get t.props id ≡ Some p → p.definer ≡ d → f id ≡ g p.name) → flat_map f (ids_defined t d) ≡ flat_map g (property_names_of w d)
   defined_alike sound d f g h =
       flat_map-map f (λ e. e.0) (defined_among d)
       ∙ flat_map-alike (λ e. IsHeld e × (same_object e.1.definer d ≡ true)) (λ e. f e.0) (λ e. g e.1.name) (λ e k. h e.0 e.1 k.0 ((same_object-Decides e.1.definer d).0 k.1)) (defined_among d)
@@ -50,7 +50,7 @@ module _ (t : Maps) where
       ∙ sym (flat_map-map g (λ (e : PropId × PropRow). e.1.name) (defined_among d))
       ∙ ap (flat_map g) (names_listed t sound d)
 
-  properties_are : IsSound t → (x : ObjNo) → flat_map (property_line_of t x) (ids_defined t x) ≡ flat_map (property_line x) (names_of w x)
+  properties_are : IsSound t → (x : ObjNo) → flat_map (property_line_of t x) (ids_defined t x) ≡ flat_map (property_line x) (property_names_of w x)
   properties_are sound x = defined_alike sound x (property_line_of t x) (property_line x) (λ id p e d. ap (λ (o : Option PropRow). elim o [ None ↦ [] | Some r ↦ property_line x r.name ]) e)
 
   module _ (good : IsGood t) (x : ObjNo) (there : is_object w x ≡ true) where
@@ -66,9 +66,9 @@ module _ (t : Maps) where
     slots_of_definer : (d : ObjNo) → is_among d (chain w x) ≡ true → flat_map (slot_line_of t x) (ids_defined t d) ≡ flat_map (owed_line w x) (defined_by w d)
     slots_of_definer d among =
         defined_alike good.sound d (slot_line_of t x) (λ n. owed_line w x (d, n)) (slot_line_is d among)
-        ∙ sym (flat_map-map (owed_line w x) (λ n. (d, n)) (names_of w d))
+        ∙ sym (flat_map-map (owed_line w x) (λ n. (d, n)) (property_names_of w d))
 
-    slots_are : slot_lines_over t x (chain w x) ≡ flat_map (owed_line w x) (owed_by w (chain w x))
+    slots_are : slot_lines_over t x (chain w x) ≡ flat_map (owed_line w x) (defined_by_any w (chain w x))
     slots_are =
         flat_map-alike (λ d. is_among d (chain w x) ≡ true) (λ d. flat_map (slot_line_of t x) (ids_defined t d)) (λ d. flat_map (owed_line w x) (defined_by w d)) slots_of_definer (chain w x) (each_among (chain w x))
         ∙ sym (flat_map-flat_map (owed_line w x) (defined_by w) (chain w x))
@@ -83,18 +83,18 @@ module _ (t : Maps) where
   pub object_printed : IsGood t → (x : ObjNo) (row : ObjRow) → get t.objects x ≡ Some row
       → object_lines w x ≡ object_line x row ++ (flat_map (property_line_of t x) (ids_defined t x) ++ (slot_lines_over t x (chain w x) ++ flat_map (verb_line x) (directory_of w x)))
   object_printed good x row e =
-      let seen : w.object x ≡ Some (record_of (look_ups t) x row) = object_seen (look_ups t) x row e in
-      let r : Record = record_of (look_ups t) x row in
+      let seen : w.object x ≡ Some (object_shown (look_ups t) x row) = object_seen (look_ups t) x row e in
+      let r : WorldObject = object_shown (look_ups t) x row in
       let there : is_object w x ≡ true = ap is_some seen in
-      let names : names_of w x ≡ r.defines = ap (λ o. unwrap_or (option_map (λ (k : Record). k.defines) o) []) seen in
-      let verbs : directory_of w x ≡ r.verbs = ap (λ o. unwrap_or (option_map (λ (k : Record). k.verbs) o) []) seen in
-      ap (λ (o : Option Record). elim o [ None ↦ [] | Some k ↦ record_lines w x k ]) seen
+      let names : property_names_of w x ≡ r.defines = ap (λ o. unwrap_or (option_map (λ (k : WorldObject). k.defines) o) []) seen in
+      let verbs : directory_of w x ≡ r.verbs = ap (λ o. unwrap_or (option_map (λ (k : WorldObject). k.verbs) o) []) seen in
+      ap (λ (o : Option WorldObject). elim o [ None ↦ [] | Some k ↦ record_lines w x k ]) seen
       ∙ sym (λ i. object_line x row ++ ((properties_are good.sound x ∙ ap (flat_map (property_line x)) names) i ++ (slots_are good x there i ++ flat_map (verb_line x) (verbs i))))
 
   -- what is no object has no lines
   pub nothing_printed : (x : ObjNo) → get t.objects x ≡ None → object_lines w x ≡ []
   unfolding world_shown
-  nothing_printed x e = ap (λ (o : Option ObjRow). elim (option_map (record_of (look_ups t) x) o) [ None ↦ [] | Some k ↦ record_lines w x k ]) e
+  nothing_printed x e = ap (λ (o : Option ObjRow). elim (option_map (object_shown (look_ups t) x) o) [ None ↦ [] | Some k ↦ record_lines w x k ]) e
 
   -- the objects' lines by their entries
   pub objects_printed : IsGood t → objects_text t ≡ flat_map (λ e. object_lines w e.0) (entries t.objects)

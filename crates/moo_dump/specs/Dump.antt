@@ -18,9 +18,9 @@ use Rattle.moo_world.specs.Answers.{flag, list_of}
 use Rattle.moo_world.specs.Calls.{accept_value}
 use Rattle.moo_world.specs.Judge.{State}
 use Rattle.moo_world.specs.ObjectLists.{objects_of}
-use Rattle.moo_world.specs.Objects.{Name, Pair, folded}
-use Rattle.moo_world.specs.Prepositions.{prep_text, place_text}
-use Rattle.moo_world.specs.World.{World, Record, Slot, slot_of, chain, owed_by}
+use Rattle.moo_world.specs.Objects.{Name, Property, folded}
+use Rattle.moo_world.specs.Prepositions.{prep_text, object_spec_text}
+use Rattle.moo_world.specs.World.{World, WorldObject, Slot, slot_of, chain, defined_by_any}
 
 -- a word and a literal list of these values, as a line
 abbrev pub line : List ℕ → List Value → List ℕ
@@ -44,26 +44,26 @@ state_values Clear = Int (pos 0) ∷ []
 state_values (Set v) = Int (pos 1) ∷ v ∷ []
 
 -- the slot of a property on x
-abbrev pub slot_line : ObjNo → Pair → Slot → List ℕ
+abbrev pub slot_line : ObjNo → Property → Slot → List ℕ
 slot_line x p s = line (codes "slot") (Obj x ∷ Obj p.0 ∷ Str p.1 ∷ Obj s.owner ∷ Str (letters_of s.bits) ∷ state_values s.state)
 
 -- so with the slot that x has under the property's name: in a well formed world it has one for each property that is owed to it
-abbrev pub owed_line : World → ObjNo → Pair → List ℕ
+abbrev pub owed_line : World → ObjNo → Property → List ℕ
 owed_line w x p = elim (slot_of w x (folded p.1)) [ None ↦ [] | Some s ↦ slot_line x p s ]
 
 abbrev pub verb_values : ObjNo → VerbRow → List Value
 verb_values x v =
     Obj x ∷ Str v.names ∷ Obj v.owner ∷ Str (verb_letters_of v.bits)
-    ∷ Str (place_text v.args.dobj) ∷ Str (prep_text v.args.prep) ∷ Str (place_text v.args.iobj) ∷ []
+    ∷ Str (object_spec_text v.args.dobj) ∷ Str (prep_text v.args.prep) ∷ Str (object_spec_text v.args.iobj) ∷ []
 
 abbrev pub verb_line : ObjNo → VerbRow → List ℕ
 verb_line x v = line (codes "verb") (verb_values x v)
 
 -- its row, the names that it defines, its slots by definers from itself up its chain, its verbs
-abbrev pub record_lines : World → ObjNo → Record → List ℕ
+abbrev pub record_lines : World → ObjNo → WorldObject → List ℕ
 record_lines w x r =
     object_line x r.row
-    ++ (flat_map (property_line x) r.defines ++ (flat_map (owed_line w x) (owed_by w (chain w x)) ++ flat_map (verb_line x) r.verbs))
+    ++ (flat_map (property_line x) r.defines ++ (flat_map (owed_line w x) (defined_by_any w (chain w x)) ++ flat_map (verb_line x) r.verbs))
 
 abbrev pub object_lines : World → ObjNo → List ℕ
 object_lines w x = elim (w.object x) [ None ↦ [] | Some r ↦ record_lines w x r ]

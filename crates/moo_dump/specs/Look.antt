@@ -4,10 +4,10 @@ use Rattle.std.specs.Option.{option_map}
 use Rattle.moo_value.specs.declared.value.ObjNo.{ObjNo}
 use Rattle.moo_dump.specs.declared.seen.Look.{Look}
 use Rattle.moo_world.specs.ObjectLists.{children_of, contents_of}
-use Rattle.moo_world.specs.World.{World, Record}
+use Rattle.moo_world.specs.World.{World, WorldObject}
 
 -- the fields of an object's record, its children and what is in it
-abbrev pub look_at : World → ObjNo → Record → Look
+abbrev pub look_at : World → ObjNo → WorldObject → Look
 look_at w x r = record {
   name = r.row.name;
   owner = r.row.owner;
@@ -23,6 +23,6 @@ look_at w x r = record {
   contents = contents_of w x;
 }
 
--- none if x isn't an object
+-- None if x isn't an object
 abbrev pub look_of : World → ObjNo → Option Look
 look_of w x = option_map (look_at w x) (w.object x)

@@ -9,7 +9,7 @@ ghost use Rattle.moo_world.specs.Judge.{state_of};
 ghost use Rattle.moo_world.specs.Rows.{IsGood};
 
 use crate::definitions::{Definitions, all_definitions};
-use crate::fault::DumpFault;
+use crate::fault::RowsDumpFault;
 use crate::lines::petition_text;
 use crate::objects::object_text;
 use crate::output::put_all;
@@ -41,7 +41,7 @@ fn put_objects<R: Rows, W: Write>(
     rows: &R,
     definitions: &Definitions,
     output: &mut W,
-) -> Result<(), DumpFault>
+) -> Result<(), RowsDumpFault>
     requires good { IsGood (R.held rows.now).maps }
     requires listed { ListsDefinitions (R.held rows.now).maps definitions.now }
     ensures ok { OnOk result (Appends (W.contents output.old) (W.contents output.new) (objects_text (R.held rows.now).maps)) }
@@ -59,7 +59,7 @@ fn put_petitions<R: Rows, W: Write>(
     alloc: Global,
     rows: &R,
     output: &mut W,
-) -> Result<(), DumpFault>
+) -> Result<(), RowsDumpFault>
     ensures ok { OnOk result (Appends (W.contents output.old) (W.contents output.new) (petitions_text (R.held rows.now).maps)) }
     ensures err { OnErr result (AppendsFront (W.contents output.old) (W.contents output.new) (petitions_text (R.held rows.now).maps)) }
 {
@@ -79,7 +79,7 @@ fn put_petitions<R: Rows, W: Write>(
 /// Write if the writer fails or takes no bytes, OutOfMemory if memory runs out; a front of the text is written then.
 ///
 /// All properties are gone over once, and then each object takes as many look-ups as it has lines and as its chain is long.
-pub fn dump<R: Rows, W: Write>(alloc: Global, rows: &R, output: &mut W) -> Result<(), DumpFault>
+pub fn dump<R: Rows, W: Write>(alloc: Global, rows: &R, output: &mut W) -> Result<(), RowsDumpFault>
     requires { IsGood (R.held rows.now).maps }
     ensures ok { OnOk result (Appends (W.contents output.old) (W.contents output.new) (dump (state_of (R.held rows.now).maps))) }
     ensures err { OnErr result ((count : ℕ)

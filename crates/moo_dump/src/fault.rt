@@ -1,23 +1,23 @@
 //! Why a dump stopped.
 
 ghost use Rattle.std.specs.Prelude.{◌≡◌};
-ghost use Rattle.moo_dump.specs.declared.fault.DumpFault.TheVariants.{OutOfMemory};
+ghost use Rattle.moo_dump.specs.declared.fault.RowsDumpFault.TheVariants.{OutOfMemory};
 
 use std::alloc::AllocError;
 
 /// Why a dump stopped.
 #[derive(Clone, Copy, Debug, PartialEq, Eq)]
-pub enum DumpFault {
+pub enum RowsDumpFault {
     /// The writer failed, or took no bytes.
     Write,
     /// Memory ran out.
     OutOfMemory,
 }
 
-impl From<AllocError> for DumpFault {
+impl From<AllocError> for RowsDumpFault {
     ghost from_gives = { λ _ e. e ≡ OutOfMemory };
 
-    fn from(_e: AllocError) -> DumpFault {
-        DumpFault::OutOfMemory
+    fn from(_e: AllocError) -> RowsDumpFault {
+        RowsDumpFault::OutOfMemory
     }
 }

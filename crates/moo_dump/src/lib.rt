@@ -13,7 +13,7 @@ mod seen;
 
 pub use comparing::{CompareFault, compare};
 pub use dumping::dump;
-pub use fault::DumpFault;
+pub use fault::RowsDumpFault;
 pub use looking::look;
 pub use output::put_all;
 pub use seen::Look;

@@ -3,13 +3,13 @@
 ghost use Rattle.std.specs.Prelude.{◌≡◌, ◌++◌, OnOk, IfOk};
 ghost use Rattle.moo_value.specs.Text.{IsText};
 ghost use Rattle.moo_dump.specs.Dump.{line, object_line, property_line, slot_line, verb_line, petition_line};
-ghost use Rattle.moo_world.specs.Prepositions.{place_text, prep_text};
+ghost use Rattle.moo_world.specs.Prepositions.{object_spec_text, prep_text};
 ghost use Rattle.moo_world.specs.Rows.{slot_seen};
 
 use moo_call_parts::{accept_value, flag, list_of};
 use moo_rows::{ArgSpec, ObjRow, PetitionId, PetitionRow, PropRow, SlotRow, SlotState, VerbRow};
 use moo_value::{MooStr, ObjNo, Value, print_literal};
-use moo_verbs::{bits_letters, print_place, print_prep};
+use moo_verbs::{bits_letters, print_object_spec, print_prep};
 use std::alloc::{AllocError, Global};
 
 /// Appends a word and a literal list of these values, as a line.
@@ -112,13 +112,13 @@ pub(crate) fn put_slot_line(
 
 /// The arguments that a verb takes, as texts.
 fn arg_strings(alloc: Global, args: ArgSpec) -> Result<(Value, Value, Value), AllocError>
-    ensures dobj { IfOk result (λ texts. texts.0 ≡ Value.Str (place_text args.dobj)) }
+    ensures dobj { IfOk result (λ texts. texts.0 ≡ Value.Str (object_spec_text args.dobj)) }
     ensures prep { IfOk result (λ texts. texts.1 ≡ Value.Str (prep_text args.prep)) }
-    ensures iobj { IfOk result (λ texts. texts.2 ≡ Value.Str (place_text args.iobj)) }
+    ensures iobj { IfOk result (λ texts. texts.2 ≡ Value.Str (object_spec_text args.iobj)) }
 {
-    let dobj = string(alloc, print_place(args.dobj))?;
+    let dobj = string(alloc, print_object_spec(args.dobj))?;
     let prep = string(alloc, print_prep(args.prep))?;
-    let iobj = string(alloc, print_place(args.iobj))?;
+    let iobj = string(alloc, print_object_spec(args.iobj))?;
     Ok((dobj, prep, iobj))
 }
 

@@ -1,21 +1,11 @@
 -- From what a crash left to what the next open finds.
-use Rattle.std.proofs.Common.{ℕ, ◌≤◌, List, ◌++◌, take, Result, Ok, Err, IfOk, subst}
-use Rattle.sqlite_wal.specs.Recovery.{Image}
-use Rattle.sqlite.specs.Tree.{Trees}
+use Rattle.moo_files.proofs.Words.{ℕ, ◌≤◌, List, ◌++◌, take, Result, Ok, Err, IfOk, subst, Image, Trees, Maps, State, Tables, ShowsRows, LeavesState, Stand, MayLeave, CrashLeaves, HoldsTrees, HoldsTables, HoldsState, IsLeftBy}
 use Rattle.sqlite.specs.State.{State as Database}
-use Rattle.moo_rows.specs.Maps.{Maps}
 use Rattle.moo_world.specs.declared.call.Batch.{Batch}
-use Rattle.moo_world.specs.Judge.{State}
 use Rattle.moo_world.specs.Rows.{IsGood}
-use Rattle.moo_tables.specs.Tables.{Tables}
-use Rattle.moo_cells.specs.Shows.{ShowsRows}
 use Rattle.moo_cells.proofs.CellsLemmas.{one_good}
 use Rattle.moo_cells.proofs.GoodRows.{good_within}
 use Rattle.moo_store.specs.Led.{BatchesLead, LeavesLed}
-use Rattle.moo_store.specs.States.{LeavesState}
-use Rattle.moo_store.specs.Stand.{Stand, MayLeave}
-use Rattle.moo_store.specs.World.{CrashLeaves}
-use Rattle.moo_files.specs.Contents.{HoldsTrees, HoldsTables, HoldsState, IsLeftBy}
 
 pub held_again : (image : Image) (trees : Trees) (s : State) → HoldsTrees image trees → LeavesState trees s → HoldsState image s
 held_again image trees s holds shows = record { trees = trees; holds = holds; such = shows }

@@ -1,21 +1,10 @@
 -- Half a first page of 1,024 bytes isn't a whole page of any database.
-use Rattle.std.proofs.Common.{◌≡◌, ◌<◌, ℕ, List, [], ◌∷◌, length, slice_index, inl, inr, sym, ◌∙◌, arith}
-use Rattle.std.proofs.lemmas.Bool.{cases_eq}
+use Rattle.moo_files.proofs.Words.{◌≡◌, ◌<◌, ℕ, List, [], ◌∷◌, length, slice_index, inl, inr, sym, ◌∙◌, arith, cases_eq, Image, IsIgnored, size_in_file, some_value, begun_is_not_blank, first_page, first_page_byte, stored_size, sealed, IsUnreadable, length-sealed, first_byte, NamesSize, BeginsWell, IsBlank}
 use Rattle.std.proofs.lemmas.List.{length-map}
 use Rattle.std.proofs.lemmas.List.FromFn.{length-range_with_len}
 use Rattle.std.specs.List.{range_with_len}
 use Rattle.sqlite_wal.specs.Format.{be32}
-use Rattle.sqlite_wal.specs.Recovery.{Image, IsIgnored}
-use Rattle.sqlite_wal.specs.PageSize.{size_in_file}
-use Rattle.sqlite_wal.proofs.AppendLemmas.{some_value}
-use Rattle.sqlite_wal.proofs.CreateLemmas.{begun_is_not_blank}
 use Rattle.sqlite_wal.proofs.FormatLemmas.{be32-part}
-use Rattle.sqlite_pool.specs.Header.{first_page, first_page_byte}
-use Rattle.sqlite_pool.specs.Stored.{stored_size, sealed, IsUnreadable}
-use Rattle.sqlite_pool.specs.StoredLaws.{length-sealed}
-use Rattle.sqlite_pool.proofs.ProbeLemmas.{first_byte}
-use Rattle.sqlite.specs.Files.{NamesSize, BeginsWell}
-use Rattle.moo_files.specs.Blank.{IsBlank}
 
 -- no file names a page of one byte
 one_byte : (db : List ℕ) → size_in_file db ≡ 1 → ⊥

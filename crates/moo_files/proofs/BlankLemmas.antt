@@ -1,36 +1,15 @@
 -- Files that hold no database yet.
-use Rattle.std.proofs.Common.{◌≡◌, ◌⊎◌, ◌∙◌, true, inl, inr, ℕ, ◌≤◌, [], Result, Ok, Err, IfOk, IfErr, arith, refl, sym, subst}
-use Rattle.std.proofs.Math.Logic.{∥∥₁_map}
-use Rattle.sqlite_disk.specs.declared.Disk.{Ghosts}
-use Rattle.sqlite_disk.specs.declared.Files.{Files}
-use Rattle.sqlite_wal.specs.Reads.{OnlyReads}
-use Rattle.sqlite_wal.specs.Recovery.{Image, AreWhole}
-use Rattle.sqlite_wal.specs.Files.{outcomes}
-use Rattle.sqlite_wal.specs.PageSize.{IsPageSize}
+use Rattle.moo_files.proofs.Words.{◌≡◌, ◌⊎◌, ◌∙◌, true, inl, inr, ℕ, ◌≤◌, [], Result, Ok, Err, IfOk, IfErr, arith, refl, sym, subst, ∥∥₁_map, Ghosts, Files, OnlyReads, Image, AreWhole, outcomes, IsPageSize, version_in, in_use, IsBlankFile, IsNew, reserved, stored_size, Recovers, StandsAs, IsUnreadable, trimmed_whole, not_blank, catalog_rows, all_trees, file_trees, IsOurs, state_of, Held, FileStore, Finds, file_state, HoldsDatabase, IsEmpty, IsNothing, LeavesFiles, NamesSize, BeginsWell, SaysSums, AreFoundIn, image_of, Leftover, same_image, empty_is_sound, IsBlank, LeavesBlank}
 use Rattle.sqlite_pages.specs.PageMap.{PageMap}
-use Rattle.sqlite_pool.specs.File.{version_in, in_use}
-use Rattle.sqlite_pool.specs.Opening.{IsBlankFile, IsNew}
-use Rattle.sqlite_pool.specs.Stored.{reserved, stored_size, Recovers, StandsAs, IsUnreadable}
-use Rattle.sqlite_pool.specs.StoredLaws.{trimmed_whole}
-use Rattle.sqlite_pool.proofs.ProbeLemmas.{not_blank}
 use Rattle.sqlite_pool.proofs.ResealLemmas.{adopts_of}
 use Rattle.sqlite_store.specs.Opening as store
 use Rattle.sqlite_store.specs.Db.{trees_in}
-use Rattle.sqlite_store.specs.Listed.{catalog_rows}
-use Rattle.sqlite_store.specs.Listing.{all_trees, file_trees, IsOurs}
-use Rattle.sqlite_store.specs.Unopened.{state_of}
 use Rattle.sqlite_store.proofs.BuildLemmas.{new_is_empty}
 use Rattle.sqlite_store.proofs.ListingLemmas.{past_version, named_tree}
 use Rattle.sqlite_trees.specs.Tree.{Trees}
-use Rattle.sqlite.specs.Held.{Held}
-use Rattle.sqlite_store.specs.declared.store.FileStore.{FileStore}
 use Rattle.sqlite_wal.proofs.CleanLemmas.{both_clean}
-use Rattle.sqlite.specs.Files.{Finds, file_state, HoldsDatabase, IsEmpty, IsNothing, LeavesFiles, IsKept, NamesSize, BeginsWell, SaysSums, AreFoundIn, image_of}
-use Rattle.sqlite.specs.declared.file.Leftover.{Leftover}
+use Rattle.sqlite.specs.Files.{IsKept}
 use Rattle.sqlite.specs.declared.file.Leftover.TheVariants as left
-use Rattle.sqlite.proofs.FileLemmas.{same_image}
-use Rattle.sqlite.proofs.ListingLemmas.{empty_is_sound}
-use Rattle.moo_files.specs.Blank.{IsBlank, LeavesBlank}
 
 pub holds_none : (image : Image) (db : Trees) → IsBlank image → HoldsDatabase image db → ⊥
 holds_none image db blank held =

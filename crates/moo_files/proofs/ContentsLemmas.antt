@@ -1,37 +1,18 @@
 -- From what the files hold to what a connection to them keeps.
-use Rattle.std.proofs.Common.{◌≡◌, ◌≢◌, ◌⊎◌, inl, inr, ℕ, zero, suc, ◌≤◌, Result, Ok, Err, IfErr, [], ap, arith, sym, subst, subst₂, ◌∙◌}
-use Rattle.std.specs.Prelude.{length, IsTrue}
-use Rattle.std.proofs.Math.Logic.{∥∥₁_elim, ∥∥₁_map}
-use Rattle.sqlite_trees.specs.Props.{Trees-set}
+use Rattle.moo_files.proofs.Words.{◌≡◌, ◌≢◌, ◌⊎◌, inl, inr, ℕ, zero, suc, ◌≤◌, Result, Ok, Err, IfErr, [], ap, arith, sym, subst, subst₂, ◌∙◌, length, IsTrue, ∥∥₁_elim, ∥∥₁_map, Trees-set, Trees, HasCleanDisk, Survives, Opens, IsLive, Held, IsEmpty, IsNothing, file_state, empty_is_sound, Ghosts, FileStore, Error, State, Tables, schema_of, first_schema, no_schema, ShowsState, LeavesState, Left, IsOfStore, Adopts, StoreFault, IsBlank, HoldsTrees, HoldsTables, HoldsState, HasOtherTables, HasAnyTable, IsMigrated, IsKept, ReadsAs, ReadsAsOurs, HoldsNoTable}
 use Rattle.sqlite.specs.Recovery.{Image}
 use Rattle.sqlite.specs.Schema.{Schema}
-use Rattle.sqlite.specs.Tree.{Trees}
-use Rattle.sqlite.specs.State.{State as Database, HasCleanDisk, Survives, Opens, IsLive}
+use Rattle.sqlite.specs.State.{State as Database}
 use Rattle.sqlite.specs.Start.{FindsIn}
-use Rattle.sqlite.specs.Held.{Held}
 use Rattle.sqlite.specs.Effect.{Database as Content, IsDatabase}
-use Rattle.sqlite.specs.Files.{IsEmpty, IsNothing, file_state}
-use Rattle.sqlite.proofs.ListingLemmas.{empty_is_sound}
-use Rattle.sqlite_disk.specs.declared.Disk.{Ghosts}
-use Rattle.sqlite_store.specs.declared.store.FileStore.{FileStore}
 use Rattle.sqlite_trees.specs.Objects.{catalog_tree}
 use Rattle.sqlite_catalog.specs.Listing.{IsSound}
-use Rattle.moo_tables.proofs.SchemaLemmas.{one_schema}
-use Rattle.sqlite.specs.declared.error.Error.{Error}
-use Rattle.moo_world.specs.Judge.{State}
+use Rattle.moo_tables.proofs.SchemaLemmas.{some_tables, one_schema}
 use Rattle.moo_tables.specs.declared.version.Version.{Version}
-use Rattle.moo_tables.specs.declared.version.Version.TheVariants.{First, Second}
-use Rattle.moo_tables.specs.Tables.{Tables, schema_of, first_schema, no_schema}
 use Rattle.moo_tables.specs.Inside.{Rests, Leaves}
 use Rattle.moo_tables.proofs.ReopenLemmas.{opened}
-use Rattle.moo_store.specs.States.{ShowsState, LeavesState}
-use Rattle.moo_store.specs.World.{Left}
-use Rattle.moo_store.specs.Opening.{IsOfStore, Adopts}
-use Rattle.moo_store.specs.declared.fault.StoreFault.{StoreFault}
 use Rattle.moo_store.specs.declared.fault.StoreFault.TheVariants.{Store, OutOfMemory}
-use Rattle.moo_files.specs.Blank.{IsBlank}
 use Rattle.moo_files.proofs.BlankLemmas.{holds_none}
-use Rattle.moo_files.specs.Contents.{HoldsTrees, HoldsTables, HoldsState, HasOtherTables, HasAnyTable, IsMigrated, IsKept, ReadsAs, ReadsAsOurs, HoldsNoTable}
 use Rattle.moo_files.proofs.RemainsLemmas.{found_empty, begun_empty}
 
 -- while it is open a crash leaves its last commit alone
@@ -95,11 +76,6 @@ NewOrFound image store = (IsBlank image × IsEmpty store.committed.trees) ⊎ Fi
 pub finds_held : (image : Image) (store : Database) (trees : Trees) → NewOrFound image store → HoldsTrees image trees → FindsIn image store
 finds_held image store trees (inl made) holds = absurd (∥∥₁_elim holds (λ x y. absurd x) (λ held. holds_none image trees made.0 held))
 finds_held image store trees (inr found) holds = found
-
--- each version has tables
-some_tables : (version : Version) → schema_of version ≢ no_schema
-some_tables First none = let odd : suc 4 ≡ zero = ap (λ (schema : Schema). length schema.tables) none in absurd cc
-some_tables Second none = let odd : suc 7 ≡ zero = ap (λ (schema : Schema). length schema.tables) none in absurd cc
 
 -- ---- what is no database of ours
 
@@ -189,9 +165,9 @@ found_something image store opens live (inr found) some begun = reads_something 
 -- what opening may commit in place of the database that the files held
 pub migrated : (image : Image) (store : Database) (trees left : Trees) → Opens store → IsLive store → FindsIn image store → HoldsTrees image trees → Adopts store left → IsMigrated trees left
 migrated image store trees left opens live found holds it = record {
-  first = is_database image store trees first_schema opens live found holds it.0;
-  state = λ s leaves. it.1 s (shows_held image store s opens live found (record { trees = trees; holds = holds; such = leaves }));
-  sound = λ tables leaves. it.2 tables (rests_held image store tables opens live found (record { trees = trees; holds = holds; such = leaves }));
+  earlier = (it.0, it.1, is_database image store trees (schema_of it.0) opens live found holds it.2);
+  state = λ s leaves. it.3 s (shows_held image store s opens live found (record { trees = trees; holds = holds; such = leaves }));
+  sound = λ tables leaves. it.4 tables (rests_held image store tables opens live found (record { trees = trees; holds = holds; such = leaves }));
 }
 
 -- so what a crash leaves of it after that is the database, or what it was migrated to

@@ -1,7 +1,10 @@
+pub mod Words
 pub mod AgainLemmas
 mod BegunLemmas
 mod BlankLemmas
+mod ClosingLemmas
 mod ContentsLemmas
 mod RefusalLemmas
 pub mod RemainsLemmas
 pub mod StartLemmas
+pub mod StopLemmas

@@ -1,28 +1,13 @@
 -- What the fault of an open that failed says of the files.
-use Rattle.std.proofs.Common.{◌≡◌, ◌≢◌, ◌⊎◌, inl, inr, ℕ, ◌<◌, arith, ap, sym, subst, ◌∙◌}
-use Rattle.std.proofs.Math.Logic.{∥∥₁_elim}
-use Rattle.sqlite_disk.specs.declared.Disk.{Ghosts}
-use Rattle.sqlite_disk.specs.declared.Files.{Files}
+use Rattle.moo_files.proofs.Words.{◌≡◌, ◌≢◌, ◌⊎◌, inl, inr, ℕ, ◌<◌, arith, ap, sym, subst, ◌∙◌, ∥∥₁_elim, Ghosts, Files, Image, tally_of_files, Trees, store_error, FailsToOpenFiles, HoldsDatabase, faults_left, image_of, tally_left, Error, Leftover, not_ours, StoreFault, HoldsTrees, ExcusesMalformed, IsUnopened, TakesForOurs, cannot_open, malformed, Remains}
 use Rattle.sqlite_disk.specs.Disk.{MoreFaults}
-use Rattle.sqlite_wal.specs.Recovery.{Image}
-use Rattle.sqlite_wal.specs.Reads.{tally_of_files}
 use Rattle.sqlite_trees.specs.declared.error.StoreError.{StoreError}
 use Rattle.sqlite_trees.specs.declared.error.StoreError.TheVariants as kinds
 use Rattle.sqlite_store.specs.Report.{named}
-use Rattle.sqlite.specs.Tree.{Trees}
-use Rattle.sqlite.specs.State.{store_error}
-use Rattle.sqlite.specs.Files.{FailsToOpenFiles, HoldsDatabase, faults_left, image_of, tally_left}
-use Rattle.sqlite.specs.declared.error.Error.{Error}
 use Rattle.sqlite.specs.declared.error.Error.TheVariants.{SqliteFailure}
 use Rattle.sqlite.specs.declared.error.ErrorCode.{ErrorCode}
 use Rattle.sqlite.specs.declared.error.ErrorCode.TheVariants as codes
-use Rattle.sqlite.specs.declared.file.Leftover.{Leftover}
-use Rattle.moo_store.specs.Opening.{not_ours}
-use Rattle.moo_store.specs.declared.fault.StoreFault.{StoreFault}
 use Rattle.moo_store.specs.declared.fault.StoreFault.TheVariants as faults
-use Rattle.moo_files.specs.Contents.{HoldsTrees}
-use Rattle.moo_files.specs.Remains.{ExcusesMalformed, IsUnopened, TakesForOurs, cannot_open, malformed}
-use Rattle.moo_files.specs.declared.remains.Remains.{Remains}
 use Rattle.moo_files.specs.declared.remains.Remains.TheVariants as remains
 
 abbrev code_of : Error → ErrorCode

@@ -1,37 +1,13 @@
 -- What is left of files that held an image.
-use Rattle.std.proofs.Common.{◌≡◌, ◌⊎◌, inl, inr, ℕ, ◌≤◌, true, false, IsTrue, List, [], length, take, slice_index, unwrap_or, get_or-take, length-take, ◌<◌, refl, Option, Some, arith, sym, ap, subst, ◌∙◌}
-use Rattle.std.proofs.Math.Logic.{∥∥₁_elim, ∥∥₁_map}
-use Rattle.std.proofs.lemmas.Bool.{cases_eq, cases_Bool}
-use Rattle.sqlite_disk.specs.declared.Disk.{Ghosts}
-use Rattle.sqlite_disk.specs.declared.Files.{Files}
+use Rattle.moo_files.proofs.Words.{◌≡◌, ◌⊎◌, inl, inr, ℕ, ◌≤◌, true, false, IsTrue, List, [], length, take, slice_index, unwrap_or, get_or-take, length-take, ◌<◌, refl, Option, Some, arith, sym, ap, subst, ◌∙◌, ∥∥₁_elim, ∥∥₁_map, cases_eq, cases_Bool, Ghosts, Files, Image, Pages, IsIgnored, outcomes, stored_size, reserved, is_summed, StandsAs, IsUnreadable, used_size, sealed, trimmed_some, first_page, IsBlankFile, header_in, IsSoundFile, size_by_log, size_by_file, reserved_word, first_byte, some_value, begun_is_not_blank, state_of, Trees-set, Trees, IsNothing, IsEmpty, HoldsDatabase, NamesSize, SaysSums, BeginsWell, LeavesFiles, AreFoundIn, image_of, file_state, Leftover, is_something, IsBlank, LeavesBlank, SparesFiles, HoldsTrees, HoldsSuch, HoldsNothingBut, ReadsAs, Remains, IsCleanRemains, IsUnopened, LeftoverKeeps, LeftoverBlank, LeftoverSpares, KeepsSuch, KeepsNothingBut, Spares}
 use Rattle.sqlite_wal.specs.Recovery as raw
-use Rattle.sqlite_wal.specs.Recovery.{Image, Pages, IsIgnored}
-use Rattle.sqlite_wal.specs.Files.{outcomes}
-use Rattle.sqlite_pool.specs.Stored.{stored_size, reserved, is_summed, StandsAs, IsUnreadable}
-use Rattle.sqlite_pool.specs.Stored.{Adopts, used_size, sealed}
-use Rattle.sqlite_pool.specs.StoredLaws.{trimmed_some}
-use Rattle.sqlite_pool.specs.Header.{first_page}
-use Rattle.sqlite_pool.specs.Opening.{IsBlankFile}
-use Rattle.sqlite_pool.specs.File.{header_in, IsSoundFile}
-use Rattle.sqlite_pool.proofs.ProbeLemmas.{size_by_log, size_by_file, reserved_word, first_byte}
-use Rattle.sqlite_wal.proofs.AppendLemmas.{some_value}
-use Rattle.sqlite_wal.proofs.CreateLemmas.{begun_is_not_blank}
-use Rattle.sqlite_store.specs.Unopened.{state_of}
-use Rattle.sqlite_trees.specs.Props.{Trees-set}
-use Rattle.sqlite.specs.Tree.{Trees}
+use Rattle.sqlite_pool.specs.Stored.{Adopts}
 use Rattle.sqlite.specs.State.{State as Database}
-use Rattle.sqlite.specs.Files.{IsNothing, IsEmpty, HoldsDatabase, NamesSize, SaysSums, BeginsWell, LeavesFiles, AreFoundIn, image_of, file_state}
-use Rattle.sqlite.specs.declared.file.Leftover.{Leftover}
 use Rattle.sqlite.specs.declared.file.Leftover.TheVariants as left
-use Rattle.sqlite.proofs.FileLemmas.{is_something}
-use Rattle.moo_files.specs.Blank.{IsBlank, LeavesBlank, SparesFiles}
 use Rattle.moo_files.proofs.BegunLemmas.{begun_unreadable}
 use Rattle.moo_files.proofs.BlankLemmas.{holds_none}
-use Rattle.moo_files.specs.Contents.{HoldsTrees, HoldsSuch, HoldsNothingBut, ReadsAs, ReadsAsOurs}
-use Rattle.moo_files.specs.declared.remains.Remains.{Remains}
 use Rattle.moo_files.specs.declared.remains.Remains.TheVariants as remains
 use Rattle.moo_files.specs.Closing.{IsLeftOf, IsClosedFrom}
-use Rattle.moo_files.specs.Remains.{IsCleanRemains, IsUnopened, LeftoverKeeps, LeftoverBlank, LeftoverSpares, KeepsSuch, KeepsNothingBut, Spares}
 
 -- ---- the page size of a database without sums
 
@@ -101,10 +77,6 @@ something : (size : ℕ) (image : Image) (pages : Pages) → Adopts size image p
 something size image pages found sound nothing =
     let never = not_begun size image pages found sound in
     elim nothing [ inl plain ↦ never (used_size 4096 false) (omega arith) plain | inr summed ↦ never (used_size 4096 true) (omega arith) summed ]
-
--- files that hold nothing read as no database
-pub nothing_of_ours : (image : Image) → IsNothing image → ¬ ReadsAsOurs image
-nothing_of_ours image nothing it = ∥∥₁_elim it.1 (λ x y. absurd x) (λ held. something held.0 image held.1.pages held.1.found held.1.ours.file.sound nothing)
 
 -- files that hold nothing read as nothing
 pub found_empty : (image : Image) (db : Trees) → IsNothing image → AreFoundIn image db → IsEmpty db

@@ -11,8 +11,9 @@ use Rattle.moo_rows.specs.Maps.{Maps}
 use Rattle.moo_world.specs.Judge.{State}
 use Rattle.moo_world.specs.Rows.{IsGood}
 use Rattle.moo_tables.specs.declared.version.Version.{Version}
-use Rattle.moo_tables.specs.Tables.{Tables, schema_of, first_schema, no_schema}
+use Rattle.moo_tables.specs.Tables.{Tables, schema_of, no_schema}
 use Rattle.moo_tables.specs.Inside.{Leaves}
+use Rattle.moo_tables.specs.Version.{IsEarlier}
 use Rattle.moo_cells.specs.Shows.{ShowsRows}
 use Rattle.moo_store.specs.States.{LeavesRows, LeavesState}
 use Rattle.moo_files.specs.Blank.{IsBlank}
@@ -67,9 +68,9 @@ ReadsAsOurs image = (trees : Trees) × ReadsAs image trees × (¬ HasOtherTables
 abbrev pub HoldsNoTable : Image → Type 0
 HoldsNoTable image = IsBlank image ⊎ (IsNothing image ⊎ ((trees : Trees) × ReadsAs image trees × (¬ HasAnyTable trees)))
 
--- Tables of the first version have become others that show the same world. If they show none they don't become others.
+-- Tables of an earlier version have become others that show the same world. If they show none they don't become others.
 pub record IsMigrated (old new : Trees) : Type 0 where
-  pub first : IsDatabase (record { schema = first_schema; trees = old })
+  pub earlier : (version : Version) × IsEarlier version × IsDatabase (record { schema = schema_of version; trees = old })
   pub state : (s : State) → LeavesState old s → LeavesState new s
   pub sound : (tables : Tables) → Leaves old tables → (rows : Maps) × IsGood rows × ShowsRows tables rows × LeavesRows new rows
 

@@ -11,6 +11,7 @@ use Rattle.moo_tables.specs.Tables.{Tables}
 use Rattle.moo_cells.specs.Shows.{ShowsRows}
 use Rattle.moo_store.specs.Kept.{World}
 use Rattle.moo_store.specs.Opening.{IsOfStore}
+use Rattle.moo_store.specs.Current.{RestsCurrent}
 use Rattle.moo_store.specs.World.{store_of, StandsFor}
 use Rattle.moo_store.specs.declared.fault.StoreFault.{StoreFault}
 use Rattle.moo_files.specs.Contents.{HoldsTables, HoldsState}
@@ -29,6 +30,10 @@ module _ {T D : Type 0} {g : Ghosts D} where
   -- the rows of a World that is opened are those that the tables show
   abbrev pub OpensTables : Image → Result (World (FileStore D g)) (StoreFault × Remains T D g) → Type 0
   OpensTables image r = (tables : Tables) → HoldsTables image tables → IfOk r (λ world. HasCleanDisk (store_of over_files world) → ShowsRows tables world.rows.maps)
+
+  -- and these tables rest in its connection, cell by cell, or those that they were migrated to
+  abbrev pub OpensCurrent : Image → Result (World (FileStore D g)) (StoreFault × Remains T D g) → Type 0
+  OpensCurrent image r = (tables : Tables) → HoldsTables image tables → IfOk r (λ world. HasCleanDisk (store_of over_files world) → RestsCurrent (store_of over_files world) tables world.rows.maps)
 
   -- whatever the files hold, they are good, and what is said of rows alone is said of them
   abbrev pub OpensGood : Result (World (FileStore D g)) (StoreFault × Remains T D g) → Type 0

@@ -6,9 +6,11 @@ ghost use Rattle.sqlite.specs.State.{HasCleanDisk};
 ghost use Rattle.sqlite.specs.Held.{state};
 ghost use Rattle.sqlite.specs.Files.{file_state, IsCleanLeft};
 ghost use Rattle.moo_files.specs.Closing.{IsLeftOf, IsClosedAs};
+ghost use Rattle.moo_files.specs.Stop.{HasNumberedTrees};
 
 use sqlite::{Alter, Connection, FileStore, Leftover};
 use sqlite_disk::Disk;
+use sqlite_trees::store::Store;
 
 /// While a connection is open, a crash leaves its last commit and nothing else.
 fn leave_last_commit<S: Alter>(conn: &Connection<S>)
@@ -34,10 +36,15 @@ pub fn close_connection<D: Disk + Drop>(conn: Connection<FileStore<D>>) -> Lefto
     ensures left { IsCleanLeft result → IsLeftOf (file_state conn) result }
     // It is the last commit, in the database file alone, unless closing failed.
     ensures copied { IsClosedAs conn result }
+    // Its trees were numbered, so that what the disk had left of its files, had it been stopped, was a database too (`disk_leaves_a_database`).
+    ensures numbered { IsCleanLeft result → HasNumberedTrees conn }
 {
     leave_commit(&conn);
-    match conn.close_files() {
-        Ok(files) => Leftover::Files(files),
-        Err((_error, store)) => Leftover::Store(store),
+    // These are the steps of `sqlite`'s `close_files`, which doesn't say that the trees are numbered: `into_store` does.
+    let mut store = conn.into_store();
+    store.rollback();
+    match store.checkpoint() {
+        Ok(()) => Leftover::Files(store.close()),
+        Err(_error) => Leftover::Store(store),
     }
 }

@@ -11,6 +11,7 @@ mod pair;
 mod paths;
 mod remains;
 mod start;
+mod stop;
 
 pub use again::open_again;
 pub use blank::open_or_make;
@@ -22,3 +23,4 @@ pub use pair::NotOpened;
 pub use paths::WorldFiles;
 pub use remains::Remains;
 pub use start::fresh_files_hold_start;
+pub use stop::{disk_leaves_a_database, open_after_stop};

@@ -1,13 +1,12 @@
 //! Making the world of given rows in a file.
 
-ghost use Rattle.std.specs.Prelude.{◌≡◌, ◌≢◌, ◌⊎◌, ◌<◌, ◌^◌, IfOk, IfErr, IsErrAnd, false, true};
-ghost use Rattle.sqlite.specs.State.{HasCleanDisk, Survives};
+ghost use Rattle.std.specs.Prelude.{◌≡◌, ◌⊎◌, ◌<◌, ◌^◌, IfOk, IfErr, true};
+ghost use Rattle.sqlite.specs.State.{HasCleanDisk};
 ghost use Rattle.sqlite.specs.Tree.{Trees};
-ghost use Rattle.sqlite.specs.Files.{over_files, file_state, IsNothing};
+ghost use Rattle.sqlite.specs.Files.{over_files, IsNothing};
 ghost use Rattle.sqlite.specs.WalFiles.{image_at};
 ghost use Rattle.moo_world.specs.Judge.{State, state_of};
 ghost use Rattle.moo_world.specs.Rows.{IsGood};
-ghost use Rattle.moo_tables.specs.Tables.{no_schema};
 ghost use Rattle.moo_store.specs.States.{LeavesState};
 ghost use Rattle.moo_store.specs.Opening.{IsOfStore};
 ghost use Rattle.moo_store.specs.World.{store_of, StandsFor, Left};
@@ -16,33 +15,13 @@ ghost use Rattle.moo_files.specs.Contents.{HoldsTrees, HoldsState, HasAnyTable, 
 ghost use Rattle.sqlite_std_file.specs.declared.pair.OpenError.{OpenError as Refusal};
 ghost use Rattle.moo_files.specs.Remains.{IfNotOpened, IsCleanRemains, MayStopAs, KeepsSuch, StillHolds, KeepsNothingBut, Spares};
 
-use crate::making::leaves_its_state;
+use crate::making::make_from;
 use crate::paths::WorldFiles;
-use crate::remains::{Remains, open_new};
+use crate::remains::Remains;
 use moo_flat::Flat;
-use moo_store::{StoreFault, World, load_in};
-use sqlite::{Connection, Error, ErrorCode, FileStore, Start};
-use sqlite_disk::Disk;
+use moo_store::{StoreFault, World};
+use sqlite::{FileStore, Start};
 use std::alloc::Global;
-
-/// `load_in` at the store in files, over any disk.
-fn load_files<D: Disk + Drop>(
-    alloc: Global,
-    conn: Connection<FileStore<D>>,
-    rows: Flat,
-) -> Result<World<FileStore<D>>, (StoreFault, Connection<FileStore<D>>)>
-    requires outside { conn.in_transaction ≡ false }
-    requires good { IsGood rows.maps }
-    requires limit { rows.maps.head.seq < 2 ^ 63 }
-    ensures stands { IfOk result (λ world. StandsFor over_files true world (state_of rows.maps)) }
-    // A database that has tables is refused, and comes back as it is.
-    ensures refused { (file_state conn).now.schema ≢ no_schema → IsErrAnd result (λ e. (e.0 ≡ StoreFault.Store (Error.SqliteFailure ErrorCode.NameTaken)) × (e.1 ≡ conn)) }
-    ensures fault { IfErr result (λ e. IsOfStore e.0) }
-    ensures crash { IfOk result (λ world. Survives (file_state conn) (store_of over_files world) (λ trees. LeavesState trees (state_of rows.maps))) }
-    ensures crash_refused { IfErr result (λ e. (e.1 ≡ conn) ⊎ Survives (file_state conn) (file_state e.1) (λ trees. LeavesState trees (state_of rows.maps))) }
-{
-    load_in(alloc, conn, rows)
-}
 
 /// Makes the world of these rows in a file that holds no table, or makes the file; `T` is what the files hold. It is proved for all
 /// contents, and no code reads them.
@@ -61,6 +40,8 @@ pub fn load_from<T: Start, H: WorldFiles<T>>(
     requires good { IsGood rows.maps }
     requires limit { rows.maps.head.seq < 2 ^ 63 }
     ensures stands { IfOk result (λ world. StandsFor over_files true world (state_of rows.maps)) }
+    // It has the very rows that were given: a property, a verb and a petition have the numbers that they had.
+    ensures rows { IfOk result (λ world. world.rows.maps ≡ rows.maps) }
     // A file that holds a world takes no other.
     ensures taken { (s : State) → HoldsState (image_at T.Start) s → IfOk result (λ world. HasCleanDisk (store_of over_files world) → ⊥) }
     // Nor does one that holds any table, whether that shows a world or not. A World is made only in files that have room for it.
@@ -84,15 +65,5 @@ pub fn load_from<T: Start, H: WorldFiles<T>>(
     // A crash of a new World leaves it as it was made.
     ensures crash { IfOk result (λ world. HasCleanDisk (store_of over_files world) → Left (store_of over_files world) (state_of rows.maps)) }
 {
-    let conn = match open_new(alloc, host, path, start) {
-        Ok(conn) => conn,
-        Err((fault, remains)) => return Err((fault, remains)),
-    };
-    match load_files(alloc, conn, rows) {
-        Ok(world) => {
-            leaves_its_state(&world);
-            Ok(world)
-        }
-        Err((fault, conn)) => Err((fault, Remains::Connection(conn))),
-    }
+    make_from(alloc, host, path, start, Some(rows))
 }

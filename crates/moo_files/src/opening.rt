@@ -13,10 +13,11 @@ ghost use Rattle.sqlite.specs.Tree.{Trees};
 ghost use Rattle.moo_tables.specs.Inside.{Rests, RestsAt, HasTables};
 ghost use Rattle.moo_cells.specs.Shows.{ShowsRows};
 ghost use Rattle.moo_store.specs.States.{ShowsState};
+ghost use Rattle.moo_store.specs.Current.{RestsCurrent};
 ghost use Rattle.moo_store.specs.Opening.{Says, IsOfStore, Adopts, not_ours};
 ghost use Rattle.moo_store.specs.World.{store_of, StandsFor, Left};
 ghost use Rattle.moo_files.specs.Contents.{HoldsTrees, HoldsTables, HoldsState, HasOtherTables, ReadsAsOurs, IsKept};
-ghost use Rattle.moo_files.specs.Opened.{OpensHeld, RefusesHeld, OpensTables, OpensGood};
+ghost use Rattle.moo_files.specs.Opened.{OpensHeld, RefusesHeld, OpensTables, OpensCurrent, OpensGood};
 ghost use Rattle.sqlite_std_file.specs.declared.pair.OpenError.{OpenError as Refusal};
 ghost use Rattle.moo_files.specs.Remains.{cannot_open, ExcusesMalformed, IfNotOpened, IsCleanRemains, MayStopAs, TakesForOurs, StillHolds, StillHoldsTrees, KeepsNothingBut, Spares};
 
@@ -33,7 +34,7 @@ const CANNOT_OPEN: StoreFault = StoreFault::Store(Error::SqliteFailure(ErrorCode
 
 const NO_DATABASE: StoreFault = StoreFault::Store(Error::SqliteFailure(ErrorCode::NotADatabase));
 
-/// Why a file with this metadata is refused before it is opened: there is none, or it holds no byte. An empty file would be made a
+/// Why a file with this metadata is refused before it is opened: there is no file, or it holds no byte. An empty file would be made a
 /// blank database by opening it. A log beside an empty file counts for nothing.
 fn unfit(found: io::Result<Metadata>) -> Option<StoreFault>
     ensures missing { IsErr found → result ≡ Some cannot_open }
@@ -55,12 +56,14 @@ pub fn adopt_files<D: Disk + Drop>(
     conn: Connection<FileStore<D>>,
 ) -> Result<World<FileStore<D>>, (StoreFault, Connection<FileStore<D>>)>
     requires outside { conn.in_transaction ≡ false }
-    // Tables of either version that show a world and a number give a World that stands for these, unless the store fails or memory is refused.
+    // Tables of any version that show a world and a number give a World that stands for these, unless the store fails or memory is refused.
     ensures stands { (s : State) → ShowsState (file_state conn) s → IfOk result (λ world. HasCleanDisk (store_of over_files world) → StandsFor over_files true world s) }
     ensures whole { (s : State) → ShowsState (file_state conn) s → IfErr result (λ e. HasCleanDisk (file_state e.1) → IsOfStore e.0) }
     // Nothing else is opened, and a damage that is answered is that of the tables.
     ensures shown { IfOk result (λ world. HasCleanDisk (store_of over_files world) → (tables : Tables) → Rests (file_state conn) tables → ShowsRows tables world.rows.maps × IsGood world.rows.maps) }
     ensures fault { IfErr result (λ e. HasCleanDisk (file_state e.1) → (tables : Tables) → Rests (file_state conn) tables → Says tables e.0) }
+    // They are the tables that were there, each cell, or those that these were migrated to.
+    ensures rests { IfOk result (λ world. HasCleanDisk (store_of over_files world) → (tables : Tables) → Rests (file_state conn) tables → RestsCurrent (store_of over_files world) tables world.rows.maps) }
     // Other tables than ours are refused, and so is a database without tables.
     ensures other { ((version : Version) → (file_state conn).now.schema ≢ schema_of version) → IsErrAnd result (λ e. IsOfStore e.0 × (e.1 ≡ conn)) }
     // Of tables of ours it never says that they aren't.
@@ -68,7 +71,7 @@ pub fn adopt_files<D: Disk + Drop>(
     // Whatever is opened, its rows are good, and what is said of rows alone is said of them.
     ensures rows { IfOk result (λ world. IsGood world.rows.maps × StandsFor over_files false world (state_of world.rows.maps)) }
     ensures works { IfOk result (λ world. world.failed ≡ false) }
-    // A crash leaves what it could leave before, or of tables of the first version those that they were migrated to; and a refusal leaves
+    // A crash leaves what it could leave before, or of tables of an earlier version those that they were migrated to; and a refusal leaves
     // the database as it was.
     ensures crash { IfOk result (λ world. Survives (file_state conn) (store_of over_files world) (Adopts (file_state conn))) }
     ensures crash_refused { IfErr result (λ e. Survives (file_state conn) (file_state e.1) (Adopts (file_state conn))) }
@@ -91,6 +94,8 @@ pub fn open_from<T: Start, H: WorldFiles<T>>(
     ensures kept { OpensHeld (image_at T.Start) result }
     // If they hold tables that show no world, none is opened: the rows are those that the tables show.
     ensures only { OpensTables (image_at T.Start) result }
+    // These tables are those of the World, each cell, if they were of the present version; else those that they were migrated to.
+    ensures rests { OpensCurrent (image_at T.Start) result }
     // If they hold nothing, or other tables than ours, none is opened.
     ensures nothing { IsNothing (image_at T.Start) → IfOk result (λ world. HasCleanDisk (store_of over_files world) → ⊥) }
     ensures other { (trees : Trees) → HoldsTrees (image_at T.Start) trees → HasOtherTables trees → IfOk result (λ world. HasCleanDisk (store_of over_files world) → ⊥) }
@@ -137,7 +142,7 @@ pub fn open_from<T: Start, H: WorldFiles<T>>(
     }
 }
 
-/// Opens the world that a file holds. It never makes the file. One of the first version is migrated to the second, in one
+/// Opens the world that a file holds. It never makes the file. One of an earlier version is migrated to the present one, in one
 /// transaction, once the whole world was read and found sound; nothing else is written.
 ///
 /// Store with `ErrorCode::CannotOpen`: there is no file of this name, it isn't a file, or it can't be opened. Store with

@@ -24,11 +24,11 @@ pub trait WorldFiles<T: Start> {
     /// The files of a path couldn't be opened, and why. So code over any host says of no files that they couldn't, unless the host said it.
     ghost refuses: { Self → List ℕ → Refusal → Type 0 };
 
-    /// What the system knows of the file of a path. An error if there is none, or it can't be looked at.
+    /// What the system knows of the file of a path. An error if there is no file, or it can't be looked at.
     fn metadata(&self, path: &str) -> IoResult<Metadata>
         requires { may_open self.now path.now };
 
-    /// A random number, for the salts of a log. An error if there is none.
+    /// A random number, for the salts of a log. An error if the system can't give one.
     fn seed(&self) -> IoResult<u64>;
 
     /// Opens the database file of a path and its log, and makes those that are missing. They hold what the start says of them. The errors

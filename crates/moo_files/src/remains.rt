@@ -30,7 +30,7 @@ use std::io::ErrorKind;
 /// What is left of the files if no world was opened or made. `T` is the start that is spent on opening them.
 #[derive(Drop)]
 pub enum Remains<T, D: Disk> {
-    /// No file was opened: there is none of this name, it holds no byte, or the name isn't a path. The start is unspent.
+    /// No file was opened: no file has this name, the file holds no byte, or the name isn't a path. The start is unspent.
     Untouched(T),
     /// The start was spent on files that couldn't be opened, and nothing came back.
     NotOpened(NotOpened<T>),

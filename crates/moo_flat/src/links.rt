@@ -20,7 +20,7 @@ use std::marker::Model;
 #[derive(Drop)]
 pub struct Links {
     parents: BTreeMap<(ObjNo, ObjNo), ()>,
-    places: BTreeMap<(ObjNo, ObjNo), ()>,
+    locations: BTreeMap<(ObjNo, ObjNo), ()>,
     players: BTreeMap<ObjNo, ()>,
 }
 
@@ -35,7 +35,7 @@ impl Model for Links {
 
     ghost view = { λ l. record {
       parents = contents tie_cmp l.parents;
-      places = contents tie_cmp l.places;
+      locations = contents tie_cmp l.locations;
       players = contents object_cmp l.players;
     } };
 }
@@ -146,7 +146,7 @@ impl Links {
     {
         Links {
             parents: BTreeMap::new(alloc),
-            places: BTreeMap::new(alloc),
+            locations: BTreeMap::new(alloc),
             players: BTreeMap::new(alloc),
         }
     }
@@ -157,7 +157,7 @@ impl Links {
     {
         Ok(Links {
             parents: self.parents.clone()?,
-            places: self.places.clone()?,
+            locations: self.locations.clone()?,
             players: self.players.clone()?,
         })
     }
@@ -168,7 +168,7 @@ impl Links {
     {
         match link {
             Link::ChildOf(x) => next_tied(&self.parents, x, after),
-            Link::Within(x) => next_tied(&self.places, x, after),
+            Link::Within(x) => next_tied(&self.locations, x, after),
             Link::Player => next_of(&self.players, after),
         }
     }
@@ -195,7 +195,7 @@ impl Links {
         }
         match link {
             Link::ChildOf(x) => moo_ordered::put(&mut self.parents, (x, key), ()),
-            Link::Within(x) => moo_ordered::put(&mut self.places, (x, key), ()),
+            Link::Within(x) => moo_ordered::put(&mut self.locations, (x, key), ()),
             Link::Player => moo_ordered::put(&mut self.players, key, ()),
         }
     }
@@ -225,7 +225,7 @@ impl Links {
         }
         match link {
             Link::ChildOf(x) => moo_ordered::remove(&mut self.parents, (x, key)),
-            Link::Within(x) => moo_ordered::remove(&mut self.places, (x, key)),
+            Link::Within(x) => moo_ordered::remove(&mut self.locations, (x, key)),
             Link::Player => moo_ordered::remove(&mut self.players, key),
         }
     }

@@ -1,19 +1,7 @@
 -- What came of a connection, and what the service says of all of them.
-use Rattle.std.proofs.Common.{◌≡◌, ◌≢◌, inl, inr, ℕ, ◌+◌, Bool, IsTrue, List, ◌++◌, length, take, Option, Some, None, refl, sym, subst, ◌∙◌}
-use Rattle.std.specs.Prelude.{Result, Ok, Err, is_ok, OnOk, OnErr, IfErr, IsErrAnd}
-use Rattle.std.specs.Io.KnownBytes.{Appends, Keeps}
+use Rattle.moo_http.proofs.Words.{◌≡◌, ◌≢◌, inl, inr, ℕ, ◌+◌, Bool, IsTrue, List, ◌++◌, length, take, Option, Some, None, refl, sym, subst, ◌∙◌, Result, Ok, Err, is_ok, OnOk, OnErr, IfErr, IsErrAnd, Appends, Keeps, HasCleanDisk, Ghosts, Stand, World, store_of, CrashLeaves, StandsAt, ServeFault, ServiceFault, Connected, StandsAtEnd, WritesFront, SaysByResult, listening_line, served_line, Served}
 use Rattle.std.proofs.Math.Seq.{take-append-add, take-length}
-use Rattle.sqlite.specs.State.{HasCleanDisk}
-use Rattle.sqlite.specs.Store.{Ghosts}
-use Rattle.moo_store.specs.Stand.{Stand}
-use Rattle.moo_store.specs.Kept.{World}
-use Rattle.moo_store.specs.World.{store_of, CrashLeaves, StandsAt}
-use Rattle.moo_http.specs.declared.fault.ServeFault.{ServeFault}
-use Rattle.moo_http.specs.declared.service.ServiceFault.{ServiceFault}
 use Rattle.moo_http.specs.declared.service.ServiceFault.TheVariants as service
-use Rattle.moo_http.specs.Connections.{Connected, StandsAtEnd, WritesFront, SaysByResult}
-use Rattle.moo_http.specs.Lines.{listening_line, served_line}
-use Rattle.moo_http.specs.Serves.{Served}
 use Rattle.moo_http.proofs.Serving.{appends_nothing, appends_both}
 
 -- by whether it was answered

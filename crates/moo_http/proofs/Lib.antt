@@ -1,3 +1,4 @@
+pub mod Words
 pub mod Consulting
 pub mod Serving
 pub mod Connections

@@ -1,24 +1,8 @@
 -- What serving a request comes to.
-use Rattle.std.proofs.Common.{◌≡◌, ◌≢◌, inl, inr, ℕ, Bool, List, [], ◌++◌, Option, Some, None, refl, sym, subst, ap, ◌∙◌, append_assoc, append-nil}
-use Rattle.std.specs.Prelude.{Result, Ok, Err, IfErr, IsErrAnd}
-use Rattle.std.specs.Io.KnownBytes.{Appends}
-use Rattle.sqlite.specs.Store.{Ghosts}
-use Rattle.moo_store.specs.Stand.{Stand}
-use Rattle.moo_store.specs.Kept.{World}
-use Rattle.moo_store.specs.Untouched.{IsMovedBy}
-use Rattle.moo_store.specs.World.{StandsAt}
-use Rattle.moo_request.specs.Request.{Takes}
-use Rattle.moo_request.specs.declared.asked.Asked.{Asked}
+use Rattle.moo_http.proofs.Words.{◌≡◌, ◌≢◌, inl, inr, ℕ, Bool, List, [], ◌++◌, Option, Some, None, refl, sym, subst, ap, ◌∙◌, append_assoc, append-nil, Result, Ok, Err, IfErr, IsErrAnd, Appends, Ghosts, Stand, World, IsMovedBy, StandsAt, Takes, Asked, Nothing, Request, ServeFault, Read, Write, OutOfMemory, Outcome, Consulted, taken_by, failed_by, response_of, response_text, Serves, StandsStill, Written, Served}
 use Rattle.moo_request.specs.declared.fault.ReadFault.{ReadFault}
 use Rattle.moo_request.specs.declared.fault.ReadFault.TheVariants as read
-use Rattle.moo_request.specs.declared.request.Received.TheVariants.{Nothing, Request}
-use Rattle.moo_http.specs.declared.fault.ServeFault.{ServeFault}
-use Rattle.moo_http.specs.declared.fault.ServeFault.TheVariants.{Read, Write, OutOfMemory}
-use Rattle.moo_responses.specs.declared.outcome.Outcome.{Outcome}
-use Rattle.moo_http.specs.Answers.{Consulted, taken_by, failed_by}
 use Rattle.moo_http.specs.Faults.{fault_of}
-use Rattle.moo_responses.specs.Responses.{response_of, response_text}
-use Rattle.moo_http.specs.Serves.{Serves, StandsStill, Written, Served}
 
 pub appends_nothing : (before : Option (List ℕ)) → Appends before before []
 appends_nothing None = tt

@@ -1,20 +1,7 @@
 -- The connections that a source hands out, served one after another.
-use Rattle.std.proofs.Common.{◌≡◌, inl, inr, ℕ, suc, ◌+◌, Bool, true, false, List, [], ◌∷◌, Option, Some, refl, sym, subst, arith}
-use Rattle.std.specs.Prelude.{◌≢◌, Result, Ok, Err, is_ok, IfErr, IsTrue}
-use Rattle.sqlite.specs.State.{HasCleanDisk}
-use Rattle.sqlite.specs.Store.{Ghosts}
-use Rattle.moo_store.specs.Stand.{Stand}
-use Rattle.moo_store.specs.Kept.{World}
-use Rattle.moo_store.specs.World.{store_of, CrashLeaves, StandsAt}
-use Rattle.moo_request.specs.declared.request.Received.TheVariants.{Nothing, Request}
+use Rattle.moo_http.proofs.Words.{◌≡◌, inl, inr, ℕ, suc, ◌+◌, Bool, true, false, List, [], ◌∷◌, Option, Some, refl, sym, subst, arith, ◌≢◌, Result, Ok, Err, is_ok, IfErr, IsTrue, HasCleanDisk, Ghosts, Stand, World, store_of, CrashLeaves, StandsAt, Nothing, Request, ServeFault, Read, Write, OutOfMemory, ServiceFault, Moves, AfterConnections, StandsAtEnd, Serves, StandsStill, Served, Yields, Exchanged, Visited, Visit, AfterTurns, Attended, ServesFrom, attended_between, ServesOn, answered_in, failed_in}
 use Rattle.moo_http.specs.declared.arrivals.Connection.{Connection}
-use Rattle.moo_http.specs.declared.fault.ServeFault.{ServeFault}
-use Rattle.moo_http.specs.declared.fault.ServeFault.TheVariants.{Read, Write, OutOfMemory}
-use Rattle.moo_http.specs.declared.service.ServiceFault.{ServiceFault}
 use Rattle.moo_http.specs.declared.service.ServiceFault.TheVariants as service
-use Rattle.moo_http.specs.Connections.{Moves, AfterConnections, StandsAtEnd}
-use Rattle.moo_http.specs.Serves.{Serves, StandsStill, Served}
-use Rattle.moo_http.specs.Turns.{Yields, Exchanged, Visited, Visit, AfterTurns, Attended, ServesFrom, attended_between, ServesOn, answered_in, failed_in}
 
 -- the same end, of which something else holds
 pub ends_as : {S : Type 0} (g : Ghosts S) (known : Bool) (world : World S) (P Q : Stand → Type 0) → ((end : Stand) → P end → Q end) → StandsAtEnd g known world P → StandsAtEnd g known world Q

@@ -11,7 +11,7 @@ pub trait Ports {
 
     type Source: Arrivals + Drop;
 
-    /// The ports before one of them is listened on, the source of its connections, or none if it can't be bound; and after that.
+    /// The ports before one of them is listened on, the source of its connections, or None if it can't be bound; and after that.
     ghost listens: { Self → ℕ → Option Self.Source → Self → Type 0 } = { λ _ _ _ _. ⊤ };
 
     /// The ports before a source is given back to them, and after that.

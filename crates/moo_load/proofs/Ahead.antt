@@ -60,7 +60,11 @@ module _ {T : Type 0} {step : Entry → T → T} {Sure Needs : Entry → T → T
 
   -- at the last line all are taken
   pub at_end : (line : List ℕ) → IsFirst line rest → line ≡ codes "end" → now ≡ carried step es first
-  at_end line is end = elim a.left as (λ (left : List Entry). AllByRecursion EntryFits left → rest ≡ entry_lines left → carried step left now ≡ carried step es first → now ≡ carried step es first) [ [] ↦ λ fit printed same. same | e ∷ more ↦ λ fit printed same. absurd (not_last e (sym (is (line_of e) (entry_lines more) (line_plain e fit.0) (printed ∙ first_line e more)) ∙ end)) ] a.fit a.printed a.same
+  at_end line is end = elim a.left as (λ (left : List Entry). AllByRecursion EntryFits left → rest ≡ entry_lines left
+      → carried step left now ≡ carried step es first → now ≡ carried step es first) [
+        | [] ↦ λ fit printed same. same
+        | e ∷ more ↦ λ fit printed same. absurd (not_last e (sym (is (line_of e) (entry_lines more) (line_plain e fit.0) (printed ∙ first_line e more)) ∙ end))
+      ] a.fit a.printed a.same
 
   -- another line that isn't taken is that of no entry
   pub not_refused : (line : List ℕ) → IsFirst line rest → (line ≡ codes "end" → ⊥) → ((e : Entry) → EntryFits e → Sure e now → Needs e now → line ++ 10 ∷ [] ≡ entry_text e → ⊥) → EachHas Needs step es first → ⊥

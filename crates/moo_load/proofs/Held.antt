@@ -1,6 +1,5 @@
 -- Values within the limits, and the calls of petitions.
-use Rattle.moo_load.proofs.Words.{◌≡◌, true, ◌&&◌, nat_le, list_all, and_parts, a_list, Fits, nesting, spread, Values, all_within_limits, is_named, are_few, are_shallow, fits_of}
-use Rattle.std.proofs.lemmas.Bool.{and_from}
+use Rattle.moo_load.proofs.Words.{◌≡◌, true, ◌&&◌, nat_le, list_all, and_parts, a_list, Fits, nesting, spread, Values, all_within_limits, is_named, are_few, are_shallow, fits_of, and_from}
 
 -- a value within the limits is calls that a petition may hold, if they are named, few and shallow
 pub calls_held : (calls : Values) → Fits (a_list calls) → (list_all is_named (spread calls) && (are_few calls && are_shallow calls)) ≡ true

@@ -1,7 +1,5 @@
 -- A list by its items.
-use Rattle.moo_load.proofs.Words.{◌≡◌, ℕ, suc, ◌<◌, ◌≤◌, List, [], ◌∷◌, length, get_or, drop, sym, ap, ◌∙◌, Value}
-use Rattle.std.proofs.Math.Seq.{drop-cons}
-use Rattle.std.proofs.lemmas.List.{drop_all}
+use Rattle.moo_load.proofs.Words.{◌≡◌, ℕ, suc, ◌<◌, ◌≤◌, List, [], ◌∷◌, length, get_or, drop, sym, ap, ◌∙◌, Value, drop-cons, drop_all}
 
 -- a value of the list, as it is bound, and those from the next one on
 pub item : (values : List Value) (i : ℕ) (bound v : Value) (rest : List Value) → i < length values → bound ≡ get_or values i bound → bound ≡ v → drop (suc i) values ≡ rest → drop i values ≡ v ∷ rest

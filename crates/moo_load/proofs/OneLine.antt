@@ -1,13 +1,9 @@
 -- What is printed has no line end.
-use Rattle.moo_load.proofs.Words.{◌≡◌, ℕ, ℤ, Bool, true, false, cond, List, [], ◌∷◌, ◌++◌, refl, sym, ap, ◌∙◌, ◌==◌, not, flat_map, list_all, false≢true, and_parts, Decides-eqb, Int, Obj, a_list, IsText, Values, no_values, HoldInside, InRange, print_items, print, spelled, IsOneLine, both_true, ◌||◌}
-use Rattle.std.specs.Prelude.{IsTrue}
-use Rattle.std.specs.Fmt.{signed_decimal}
+use Rattle.moo_load.proofs.Words.{◌≡◌, ℕ, ℤ, Bool, true, false, cond, List, [], ◌∷◌, ◌++◌, refl, sym, ap, ◌∙◌, ◌==◌, not, flat_map, list_all, false≢true, and_parts, Decides-eqb, Int, Obj, a_list, IsText, Values, no_values, HoldInside, InRange, print_items, print, spelled, IsOneLine, both_true, ◌||◌, IsTrue, signed_decimal, is_allowed, int, object, string, error, list, is_digit, is_blank, AreDigits, AreBlanks, Spaced, an_integer, SpellsNumber, SpellsObject, escape, name, print_string, print_comma}
 use Rattle.std.proofs.lemmas.List.Folds.{list_all-append}
 use Rattle.moo_value.specs.declared.code.Code.{Code}
 use Rattle.moo_value.specs.declared.code.Code.TheVariants.{None}
-use Rattle.moo_value.specs.Text.{is_allowed}
-use Rattle.moo_value.specs.Values.{int, object, string, error, list}
-use Rattle.moo_value.specs.Literal.{is_digit, is_blank, AreDigits, AreBlanks, Spaced, an_integer, an_object, SpellsNumber, SpellsObject, escape, name, print_string, print_comma}
+use Rattle.moo_value.specs.Literal.{an_object}
 
 abbrev plain : ℕ → Bool
 plain byte = not (byte == 10)

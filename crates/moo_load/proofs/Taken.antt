@@ -1,13 +1,12 @@
 -- The line of an entry, split into its word and its values.
-use Rattle.moo_load.proofs.Words.{◌≡◌, ℕ, ◌+◌, List, [], ◌∷◌, ◌++◌, get_or, drop, refl, sym, ap, ◌∙◌, false≢true, Decides-eqb, ObjNo, Value, print, ObjRow, PetitionId, PetitionRow, PropId, VerbRow, Maps, Pair, list_of, Object, Property, Verb, Petition, Entry, an_object, a_property, a_slot, a_verb, a_petition, entry_text, entry_values, EntryFits, ArePrinted, word_text, slot_line_put, LastSlot, Name, codes}
-use Rattle.std.proofs.lemmas.List.{append_cancel_right}
+use Rattle.moo_load.proofs.Words.{◌≡◌, ℕ, ◌+◌, List, [], ◌∷◌, ◌++◌, get_or, drop, refl, sym, ap, ◌∙◌, false≢true, Decides-eqb, ObjNo, Value, print, ObjRow, PetitionId, PetitionRow, PropId, VerbRow, Maps, Property, list_of, Object, PropertyWord, Verb, Petition, Entry, an_object, a_property, a_slot, a_verb, a_petition, entry_text, entry_values, EntryFits, ArePrinted, word_text, slot_line_put, LastSlot, Name, codes, append_cancel_right}
 use Rattle.moo_world.specs.World.{Slot as ASlot}
 use Rattle.moo_load.specs.declared.line.Word.{Word}
 use Rattle.moo_load.specs.declared.line.Word.TheVariants.{Slot}
 
 abbrev pub word_of : Entry → Word
 word_of (an_object x row) = Object
-word_of (a_property x n) = Property
+word_of (a_property x n) = PropertyWord
 word_of (a_slot x p s) = Slot
 word_of (a_verb x v) = Verb
 word_of (a_petition e) = Petition
@@ -34,7 +33,7 @@ no_end e r same = false≢true ((Decides-eqb (mark (entry_text e ++ r)) 211).1 (
 -- the words of lines tell one another apart
 one_word : (v w : Word) (r q : List ℕ) → word_text v ++ 32 ∷ r ≡ word_text w ++ 32 ∷ q → (v ≡ w) × (r ≡ q)
 one_word Object Object r q e = (refl, ap (drop 7) e)
-one_word Property Property r q e = (refl, ap (drop 9) e)
+one_word PropertyWord PropertyWord r q e = (refl, ap (drop 9) e)
 one_word Slot Slot r q e = (refl, ap (drop 5) e)
 one_word Verb Verb r q e = (refl, ap (drop 5) e)
 one_word Petition Petition r q e = (refl, ap (drop 9) e)
@@ -55,7 +54,7 @@ of_values Q literal h e are = h _ _ are
 
 abbrev kind : Word → ℕ
 kind Object = 0
-kind Property = 1
+kind PropertyWord = 1
 kind Slot = 2
 kind Verb = 3
 kind Petition = 4
@@ -63,14 +62,14 @@ kind Petition = 4
 -- what is said of each entry of a word
 abbrev pub EachOf : Word → (Entry → Type 0) → Type 0
 EachOf Object Q = (x : ObjNo) (row : ObjRow) → Q (an_object x row)
-EachOf Property Q = (x : ObjNo) (n : Name) → Q (a_property x n)
-EachOf Slot Q = (x : ObjNo) (p : Pair) (k : ASlot) → Q (a_slot x p k)
+EachOf PropertyWord Q = (x : ObjNo) (n : Name) → Q (a_property x n)
+EachOf Slot Q = (x : ObjNo) (p : Property) (k : ASlot) → Q (a_slot x p k)
 EachOf Verb Q = (x : ObjNo) (v : VerbRow) → Q (a_verb x v)
 EachOf Petition Q = (e : PetitionId × PetitionRow) → Q (a_petition e)
 
 pub of_word : (word : Word) (Q : Entry → Type 0) → EachOf word Q → (e : Entry) → word ≡ word_of e → Q e
 of_word Object Q h (an_object x row) w = h x row
-of_word Property Q h (a_property x n) w = h x n
+of_word PropertyWord Q h (a_property x n) w = h x n
 of_word Slot Q h (a_slot x p k) w = h x p k
 of_word Verb Q h (a_verb x v) w = h x v
 of_word Petition Q h (a_petition e) w = h e
@@ -83,6 +82,6 @@ of_line line literal word own values given Q split is plain read each e within s
     let s = split_is line literal word e within split same in
     of_word own (λ e. EntryFits e → given ≡ entry_values e → Q e) each e (sym is ∙ s.0) within (plain ∙ of_values (λ l. values ≡ l) literal read e s.1)
 
-pub no_slot_put : (t : LastSlot × Maps) (number : Pair → PropId) (e : Entry) → (word_of e ≡ Slot → ⊥) → t ≡ slot_line_put number e t
+pub no_slot_put : (t : LastSlot × Maps) (number : Property → PropId) (e : Entry) → (word_of e ≡ Slot → ⊥) → t ≡ slot_line_put number e t
 no_slot_put t number (a_slot x p k) other = absurd (other refl)
 no_slot_put t number e other = refl

@@ -15,7 +15,7 @@ use Rattle.moo_rows.specs.Maps.{Maps}
 use Rattle.moo_dump.specs.Dump.{object_values, state_values, verb_values, object_line, property_line, slot_line, verb_line, petition_line}
 use Rattle.moo_load.specs.Printed.{petition_values}
 use Rattle.moo_load.specs.Rows.{property_taken, verb_taken, petition_taken}
-use Rattle.moo_world.specs.Objects.{Name, Pair}
+use Rattle.moo_world.specs.Objects.{Name, Property}
 use Rattle.moo_world.specs.Petitions.{petition_fits}
 use Rattle.moo_world.specs.World.{Slot, row_fits, state_fits, verb_fits, is_property_name}
 
@@ -23,7 +23,7 @@ use Rattle.moo_world.specs.World.{Slot, row_fits, state_fits, verb_fits, is_prop
 pub data Entry : Type 0 where
   an_object : ObjNo → ObjRow → Entry
   a_property : ObjNo → Name → Entry
-  a_slot : ObjNo → Pair → Slot → Entry
+  a_slot : ObjNo → Property → Slot → Entry
   a_verb : ObjNo → VerbRow → Entry
   a_petition : PetitionId × PetitionRow → Entry
 

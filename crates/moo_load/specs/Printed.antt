@@ -13,7 +13,7 @@ use Rattle.moo_dump.specs.Dump.{state_values}
 use Rattle.moo_world.specs.Answers.{list_of}
 use Rattle.moo_world.specs.Objects.{Name}
 use Rattle.moo_load.specs.declared.line.Word.{Word}
-use Rattle.moo_load.specs.declared.line.Word.TheVariants.{Object, Property, Slot, Verb, Petition}
+use Rattle.moo_load.specs.declared.line.Word.TheVariants.{Object, Property as PropertyWord, Slot, Verb, Petition}
 
 -- the bytes have no line end
 abbrev pub IsOneLine : List ℕ → Type 0
@@ -22,7 +22,7 @@ IsOneLine bytes = list_all (λ byte. not (byte == 10)) bytes ≡ true
 -- what the line of a row begins with
 abbrev pub word_text : Word → List ℕ
 word_text Object = codes "object"
-word_text Property = codes "property"
+word_text PropertyWord = codes "property"
 word_text Slot = codes "slot"
 word_text Verb = codes "verb"
 word_text Petition = codes "petition"

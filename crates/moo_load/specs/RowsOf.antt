@@ -14,12 +14,12 @@ use Rattle.moo_rows.specs.declared.row.VerbRow.{VerbRow}
 use Rattle.moo_rows.specs.Maps.{Maps, petition_cmp}
 use Rattle.moo_world.specs.Judge.{State}
 use Rattle.moo_world.specs.ObjectLists.{objects_of}
-use Rattle.moo_world.specs.Objects.{Pair, same_object, folded}
-use Rattle.moo_world.specs.World.{World, Slot, row_of, slot_of, owed_by, directory_of}
+use Rattle.moo_world.specs.Objects.{Property, same_object, folded}
+use Rattle.moo_world.specs.World.{World, Slot, row_of, slot_of, defined_by_any, directory_of}
 
 -- every property, by objects in ascending order, and of one object in the order of definition
-abbrev pub all_properties : World → List Pair
-all_properties w = owed_by w (objects_of w)
+abbrev pub all_properties : World → List Property
+all_properties w = defined_by_any w (objects_of w)
 
 -- every verb with its object, in the same way
 abbrev pub all_verbs : World → List (ObjNo × VerbRow)
@@ -30,14 +30,14 @@ abbrev pub at_number : {A : Type 0} → List A → ℕ → Option A
 at_number l zero = None
 at_number l (suc n) = slice_get l n
 
-abbrev pub property_row : Pair → PropRow
+abbrev pub property_row : Property → PropRow
 property_row p = record { definer = p.0; name = p.1 }
 
 abbrev pub dumped_slot : Slot → SlotRow
 dumped_slot k = record { owner = k.owner; bits = k.bits; state = k.state }
 
 -- the slot of this property on x
-abbrev pub slot_of_property : World → ObjNo → Pair → Option SlotRow
+abbrev pub slot_of_property : World → ObjNo → Property → Option SlotRow
 slot_of_property w x p = option_and_then (λ k. if same_object k.definer p.0 then Some (dumped_slot k) else None) (slot_of w x (folded p.1))
 
 -- the verb, if it is one of x

@@ -6,7 +6,7 @@ use Rattle.moo_value.specs.declared.value.ObjNo.{ObjNo}
 use Rattle.moo_rows.specs.declared.row.PropId.{PropId}
 use Rattle.moo_rows.specs.Links.{IsFirst, is_definer}
 use Rattle.moo_rows.specs.Maps.{Maps, prop_cmp}
-use Rattle.moo_world.specs.Objects.{Pair}
+use Rattle.moo_world.specs.Objects.{Property}
 use Rattle.moo_load.specs.declared.taking.LastSlot.{LastSlot}
 use Rattle.moo_load.specs.Entries.{Entry, a_slot}
 use Rattle.moo_load.specs.RowsOf.{property_row, dumped_slot}
@@ -20,17 +20,17 @@ abbrev pub number_before : LastSlot → ObjNo → ObjNo → PropId
 number_before last x definer = if int_eq last.object.0 x.0 && int_eq last.definer.0 definer.0 then last.id else record { 0 = 0 }
 
 -- the property has this number, and is the next one of its definer
-pub record IsNextProperty (m : Maps) (last : LastSlot) (x : ObjNo) (p : Pair) (id : PropId) : Type 0 where
+pub record IsNextProperty (m : Maps) (last : LastSlot) (x : ObjNo) (p : Property) (id : PropId) : Type 0 where
   pub next : IsFirst prop_cmp (is_definer m p.0) (number_before last x p.0) (Some id)
   pub row : get m.props id ≡ Some (property_row p)
 
 -- the property of a slot is the next one of its definer, if its line comes now
-abbrev pub SlotIsNext : (Pair → PropId) → Entry → LastSlot × Maps → Type 0
+abbrev pub SlotIsNext : (Property → PropId) → Entry → LastSlot × Maps → Type 0
 SlotIsNext number (a_slot x p k) t = IsNextProperty t.1 t.0 x p (number p)
 SlotIsNext number e t = Unit {0}
 
 -- the slot that is put last, and the maps, after a line
-abbrev pub slot_line_put : (Pair → PropId) → Entry → LastSlot × Maps → LastSlot × Maps
+abbrev pub slot_line_put : (Property → PropId) → Entry → LastSlot × Maps → LastSlot × Maps
 slot_line_put number (a_slot x p k) t =
     (record { object = x; definer = p.0; id = number p }, record (t.1) { slots = insert t.1.slots (x, number p) (dumped_slot k) })
 slot_line_put number e t = t

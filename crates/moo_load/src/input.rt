@@ -2,7 +2,7 @@
 
 ghost use Rattle.std.specs.Prelude.{◌≡◌, ◌≤◌, ◌<◌, length, IfOk, IfErr, IfSome, OnOk};
 ghost use Rattle.std.specs.Io.KnownBytes.{Consumes, IsAtEnd};
-ghost use Rattle.moo_load.specs.declared.input.ReadFault.TheVariants.{TooLong, OutOfMemory};
+ghost use Rattle.moo_load.specs.declared.input.InputFault.TheVariants.{TooLong, OutOfMemory};
 
 use std::alloc::{AllocError, Global};
 use std::io::Read;
@@ -15,7 +15,7 @@ const PIECE: usize = 65536;
 
 /// Why a reader gives no text.
 #[derive(Clone, Copy, Debug, PartialEq, Eq)]
-pub enum ReadFault {
+pub enum InputFault {
     /// The reader failed.
     Read,
     /// The reader gave more than 1,073,741,824 bytes.
@@ -24,11 +24,11 @@ pub enum ReadFault {
     OutOfMemory,
 }
 
-impl From<AllocError> for ReadFault {
+impl From<AllocError> for InputFault {
     ghost from_gives = { λ _ e. e ≡ OutOfMemory };
 
-    fn from(_e: AllocError) -> ReadFault {
-        ReadFault::OutOfMemory
+    fn from(_e: AllocError) -> InputFault {
+        InputFault::OutOfMemory
     }
 }
 
@@ -36,7 +36,7 @@ impl From<AllocError> for ReadFault {
 ///
 /// Errors: `Read` if the reader fails, also if it was interrupted; `TooLong` if it gives more than 1,073,741,824 bytes, of which
 /// one more is read; `OutOfMemory` if memory runs out.
-pub fn read_text<R: Read>(alloc: Global, reader: &mut R) -> Result<Vec<u8>, ReadFault>
+pub fn read_text<R: Read>(alloc: Global, reader: &mut R) -> Result<Vec<u8>, InputFault>
     // The text is what the reader gave, and nothing is left in it.
     ensures given { IfOk result (λ text. Consumes (R.remaining reader.old) (R.remaining reader.new) text.items) }
     ensures end { OnOk result (IsAtEnd (R.remaining reader.new)) }
@@ -50,12 +50,12 @@ pub fn read_text<R: Read>(alloc: Global, reader: &mut R) -> Result<Vec<u8>, Read
         // One byte more than the limit, by which a text is seen to be too long.
         let room = (LONGEST_TEXT + 1 - text.len()).min(piece.len());
         let Ok(count) = reader.read(&mut piece[..room]) else {
-            return Err(ReadFault::Read);
+            return Err(InputFault::Read);
         };
         if count == 0 {
             return Ok(text);
         }
         text.extend_from_slice(&piece[..count])?;
     }
-    Err(ReadFault::TooLong)
+    Err(InputFault::TooLong)
 }

@@ -18,5 +18,5 @@ mod value;
 mod verb;
 
 pub use fault::LoadFault;
-pub use input::{LONGEST_TEXT, ReadFault, read_text};
+pub use input::{InputFault, LONGEST_TEXT, read_text};
 pub use loading::read_dump;

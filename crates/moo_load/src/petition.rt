@@ -1,8 +1,8 @@
 //! The values of a petition's line.
 
-ghost use Rattle.std.specs.Prelude.{◌≡◌, ◌≢◌, ◌∷◌, [], ◌<◌, ℕ, pos, true, ◌&&◌, IfOk, IfErr};
+ghost use Rattle.std.specs.Prelude.{◌≡◌, ◌≢◌, ◌<◌, ℕ, pos, true, ◌&&◌, IfOk, IfErr};
 ghost use Rattle.std.specs.List.{list_all};
-ghost use Rattle.moo_value.specs.declared.value.Value.TheVariants.{Int, Obj, List as a_list};
+ghost use Rattle.moo_value.specs.declared.value.Value.TheVariants.{Int, List as a_list};
 ghost use Rattle.moo_value.specs.Value.{spread};
 ghost use Rattle.moo_value.specs.Values.{Values};
 ghost use Rattle.moo_rows.specs.declared.row.PetitionId.{PetitionId as Id};

@@ -12,7 +12,7 @@ ghost use Rattle.moo_load.specs.RowsOf.{AreRowsOf, HasNumbers};
 ghost use Rattle.moo_load.specs.Slots.{no_slot, SlotIsNext, slot_line_put};
 ghost use Rattle.moo_dump.specs.Dump.{dump};
 ghost use Rattle.moo_world.specs.Judge.{State};
-ghost use Rattle.moo_world.specs.Objects.{Pair};
+ghost use Rattle.moo_world.specs.Objects.{Property};
 
 use crate::fault::{LineFault, LoadFault};
 use crate::heading::read_heading;
@@ -55,9 +55,9 @@ fn take_slot_line(
     requires { AreRead rows.old.maps }
     ensures read { OnOk result (AreRead rows.new.maps) }
     // The line of an entry puts its slot, if the slot's property is the next one of its definer.
-    ensures put { IfOk result (λ put. (number : Pair → AProperty) (e : Entry) → EntryFits e → SlotIsNext number e (last, rows.old.maps) → line.now ++ 10 ∷ [] ≡ entry_text e
+    ensures put { IfOk result (λ put. (number : Property → AProperty) (e : Entry) → EntryFits e → SlotIsNext number e (last, rows.old.maps) → line.now ++ 10 ∷ [] ≡ entry_text e
         → (put, rows.new.maps) ≡ slot_line_put number e (last, rows.old.maps)) }
-    ensures err { IfErr result (λ fault. fault ≡ LineFault.Unreadable → (number : Pair → AProperty) (e : Entry) → EntryFits e → SlotIsNext number e (last, rows.old.maps)
+    ensures err { IfErr result (λ fault. fault ≡ LineFault.Unreadable → (number : Property → AProperty) (e : Entry) → EntryFits e → SlotIsNext number e (last, rows.old.maps)
         → line.now ++ 10 ∷ [] ≢ entry_text e) }
 {
     let (word, literal) = split_word(line)?;
@@ -100,10 +100,10 @@ fn take_slots(alloc: Global, text: &[u8], start: usize, rows: &mut Flat) -> Resu
     requires read { AreRead rows.old.maps }
     ensures read { OnOk result (AreRead rows.new.maps) }
     // The lines of entries put their slots, if each has the next property of its definer.
-    ensures put { OnOk result ((number : Pair → AProperty) (es : List Entry) → AllByRecursion EntryFits es
+    ensures put { OnOk result ((number : Property → AProperty) (es : List Entry) → AllByRecursion EntryFits es
         → EachHas (SlotIsNext number) (slot_line_put number) es (no_slot, rows.old.maps) → drop start text.now ≡ entry_lines es
         → rows.new.maps ≡ (carried (slot_line_put number) es (no_slot, rows.old.maps)).1) }
-    ensures err { IfErr result (λ fault. fault ≢ LoadFault.OutOfMemory → (number : Pair → AProperty) (es : List Entry) → AllByRecursion EntryFits es
+    ensures err { IfErr result (λ fault. fault ≢ LoadFault.OutOfMemory → (number : Property → AProperty) (es : List Entry) → AllByRecursion EntryFits es
         → EachHas (SlotIsNext number) (slot_line_put number) es (no_slot, rows.old.maps) → drop start text.now ≢ entry_lines es) }
     ensures fault { IfErr result (SaysOfText text.now) }
 {

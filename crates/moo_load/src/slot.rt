@@ -1,8 +1,8 @@
 //! The values of a slot's line.
 
-ghost use Rattle.std.specs.Prelude.{◌≡◌, ◌≢◌, ◌∷◌, true, ◌&&◌, IfOk, IfErr};
+ghost use Rattle.std.specs.Prelude.{◌≡◌, ◌≢◌, true, ◌&&◌, IfOk, IfErr};
 ghost use Rattle.moo_value.specs.declared.value.ObjNo.{ObjNo as Object};
-ghost use Rattle.moo_value.specs.declared.value.Value.TheVariants.{Obj, Str};
+ghost use Rattle.moo_value.specs.declared.value.Value.TheVariants.{Str};
 ghost use Rattle.moo_rows.specs.declared.row.Bits.{Bits as Rights};
 ghost use Rattle.moo_rows.specs.declared.row.SlotRow.{SlotRow as Row};
 ghost use Rattle.moo_rows.specs.declared.row.SlotState.{SlotState as State};

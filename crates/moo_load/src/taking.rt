@@ -7,7 +7,7 @@ ghost use Rattle.moo_rows.specs.declared.row.ObjRow.{ObjRow as ObjectRow};
 ghost use Rattle.moo_rows.specs.declared.row.PetitionId.{PetitionId as Id};
 ghost use Rattle.moo_rows.specs.declared.row.PetitionRow.{PetitionRow as APetition};
 ghost use Rattle.moo_rows.specs.declared.row.PropId.{PropId as AProperty};
-ghost use Rattle.moo_rows.specs.declared.row.PropRow.{PropRow as Property};
+ghost use Rattle.moo_rows.specs.declared.row.PropRow.{PropRow as APropRow};
 ghost use Rattle.moo_rows.specs.declared.row.VerbRow.{VerbRow as Verb};
 ghost use Rattle.moo_rows.specs.Maps.{with_object, with_slot};
 ghost use Rattle.moo_dump.specs.Dump.{object_values, verb_values};
@@ -15,7 +15,7 @@ ghost use Rattle.moo_load.specs.Printed.{petition_values, slot_values};
 ghost use Rattle.moo_load.specs.Rows.{AreRead, property_taken, verb_taken, petition_taken};
 ghost use Rattle.moo_load.specs.RowsOf.{dumped_slot};
 ghost use Rattle.moo_load.specs.Slots.{IsNextProperty, number_before as the_number_before};
-ghost use Rattle.moo_world.specs.Objects.{Pair};
+ghost use Rattle.moo_world.specs.Objects.{Property};
 ghost use Rattle.moo_world.specs.Petitions.{petition_fits};
 ghost use Rattle.moo_world.specs.World.{Slot, row_fits, state_fits, verb_fits, is_property_name};
 
@@ -50,9 +50,9 @@ pub(crate) fn take_property(
 ) -> Result<(), LineFault>
     requires { AreRead rows.old.maps }
     ensures read { OnOk result (AreRead rows.new.maps) }
-    ensures put { OnOk result ((row : Property) → values.now ≡ Obj row.definer ∷ Str row.name ∷ [] → rows.new.maps ≡ property_taken rows.old.maps row) }
+    ensures put { OnOk result ((row : APropRow) → values.now ≡ Obj row.definer ∷ Str row.name ∷ [] → rows.new.maps ≡ property_taken rows.old.maps row) }
     // Unless there is no number left.
-    ensures err { IfErr result (λ fault. fault ≡ LineFault.Unreadable → rows.old.maps.head.next_prop < 4294967295 → (row : Property) → is_property_name row.name ≡ true
+    ensures err { IfErr result (λ fault. fault ≡ LineFault.Unreadable → rows.old.maps.head.next_prop < 4294967295 → (row : APropRow) → is_property_name row.name ≡ true
         → values.now ≢ Obj row.definer ∷ Str row.name ∷ []) }
 {
     let row = read_property(alloc, values)?;
@@ -154,9 +154,9 @@ pub(crate) fn take_slot(
     requires { AreRead rows.old.maps }
     ensures read { OnOk result (AreRead rows.new.maps) }
     // The slot of the next property is put under its number.
-    ensures put { IfOk result (λ put. (x : Object) (p : Pair) (k : Slot) (id : AProperty) → values.now ≡ slot_values x p.0 p.1 (dumped_slot k)
+    ensures put { IfOk result (λ put. (x : Object) (p : Property) (k : Slot) (id : AProperty) → values.now ≡ slot_values x p.0 p.1 (dumped_slot k)
         → IsNextProperty rows.old.maps last x p id → (put ≡ record { object = x; definer = p.0; id = id }) × (rows.new ≡ with_slot rows.old (x, id) (dumped_slot k))) }
-    ensures err { IfErr result (λ fault. fault ≡ LineFault.Unreadable → (x : Object) (p : Pair) (k : Slot) (id : AProperty) → state_fits k.state ≡ true
+    ensures err { IfErr result (λ fault. fault ≡ LineFault.Unreadable → (x : Object) (p : Property) (k : Slot) (id : AProperty) → state_fits k.state ≡ true
         → IsNextProperty rows.old.maps last x p id → values.now ≢ slot_values x p.0 p.1 (dumped_slot k)) }
 {
     let slot = dumped_slot(alloc, values)?;

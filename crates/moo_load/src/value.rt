@@ -1,13 +1,12 @@
 //! The values of a line.
 
-ghost use Rattle.std.specs.Prelude.{◌≡◌, ◌≢◌, ◌≤◌, ◌<◌, ℕ, pos, true, Bool, List, Option, Some, map, length, IfOk, IfErr};
+ghost use Rattle.std.specs.Prelude.{◌≡◌, ◌≢◌, ◌≤◌, ◌<◌, ℕ, true, Bool, List, Option, Some, map, length, IfOk, IfErr};
 ghost use Rattle.moo_value.specs.declared.value.ObjNo.{ObjNo};
 ghost use Rattle.moo_value.specs.declared.value.Value.TheVariants.{Int, Obj, Str};
-ghost use Rattle.moo_rows.specs.declared.row.SlotState.{SlotState};
-ghost use Rattle.moo_world.specs.Answers.{flag, object_list};
+ghost use Rattle.moo_world.specs.Answers.{flag};
 ghost use Rattle.moo_world.specs.Arguments.{is_number, is_text};
 ghost use Rattle.moo_world.specs.Calls.{accept_value};
-ghost use Rattle.moo_world.specs.World.{accept_fits, state_fits};
+ghost use Rattle.moo_world.specs.World.{accept_fits};
 
 use crate::fault::LineFault;
 use moo_rows::ObjList;

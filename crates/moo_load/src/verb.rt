@@ -3,26 +3,26 @@
 ghost use Rattle.std.specs.Prelude.{◌≡◌, ◌≢◌, true, IfOk, IfErr};
 ghost use Rattle.moo_value.specs.declared.value.ObjNo.{ObjNo as Object};
 ghost use Rattle.moo_value.specs.declared.value.Value.TheVariants.{Str};
-ghost use Rattle.moo_rows.specs.declared.row.Place.{Place as APlace};
+ghost use Rattle.moo_rows.specs.declared.row.ObjectSpec.{ObjectSpec as AnObjectSpec};
 ghost use Rattle.moo_rows.specs.declared.row.Preposition.{Preposition as APreposition};
 ghost use Rattle.moo_rows.specs.declared.row.VerbBits.{VerbBits as Rights};
 ghost use Rattle.moo_rows.specs.declared.row.VerbRow.{VerbRow as Row};
 ghost use Rattle.moo_rows.specs.Bits.{verb_letters_of};
 ghost use Rattle.moo_dump.specs.Dump.{verb_values};
-ghost use Rattle.moo_world.specs.Prepositions.{prep_text, place_text};
+ghost use Rattle.moo_world.specs.Prepositions.{prep_text, object_spec_text};
 ghost use Rattle.moo_world.specs.World.{verb_fits};
 
 use crate::fault::LineFault;
 use crate::value::{object_of, text_of};
-use moo_rows::{ArgSpec, Place, Preposition, VerbBits, VerbRow};
+use moo_rows::{ArgSpec, ObjectSpec, Preposition, VerbBits, VerbRow};
 use moo_value::{ObjNo, Value};
 use moo_verbs::{check_names, read_place_cell, read_prep_cell};
 use std::alloc::Global;
 
 /// The place that a value spells.
-fn place_of(value: &Value) -> Result<Place, LineFault>
-    ensures shown { IfOk result (λ place. value.now ≡ Str (place_text place)) }
-    ensures err { IfErr result (λ _. (place : APlace) → value.now ≢ Str (place_text place)) }
+fn object_spec_of(value: &Value) -> Result<ObjectSpec, LineFault>
+    ensures shown { IfOk result (λ place. value.now ≡ Str (object_spec_text place)) }
+    ensures err { IfErr result (λ _. (place : AnObjectSpec) → value.now ≢ Str (object_spec_text place)) }
 {
     match read_place_cell(text_of(value)?.bytes()) {
         Some(place) => Ok(place),
@@ -70,9 +70,9 @@ pub(crate) fn read_verb(alloc: Global, values: &[Value]) -> Result<(ObjNo, VerbR
     let names = names.copy(alloc)?;
     let owner = object_of(owner)?;
     let bits = bits_of(letters)?;
-    let dobj = place_of(dobj)?;
+    let dobj = object_spec_of(dobj)?;
     let prep = prep_of(prep)?;
-    let iobj = place_of(iobj)?;
+    let iobj = object_spec_of(iobj)?;
     let row = VerbRow {
         names,
         owner,

@@ -3,4 +3,4 @@
 
 mod ordered;
 
-pub use ordered::{Key, get, least, next, put, put_back, remove, replace};
+pub use ordered::{OrderedKey, get, least, next, put, put_back, remove, replace};

@@ -14,7 +14,7 @@ use std::collections::BTreeMap;
 use std::ops::Bound;
 
 /// A key that its order tells from every other key.
-pub trait Key: Ord + Copy + Drop {
+pub trait OrderedKey: Ord + Copy + Drop {
     ghost use Rattle.std.specs.Prelude.{◌≡◌};
     ghost use Rattle.std.specs.declared.cmp.Ordering.TheVariants.{Equal};
 
@@ -22,23 +22,23 @@ pub trait Key: Ord + Copy + Drop {
     ghost exact: { (x y : Self) → Self.cmp x y ≡ Equal → x ≡ y };
 }
 
-impl Key for ObjNo {
+impl OrderedKey for ObjNo {
     ghost exact = { object_one };
 }
 
-impl<A: Key, B: Key> Key for (A, B) {
+impl<A: OrderedKey, B: OrderedKey> OrderedKey for (A, B) {
     ghost exact = { exact_pairs A.cmp B.cmp A.exact B.exact };
 }
 
-/// The row of a key, or none if the map doesn't hold it. Takes no memory.
-pub fn get<K: Key, V>(rows: &BTreeMap<K, V>, key: K) -> Option<&V>
+/// The row of a key, or `None` if the map doesn't hold it. Takes no memory.
+pub fn get<K: OrderedKey, V>(rows: &BTreeMap<K, V>, key: K) -> Option<&V>
     ensures { option_map (λ row. row.now) result ≡ map.get (contents K.cmp rows.now) key }
 {
     rows.get(&key)
 }
 
-/// The least held key past `from`, or the least of all if no `from` is given; none if there is no such key. Takes no memory.
-pub fn next<K: Key, V>(rows: &BTreeMap<K, V>, from: Option<K>) -> Option<K>
+/// The least held key past `from`, or the least of all if no `from` is given; `None` if there is no such key. Takes no memory.
+pub fn next<K: OrderedKey, V>(rows: &BTreeMap<K, V>, from: Option<K>) -> Option<K>
     ensures { IsNext (contents K.cmp rows.now) from result }
 {
     let past = from.map_or(Bound::Unbounded, Bound::Excluded);
@@ -47,7 +47,7 @@ pub fn next<K: Key, V>(rows: &BTreeMap<K, V>, from: Option<K>) -> Option<K>
 }
 
 /// Sets the row of a key, and answers the one that it had. After an `Err`, a lack of memory, the map is as it was, and the key has no row.
-pub fn replace<K: Key, V: Drop>(
+pub fn replace<K: OrderedKey, V: Drop>(
     rows: &mut BTreeMap<K, V>,
     key: K,
     row: V,
@@ -62,7 +62,11 @@ pub fn replace<K: Key, V: Drop>(
 }
 
 /// Sets the row of a key. After an `Err`, a lack of memory, the map is as it was.
-pub fn put<K: Key, V: Drop>(rows: &mut BTreeMap<K, V>, key: K, row: V) -> Result<(), AllocError>
+pub fn put<K: OrderedKey, V: Drop>(
+    rows: &mut BTreeMap<K, V>,
+    key: K,
+    row: V,
+) -> Result<(), AllocError>
     ensures ok { OnOk result (contents K.cmp rows.new ≡ map.insert (contents K.cmp rows.old) key row) }
     ensures err { OnErr result (contents K.cmp rows.new ≡ contents K.cmp rows.old) }
 {
@@ -70,8 +74,8 @@ pub fn put<K: Key, V: Drop>(rows: &mut BTreeMap<K, V>, key: K, row: V) -> Result
     Ok(())
 }
 
-/// Gives a key the row back that it had before another one was set, or none if it had none. Takes no memory.
-pub fn put_back<K: Key, V: Drop>(rows: &mut BTreeMap<K, V>, key: K, old: Option<V>)
+/// Gives a key the row back that it had before another one was set, or `None` if it had none. Takes no memory.
+pub fn put_back<K: OrderedKey, V: Drop>(rows: &mut BTreeMap<K, V>, key: K, old: Option<V>)
     ensures { (before : FinMap K.cmp V) (row : V) → contents K.cmp rows.old ≡ map.insert before key row → old ≡ map.get before key → contents K.cmp rows.new ≡ before }
 {
     match old {
@@ -83,14 +87,14 @@ pub fn put_back<K: Key, V: Drop>(rows: &mut BTreeMap<K, V>, key: K, old: Option<
 }
 
 /// Takes the row of a key away, if it has one. Takes no memory.
-pub fn remove<K: Key, V: Drop>(rows: &mut BTreeMap<K, V>, key: K)
+pub fn remove<K: OrderedKey, V: Drop>(rows: &mut BTreeMap<K, V>, key: K)
     ensures { contents K.cmp rows.new ≡ map.remove (contents K.cmp rows.old) key }
 {
     rows.remove(&key);
 }
 
 /// The lesser of two keys, or the one that is there.
-pub fn least<K: Key>(a: Option<K>, b: Option<K>) -> Option<K>
+pub fn least<K: OrderedKey>(a: Option<K>, b: Option<K>) -> Option<K>
     ensures { result ≡ lesser K.cmp a b }
 {
     match (a, b) {

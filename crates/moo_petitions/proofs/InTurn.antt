@@ -16,10 +16,10 @@ use Rattle.moo_world.specs.Keeps.{Keeps, beside_world}
 use Rattle.moo_world.specs.Names.{grants, is_grant, petition_call}
 use Rattle.moo_world.specs.Numbers.{KeepsNumbers}
 use Rattle.moo_world.specs.Outcomes.{Outcome, Done, Failed, Full}
-use Rattle.moo_world.specs.Requests.{State, in_world, held_step, held_steps, one_integer, petition_at, request}
+use Rattle.moo_world.specs.Requests.{State, in_world, held_step, held_steps, one_integer, petition_at, batch_call}
 use Rattle.moo_world.specs.Rows.{IsGood}
 use Rattle.moo_world.specs.World.{World}
-use Rattle.moo_world.specs.Calls.{step}
+use Rattle.moo_world.specs.Calls.{world_call}
 use Rattle.moo_world.proofs.Batches.Requested.{request_steps}
 use Rattle.moo_call_parts.specs.declared.fault.Fault.{Fault}
 use Rattle.moo_call_parts.specs.declared.fault.Fault.TheVariants.{Moo, Full as none_left, OutOfMemory}
@@ -116,7 +116,7 @@ on_ok (Err e) f h = tt
 
 -- what a call on the world comes to, beside the petitions
 pub stepped-reaches : (call : Call) (p : ObjNo) (old new : Held) (r : Result Value Fault) → petition_call call.name ≡ None
-    → ComesTo (step (world_in old) p call) old new r → OnOk r (Keeps old new) → Reaches (request (state_in old) p call) new r
+    → ComesTo (world_call (world_in old) p call) old new r → OnOk r (Keeps old new) → Reaches (batch_call (state_in old) p call) new r
 stepped-reaches call p old new (Ok v) on_world comes kept = request_steps (state_in old) p call on_world ∙ ap (in_world (state_in old)) comes ∙ ap (Done v) (with_world old new kept.beside)
 stepped-reaches call p old new (Err (Moo code)) on_world comes kept = request_steps (state_in old) p call on_world ∙ ap (in_world (state_in old)) comes.0
 stepped-reaches call p old new (Err none_left) on_world comes kept = request_steps (state_in old) p call on_world ∙ ap (in_world (state_in old)) comes.0

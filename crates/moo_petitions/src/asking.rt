@@ -1,6 +1,6 @@
 //! `petition`.
 
-ghost use Rattle.std.specs.Prelude.{◌≡◌, true, false, OnOk, IfErr};
+ghost use Rattle.std.specs.Prelude.{◌≡◌, true, OnOk, IfErr};
 ghost use Rattle.std.specs.List.{list_all};
 ghost use Rattle.moo_value.specs.Value.{spread};
 ghost use Rattle.moo_value.specs.declared.value.Value.TheVariants.{List as a_list};
@@ -8,7 +8,7 @@ ghost use Rattle.moo_world.specs.Arguments.{fits};
 ghost use Rattle.moo_world.specs.Numbers.{KeepsNumbers};
 ghost use Rattle.moo_world.specs.Petitions.{is_named, are_few, are_shallow, petition_fits};
 ghost use Rattle.moo_world.specs.Outcomes.{Outcome, Failed, given};
-ghost use Rattle.moo_world.specs.Requests.{State, are_on_world, ask, one_list, petition};
+ghost use Rattle.moo_world.specs.Requests.{State, are_on_world, petition_filed, one_list, petition};
 ghost use Rattle.moo_world.specs.Rows.{IsGood};
 ghost use Rattle.moo_world.specs.World.{is_object};
 ghost use Rattle.moo_call_parts.specs.Outcomes.{world_in};
@@ -51,7 +51,7 @@ fn may_be_asked(calls: &ValueList) -> Result<(), Code>
 fn ask<R: Rows>(rows: &mut R, programmer: ObjNo, calls: ValueList) -> Result<Value, Fault>
     requires good { IsGood (R.held rows.old).maps }
     requires fit { petition_fits (record { who = programmer; calls = calls }) ≡ true }
-    ensures reaches { Reaches (ask (state_in (R.held rows.old)) programmer calls) (R.held rows.new) result }
+    ensures reaches { Reaches (petition_filed (state_in (R.held rows.old)) programmer calls) (R.held rows.new) result }
     ensures stays { Stays (R.held rows.old) (R.held rows.new) result }
     ensures kept { OnOk result (KeepsGoodRows KeepsNumbers (R.held rows.old) (R.held rows.new)) }
 {

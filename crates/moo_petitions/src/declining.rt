@@ -1,6 +1,6 @@
 //! `decline`.
 
-ghost use Rattle.std.specs.Prelude.{◌≡◌, ◌||◌, false, OnOk};
+ghost use Rattle.std.specs.Prelude.{◌≡◌, ◌||◌, OnOk};
 ghost use Rattle.moo_world.specs.Numbers.{KeepsNumbers};
 ghost use Rattle.moo_world.specs.Objects.{same_object};
 ghost use Rattle.moo_world.specs.Outcomes.{given};
@@ -24,7 +24,7 @@ fn may_decline<R: Rows>(rows: &R, programmer: ObjNo, who: ObjNo) -> bool
     who == programmer || is_wizard(rows, programmer)
 }
 
-/// `decline(number)`: takes a petition away. E_INVARG if there is none of this number; E_PERM if the programmer is neither who asks nor a
+/// `decline(number)`: takes a petition away. E_INVARG if no petition has this number; E_PERM if the programmer is neither who asks nor a
 /// wizard. It answers 0. This server's own.
 pub(crate) fn decline<R: Rows>(
     rows: &mut R,

@@ -1,10 +1,9 @@
 //! Calls as petitions hold them: lists that begin with the name of a call.
 
-ghost use Rattle.std.specs.Prelude.{◌≡◌, ◌∷◌, true, false, Some, None, is_some, if◌then◌else◌, IfSome, IfNone};
+ghost use Rattle.std.specs.Prelude.{◌≡◌, ◌∷◌, false, Some, None, is_some, if◌then◌else◌, IfSome, IfNone};
 ghost use Rattle.std.specs.List.{list_all};
 ghost use Rattle.std.specs.Option.{option_and_then};
 ghost use Rattle.moo_value.specs.declared.value.Value.TheVariants.{Str};
-ghost use Rattle.moo_world.specs.Arguments.{fits};
 ghost use Rattle.moo_world.specs.Names.{call_name_of, petition_call};
 ghost use Rattle.moo_world.specs.Petitions.{begins_with_text};
 ghost use Rattle.moo_world.specs.Requests.{held_call};

@@ -1,6 +1,6 @@
 //! `petitions`.
 
-ghost use Rattle.std.specs.Prelude.{◌≡◌, false, map, ◌||◌, IfOk, OnOk};
+ghost use Rattle.std.specs.Prelude.{◌≡◌, map, ◌||◌, IfOk, OnOk};
 ghost use Rattle.std.specs.List.{filter};
 ghost use Rattle.std.specs.FinMap.{entries};
 ghost use Rattle.moo_world.specs.Arguments.{no_values};
@@ -10,7 +10,6 @@ ghost use Rattle.moo_world.specs.Outcomes.{given};
 ghost use Rattle.moo_world.specs.Requests.{listed, petitions};
 ghost use Rattle.moo_world.specs.Rights.{is_wizard};
 ghost use Rattle.moo_world.specs.Rows.{IsGood};
-ghost use Rattle.moo_call_parts.specs.Outcomes.{world_in};
 ghost use Rattle.moo_petitions.specs.Outcomes.{state_in, KeepsGoodRows, Reaches};
 
 use moo_call_parts::rights::is_wizard;

@@ -1,6 +1,6 @@
 //! Petitions by number.
 
-ghost use Rattle.std.specs.Prelude.{◌≡◌, pos, Some, None, IfSome, IfNone};
+ghost use Rattle.std.specs.Prelude.{◌≡◌, Some, None, IfSome, IfNone};
 ghost use Rattle.moo_world.specs.Requests.{petition_at};
 ghost use Rattle.moo_world.specs.Rows.{IsGood};
 ghost use Rattle.moo_petitions.specs.Outcomes.{state_in};

@@ -5,7 +5,7 @@ ghost use Rattle.std.specs.List.{list_all};
 ghost use Rattle.moo_world.specs.Arguments.{fits};
 ghost use Rattle.moo_world.specs.Between.{CallKeepsNumbers};
 ghost use Rattle.moo_world.specs.Names.{grants, is_grant};
-ghost use Rattle.moo_world.specs.Requests.{petition_call_by, request};
+ghost use Rattle.moo_world.specs.Requests.{petition_call_by, batch_call};
 ghost use Rattle.moo_world.specs.Rows.{IsGood};
 ghost use Rattle.moo_world.specs.World.{is_object};
 ghost use Rattle.moo_call_parts.specs.Outcomes.{world_in};
@@ -48,7 +48,7 @@ fn petition_call<R: Rows>(
 /// One call of the programmer's, of any kind. E_PERM if the programmer isn't an object; then E_ARGS and E_TYPE; then the errors of the
 /// call. At an error, and if a number is wanted and none is left (Full), the rows are as they were, unless a petition was to be granted:
 /// then they may be half changed, as they may be out of memory, and the caller drops them.
-#[tactic(auto, unfolding(moo_world::specs::Requests::request))]
+#[tactic(auto, unfolding(moo_world::specs::Requests::batch_call))]
 pub fn step<R: Rows>(
     rows: &mut R,
     alloc: Global,
@@ -56,7 +56,7 @@ pub fn step<R: Rows>(
     call: &Call,
 ) -> Result<Value, Fault>
     requires good { IsGood (R.held rows.old).maps }
-    ensures reaches { Reaches (request (state_in (R.held rows.old)) programmer call.now) (R.held rows.new) result }
+    ensures reaches { Reaches (batch_call (state_in (R.held rows.old)) programmer call.now) (R.held rows.new) result }
     ensures stays { is_grant call.now.name ≡ false → Stays (R.held rows.old) (R.held rows.new) result }
     ensures kept { OnOk result (KeepsGoodRows (CallKeepsNumbers (is_grant call.now.name) programmer call.now.args) (R.held rows.old) (R.held rows.new)) }
 {

@@ -11,8 +11,8 @@ ghost use Rattle.moo_world.specs.PropertyCalls.{add_property, defines_name, may_
 ghost use Rattle.moo_world.specs.Rows.{IsGood};
 ghost use Rattle.moo_world.specs.Objects.{folded};
 ghost use Rattle.moo_world.specs.Answers.{zero};
-ghost use Rattle.moo_world.specs.Changes.{defined};
 ghost use Rattle.moo_world.specs.Outcomes.{Outcome, Done, Failed};
+ghost use Rattle.moo_world.specs.Changes.{property_added};
 ghost use Rattle.moo_world.specs.World.{World, is_object, is_property_name};
 ghost use Rattle.moo_props.specs.Names.{defines as defines_property, name_of};
 ghost use Rattle.moo_call_parts.specs.Outcomes.{world_in, ComesTo, Answers};
@@ -101,7 +101,7 @@ fn bits_to_define<R: Rows>(
 ) -> Result<Bits, Fault>
     requires { IsGood (R.held rows.now).maps }
     ensures ok { IfOk result (λ bits. (v : Value) → add_property (world_in (R.held rows.now)) programmer x name.now v (info.entry.owner, info.entry.perms.now)
-        ≡ Done zero (defined (world_in (R.held rows.now)) x name.now (record { definer = x; owner = info.entry.owner; bits = bits; state = Set v }))) }
+        ≡ Done zero (property_added (world_in (R.held rows.now)) x name.now (record { definer = x; owner = info.entry.owner; bits = bits; state = Set v }))) }
     ensures err { IfErr result (λ fault. (v : Value) → Answers (add_property (world_in (R.held rows.now)) programmer x name.now v (info.entry.owner, info.entry.perms.now)) (R.held rows.now) (Err fault)) }
     ensures there { OnOk result (is_object (world_in (R.held rows.now)) x ≡ true) }
     ensures free { OnOk result (may_define (world_in (R.held rows.now)) x name.now ≡ true) }
@@ -114,7 +114,7 @@ fn bits_to_define<R: Rows>(
     if !rights::may_write_object(rows, programmer, x) {
         return Err(Fault::Moo(Code::Permission));
     }
-    if !rights::may_own(rows, programmer, info.owner) {
+    if !rights::may_make_owner(rows, programmer, info.owner) {
         return Err(Fault::Moo(Code::Permission));
     }
     if !may_define(rows, x, name) {

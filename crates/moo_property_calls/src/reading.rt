@@ -6,7 +6,7 @@ ghost use Rattle.moo_rows.specs.Bits.{letters_of};
 ghost use Rattle.moo_world.specs.Answers.{list_of};
 ghost use Rattle.moo_world.specs.PropertyCalls.{get_property, properties, property_info};
 ghost use Rattle.moo_world.specs.Rows.{IsGood};
-ghost use Rattle.moo_world.specs.World.{names_of};
+ghost use Rattle.moo_world.specs.World.{property_names_of};
 ghost use Rattle.moo_call_parts.specs.Outcomes.{world_in, Answers};
 
 use crate::slots::readable_slot;
@@ -35,9 +35,9 @@ pub fn get_property<R: Rows>(
 }
 
 /// The names of the properties that x defines, in the order of their definition. The only error is out of memory.
-fn names_of<R: Rows>(rows: &R, alloc: Global, x: ObjNo) -> Result<Vec<MooStr>, AllocError>
+fn property_names_of<R: Rows>(rows: &R, alloc: Global, x: ObjNo) -> Result<Vec<MooStr>, AllocError>
     requires { IsGood (R.held rows.now).maps }
-    ensures { IfOk result (λ names. names.items ≡ names_of (world_in (R.held rows.now)) x) }
+    ensures { IfOk result (λ names. names.items ≡ property_names_of (world_in (R.held rows.now)) x) }
 {
     let mut names = Vec::new(alloc);
     for (_id, row) in each_defined(rows, x, PropId(0)) {
@@ -64,7 +64,7 @@ pub fn properties<R: Rows>(
     if !rights::may_read_object(rows, programmer, x) {
         return Err(Fault::Moo(Code::Permission));
     }
-    Ok(text_list(alloc, names_of(rows, alloc, x)?)?)
+    Ok(text_list(alloc, property_names_of(rows, alloc, x)?)?)
 }
 
 /// The letters of rights as a string. The only error is out of memory.

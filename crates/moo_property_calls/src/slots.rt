@@ -12,19 +12,19 @@ ghost use Rattle.moo_call_parts.specs.Outcomes.{world_in};
 ghost use Rattle.moo_property_calls.specs.Checks.{reading_slot, writing_slot};
 
 use moo_call_parts::rights;
-use moo_props::{Found, slot_of};
+use moo_props::{FoundSlot, slot_of};
 use moo_rows::Rows;
 use moo_value::{Code, MooStr, ObjNo};
 
 /// Whether the programmer may read the property by this slot of it.
-fn may_read<R: Rows>(rows: &R, programmer: ObjNo, found: Found<'_>) -> bool
+fn may_read<R: Rows>(rows: &R, programmer: ObjNo, found: FoundSlot<'_>) -> bool
     ensures { result ≡ may_read_slot (world_in (R.held rows.now)) programmer (slot_seen found.entry.definer found.entry.slot.now) }
 {
     rights::may_read_slot(rows, programmer, found.slot)
 }
 
 /// Whether the programmer may write the property by this slot of it.
-pub(crate) fn may_write<R: Rows>(rows: &R, programmer: ObjNo, found: Found<'_>) -> bool
+pub(crate) fn may_write<R: Rows>(rows: &R, programmer: ObjNo, found: FoundSlot<'_>) -> bool
     ensures { result ≡ may_write_slot (world_in (R.held rows.now)) programmer (slot_seen found.entry.definer found.entry.slot.now) }
 {
     rights::may_write_slot(rows, programmer, found.slot)
@@ -37,7 +37,7 @@ pub(crate) fn readable_slot<'a, R: Rows>(
     programmer: ObjNo,
     x: ObjNo,
     name: &MooStr,
-) -> Result<Found<'a>, Code>
+) -> Result<FoundSlot<'a>, Code>
     requires { IsGood (R.held rows.now).maps }
     ensures ok { IfOk result (λ found. (then : Slot → Outcome World) → reading_slot (world_in (R.held rows.now)) programmer x name.now then ≡ then (slot_seen found.definer found.slot.now)) }
     ensures err { IfErr result (λ code. (then : Slot → Outcome World) → reading_slot (world_in (R.held rows.now)) programmer x name.now then ≡ Failed code) }
@@ -60,7 +60,7 @@ pub(crate) fn writable_slot<'a, R: Rows>(
     programmer: ObjNo,
     x: ObjNo,
     name: &MooStr,
-) -> Result<Found<'a>, Code>
+) -> Result<FoundSlot<'a>, Code>
     requires { IsGood (R.held rows.now).maps }
     ensures slot { IfOk result (λ found. slot_of (world_in (R.held rows.now)) x (folded name.now) ≡ Some (slot_seen found.definer found.slot.now)) }
     ensures may { IfOk result (λ found. may_write_slot (world_in (R.held rows.now)) programmer (slot_seen found.definer found.slot.now) ≡ true) }

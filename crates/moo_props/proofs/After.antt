@@ -1,11 +1,13 @@
 -- Rows in which the objects and slots are as after a change of parent show the reparented world.
-use Rattle.moo_props.proofs.Words.{◌≡◌, ℕ, ◌<◌, Bool, true, false, Option, None, Some, List, ◌++◌, refl, sym, ap, ◌∙◌, subst, is_some, unwrap_or, if◌then◌else◌, option_map, option_or, FinMap, get, false≢true, both_ways, none-some, same_Some, ObjNo, ObjRow, PropRow, PropId, SlotRow, Maps, object_cmp, slot_cmp, Name, Pair, same_object, folded, is_among, World, Record, Slot, IsWellFormed, NamesDiffer, is_object, chain, owed_by, pair_named, slot_of, owner_of, fresh, with_slots, without_slots, reparented, LookUps, IsSound, look_ups, world_of, prop_id, record_of, slot_seen, world_shown, MayReparent, lost, gained, kept_from, new_split, lost_is, gained_is, definer_among, named_owed, no_slot, objects_same, SameButSlots-rebuilt, same_world, slot_shown, is_object_seen, owed_listed, Chain-chain, chain_of_none, is_defined_among, slot_after, row_after, fresh_row, some_of, SlotHere, slot_from}
+use Rattle.moo_props.proofs.Words.{◌≡◌, ℕ, ◌<◌, Bool, true, false, Option, None, Some, List, ◌++◌, refl, sym, ap, ◌∙◌, subst, is_some, unwrap_or, if◌then◌else◌, option_map, option_or, FinMap, get, false≢true, both_ways, none-some, same_Some, ObjNo, ObjRow, PropRow, PropId, SlotRow, Maps, object_cmp, slot_cmp, Name, Property, same_object, folded, is_among, World, WorldObject, Slot, IsWellFormed, NamesDiffer, is_object, chain, defined_by_any, property_named, slot_of, owner_of, fresh, with_slots, without_slots, reparented, LookUps, IsSound, look_ups, world_of, prop_id, object_shown, slot_seen, world_shown, MayReparent, lost, gained, unless_defined_by, new_split, lost_is, gained_is, definer_among, named_owed, no_slot, objects_same, SameButSlots-rebuilt, same_world, slot_shown, is_object_seen, owed_listed, Chain-chain, chain_of_none, is_defined_among, slot_after, row_after, fresh_row, some_of, SlotHere, slot_from, true_from_ne_false}
 use Rattle.moo_world.specs.World.{with_parent}
 use Rattle.moo_world.specs.Manual.{manual_slot}
 use Rattle.moo_world.proofs.Inheritance.ManualLaw.{below as below_of, no_new, definer_of_slot, manual_law}
-use Rattle.moo_world.proofs.Inheritance.Owed.{named_so, named_once, some_named, owed_by-append, named-append}
+use Rattle.moo_world.proofs.Inheritance.Owed.{named_so, named_once, some_named, defined_by_any-append, named-append}
 use Rattle.moo_props.proofs.Definers.{new_is, no_clash, leaving, arriving, staying}
-use Rattle.moo_props.proofs.Gains.{object_row, defines_pair, new_object, slot_of_owed}
+use Rattle.moo_props.proofs.Cases.{none_of, some_map}
+use Rattle.moo_props.proofs.Gains.{object_of_chain, object_row, defines_pair, new_object, slot_of_owed}
+use Rattle.moo_props.proofs.Walked.{seen_at}
 use Rattle.moo_world.proofs.Shown.Slots.{no_slot_from}
 
 module _ (t : Maps) (sound : IsSound t) (x q : ObjNo) (may : MayReparent (world_of t) x q) where
@@ -24,28 +26,25 @@ module _ (t : Maps) (sound : IsSound t) (x q : ObjNo) (may : MayReparent (world_
   abbrev going : List ObjNo
   going = lost w x q
 
-  pub slot_is : (z : ObjNo) (n : Name) (row : ObjRow) → m.object z ≡ Some row → (id : ℕ) → (h : SlotHere m z n id) → slot_of w z n ≡ Some (slot_seen h.prop.definer h.row)
-  slot_is z n row o id h = ap (slot_of w z) (sym h.name) ∙ slot_shown m sound z row o id h.prop h.row h.there h.held
+  pub slot_is : (z : ObjNo) (n : Name) (id : ℕ) → (h : SlotHere m z n id) → slot_of w z n ≡ Some (slot_seen h.prop.definer h.row)
+  slot_is = seen_at m sound
 
   pub tests : (definers : List ObjNo) (id : ℕ) (p : PropRow) → m.prop id ≡ Some p → is_defined_among definers t (prop_id id) ≡ is_among p.definer definers
   tests definers id p e = ap (λ o. unwrap_or (option_map (λ (r : PropRow). is_among r.definer definers) o) false) e
 
   -- the name of a gained property is found
-  pub gained_named : (n : Name) (id : ℕ) (p : PropRow) → m.prop id ≡ Some p → folded p.name ≡ n → is_among p.definer coming ≡ true → (k : Pair) × (pair_named (owed_by w coming) n ≡ Some k)
-  gained_named n id p e f h = by (pair_named (owed_by w coming) n) refl
-    where
-      by : (o : Option Pair) → pair_named (owed_by w coming) n ≡ o → (k : Pair) × (o ≡ Some k)
-      by None g = absurd (some_named (owed_by w coming) (p.definer, p.name) (owed_listed w coming p.definer (p.definer, p.name) h (defines_pair t sound id p e)) (ap (pair_named (owed_by w coming)) f ∙ g))
-      by (Some k) g = (k, refl)
+  pub gained_named : (n : Name) (id : ℕ) (p : PropRow) → m.prop id ≡ Some p → folded p.name ≡ n → is_among p.definer coming ≡ true → (k : Property) × (property_named (defined_by_any w coming) n ≡ Some k)
+  gained_named n id p e f h = some_of (property_named (defined_by_any w coming) n) (true_from_ne_false _ (λ g.
+      some_named (defined_by_any w coming) (p.definer, p.name) (owed_listed w coming p.definer (p.definer, p.name) h (defines_pair t sound id p e)) (ap (property_named (defined_by_any w coming)) f ∙ none_of _ g)))
 
-  named_q : (n : Name) (k : Pair) → pair_named (owed_by w coming) n ≡ Some k → pair_named (owed_by w (chain w q)) n ≡ Some k
+  named_q : (n : Name) (k : Property) → property_named (defined_by_any w coming) n ≡ Some k → property_named (defined_by_any w (chain w q)) n ≡ Some k
   named_q n k e =
-      ap (λ l. pair_named (owed_by w l) n) (new_split w x q wf may.object (new_is w x q may) may.outside (no_clash w x q may))
+      ap (λ l. property_named (defined_by_any w l) n) (new_split w x q wf may.object (new_is w x q may) may.outside (no_clash w x q may))
       ∙ named-append w (arriving w x q may) (staying w x q may) n
-      ∙ ap (λ o. option_or o (pair_named (owed_by w (staying w x q may)) n)) (ap (λ l. pair_named (owed_by w l) n) (sym (gained_is w x q wf may.object (new_is w x q may) may.outside (no_clash w x q may))) ∙ e)
+      ∙ ap (λ o. option_or o (property_named (defined_by_any w (staying w x q may)) n)) (ap (λ l. property_named (defined_by_any w l) n) (sym (gained_is w x q wf may.object (new_is w x q may) may.outside (no_clash w x q may))) ∙ e)
 
   -- and a found one is a property of a gained definer, with its slot on q
-  named_gained : (n : Name) (k : Pair) → pair_named (owed_by w coming) n ≡ Some k → (id : ℕ) × (h : SlotHere m q n id) × (is_among h.prop.definer coming ≡ true)
+  named_gained : (n : Name) (k : Property) → property_named (defined_by_any w coming) n ≡ Some k → (id : ℕ) × (h : SlotHere m q n id) × (is_among h.prop.definer coming ≡ true)
   named_gained n k e =
       let among : is_among k.0 coming ≡ true = (definer_among w k coming (named_owed w coming n k e)).0 in
       let r = slot_of_owed t sound wf q (new_object t sound x q may k.0 among) n k (named_q n k e) in
@@ -53,27 +52,27 @@ module _ (t : Maps) (sound : IsSound t) (x q : ObjNo) (may : MayReparent (world_
 
   module _ (y : ObjNo) (yo : is_object w y ≡ true) (under : is_among x (chain w y) ≡ true) where
     -- a slot that isn't lost has no name that is gained
-    pub no_both : (n : Name) (d : ObjNo) (k : Pair) → option_map (λ s. s.definer) (slot_of w y n) ≡ Some d → is_among d going ≡ false → pair_named (owed_by w coming) n ≡ Some k → ⊥
+    pub no_both : (n : Name) (d : ObjNo) (k : Property) → option_map (λ s. s.definer) (slot_of w y n) ≡ Some d → is_among d going ≡ false → property_named (defined_by_any w coming) n ≡ Some k → ⊥
     no_both n d k e stays f = by (named (below_of w x q wf may.object (new_is w x q may) may.outside (no_clash w x q may) y n yo under)) refl (named (leaving w x q may)) refl (named (staying w x q may)) refl (sym e ∙ definer_of_slot w x q wf may.object (new_is w x q may) may.outside (no_clash w x q may) y n yo under)
       where
-        named : List ObjNo → Option Pair
-        named l = pair_named (owed_by w l) n
+        named : List ObjNo → Option Property
+        named l = property_named (defined_by_any w l) n
 
         arrives : named (arriving w x q may) ≡ Some k
-        arrives = ap (λ l. pair_named (owed_by w l) n) (sym (gained_is w x q wf may.object (new_is w x q may) may.outside (no_clash w x q may))) ∙ f
+        arrives = ap (λ l. property_named (defined_by_any w l) n) (sym (gained_is w x q wf may.object (new_is w x q may) may.outside (no_clash w x q may))) ∙ f
 
-        by : (b : Option Pair) → named (below_of w x q wf may.object (new_is w x q may) may.outside (no_clash w x q may) y n yo under) ≡ b → (g : Option Pair) → named (leaving w x q may) ≡ g → (s : Option Pair) → named (staying w x q may) ≡ s
+        by : (b : Option Property) → named (below_of w x q wf may.object (new_is w x q may) may.outside (no_clash w x q may) y n yo under) ≡ b → (g : Option Property) → named (leaving w x q may) ≡ g → (s : Option Property) → named (staying w x q may) ≡ s
             → Some d ≡ option_map (λ p. p.0) (option_or (named (below_of w x q wf may.object (new_is w x q may) may.outside (no_clash w x q may) y n yo under)) (option_or (named (leaving w x q may)) (named (staying w x q may)))) → ⊥
         by (Some p) eb g eg s es h =
-            none-some k (sym (no_new w x q wf may.object (new_is w x q may) may.outside (no_clash w x q may) y n yo under p (named_owed w _ n p eb) (named_so (owed_by w _) n p eb)) ∙ named_q n k f)
+            none-some k (sym (no_new w x q wf may.object (new_is w x q may) may.outside (no_clash w x q may) y n yo under p (named_owed w _ n p eb) (named_so (defined_by_any w _) n p eb)) ∙ named_q n k f)
         by None eb (Some p) eg s es h =
-            let same : d ≡ p.0 = same_Some d p.0 (h ∙ (λ i. option_map (λ (r : Pair). r.0) (option_or (eb i) (option_or (eg i) (es i))))) in
+            let same : d ≡ p.0 = same_Some d p.0 (h ∙ (λ i. option_map (λ (r : Property). r.0) (option_or (eb i) (option_or (eg i) (es i))))) in
             let lost : is_among p.0 going ≡ true = ap (is_among p.0) (lost_is w x q wf may.object (new_is w x q may) may.outside (no_clash w x q may)) ∙ (definer_among w p (leaving w x q may) (named_owed w _ n p eg)).0 in
             both_ways (is_among d going) stays (ap (λ z. is_among z going) same ∙ lost)
         by None eb None eg (Some p) es h =
-            let differ : NamesDiffer (owed_by w (arriving w x q may) ++ owed_by w (staying w x q may)) = subst NamesDiffer (ap (owed_by w) (new_split w x q wf may.object (new_is w x q may) may.outside (no_clash w x q may)) ∙ owed_by-append w (arriving w x q may) (staying w x q may)) (wf.names q (chain w q) (Chain-chain w wf.tree q (new_object t sound x q may k.0 (definer_among w k coming (named_owed w coming n k f)).0))) in
-            none-some p (sym (named_once (owed_by w (arriving w x q may)) (owed_by w (staying w x q may)) n k differ arrives) ∙ es)
-        by None eb None eg None es h = none-some d (sym (h ∙ (λ i. option_map (λ (r : Pair). r.0) (option_or (eb i) (option_or (eg i) (es i))))))
+            let differ : NamesDiffer (defined_by_any w (arriving w x q may) ++ defined_by_any w (staying w x q may)) = subst NamesDiffer (ap (defined_by_any w) (new_split w x q wf may.object (new_is w x q may) may.outside (no_clash w x q may)) ∙ defined_by_any-append w (arriving w x q may) (staying w x q may)) (wf.names q (chain w q) (Chain-chain w wf.tree q (new_object t sound x q may k.0 (definer_among w k coming (named_owed w coming n k f)).0))) in
+            none-some p (sym (named_once (defined_by_any w (arriving w x q may)) (defined_by_any w (staying w x q may)) n k differ arrives) ∙ es)
+        by None eb None eg None es h = none-some d (sym (h ∙ (λ i. option_map (λ (r : Property). r.0) (option_or (eb i) (option_or (eg i) (es i))))))
 
   module _ (O : FinMap object_cmp ObjRow) (S : FinMap slot_cmp SlotRow) (objects : (y : ObjNo) → get O y ≡ row_after t x q y) (slots : (key : ObjNo × PropId) → get S key ≡ slot_after t x q key) where
     abbrev t2 : Maps
@@ -82,7 +81,7 @@ module _ (t : Maps) (sound : IsSound t) (x q : ObjNo) (may : MayReparent (world_
     abbrev m2 : LookUps
     m2 = look_ups t2
 
-    bare : (y : ObjNo) (o : Option ObjRow) (b : Bool) → option_map (with_slots (λ n. None)) (option_map (record_of m2 y) (option_map (λ row. if b then record row { parent = q } else row) o)) ≡ option_map (with_slots (λ n. None)) (option_map (λ (r : Record). if b then record r { row = record r.row { parent = q } } else r) (option_map (record_of m y) o))
+    bare : (y : ObjNo) (o : Option ObjRow) (b : Bool) → option_map (with_slots (λ n. None)) (option_map (object_shown m2 y) (option_map (λ row. if b then record row { parent = q } else row) o)) ≡ option_map (with_slots (λ n. None)) (option_map (λ (r : WorldObject). if b then record r { row = record r.row { parent = q } } else r) (option_map (object_shown m y) o))
     bare y None b = refl
     bare y (Some row) true = refl
     bare y (Some row) false = refl
@@ -90,7 +89,7 @@ module _ (t : Maps) (sound : IsSound t) (x q : ObjNo) (may : MayReparent (world_
     links : without_slots (world_of t2) ≡ without_slots (with_parent w x q)
     unfolding world_shown
     links = λ i. record {
-      object = λ y. (ap (λ o. option_map (with_slots (λ n. None)) (option_map (record_of m2 y) o)) (objects y) ∙ bare y (m.object y) (same_object x y)) i;
+      object = λ y. (ap (λ o. option_map (with_slots (λ n. None)) (option_map (object_shown m2 y) o)) (objects y) ∙ bare y (m.object y) (same_object x y)) i;
       top = t.head.top;
       next_prop = t.head.next_prop;
       next_verb = t.head.next_verb;
@@ -117,15 +116,15 @@ module _ (t : Maps) (sound : IsSound t) (x q : ObjNo) (may : MayReparent (world_
       low : (id : ℕ) (p : PropRow) → m.prop id ≡ Some p → id < t.head.next_prop
       low id p e = (sound.props_below id (ap is_some e)).1
 
-      abbrev worded : Bool → Option Pair → Option Slot
-      worded u o = if u then elim o [ Some p ↦ option_map (fresh (owner_of w y)) (slot_of w q n) | None ↦ kept_from going (slot_of w y n) ] else slot_of w y n
+      abbrev worded : Bool → Option Property → Option Slot
+      worded u o = if u then elim o [ Some p ↦ option_map (fresh (owner_of w y)) (slot_of w q n) | None ↦ unless_defined_by going (slot_of w y n) ] else slot_of w y n
 
       -- what the rows have the wording has
-      found : (s : Slot) (id : ℕ) (h : SlotHere m2 y n id) → s ≡ slot_seen h.prop.definer h.row → Some s ≡ worded (is_among x (chain w y)) (pair_named (owed_by w coming) n)
-      found s id h e = by (is_among x (chain w y)) refl (is_among h.prop.definer coming) refl (is_among h.prop.definer going) refl (pair_named (owed_by w coming) n) refl
+      found : (s : Slot) (id : ℕ) (h : SlotHere m2 y n id) → s ≡ slot_seen h.prop.definer h.row → Some s ≡ worded (is_among x (chain w y)) (property_named (defined_by_any w coming) n)
+      found s id h e = by (is_among x (chain w y)) refl (is_among h.prop.definer coming) refl (is_among h.prop.definer going) refl (property_named (defined_by_any w coming) n) refl
         where
           seen : (row : SlotRow) → m.slot y id ≡ Some row → h.row ≡ row → slot_of w y n ≡ Some s
-          seen r g k = slot_is y n row here id (record { prop = h.prop; row = r; there = h.there; held = g; name = h.name }) ∙ ap (λ z. Some (slot_seen h.prop.definer z)) (sym k) ∙ ap Some (sym e)
+          seen r g k = slot_is y n id (record { prop = h.prop; row = r; there = h.there; held = g; name = h.name }) ∙ ap (λ z. Some (slot_seen h.prop.definer z)) (sym k) ∙ ap Some (sym e)
 
           same : (v : Option SlotRow) → m2.slot y id ≡ v → v ≡ Some h.row
           same v g = sym g ∙ h.held
@@ -137,43 +136,42 @@ module _ (t : Maps) (sound : IsSound t) (x q : ObjNo) (may : MayReparent (world_
           came : (v : Option SlotRow) → m.slot q id ≡ v → is_among h.prop.definer coming ≡ true → option_map (fresh_row (owner_of w y)) v ≡ Some h.row → Some s ≡ option_map (fresh (owner_of w y)) (slot_of w q n)
           came None g c k = absurd (none-some h.row k)
           came (Some r) g c k =
-              let qo = object_row t sound q (new_object t sound x q may h.prop.definer c) in
-              let at_q : slot_of w q n ≡ Some (slot_seen h.prop.definer r) = slot_is q n qo.0 qo.1 id (record { prop = h.prop; row = r; there = h.there; held = g; name = h.name }) in
+              let at_q : slot_of w q n ≡ Some (slot_seen h.prop.definer r) = slot_is q n id (record { prop = h.prop; row = r; there = h.there; held = g; name = h.name }) in
               ap Some e ∙ ap (λ z. Some (slot_seen h.prop.definer z)) (sym (same_Some (fresh_row (owner_of w y) r) h.row k)) ∙ sym (ap (option_map (fresh (owner_of w y))) at_q)
 
           definer : slot_of w y n ≡ Some s → option_map (λ z. z.definer) (slot_of w y n) ≡ Some h.prop.definer
           definer k = ap (option_map (λ (z : Slot). z.definer)) k ∙ ap (λ (z : Slot). Some z.definer) e
 
-          by : (u : Bool) → is_among x (chain w y) ≡ u → (g : Bool) → is_among h.prop.definer coming ≡ g → (l : Bool) → is_among h.prop.definer going ≡ l → (o : Option Pair) → pair_named (owed_by w coming) n ≡ o → Some s ≡ worded u o
+          by : (u : Bool) → is_among x (chain w y) ≡ u → (g : Bool) → is_among h.prop.definer coming ≡ g → (l : Bool) → is_among h.prop.definer going ≡ l → (o : Option Property) → property_named (defined_by_any w coming) n ≡ o → Some s ≡ worded u o
           by false hu g hg l hl o ho = sym (kept (m.slot y id) refl (same _ (settled y id h.prop false g l h.there hu hg hl)))
           by true hu true hg l hl None ho = let k = gained_named n id h.prop h.there h.name hg in absurd (none-some k.0 (sym ho ∙ k.1))
           by true hu true hg l hl (Some p) ho = came (m.slot q id) refl hg (same _ (settled y id h.prop true true l h.there hu hg hl))
           by true hu false hg true hl o ho = absurd (none-some h.row (same _ (settled y id h.prop true false true h.there hu hg hl)))
           by true hu false hg false hl o ho = rest (kept (m.slot y id) refl (same _ (settled y id h.prop true false false h.there hu hg hl))) o ho
             where
-              rest : slot_of w y n ≡ Some s → (o : Option Pair) → pair_named (owed_by w coming) n ≡ o → Some s ≡ worded true o
+              rest : slot_of w y n ≡ Some s → (o : Option Property) → property_named (defined_by_any w coming) n ≡ o → Some s ≡ worded true o
               rest k (Some p) g = absurd (no_both y yo hu n h.prop.definer p (definer k) hl g)
-              rest k None g = sym (ap (kept_from going) k ∙ ap (λ b. if b then None else Some s) (ap (λ (z : Slot). is_among z.definer going) e ∙ hl))
+              rest k None g = sym (ap (unless_defined_by going) k ∙ ap (λ b. if b then None else Some s) (ap (λ (z : Slot). is_among z.definer going) e ∙ hl))
 
       -- and where the rows have none it has none
-      lacked : slot_of (world_of t2) y n ≡ None → None ≡ worded (is_among x (chain w y)) (pair_named (owed_by w coming) n)
-      lacked none = by (is_among x (chain w y)) refl (pair_named (owed_by w coming) n) refl (slot_of w y n) refl
+      lacked : slot_of (world_of t2) y n ≡ None → None ≡ worded (is_among x (chain w y)) (property_named (defined_by_any w coming) n)
+      lacked none = by (is_among x (chain w y)) refl (property_named (defined_by_any w coming) n) refl (slot_of w y n) refl
         where
           not_here : (id : ℕ) (p : PropRow) (r : SlotRow) → m.prop id ≡ Some p → m2.slot y id ≡ Some r → folded p.name ≡ n → ⊥
           not_here id p r e f g = let k = row2 y row here in no_slot_from m2 y n k.0 k.1 none id (low id p e) (record { prop = p; row = r; there = e; held = f; name = g })
 
-          stays : is_among x (chain w y) ≡ true → pair_named (owed_by w coming) n ≡ None → (s : Slot) → slot_of w y n ≡ Some s → None ≡ kept_from going (Some s)
+          stays : is_among x (chain w y) ≡ true → property_named (defined_by_any w coming) n ≡ None → (s : Slot) → slot_of w y n ≡ Some s → None ≡ unless_defined_by going (Some s)
           stays hu ho s e = at (slot_from m y n row here s e)
             where
-              at : (id : ℕ) × (h : SlotHere m y n id) × (s ≡ slot_seen h.prop.definer h.row) → None ≡ kept_from going (Some s)
+              at : (id : ℕ) × (h : SlotHere m y n id) × (s ≡ slot_seen h.prop.definer h.row) → None ≡ unless_defined_by going (Some s)
               at k = tested (is_among k.1.prop.definer coming) refl (is_among k.1.prop.definer going) refl
                 where
-                  tested : (g : Bool) → is_among k.1.prop.definer coming ≡ g → (l : Bool) → is_among k.1.prop.definer going ≡ l → None ≡ kept_from going (Some s)
+                  tested : (g : Bool) → is_among k.1.prop.definer coming ≡ g → (l : Bool) → is_among k.1.prop.definer going ≡ l → None ≡ unless_defined_by going (Some s)
                   tested g hg true hl = sym (ap (λ b. if b then None else Some s) (ap (λ (z : Slot). is_among z.definer going) k.2 ∙ hl))
                   tested true hg false hl = let p = gained_named n k.0 k.1.prop k.1.there k.1.name hg in absurd (none-some p.0 (sym ho ∙ p.1))
                   tested false hg false hl = absurd (not_here k.0 k.1.prop k.1.row k.1.there (settled y k.0 k.1.prop true false false k.1.there hu hg hl ∙ k.1.held) k.1.name)
 
-          by : (u : Bool) → is_among x (chain w y) ≡ u → (o : Option Pair) → pair_named (owed_by w coming) n ≡ o → (v : Option Slot) → slot_of w y n ≡ v → None ≡ (if u then elim o [ Some p ↦ option_map (fresh (owner_of w y)) (slot_of w q n) | None ↦ kept_from going v ] else v)
+          by : (u : Bool) → is_among x (chain w y) ≡ u → (o : Option Property) → property_named (defined_by_any w coming) n ≡ o → (v : Option Slot) → slot_of w y n ≡ v → None ≡ (if u then elim o [ Some p ↦ option_map (fresh (owner_of w y)) (slot_of w q n) | None ↦ unless_defined_by going v ] else v)
           by false hu o ho None e = refl
           by false hu o ho (Some s) e =
               let k = slot_from m y n row here s e in
@@ -197,12 +195,8 @@ module _ (t : Maps) (sound : IsSound t) (x q : ObjNo) (may : MayReparent (world_
         still : is_object (world_of t2) y ≡ is_object (reparented w x q) y
         still = objects_same (world_of t2) (reparented w x q) same_links y
 
-        gone : (o : Option ObjRow) → is_some (option_map (λ (row : ObjRow). if same_object x y then record row { parent = q } else row) o) ≡ is_some o
-        gone None = refl
-        gone (Some r) = refl
-
         no_object : is_object w y ≡ false → is_object (world_of t2) y ≡ false
-        no_object e = is_object_seen m2 y ∙ ap is_some (objects y) ∙ gone (m.object y) ∙ sym (is_object_seen m y) ∙ e
+        no_object e = is_object_seen m2 y ∙ ap is_some (objects y) ∙ some_map (λ (row : ObjRow). if same_object x y then record row { parent = q } else row) (m.object y) ∙ sym (is_object_seen m y) ∙ e
 
         by : (b : Bool) → is_object w y ≡ b → slot_of (world_of t2) y n ≡ slot_of (reparented w x q) y n
         by true e = let r = object_row t sound y e in slot_here y n r.0 r.1 ∙ sym (manual_law w x q wf may.object (new_is w x q may) may.outside (no_clash w x q may) y n e)
@@ -215,18 +209,10 @@ module _ (t : Maps) (sound : IsSound t) (x q : ObjNo) (may : MayReparent (world_
     -- ---- such rows are sound
 
     still_object : (y : ObjNo) → is_some (m.object y) ≡ true → is_some (m2.object y) ≡ true
-    still_object y e = ap is_some (objects y) ∙ kept (m.object y) ∙ e
-      where
-        kept : (o : Option ObjRow) → is_some (option_map (λ (row : ObjRow). if same_object x y then record row { parent = q } else row) o) ≡ is_some o
-        kept None = refl
-        kept (Some r) = refl
+    still_object y e = ap is_some (objects y) ∙ some_map (λ (row : ObjRow). if same_object x y then record row { parent = q } else row) (m.object y) ∙ e
 
     is_there : (y : ObjNo) → is_among x (chain w y) ≡ true → is_object w y ≡ true
-    is_there y u = by (is_object w y) refl
-      where
-        by : (b : Bool) → is_object w y ≡ b → b ≡ true
-        by true e = refl
-        by false e = absurd (false≢true (sym (ap (is_among x) (chain_of_none w y e)) ∙ u))
+    is_there = object_of_chain w x
 
     -- a slot is an old one, of a definer that isn't lost where y is under x, or is of a gained definer
     data Origin (y : ObjNo) (id : ℕ) : Type 0 where
@@ -237,13 +223,9 @@ module _ (t : Maps) (sound : IsSound t) (x q : ObjNo) (may : MayReparent (world_
     origin : (y : ObjNo) (id : ℕ) → is_some (m2.slot y id) ≡ true → Origin y id
     origin y id h = by (is_among x (chain w y)) refl (is_defined_among coming t (prop_id id)) refl (is_defined_among going t (prop_id id)) refl (sym (ap is_some (slots (y, prop_id id))) ∙ h)
       where
-        some_map : (f : SlotRow → SlotRow) (o : Option SlotRow) → is_some (option_map f o) ≡ true → is_some o ≡ true
-        some_map f None e = e
-        some_map f (Some r) e = refl
-
         by : (u : Bool) → is_among x (chain w y) ≡ u → (g : Bool) → is_defined_among coming t (prop_id id) ≡ g → (l : Bool) → is_defined_among going t (prop_id id) ≡ l → is_some (settle u g l (option_map (fresh_row (owner_of w y)) (m.slot q id)) (m.slot y id)) ≡ true → Origin y id
         by false hu g hg l hl k = beside hu k
-        by true hu true hg l hl k = new hu hg (some_map (fresh_row (owner_of w y)) (m.slot q id) k)
+        by true hu true hg l hl k = new hu hg (sym (some_map (fresh_row (owner_of w y)) (m.slot q id)) ∙ k)
         by true hu false hg true hl k = absurd (false≢true k)
         by true hu false hg false hl k = old hu hl k
 
@@ -256,8 +238,7 @@ module _ (t : Maps) (sound : IsSound t) (x q : ObjNo) (may : MayReparent (world_
     one_new y i j p r e f n u g l k =
         let named = gained_named (folded r.name) i p e n (sym (tests coming i p e) ∙ g) in
         let s = some_of (m.slot y j) k in
-        let row = object_row t sound y (is_there y u) in
-        let seen = slot_is y (folded r.name) row.0 row.1 j (record { prop = r; row = s.0; there = f; held = s.1; name = refl }) in
+        let seen = slot_is y (folded r.name) j (record { prop = r; row = s.0; there = f; held = s.1; name = refl }) in
         no_both y (is_there y u) u (folded r.name) r.definer named.0 (ap (option_map (λ (z : Slot). z.definer)) seen) (sym (tests going j r f) ∙ l) named.1
 
     one_name2 : (y : ObjNo) (i j : ℕ) (p r : PropRow) → Origin y i → Origin y j → m.prop i ≡ Some p → m.prop j ≡ Some r → folded p.name ≡ folded r.name → i ≡ j

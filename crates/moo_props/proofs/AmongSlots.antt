@@ -1,11 +1,10 @@
 -- The properties that some of an object's chain define are among its slots.
-use Rattle.moo_props.proofs.Words.{◌≡◌, Bool, true, false, Option, None, Some, List, [], ◌∷◌, refl, sym, ap, ◌∙◌, inl, inr, ◌&&◌, unwrap_or, option_map, filter, list_any, get, entries, get-entries, entries_sorted, false≢true, and_parts, or_cases, ObjNo, PropId, PropRow, prop_exact, Maps, prop_cmp, prop_total, is_among, IsGood, world_of, World, chain, listed, decided_alike, some_of, any_map, ids_among, is_only_of, is_defined_only, props_only_of}
+use Rattle.moo_props.proofs.Words.{◌≡◌, Bool, true, false, Option, None, Some, List, [], ◌∷◌, refl, sym, ap, ◌∙◌, inl, inr, ◌&&◌, unwrap_or, option_map, filter, list_any, get, entries, get-entries, entries_sorted, false≢true, and_parts, or_cases, ObjNo, PropId, PropRow, prop_exact, Maps, prop_cmp, prop_total, is_among, IsGood, world_of, World, chain, listed, decided_alike, some_of, any_map, ids_among, is_only_of, is_defined_only, props_only_of, not}
+use Rattle.moo_props.proofs.Shared.{Entry, has_id, is_id, is_id-Decides, object_of_chain, passing, slot_on_heir, walk, walk_meets}
 use Rattle.moo_props.proofs.Ascending.{rises_made, ascend}
-use Rattle.moo_props.proofs.Folding.{is_id, has_id, is_id-Decides}
-use Rattle.moo_props.proofs.Gains.{object_of_chain, slot_on_heir}
 use Rattle.moo_props.proofs.SameKeys.{unique}
 use Rattle.moo_props.proofs.WalkOrder.{passing_ids_rise}
-use Rattle.moo_props.proofs.Walked.{Entry, any_filter, walk, walk_meets}
+use Rattle.moo_props.proofs.Walked.{any_filter}
 
 module _ (t : Maps) (good : IsGood t) (y : ObjNo) (these others : List ObjNo) (within : (d : ObjNo) → is_among d these ≡ true → is_among d (chain (world_of t) y) ≡ true) where
   abbrev w : World
@@ -29,27 +28,24 @@ module _ (t : Maps) (good : IsGood t) (y : ObjNo) (these others : List ObjNo) (w
 
   -- y has a slot of each such property, and the walk meets it
   met : (j : PropId) → is_defined_only these others t j ≡ true → list_any (λ (e : Entry). passes e && is_id j e.0.1) (walk t y) ≡ true
-  met j h = by (get t.props j) refl h
-    where
-      by : (o : Option PropRow) → get t.props j ≡ o → unwrap_or (option_map (λ (p : PropRow). is_only_of these others p.definer) o) false ≡ true → list_any (λ (e : Entry). passes e && is_id j e.0.1) (walk t y) ≡ true
-      by None e k = absurd (false≢true k)
-      by (Some p) e k =
-          let heir = within p.definer (and_parts _ _ k).0 in
-          let slot = some_of (get t.slots (y, j)) (slot_on_heir t good.sound good.formed y (object_of_chain w p.definer y heir) j.0 p e heir) in
-          walk_meets t good.sound y (λ (e : Entry). passes e && is_id j e.0.1) j slot.0 slot.1 (λ i. h i && (is_id-Decides j j).1 refl i)
+  met j h =
+      let p = passing (λ (p : PropRow). is_only_of these others p.definer) (get t.props j) h in
+      let heir = within p.0.definer (and_parts (is_among p.0.definer these) (not (is_among p.0.definer others)) p.2).0 in
+      let slot = some_of (get t.slots (y, j)) (slot_on_heir t good.sound good.formed y (object_of_chain w p.0.definer y heir) j.0 p.0 p.1 heir) in
+      walk_meets t good.sound y (λ (e : Entry). passes e && is_id j e.0.1) j slot.0 slot.1 (λ i. h i && (is_id-Decides j j).1 refl i)
 
-  defined : (j : PropId) (es : List Entry) → list_any (λ (e : Entry). passes e && is_id j e.0.1) es ≡ true → is_defined_only these others t j ≡ true
-  defined j [] h = absurd (false≢true h)
-  defined j (e ∷ es) h = elim (or_cases (passes e && is_id j e.0.1) (list_any (λ (e : Entry). passes e && is_id j e.0.1) es) h) [
+  property_added : (j : PropId) (es : List Entry) → list_any (λ (e : Entry). passes e && is_id j e.0.1) es ≡ true → is_defined_only these others t j ≡ true
+  property_added j [] h = absurd (false≢true h)
+  property_added j (e ∷ es) h = elim (or_cases (passes e && is_id j e.0.1) (list_any (λ (e : Entry). passes e && is_id j e.0.1) es) h) [
     | inl k ↦ let parts = and_parts (passes e) (is_id j e.0.1) k in ap (is_defined_only these others t) ((is_id-Decides j e.0.1).0 parts.1) ∙ parts.0
-    | inr k ↦ defined j es k
+    | inr k ↦ property_added j es k
   ]
 
   in_slots : (j : PropId) → has_id j by_slots ≡ is_defined_only these others t j
   in_slots j =
       any_map (is_id j) (λ (e : Entry). e.0.1) (filter passes (walk t y))
       ∙ any_filter (λ (e : Entry). is_id j e.0.1) passes (walk t y)
-      ∙ decided_alike _ _ (is_defined_only these others t j ≡ true) (defined j (walk t y), met j) (λ e. e, λ e. e)
+      ∙ decided_alike _ _ (is_defined_only these others t j ≡ true) (property_added j (walk t y), met j) (λ e. e, λ e. e)
 
   pub slots_are_props : by_slots ≡ by_props
   slots_are_props = unique prop_cmp prop_total prop_exact by_slots by_props

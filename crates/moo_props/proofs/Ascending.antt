@@ -1,5 +1,5 @@
 -- The keys that a change touches are in order.
-use Rattle.moo_props.proofs.Words.{◌≡◌, Bool, true, false, cond, T, List, [], ◌∷◌, ◌++◌, map, Ordering, Less, refl, sym, ap, ◌∙◌, subst, tied_itself, int_eq, ordering_then, filter, AllByRecursion, entries, is_sorted, entries_sorted, ObjNo, PropId, Maps, object_cmp, prop_cmp, slot_cmp, verb_cmp, object_total, first_of, chain, is_among, world_of, lost, gained, links_to, linked_among, verbs_among, AreAscending, owners_under, props_of, removed_keys, added_keys, keys_on, keys_over}
+use Rattle.moo_props.proofs.Words.{◌≡◌, Bool, true, false, cond, T, List, [], ◌∷◌, ◌++◌, map, Ordering, Less, refl, sym, ap, ◌∙◌, subst, tied_itself, int_eq, ordering_then, filter, AllByRecursion, entries, is_sorted, entries_sorted, ObjNo, PropId, Maps, object_cmp, prop_cmp, slot_cmp, verb_cmp, object_total, first_of, chain, is_among, world_of, lost, gained, links_to, linked_among, verbs_among, AreAscending, owners_under, props_of, removed_keys, added_keys, keys_on, keys_over, cond_both}
 use Rattle.std.specs.FinMap.Entries.{below_all}
 use Rattle.moo_rows.proofs.Walking.{second_of, less_of}
 
@@ -11,20 +11,17 @@ Rises cmp key (a ∷ l) = AllByRecursion (λ b. cmp (key a) (key b) ≡ Less) l 
 module _ {K X B : Type 0} (cmp : K → K → Ordering) (key : B → K) (test : K × X → Bool) (made : K × X → B) (same : (e : K × X) → key (made e) ≡ e.0) where
   above_made : (k : K) (es : List (K × X)) → T (below_all cmp k es) → AllByRecursion (λ b. cmp k (key b) ≡ Less) (map made (filter test es))
   above_made k [] h = tt
-  above_made k (e ∷ es) h = by (test e) (above_made k es (second_of _ _ h))
-    where
-      by : (b : Bool) → AllByRecursion (λ b. cmp k (key b) ≡ Less) (map made (filter test es)) → AllByRecursion (λ b. cmp k (key b) ≡ Less) (map made (cond b (e ∷ filter test es) (filter test es)))
-      by true r = (ap (cmp k) (same e) ∙ less_of _ (first_of _ _ h), r)
-      by false r = r
+  above_made k (e ∷ es) h =
+      let r = above_made k es (second_of _ _ h) in
+      cond_both (test e) (e ∷ filter test es) (filter test es) (λ l. AllByRecursion (λ b. cmp k (key b) ≡ Less) (map made l)) (λ c. (ap (cmp k) (same e) ∙ less_of _ (first_of _ _ h), r)) (λ c. r)
 
   -- what is made of sorted entries rises
   pub rises_made : (es : List (K × X)) → T (is_sorted cmp es) → Rises cmp key (map made (filter test es))
   rises_made [] h = tt
-  rises_made (e ∷ es) h = by (test e) (rises_made es (second_of _ _ h))
-    where
-      by : (b : Bool) → Rises cmp key (map made (filter test es)) → Rises cmp key (map made (cond b (e ∷ filter test es) (filter test es)))
-      by true r = (subst (λ k. AllByRecursion (λ b. cmp k (key b) ≡ Less) (map made (filter test es))) (sym (same e)) (above_made e.0 es (first_of _ _ h)), r)
-      by false r = r
+  rises_made (e ∷ es) h =
+      let r = rises_made es (second_of _ _ h) in
+      cond_both (test e) (e ∷ filter test es) (filter test es) (λ l. Rises cmp key (map made l))
+      (λ c. (subst (λ k. AllByRecursion (λ b. cmp k (key b) ≡ Less) (map made (filter test es))) (sym (same e)) (above_made e.0 es (first_of _ _ h)), r)) (λ c. r)
 
 -- a lesser object's key comes first, and of one object that of the lesser property
 by_object : (y z : ObjNo) (i j : PropId) → object_cmp y z ≡ Less → slot_cmp (y, i) (z, j) ≡ Less

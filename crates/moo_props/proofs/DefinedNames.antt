@@ -1,9 +1,10 @@
 -- The names that an object defines are those of the properties' entries that have it as definer.
-use Rattle.moo_props.proofs.Words.{◌≡◌, ◌≢◌, ℕ, zero, suc, ◌≤◌, Bool, true, false, cond, T, Option, None, Some, List, [], ◌∷◌, ◌++◌, map, Less, refl, sym, ap, ◌∙◌, subst, inl, inr, arith, append-nil, is_some, unwrap_or, if◌then◌else◌, option_map, option_and_then, nat_cmp_is, filter, filter_map, cons_option, AllByRecursion, eq_by_cmp, get, get-entries, is_sorted, entries, entries_sorted, false≢true, filter_map-append, ObjNo, ObjRow, PropId, PropRow, Maps, prop_cmp, prop_exact, prop_total, Name, same_object, same_object-Decides, Record, names_of, IsSound, look_ups, world_of, world_shown, record_of, numbers_below, name_on, prop_id, key-Decides}
+use Rattle.moo_props.proofs.Words.{◌≡◌, ◌≢◌, ℕ, zero, suc, ◌≤◌, Bool, true, false, cond, T, Option, None, Some, List, [], ◌∷◌, ◌++◌, map, Less, refl, sym, ap, ◌∙◌, subst, inl, inr, arith, append-nil, is_some, unwrap_or, if◌then◌else◌, option_map, option_and_then, nat_cmp_is, filter, filter_map, cons_option, AllByRecursion, eq_by_cmp, get, get-entries, is_sorted, entries, entries_sorted, false≢true, filter_map-append, ObjNo, ObjRow, PropId, PropRow, Maps, prop_cmp, prop_exact, prop_total, Name, same_object, same_object-Decides, WorldObject, property_names_of, IsSound, look_ups, world_of, world_shown, object_shown, numbers_below, name_on, prop_id, key-Decides, false_from_ne_true, cases_eq, cases_lt, lt-ltb, le-ltb}
+use Rattle.moo_props.proofs.Cases.{cond_same}
+use Rattle.moo_props.proofs.Numbers.{no_names}
 use Rattle.std.specs.Prelude.{nat_lt}
 use Rattle.std.specs.FinMap.{find}
 use Rattle.std.specs.FinMap.Entries.{same_entries, find-append}
-use Rattle.std.proofs.lemmas.Bool.{cases_eq, cases_lt, lt-ltb, le-ltb}
 use Rattle.moo_world.proofs.Shown.EntriesInOrder.{all_then, sorted_then, past_each}
 
 -- the names of those of these entries that x defines
@@ -59,10 +60,6 @@ module _ (t : Maps) where
       here : j ≡ n → cond (nat_lt j (suc n)) (row_at j) None ≡ row_at n
       here e = ap (λ b. cond b (row_at j) None) (lt-ltb j (suc n) (omega arith)) ∙ ap row_at e
 
-      apart : j ≢ n → (b : Bool) → eq_by_cmp prop_cmp (prop_id j) (prop_id n) ≡ b → b ≡ false
-      apart ne true e = absurd (ne ((ties j n).0 e))
-      apart ne false e = refl
-
       by : (o : Option PropRow) → row_at n ≡ o → find prop_cmp (prop_id j) (by_number n) ≡ cond (nat_lt j n) (row_at j) None
           → find prop_cmp (prop_id j) (by_number n ++ cons_option (option_map (λ p. (prop_id n, p)) o) []) ≡ cond (nat_lt j (suc n)) (row_at j) None
       by None g f =
@@ -75,7 +72,7 @@ module _ (t : Maps) where
           find-append prop_cmp prop_total (by_number n) (prop_id n) p (prop_id j) (past_each prop_cmp prop_total (by_number n) (prop_id n) (all_lower n n (omega arith)))
           ∙ elim (cases_eq j n) [
             | inl e ↦ ap (λ b. cond b (Some p) (find prop_cmp (prop_id j) (by_number n))) ((ties j n).1 e) ∙ sym (here e ∙ g)
-            | inr ne ↦ ap (λ b. cond b (Some p) (find prop_cmp (prop_id j) (by_number n))) (apart ne (eq_by_cmp prop_cmp (prop_id j) (prop_id n)) refl) ∙ f ∙ higher ne
+            | inr ne ↦ ap (λ b. cond b (Some p) (find prop_cmp (prop_id j) (by_number n))) (false_from_ne_true (eq_by_cmp prop_cmp (prop_id j) (prop_id n)) (λ e. ne ((ties j n).0 e))) ∙ f ∙ higher ne
           ]
 
   named : (x : ObjNo) (l : List ℕ) → names_among x (filter_map entry_at l) ≡ filter_map (name_on (look_ups t) x) l
@@ -99,32 +96,15 @@ module _ (t : Maps) where
         held : (q : PropId) → cond (nat_lt q.0 t.head.next_prop) (get t.props q) None ≡ get t.props q
         held q = by (get t.props q) refl
           where
-            none : (b : Bool) → ◌≡◌ {A = Option PropRow} (cond b None None) None
-            none true = refl
-            none false = refl
-
             by : (o : Option PropRow) → get t.props q ≡ o → cond (nat_lt q.0 t.head.next_prop) o None ≡ o
-            by None e = none (nat_lt q.0 t.head.next_prop)
+            by None e = cond_same (nat_lt q.0 t.head.next_prop) None
             by (Some p) e = ap (λ b. cond b (Some p) None) (lt-ltb q.0 t.head.next_prop (sound.props_below q.0 (ap is_some e)).1)
 
-    -- what is no object defines nothing
-    nobody : (x : ObjNo) → get t.objects x ≡ None → (l : List ℕ) → filter_map (name_on (look_ups t) x) l ≡ []
-    nobody x none [] = refl
-    nobody x none (n ∷ l) = by (row_at n) refl (nobody x none l)
-      where
-        strange : (p : PropRow) → row_at n ≡ Some p → (b : Bool) → same_object p.definer x ≡ b → cons_option (if b then Some p.name else None) [] ≡ []
-        strange p e false g = refl
-        strange p e true g = absurd (false≢true (ap is_some (sym none) ∙ ap (λ y. is_some (get t.objects y)) (sym ((same_object-Decides p.definer x).0 g)) ∙ sound.definers n p e))
-
-        by : (o : Option PropRow) → row_at n ≡ o → filter_map (name_on (look_ups t) x) l ≡ [] → cons_option (option_and_then (λ (p : PropRow). if same_object p.definer x then Some p.name else None) o) (filter_map (name_on (look_ups t) x) l) ≡ []
-        by None e r = r
-        by (Some p) e r = ap (cons_option (if same_object p.definer x then Some p.name else None)) r ∙ strange p e (same_object p.definer x) refl
-
     -- the names in the order of definition are those of the entries in the order of their numbers
-    pub names_listed : (x : ObjNo) → names_among x (entries t.props) ≡ names_of (world_of t) x
+    pub names_listed : (x : ObjNo) → names_among x (entries t.props) ≡ property_names_of (world_of t) x
     unfolding world_shown
     names_listed x = ap (names_among x) (sym all_entries) ∙ named x (numbers_below t.head.next_prop) ∙ by (get t.objects x) refl
       where
-        by : (o : Option ObjRow) → get t.objects x ≡ o → filter_map (name_on (look_ups t) x) (numbers_below t.head.next_prop) ≡ unwrap_or (option_map (λ (r : Record). r.defines) (option_map (record_of (look_ups t) x) o)) []
-        by None e = nobody x e (numbers_below t.head.next_prop)
+        by : (o : Option ObjRow) → get t.objects x ≡ o → filter_map (name_on (look_ups t) x) (numbers_below t.head.next_prop) ≡ unwrap_or (option_map (λ (r : WorldObject). r.defines) (option_map (object_shown (look_ups t) x) o)) []
+        by None e = no_names (look_ups t) sound x e
         by (Some row) e = refl

@@ -1,7 +1,9 @@
 -- The walk down from an object meets what is under it, and nothing else.
-use Rattle.moo_props.proofs.Words.{◌≡◌, ℕ, zero, suc, ◌+◌, ◌≤◌, Bool, true, false, cond, ◌||◌, Option, None, Some, List, [], ◌∷◌, ◌++◌, map, length, drop, refl, sym, ap, ◌∙◌, subst, inl, inr, arith, append_assoc, append-nil, ◌⊎◌, is_some, list_any, get, true≢false, or_left, or_right, or_cases, ObjNo, ObjRow, ChildOf, IsFirst, is_linked, Maps, object_cmp, nothing, same_object, is_among, same_object-Decides, same_object-eq, subtree_of, look_ups, world_of, World, IsTree, Chain, is_object, parent_of, chain, numbers_to, Chain-chain, no_parent, is_among-append, decided_alike, chain_of_row, chain_of_no_row, is_object_seen, after_below, walk_after, from_here}
+use Rattle.moo_props.proofs.Words.{◌≡◌, ℕ, zero, suc, ◌+◌, ◌≤◌, Bool, true, false, cond, ◌||◌, Option, None, Some, List, [], ◌∷◌, ◌++◌, map, length, drop, refl, sym, ap, ◌∙◌, subst, inl, inr, arith, append_assoc, append-nil, ◌⊎◌, is_some, list_any, get, true≢false, or_left, or_right, or_cases, ObjNo, ObjRow, ChildOf, IsFirst, is_linked, Maps, object_cmp, nothing, same_object, is_among, same_object-Decides, same_object-eq, subtree_of, look_ups, world_of, World, IsTree, Chain, is_object, parent_of, chain, numbers_to, Chain-chain, no_parent, is_among-append, decided_alike, chain_of_row, chain_of_no_row, is_object_seen, after_below, walk_after, from_here, false_from_ne_true, some_of}
 use Rattle.std.specs.List.{flat_map}
-use Rattle.moo_rows.specs.Links.{row_has}
+use Rattle.moo_rows.specs.Links.{has_link, ties_of}
+use Rattle.moo_props.proofs.Cases.{passing}
+use Rattle.moo_props.proofs.Gains.{object_of_chain}
 use Rattle.moo_rows.proofs.Linking.{linked-end, linked-step}
 use Rattle.moo_world.specs.ObjectLists.{objects_of}
 use Rattle.moo_world.proofs.Ancestry.Ancestors.{same_object-self}
@@ -22,39 +24,32 @@ first_among c l = or_left (same_object c c) (is_among c l) (same_object-self c)
 module _ (f : ObjNo → List ObjNo) (z : ObjNo) where
   in_branch : (l : List ObjNo) → is_among z (flat_map (λ c. c ∷ f c) l) ≡ true → (c : ObjNo) × (is_among c l ≡ true) × (is_among z (c ∷ f c) ≡ true)
   in_branch [] h = absurd (true≢false (sym h))
-  in_branch (c ∷ l) h = by (or_cases (is_among z (c ∷ f c)) (is_among z (flat_map (λ c. c ∷ f c) l)) (sym (is_among-append z (c ∷ f c) (flat_map (λ c. c ∷ f c) l)) ∙ h)) (in_branch l)
-    where
-      by : (is_among z (c ∷ f c) ≡ true) ⊎ (is_among z (flat_map (λ c. c ∷ f c) l) ≡ true)
-          → (is_among z (flat_map (λ c. c ∷ f c) l) ≡ true → (d : ObjNo) × (is_among d l ≡ true) × (is_among z (d ∷ f d) ≡ true))
-          → (d : ObjNo) × (is_among d (c ∷ l) ≡ true) × (is_among z (d ∷ f d) ≡ true)
-      by (inl g) r = (c, first_among c l, g)
-      by (inr g) r = let b = r g in (b.0, or_right (same_object b.0 c) (is_among b.0 l) b.1, b.2)
+  in_branch (c ∷ l) h = elim (or_cases (is_among z (c ∷ f c)) (is_among z (flat_map (λ c. c ∷ f c) l)) (sym (is_among-append z (c ∷ f c) (flat_map (λ c. c ∷ f c) l)) ∙ h)) [
+    | inl g ↦ (c, first_among c l, g)
+    | inr g ↦ let b = in_branch l g in (b.0, or_right (same_object b.0 c) (is_among b.0 l) b.1, b.2)
+  ]
 
   branch_in : (l : List ObjNo) (c : ObjNo) → is_among c l ≡ true → is_among z (c ∷ f c) ≡ true → is_among z (flat_map (λ c. c ∷ f c) l) ≡ true
   branch_in [] c k h = absurd (true≢false (sym k))
-  branch_in (d ∷ l) c k h = is_among-append z (d ∷ f d) (flat_map (λ c. c ∷ f c) l) ∙ by (or_cases (same_object c d) (is_among c l) k) (branch_in l c)
-    where
-      by : (same_object c d ≡ true) ⊎ (is_among c l ≡ true) → (is_among c l ≡ true → is_among z (c ∷ f c) ≡ true → is_among z (flat_map (λ c. c ∷ f c) l) ≡ true)
-          → (is_among z (d ∷ f d) || is_among z (flat_map (λ c. c ∷ f c) l)) ≡ true
-      by (inl e) r = or_left _ _ (ap (λ q. is_among z (q ∷ f q)) (sym ((same_object-Decides c d).0 e)) ∙ h)
-      by (inr g) r = or_right _ _ (r g h)
+  branch_in (d ∷ l) c k h = is_among-append z (d ∷ f d) (flat_map (λ c. c ∷ f c) l) ∙ elim (or_cases (same_object c d) (is_among c l) k) [
+    | inl e ↦ or_left (is_among z (d ∷ f d)) (is_among z (flat_map (λ c. c ∷ f c) l)) (ap (λ q. is_among z (q ∷ f q)) (sym ((same_object-Decides c d).0 e)) ∙ h)
+    | inr g ↦ or_right (is_among z (d ∷ f d)) (is_among z (flat_map (λ c. c ∷ f c) l)) (branch_in l c g h)
+  ]
 
 module _ (test : ObjNo → Bool) where
   any_of_member : (l : List ObjNo) (y : ObjNo) → is_among y l ≡ true → test y ≡ true → list_any test l ≡ true
   any_of_member [] y h k = absurd (true≢false (sym h))
-  any_of_member (z ∷ l) y h k = by (or_cases (same_object y z) (is_among y l) h) (any_of_member l y)
-    where
-      by : (same_object y z ≡ true) ⊎ (is_among y l ≡ true) → (is_among y l ≡ true → test y ≡ true → list_any test l ≡ true) → (test z || list_any test l) ≡ true
-      by (inl e) r = or_left _ _ (ap test (sym ((same_object-Decides y z).0 e)) ∙ k)
-      by (inr g) r = or_right _ _ (r g k)
+  any_of_member (z ∷ l) y h k = elim (or_cases (same_object y z) (is_among y l) h) [
+    | inl e ↦ or_left (test z) (list_any test l) (ap test (sym ((same_object-Decides y z).0 e)) ∙ k)
+    | inr g ↦ or_right (test z) (list_any test l) (any_of_member l y g k)
+  ]
 
   any_within : (l m : List ObjNo) → ((z : ObjNo) → is_among z l ≡ true → is_among z m ≡ true) → list_any test l ≡ true → list_any test m ≡ true
   any_within [] m f h = absurd (true≢false (sym h))
-  any_within (z ∷ l) m f h = by (or_cases (test z) (list_any test l) h) (any_within l m (λ y k. f y (or_right (same_object y z) (is_among y l) k)))
-    where
-      by : (test z ≡ true) ⊎ (list_any test l ≡ true) → (list_any test l ≡ true → list_any test m ≡ true) → list_any test m ≡ true
-      by (inl e) r = any_of_member m z (f z (first_among z l)) e
-      by (inr g) r = r g
+  any_within (z ∷ l) m f h = elim (or_cases (test z) (list_any test l) h) [
+    | inl e ↦ any_of_member m z (f z (first_among z l)) e
+    | inr g ↦ any_within l m (λ y k. f y (or_right (same_object y z) (is_among y l) k)) g
+  ]
 
   any_alike : (l m : List ObjNo) → ((z : ObjNo) → is_among z l ≡ true → is_among z m ≡ true) → ((z : ObjNo) → is_among z m ≡ true → is_among z l ≡ true) → list_any test l ≡ list_any test m
   any_alike l m f g = decided_alike _ _ (list_any test m ≡ true) (any_within l m f, any_within m l g) (λ e. e, λ e. e)
@@ -69,11 +64,9 @@ module _ (t : Maps) (tree : IsTree (world_of t)) where
   -- ---- one step
 
   pub linked_child : (y from c : ObjNo) → IsFirst object_cmp (is_linked t (ChildOf y)) from (Some c) → (r : ObjRow) × (get t.objects c ≡ Some r) × (r.parent ≡ y)
-  linked_child y from c h = by (get t.objects c) refl
-    where
-      by : (o : Option ObjRow) → get t.objects c ≡ o → (r : ObjRow) × (get t.objects c ≡ Some r) × (r.parent ≡ y)
-      by None e = absurd (true≢false (sym h.0 ∙ ap (row_has (ChildOf y)) e))
-      by (Some r) e = (r, e, sym ((same_object-Decides y r.parent).0 (sym (same_object-eq y r.parent) ∙ sym (ap (row_has (ChildOf y)) e) ∙ h.0)))
+  linked_child y from c h =
+      let r = passing (λ (r : ObjRow). has_link (ChildOf y) (ties_of r)) (get t.objects c) h.0 in
+      (r.0, r.1, sym ((same_object-Decides y r.0.parent).0 (sym (same_object-eq y r.0.parent) ∙ r.2)))
 
   children_on : (y from c : ObjNo) → IsFirst object_cmp (is_linked t (ChildOf y)) from (Some c) → children_past t y from ≡ c ∷ children_past t y c
   children_on y from c h = let k = linked_child y from c h in ap (map (λ e. e.0)) (linked-step t (ChildOf y) from c k.0 h k.1)
@@ -88,11 +81,7 @@ module _ (t : Maps) (tree : IsTree (world_of t)) where
   there c r e = is_object_seen (look_ups t) c ∙ ap is_some e
 
   pub has_row : (x z : ObjNo) → is_among x (chain w z) ≡ true → (r : ObjRow) × (get t.objects z ≡ Some r)
-  has_row x z h = by (get t.objects z) refl
-    where
-      by : (o : Option ObjRow) → get t.objects z ≡ o → (r : ObjRow) × (get t.objects z ≡ Some r)
-      by None e = absurd (true≢false (sym h ∙ ap (is_among x) (chain_of_no_row (look_ups t) z (sym e))))
-      by (Some r) e = (r, e)
+  has_row x z h = some_of (get t.objects z) (sym (is_object_seen (look_ups t) z) ∙ object_of_chain w x z h)
 
   -- ---- how deep
 
@@ -177,11 +166,9 @@ module _ (t : Maps) (tree : IsTree (world_of t)) where
         (chain w z) z refl h
 
     pub own_among : is_object w x ≡ true → is_among x (chain w x) ≡ true
-    own_among o = by (get t.objects x) refl
-      where
-        by : (row : Option ObjRow) → get t.objects x ≡ row → is_among x (chain w x) ≡ true
-        by None e = absurd (true≢false (sym o ∙ is_object_seen (look_ups t) x ∙ ap is_some e))
-        by (Some r) e = ap (is_among x) (chain_up x r.parent r e refl) ∙ first_among x (chain w r.parent)
+    own_among o =
+        let r = some_of (get t.objects x) (sym (is_object_seen (look_ups t) x) ∙ o) in
+        ap (is_among x) (chain_up x r.0.parent r.0 r.1 refl) ∙ first_among x (chain w r.0.parent)
 
     -- what is met from x on is x's subtree
     pub any_met : (test : ObjNo → Bool) → is_object w x ≡ true → list_any test (x ∷ descendants t x) ≡ list_any test (subtree_of w x)
@@ -208,14 +195,10 @@ module _ (t : Maps) (tree : IsTree (world_of t)) where
 
     -- a proper descendant isn't x
     apart : (c y : ObjNo) (r : ObjRow) → get t.objects c ≡ Some r → r.parent ≡ y → is_among x (chain w y) ≡ true → same_object x c ≡ false
-    apart c y r e p h = by (same_object x c) refl
+    apart c y r e p h = false_from_ne_true (same_object x c) (λ k. true≢false (sym h ∙ ap (λ z. is_among z (chain w y)) ((same_object-Decides x c).0 k) ∙ once))
       where
         once : is_among c (chain w y) ≡ false
         once = Climbs-once (parent_of w) (no_parent w tree) (chain w y) c c (subst (Chain w c) (chain_up c y r e p) (Chain-chain w tree c (there c r e)))
-
-        by : (b : Bool) → same_object x c ≡ b → b ≡ false
-        by true k = absurd (true≢false (sym h ∙ ap (λ z. is_among z (chain w y)) ((same_object-Decides x c).0 k) ∙ once))
-        by false k = refl
 
     pub still_under : (c y : ObjNo) (r : ObjRow) → get t.objects c ≡ Some r → r.parent ≡ y → is_among x (chain w y) ≡ true → is_among x (chain w c) ≡ true
     still_under c y r e p h = ap (is_among x) (chain_up c y r e p) ∙ or_right (same_object x c) (is_among x (chain w y)) h

@@ -1,14 +1,11 @@
 -- The slots that are removed with an object are those that go with it.
-use Rattle.moo_props.proofs.Words.{◌≡◌, Bool, true, false, ◌||◌, Option, None, Some, List, [], ◌∷◌, ◌++◌, refl, sym, ap, ◌∙◌, subst, inl, inr, ◌&&◌, is_some, unwrap_or, if◌then◌else◌, option_map, eq_by_cmp, int_eq, list_any, AllByRecursion, get, entries, get-entries, entries_sorted, false≢true, or_cases, ObjNo, ObjRow, PropId, PropRow, SlotRow, slot_exact, Maps, prop_cmp, slot_cmp, slot_total, same_object, is_among, same_object-Decides, chain, IsGood, LookUps, look_ups, world_of, decided_alike, any-append, chain_of_row, goes_with, dropped_keys, ids_for, ids_among, dropped_over, defines, ArePresent, AreAscending, owners_under, props_of, keys_on, some_of, listed, own_entries, all_made}
+use Rattle.moo_props.proofs.Words.{◌≡◌, Bool, true, false, ◌||◌, Option, None, Some, List, [], ◌∷◌, ◌++◌, refl, sym, ap, ◌∙◌, subst, inl, inr, ◌&&◌, is_some, unwrap_or, if◌then◌else◌, option_map, eq_by_cmp, int_eq, list_any, AllByRecursion, get, entries, get-entries, entries_sorted, false≢true, or_cases, ObjNo, ObjRow, PropId, PropRow, SlotRow, slot_exact, Maps, prop_cmp, slot_cmp, slot_total, same_object, is_among, same_object-Decides, chain, IsGood, LookUps, look_ups, world_of, decided_alike, any-append, chain_of_row, goes_with, dropped_keys, ids_for, ids_among, dropped_over, defines, ArePresent, AreAscending, owners_under, props_of, keys_on, some_of, listed, own_entries, all_made, is_object_seen, and-false, and-true}
+use Rattle.moo_props.proofs.Shared.{Entry, has_id, is_id, is_id-Decides, key_parts, object_of_chain, own_among, passing, slot_on_heir, under_is, walk, walk_held}
 use Rattle.std.specs.FinMap.{find}
 use Rattle.moo_props.proofs.Ascending.{Rises, rises_made, keys_by, keys_rise, props_rise, under_rise, ascend}
-use Rattle.moo_props.proofs.Folding.{has_id, is_id, key_parts, is_id-Decides}
-use Rattle.moo_props.proofs.Gains.{object_of_chain, slot_on_heir}
 use Rattle.moo_props.proofs.LessRows.{is_own_id}
-use Rattle.moo_props.proofs.Moved.{under_is}
 use Rattle.moo_props.proofs.NewSlots.{has_all}
 use Rattle.moo_props.proofs.SameKeys.{holds, unique}
-use Rattle.moo_props.proofs.Walked.{Entry, walk, walk_held}
 use Rattle.moo_props.proofs.WalkOrder.{walk_own, walk_ids_rise}
 
 -- ---- what the code lists
@@ -18,11 +15,7 @@ over_is x all own [] = refl
 over_is x all own (e ∷ es) = ap (λ l. keys_on e.0 (ids_for x all own e.0) ++ l) (over_is x all own es)
 
 held_on : (y z : ObjNo) (j : PropId) (ids : List PropId) → holds slot_cmp slot_total slot_exact (keys_on y ids) (z, j) ≡ (same_object y z && has_id j ids)
-held_on y z j [] = none (same_object y z)
-  where
-    none : (b : Bool) → false ≡ (b && false)
-    none true = refl
-    none false = refl
+held_on y z j [] = sym (and-false (same_object y z))
 held_on y z j (id ∷ ids) = (λ i. key_parts y z id j i || held_on y z j ids i) ∙ by (same_object y z)
   where
     by : (b : Bool) → ((b && is_id j id) || (b && has_id j ids)) ≡ (b && (is_id j id || has_id j ids))
@@ -36,15 +29,12 @@ held_by ids z j (e ∷ es) =
     ∙ (λ i. held_on e.0 z j (ids e.0) i || held_by ids z j es i)
     ∙ by (same_object e.0 z) refl (list_any (λ e. same_object e.0 z) es)
   where
-    twice : (b c d : Bool) → b ≡ c → (b || (d && c)) ≡ c
-    twice true true d h = refl
-    twice false false true h = refl
-    twice false false false h = refl
-    twice true false d h = absurd (false≢true (sym h))
-    twice false true d h = absurd (false≢true h)
+    twice : (c d : Bool) → (c || (d && c)) ≡ c
+    twice true d = refl
+    twice false d = and-false d
 
     by : (a : Bool) → same_object e.0 z ≡ a → (d : Bool) → ((a && has_id j (ids e.0)) || (d && has_id j (ids z))) ≡ ((a || d) && has_id j (ids z))
-    by true g d = twice (has_id j (ids e.0)) (has_id j (ids z)) d (ap (λ y. has_id j (ids y)) ((same_object-Decides e.0 z).0 g))
+    by true g d = ap (λ y. has_id j (ids y) || (d && has_id j (ids z))) ((same_object-Decides e.0 z).0 g) ∙ twice (has_id j (ids z)) d
     by false g d = refl
 
 module _ (t : Maps) (good : IsGood t) (x : ObjNo) (row : ObjRow) (here : get t.objects x ≡ Some row) where
@@ -70,15 +60,13 @@ module _ (t : Maps) (good : IsGood t) (x : ObjNo) (row : ObjRow) (here : get t.o
   -- ---- which keys
 
   own_chain : is_among x (chain (world_of t) x) ≡ true
-  own_chain = ap (is_among x) (chain_of_row m good.formed.tree x row (sym here)) ∙ ap (λ b. b || is_among x (chain (world_of t) row.parent)) ((same_object-Decides x x).1 refl)
+  own_chain = own_among t good.formed.tree x (is_object_seen m x ∙ ap is_some here)
 
   -- a property that x defines has a slot on each object under x
   own_slot : (z : ObjNo) (j : PropId) → is_among x (chain (world_of t) z) ≡ true → defines t x j ≡ true → is_some (get t.slots (z, j)) ≡ true
-  own_slot z j u d = by (get t.props j) refl d
-    where
-      by : (o : Option PropRow) → get t.props j ≡ o → unwrap_or (option_map (λ p. same_object p.definer x) o) false ≡ true → is_some (get t.slots (z, j)) ≡ true
-      by None e h = absurd (false≢true h)
-      by (Some p) e h = slot_on_heir t good.sound good.formed z (object_of_chain (world_of t) x z u) j.0 p e (ap (λ k. is_among k (chain (world_of t) z)) ((same_object-Decides p.definer x).0 h) ∙ u)
+  own_slot z j u d =
+      let p = passing (λ (p : PropRow). same_object p.definer x) (get t.props j) d in
+      slot_on_heir t good.sound good.formed z (object_of_chain (world_of t) x z u) j.0 p.0 p.1 (ap (λ k. is_among k (chain (world_of t) z)) ((same_object-Decides p.0.definer x).0 p.2) ∙ u)
 
   listed_has : (z : ObjNo) (j : PropId) → holds slot_cmp slot_total slot_exact (dropped_over x all own (owners_under t x)) (z, j) ≡ (is_among x (chain (world_of t) z) && has_id j (ids_for x all own z))
   listed_has z j =
@@ -116,27 +104,15 @@ module _ (t : Maps) (good : IsGood t) (x : ObjNo) (row : ObjRow) (here : get t.o
   same_keys : (z : ObjNo) (j : PropId) → (is_among x (chain (world_of t) z) && has_id j (ids_for x all own z)) ≡ (is_some (get t.slots (z, j)) && goes_with t x (z, j))
   same_keys z j = by (same_object x z) refl
     where
-      with_true : (b : Bool) → b ≡ (b && true)
-      with_true true = refl
-      with_true false = refl
-
       beside : (u d : Bool) → is_among x (chain (world_of t) z) ≡ u → defines t x j ≡ d → (u && d) ≡ (is_some (get t.slots (z, j)) && (u && d))
       beside true true e f = sym (ap (λ b. b && true) (own_slot z j e f))
-      beside true false e f = none (is_some (get t.slots (z, j)))
-        where
-          none : (b : Bool) → false ≡ (b && false)
-          none true = refl
-          none false = refl
-      beside false d e f = none (is_some (get t.slots (z, j)))
-        where
-          none : (b : Bool) → false ≡ (b && false)
-          none true = refl
-          none false = refl
+      beside true false e f = sym (and-false (is_some (get t.slots (z, j))))
+      beside false d e f = sym (and-false (is_some (get t.slots (z, j))))
 
       by : (b : Bool) → same_object x z ≡ b → (is_among x (chain (world_of t) z) && has_id j (if b then all else own)) ≡ (is_some (get t.slots (z, j)) && (b || (is_among x (chain (world_of t) z) && defines t x j)))
       by true e =
           let same = (same_object-Decides x z).0 e in
-          (λ i. (ap (λ k. is_among x (chain (world_of t) k)) (sym same) ∙ own_chain) i && (walked j ∙ ap (λ k. is_some (get t.slots (k, j))) same) i) ∙ with_true (is_some (get t.slots (z, j)))
+          (λ i. (ap (λ k. is_among x (chain (world_of t) k)) (sym same) ∙ own_chain) i && (walked j ∙ ap (λ k. is_some (get t.slots (k, j))) same) i) ∙ sym (and-true (is_some (get t.slots (z, j))))
       by false e = ap (λ b. is_among x (chain (world_of t) z) && b) (is_own_id t good x row here (record { maps = t; writes = 0; base = t }) refl j) ∙ beside (is_among x (chain (world_of t) z)) (defines t x j) refl refl
 
   pub dropped_list : dropped_over x all own (owners_under t x) ≡ dropped_keys t x

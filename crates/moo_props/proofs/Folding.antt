@@ -1,4 +1,6 @@
 -- What the slots are after they are removed and put one by one.
+use Rattle.moo_props.proofs.Cases.{cond_again, cond_and, cond_same, cond_twice}
+use Rattle.moo_props.proofs.Folds.{all_change, all_of_change}
 use Rattle.moo_props.proofs.Words.{◌≡◌, Bool, true, false, cond, ◌||◌, Option, None, Some, List, [], ◌∷◌, refl, sym, ap, ◌∙◌, ◌&&◌, is_some, option_map, Decides, eq_by_cmp, list_any, cons_option, AllByRecursion, FinMap, get, get-insert, get-remove, and_parts, none-some, same_Some, ObjNo, PropId, SlotRow, Held, prop_cmp, slot_cmp, prop_exact, slot_exact, prop_total, slot_total, same_object, same_object-Decides, key-Decides, decided_alike, Origin, slots_moved, origin_of, origins, fresh_of, slot_removed, slot_put, without_on, with_fresh, fresh_row}
 
 abbrev pub is_id : PropId → PropId → Bool
@@ -21,22 +23,11 @@ abbrev slot_at : Held → ObjNo → PropId → Option SlotRow
 slot_at held z j = get held.maps.slots (z, j)
 
 pub slot_at-without : (y z : ObjNo) (j : PropId) (ids : List PropId) (held : Held) → slot_at (without_on y ids held) z j ≡ cond (same_object y z && has_id j ids) None (slot_at held z j)
-slot_at-without y z j [] held = by (same_object y z)
-  where
-    by : (b : Bool) → slot_at held z j ≡ cond (b && false) None (slot_at held z j)
-    by true = refl
-    by false = refl
-slot_at-without y z j (id ∷ ids) held =
-    slot_at-without y z j ids (slot_removed y id held)
-    ∙ ap (cond (same_object y z && has_id j ids) None) (get-remove slot_total held.maps.slots (y, id) (z, j) ∙ ap (λ b. cond b None (slot_at held z j)) (key_parts y z id j))
-    ∙ by (same_object y z) (is_id j id) (has_id j ids)
-  where
-    by : (a b r : Bool) → cond (a && r) None (cond (a && b) None (slot_at held z j)) ≡ cond (a && (b || r)) None (slot_at held z j)
-    by true true true = refl
-    by true true false = refl
-    by true false true = refl
-    by true false false = refl
-    by false b r = refl
+slot_at-without y z j ids held =
+    all_change (without_on y) (slot_removed y) (λ h. refl) (λ id ids h. refl) (λ h. slot_at h z j) (is_id j) (cond (same_object y z) None) (cond_again (same_object y z) None)
+    (λ id h. get-remove slot_total h.maps.slots (y, id) (z, j) ∙ ap (λ b. cond b None (slot_at h z j)) (key_parts y z id j) ∙ cond_and (same_object y z) (is_id j id) None (slot_at h z j))
+    ids held
+    ∙ sym (cond_and (same_object y z) (has_id j ids) None (slot_at held z j))
 
 -- the slot that is left of g after the fresh ones are put
 abbrev pub fresh_in : ObjNo → List Origin → PropId → Option SlotRow → Option SlotRow
@@ -44,11 +35,7 @@ fresh_in owner [] j g = g
 fresh_in owner (o ∷ os) j g = fresh_in owner os j (cond (is_id j o.id) (Some (fresh_of owner o)) g)
 
 pub slot_at-fresh : (y z owner : ObjNo) (j : PropId) (os : List Origin) (held : Held) → slot_at (with_fresh y owner os held) z j ≡ cond (same_object y z) (fresh_in owner os j (slot_at held z j)) (slot_at held z j)
-slot_at-fresh y z owner j [] held = by (same_object y z)
-  where
-    by : (b : Bool) → slot_at held z j ≡ cond b (slot_at held z j) (slot_at held z j)
-    by true = refl
-    by false = refl
+slot_at-fresh y z owner j [] held = sym (cond_same (same_object y z) (slot_at held z j))
 slot_at-fresh y z owner j (o ∷ os) held =
     slot_at-fresh y z owner j os (slot_put y o.id (fresh_of owner o) held)
     ∙ ap (λ g. cond (same_object y z) (fresh_in owner os j g) g) (get-insert slot_total held.maps.slots (y, o.id) (fresh_of owner o) (z, j) ∙ ap (λ b. cond b (Some (fresh_of owner o)) (slot_at held z j)) (key_parts y z o.id j))
@@ -66,10 +53,6 @@ module _ (slots : FinMap slot_cmp SlotRow) (q : ObjNo) where
       same_slot : is_id j id ≡ true → get slots (q, id) ≡ get slots (q, j)
       same_slot h = ap (λ k. get slots (q, k)) (sym ((is_id-Decides j id).0 h))
 
-      settled : (b : Bool) (v : Option SlotRow) → cond b v v ≡ v
-      settled true v = refl
-      settled false v = refl
-
       by : ((o : Option SlotRow) → get slots (q, j) ≡ o → (g : Option SlotRow) → fresh_in owner (origins slots q ids) j g ≡ cond (has_id j ids && is_some o) (option_map (fresh_row owner) o) g) → (p : Option SlotRow) → get slots (q, id) ≡ p → (b : Bool) → is_id j id ≡ b → (o : Option SlotRow) → get slots (q, j) ≡ o
           → fresh_in owner (cons_option (option_map (origin_of id) p) (origins slots q ids)) j g ≡ cond ((b || has_id j ids) && is_some o) (option_map (fresh_row owner) o) g
       by r None h true k None e = r None e g ∙ ap (λ v. cond v None g) (none (has_id j ids))
@@ -84,7 +67,7 @@ module _ (slots : FinMap slot_cmp SlotRow) (q : ObjNo) where
           let same : p ≡ s = same_Some p s (sym h ∙ same_slot k ∙ e) in
           r (Some s) e (cond (is_id j id) (Some (fresh_row owner p)) g)
           ∙ (λ i. cond (has_id j ids && true) (Some (fresh_row owner s)) (cond (k i) (Some (fresh_row owner (same i))) g))
-          ∙ settled (has_id j ids && true) (Some (fresh_row owner s))
+          ∙ cond_same (has_id j ids && true) (Some (fresh_row owner s))
       by r (Some p) h false k o e =
           r o e (cond (is_id j id) (Some (fresh_row owner p)) g)
           ∙ ap (λ b. cond (has_id j ids && is_some o) (option_map (fresh_row owner) o) (cond b (Some (fresh_row owner p)) g)) k
@@ -98,12 +81,7 @@ module _ (slots : FinMap slot_cmp SlotRow) (q : ObjNo) where
     step g = moved_slot lost coming (owner z) j g
 
     twice : (g : Option SlotRow) → step (step g) ≡ step g
-    twice g = by (has_id j coming && is_some (get slots (q, j))) (has_id j lost) (option_map (fresh_row (owner z)) (get slots (q, j)))
-      where
-        by : (a b : Bool) (f : Option SlotRow) → cond a f (cond b None (cond a f (cond b None g))) ≡ cond a f (cond b None g)
-        by true b f = refl
-        by false true f = refl
-        by false false f = refl
+    twice g = cond_twice (has_id j coming && is_some (get slots (q, j))) (has_id j lost) (option_map (fresh_row (owner z)) (get slots (q, j))) None g
 
     one_moved : (e : ObjNo × ObjNo) (held : Held) → e.1 ≡ owner e.0 → slot_at (with_fresh e.0 e.1 (origins slots q coming) (without_on e.0 lost held)) z j ≡ cond (same_object e.0 z) (step (slot_at held z j)) (slot_at held z j)
     one_moved e held h =
@@ -119,13 +97,6 @@ module _ (slots : FinMap slot_cmp SlotRow) (q : ObjNo) where
 
     pub all_moved : (es : List (ObjNo × ObjNo)) (held : Held) → AllByRecursion (λ e. e.1 ≡ owner e.0) es
         → slot_at (slots_moved lost (origins slots q coming) es held) z j ≡ cond (list_any (λ e. same_object e.0 z) es) (step (slot_at held z j)) (slot_at held z j)
-    all_moved [] held h = refl
-    all_moved (e ∷ es) held h =
-        all_moved es (with_fresh e.0 e.1 (origins slots q coming) (without_on e.0 lost held)) h.1
-        ∙ ap (λ g. cond (list_any (λ e. same_object e.0 z) es) (step g) g) (one_moved e held h.0)
-        ∙ by (same_object e.0 z) (list_any (λ e. same_object e.0 z) es)
-      where
-        by : (a b : Bool) → cond b (step (cond a (step (slot_at held z j)) (slot_at held z j))) (cond a (step (slot_at held z j)) (slot_at held z j)) ≡ cond (a || b) (step (slot_at held z j)) (slot_at held z j)
-        by true true = twice (slot_at held z j)
-        by true false = refl
-        by false b = refl
+    all_moved =
+        all_of_change (slots_moved lost (origins slots q coming)) (λ e held. with_fresh e.0 e.1 (origins slots q coming) (without_on e.0 lost held)) (λ held. refl) (λ e es held. refl)
+        (λ held. slot_at held z j) (λ e. same_object e.0 z) step twice (λ e. e.1 ≡ owner e.0) one_moved

@@ -1,8 +1,8 @@
 -- A property that x gains has a slot on q.
-use Rattle.moo_props.proofs.Words.{◌≡◌, ℕ, ◌<◌, Bool, true, false, Option, None, Some, ◌∷◌, ◌++◌, refl, sym, ap, ◌∙◌, subst, ◌⊎◌, inl, inr, is_some, if◌then◌else◌, option_map, option_and_then, filter_map, list_any, false≢true, and_parts, none-some, same_Some, ObjNo, ObjRow, PropRow, Maps, Name, Pair, same_object, same_text, same_pair, folded, is_among, same_object-Decides, same_text-Decides, World, Slot, IsWellFormed, NamesDiffer, is_object, chain, names_of, defined_by, owed_by, pair_named, slot_of, LookUps, IsSound, look_ups, world_of, numbers_below, name_on, record_of, MayReparent, gained, names_shown, is_object_seen, object_seen, owed_listed, Chain-chain, chain_of_none, chain-step, some_of, any_map, SlotHere, slot_from}
+use Rattle.moo_props.proofs.Words.{◌≡◌, ℕ, ◌<◌, Bool, true, false, Option, None, Some, ◌∷◌, ◌++◌, refl, sym, ap, ◌∙◌, subst, ◌⊎◌, inl, inr, is_some, if◌then◌else◌, option_map, option_and_then, filter_map, list_any, false≢true, and_parts, none-some, same_Some, ObjNo, ObjRow, PropRow, Maps, Name, Property, same_object, same_text, same_property, folded, is_among, same_object-Decides, same_text-Decides, World, Slot, IsWellFormed, NamesDiffer, is_object, chain, property_names_of, defined_by, defined_by_any, property_named, slot_of, LookUps, IsSound, look_ups, world_of, numbers_below, name_on, object_shown, MayReparent, gained, names_shown, is_object_seen, object_seen, owed_listed, Chain-chain, chain_of_none, chain-step, some_of, any_map, SlotHere, slot_from, true_from_ne_false, cases_order}
+use Rattle.moo_props.proofs.Cases.{some_map}
 use Rattle.std.specs.List.{IsDistinct}
-use Rattle.std.proofs.lemmas.Bool.{cases_order}
-use Rattle.moo_world.specs.Objects.{same_pair-self}
+use Rattle.moo_world.specs.Objects.{same_property-self}
 use Rattle.moo_world.proofs.Inheritance.Keeping.{named_is}
 use Rattle.moo_world.proofs.Shown.PairLists.{distinct_map, pairs_left}
 use Rattle.moo_props.proofs.Definers.{only_gained}
@@ -10,11 +10,7 @@ use Rattle.moo_world.proofs.Shown.Numbered.{any_from, no_later}
 
 -- what has a chain with objects in it is an object
 pub object_of_chain : (w : World) (d z : ObjNo) → is_among d (chain w z) ≡ true → is_object w z ≡ true
-object_of_chain w d z h = by (is_object w z) refl
-  where
-    by : (b : Bool) → is_object w z ≡ b → b ≡ true
-    by true e = refl
-    by false e = absurd (false≢true (sym (ap (is_among d) (chain_of_none w z e)) ∙ h))
+object_of_chain w d z h = true_from_ne_false (is_object w z) (λ e. false≢true (sym (ap (is_among d) (chain_of_none w z e)) ∙ h))
 
 module _ (t : Maps) (sound : IsSound t) where
   abbrev pub m : LookUps
@@ -31,18 +27,18 @@ module _ (t : Maps) (sound : IsSound t) where
       ap (option_and_then (λ (r : PropRow). if same_object r.definer p.definer then Some r.name else None)) e
       ∙ ap (λ b. if b then Some p.name else None) ((same_object-Decides p.definer p.definer).1 refl)
 
-  names_are : (id : ℕ) (p : PropRow) → m.prop id ≡ Some p → names_of w p.definer ≡ filter_map (name_on m p.definer) (numbers_below t.head.next_prop)
+  names_are : (id : ℕ) (p : PropRow) → m.prop id ≡ Some p → property_names_of w p.definer ≡ filter_map (name_on m p.definer) (numbers_below t.head.next_prop)
   names_are id p e = let r = some_of (m.object p.definer) (sound.definers id p e) in names_shown m p.definer r.0 r.1
 
   low : (id : ℕ) (p : PropRow) → m.prop id ≡ Some p → id < t.head.next_prop
   low id p e = (sound.props_below id (ap is_some e)).1
 
   -- a property's row is a definition of the world
-  pub defines_pair : (id : ℕ) (p : PropRow) → m.prop id ≡ Some p → list_any (same_pair (p.definer, p.name)) (defined_by w p.definer) ≡ true
+  pub defines_pair : (id : ℕ) (p : PropRow) → m.prop id ≡ Some p → list_any (same_property (p.definer, p.name)) (defined_by w p.definer) ≡ true
   defines_pair id p e =
-      any_map (same_pair (p.definer, p.name)) (λ n. (p.definer, n)) (names_of w p.definer)
-      ∙ ap (list_any (λ n. same_pair (p.definer, p.name) (p.definer, n))) (names_are id p e)
-      ∙ any_from (name_on m p.definer) (λ n. same_pair (p.definer, p.name) (p.definer, n)) t.head.next_prop id p.name (low id p e) (name_here id p e) (same_pair-self (p.definer, p.name))
+      any_map (same_property (p.definer, p.name)) (λ n. (p.definer, n)) (property_names_of w p.definer)
+      ∙ ap (list_any (λ n. same_property (p.definer, p.name) (p.definer, n))) (names_are id p e)
+      ∙ any_from (name_on m p.definer) (λ n. same_property (p.definer, p.name) (p.definer, n)) t.head.next_prop id p.name (low id p e) (name_here id p e) (same_property-self (p.definer, p.name))
 
   module _ (wf : IsWellFormed w) where
     abbrev same_name : Name → Name → Bool
@@ -55,9 +51,9 @@ module _ (t : Maps) (sound : IsSound t) where
     own_distinct id p e =
         let r = definer_row id p e in
         let there : is_object w p.definer ≡ true = is_object_seen m p.definer ∙ sound.definers id p e in
-        let chain_is : chain w p.definer ≡ p.definer ∷ chain w r.0.parent = chain-step w wf.tree p.definer (record_of m p.definer r.0) (object_seen m p.definer r.0 r.1) in
-        let differ : NamesDiffer (defined_by w p.definer ++ owed_by w (chain w r.0.parent)) = subst (λ l. NamesDiffer (owed_by w l)) chain_is (wf.names p.definer (chain w p.definer) (Chain-chain w wf.tree p.definer there)) in
-        subst (IsDistinct same_name) (names_are id p e) (distinct_map (λ (a b : Pair). same_text (folded a.1) (folded b.1)) (λ n. (p.definer, n)) (names_of w p.definer) (pairs_left (defined_by w p.definer) (owed_by w (chain w r.0.parent)) differ))
+        let chain_is : chain w p.definer ≡ p.definer ∷ chain w r.0.parent = chain-step w wf.tree p.definer (object_shown m p.definer r.0) (object_seen m p.definer r.0 r.1) in
+        let differ : NamesDiffer (defined_by w p.definer ++ defined_by_any w (chain w r.0.parent)) = subst (λ l. NamesDiffer (defined_by_any w l)) chain_is (wf.names p.definer (chain w p.definer) (Chain-chain w wf.tree p.definer there)) in
+        subst (IsDistinct same_name) (names_are id p e) (distinct_map (λ (a b : Property). same_text (folded a.1) (folded b.1)) (λ n. (p.definer, n)) (property_names_of w p.definer) (pairs_left (defined_by w p.definer) (defined_by_any w (chain w r.0.parent)) differ))
 
     not_below : (i j : ℕ) (p r : PropRow) → m.prop i ≡ Some p → m.prop j ≡ Some r → p.definer ≡ r.definer → folded p.name ≡ folded r.name → i < j → ⊥
     not_below i j p r e f d n l =
@@ -67,33 +63,27 @@ module _ (t : Maps) (sound : IsSound t) where
 
     -- a definer has one property of a name
     pub one_prop : (i j : ℕ) (p r : PropRow) → m.prop i ≡ Some p → m.prop j ≡ Some r → p.definer ≡ r.definer → folded p.name ≡ folded r.name → i ≡ j
-    one_prop i j p r e f d n = by (cases_order i j)
-      where
-        by : (i ≡ j) ⊎ ((i < j) ⊎ (j < i)) → i ≡ j
-        by (inl g) = g
-        by (inr (inl l)) = absurd (not_below i j p r e f d n l)
-        by (inr (inr l)) = absurd (not_below j i r p f e (sym d) (sym n) l)
+    one_prop i j p r e f d n = elim (cases_order i j) [
+      | inl g ↦ g
+      | inr (inl l) ↦ absurd (not_below i j p r e f d n l)
+      | inr (inr l) ↦ absurd (not_below j i r p f e (sym d) (sym n) l)
+    ]
 
   module _ (wf : IsWellFormed w) (z : ObjNo) (zo : is_object w z ≡ true) where
     -- the property of a name that is owed to z has its row, and its slot on z
-    pub slot_of_owed : (n : Name) (p : Pair) → pair_named (owed_by w (chain w z)) n ≡ Some p → (id : ℕ) × (h : SlotHere m z n id) × (h.prop.definer ≡ p.0)
-    slot_of_owed n p e = by (slot_of w z n) refl
-      where
-        definer : option_map (λ s. s.definer) (slot_of w z n) ≡ Some p.0
-        definer = wf.slots z (chain w z) n zo (Chain-chain w wf.tree z zo) ∙ ap (option_map (λ k. k.0)) e
-
-        by : (s : Option Slot) → slot_of w z n ≡ s → (id : ℕ) × (h : SlotHere m z n id) × (h.prop.definer ≡ p.0)
-        by None g = absurd (none-some p.0 (sym (ap (option_map (λ s. s.definer)) g) ∙ definer))
-        by (Some s) g =
-            let row = object_row z zo in
-            let k = slot_from m z n row.0 row.1 s g in
-            (k.0, k.1, sym (ap (λ (s : Slot). s.definer) k.2) ∙ same_Some s.definer p.0 (sym (ap (option_map (λ s. s.definer)) g) ∙ definer))
+    pub slot_of_owed : (n : Name) (p : Property) → property_named (defined_by_any w (chain w z)) n ≡ Some p → (id : ℕ) × (h : SlotHere m z n id) × (h.prop.definer ≡ p.0)
+    slot_of_owed n p e =
+        let definer : option_map (λ (s : Slot). s.definer) (slot_of w z n) ≡ Some p.0 = wf.slots z (chain w z) n zo (Chain-chain w wf.tree z zo) ∙ ap (option_map (λ (k : Property). k.0)) e in
+        let s = some_of (slot_of w z n) (sym (some_map (λ (s : Slot). s.definer) (slot_of w z n)) ∙ ap is_some definer) in
+        let row = object_row z zo in
+        let k = slot_from m z n row.0 row.1 s.0 s.1 in
+        (k.0, k.1, sym (ap (λ (s : Slot). s.definer) k.2) ∙ same_Some s.0.definer p.0 (sym (ap (option_map (λ (s : Slot). s.definer)) s.1) ∙ definer))
 
     -- a property of a definer in its chain has a slot on z
     pub slot_on_heir : (id : ℕ) (p : PropRow) → m.prop id ≡ Some p → is_among p.definer (chain w z) ≡ true → is_some (m.slot z id) ≡ true
     slot_on_heir id p e h =
         let owed = owed_listed w (chain w z) p.definer (p.definer, p.name) h (defines_pair id p e) in
-        let named = named_is (owed_by w (chain w z)) (p.definer, p.name) (wf.names z (chain w z) (Chain-chain w wf.tree z zo)) owed in
+        let named = named_is (defined_by_any w (chain w z)) (p.definer, p.name) (wf.names z (chain w z) (Chain-chain w wf.tree z zo)) owed in
         let k = slot_of_owed (folded p.name) (p.definer, p.name) named in
         let same : k.0 ≡ id = one_prop wf k.0 id k.1.prop p k.1.there e k.2 k.1.name in
         ap (λ j. is_some (m.slot z j)) (sym same) ∙ ap is_some k.1.held

@@ -1,14 +1,14 @@
 -- The rows once an object is dropped, key by key, and how many were written.
-use Rattle.moo_props.proofs.Words.{◌≡◌, ◌≤◌, ◌+◌, Bool, true, false, Option, None, Some, List, [], ◌∷◌, length, refl, sym, ap, ◌∙◌, arith, length-append, ◌&&◌, ◌||◌, is_some, unwrap_or, if◌then◌else◌, option_map, get, remove, entries, get-entries, entries_sorted, false≢true, both_ways, same_Some, ObjNo, ObjRow, PropId, PropRow, SlotRow, VerbId, object_exact, slot_exact, Maps, Held, wrote, object_cmp, slot_cmp, object_total, slot_total, nothing, same_object, is_among, same_object-Decides, Record, chain, is_object, parent_of, IsGood, look_ups, world_of, record_of, object_seen, no_parent, goes_with, dropped_keys, links_to, released_row, ids_for, ids_among, verbs_among, linked_among, dropped_over, slots_dropped, props_removed, verbs_removed, with_released, row_released, rows_released, defines, ArePresent, AreAbsent, owners_under, props_of, keys_on, without_on, own_entries, all_made}
+use Rattle.moo_props.proofs.Words.{◌≡◌, ◌≤◌, ◌+◌, Bool, true, false, Option, None, Some, List, [], ◌∷◌, length, refl, sym, ap, ◌∙◌, arith, length-append, ◌&&◌, ◌||◌, is_some, unwrap_or, if◌then◌else◌, option_map, get, remove, entries, get-entries, entries_sorted, false≢true, both_ways, same_Some, ObjNo, ObjRow, PropId, PropRow, SlotRow, VerbId, object_exact, slot_exact, Maps, Held, wrote, object_cmp, slot_cmp, object_total, slot_total, nothing, same_object, is_among, same_object-Decides, WorldObject, chain, is_object, parent_of, IsGood, look_ups, world_of, object_shown, object_seen, no_parent, goes_with, dropped_keys, links_to, released_row, ids_for, ids_among, verbs_among, linked_among, dropped_over, slots_dropped, props_removed, verbs_removed, with_released, row_released, rows_released, defines, ArePresent, AreAbsent, owners_under, props_of, keys_on, without_on, own_entries, all_made, false_from_ne_true}
+use Rattle.moo_props.proofs.Shared.{none_of, own_under, walk}
 use Rattle.std.specs.FinMap.{find}
 use Rattle.moo_world.specs.Numbers.{not_of}
 use Rattle.moo_world.specs.World.{Climbs, location_of}
 use Rattle.moo_world.proofs.Ancestry.Chains.{Climbs-unique}
 use Rattle.moo_world.proofs.Ancestry.Trees.{nothing_is_no_object}
 use Rattle.moo_props.specs.Dropped.{slot_left, prop_left, verb_left, heir, row_left}
-use Rattle.moo_props.proofs.LessRows.{held1, held2, held3, held5, only5, slots5, props5, verbs5, objects5, own_under}
+use Rattle.moo_props.proofs.LessRows.{held1, held2, held3, held5, only5, slots5, props5, verbs5, objects5}
 use Rattle.moo_props.proofs.Moved.{writes-without, length-made}
-use Rattle.moo_props.proofs.Walked.{walk}
 
 -- a property is left unless x defines it
 pub left_is : (t : Maps) (x : ObjNo) (id : PropId) → prop_left t x id ≡ not_of x (get t.props id)
@@ -80,7 +80,7 @@ module _ (t : Maps) (good : IsGood t) (x : ObjNo) (row : ObjRow) (here : get t.o
       by false true e d f o g = refl
       by false false e false f o g = refl
       by false false e true f None g = refl
-      by false false e true f (Some k) g = absurd (both_ways (is_among x (chain (world_of t) key.0)) e (own_under t good x row here held same key.0 key.1 k g f))
+      by false false e true f (Some k) g = absurd (both_ways (is_among x (chain (world_of t) key.0)) e (own_under t good x key.0 key.1 k g f))
 
   pub props_left : (id : PropId) → get after.maps.props id ≡ prop_left t x id
   props_left id = ap (λ (k : Maps). get k.props id) (only5 t good x row here held same) ∙ props5 t good x row here held same id.0
@@ -104,8 +104,8 @@ module _ (t : Maps) (good : IsGood t) (x : ObjNo) (row : ObjRow) (here : get t.o
       (λ e h k. slots_left e.0 ∙ ap (λ b. if b then None else get t.slots e.0) k) (entries t.slots) (own_entries slot_cmp slot_total slot_exact (entries t.slots) (entries_sorted t.slots))
 
   -- no object is its own parent, nor lies in itself
-  abbrev record_x : Record
-  record_x = record_of (look_ups t) x row
+  abbrev record_x : WorldObject
+  record_x = object_shown (look_ups t) x row
 
   seen : (world_of t).object x ≡ Some record_x
   seen = object_seen (look_ups t) x row here
@@ -113,28 +113,23 @@ module _ (t : Maps) (good : IsGood t) (x : ObjNo) (row : ObjRow) (here : get t.o
   xo : is_object (world_of t) x ≡ true
   xo = ap is_some seen
 
-  apart : (link : ObjNo → Option ObjNo) → link nothing ≡ None → (l : List ObjNo) → Climbs link x l → (y : ObjNo) → link x ≡ Some y → (b : Bool) → same_object x y ≡ b → b ≡ false
-  apart link none l c y e false f = refl
-  apart link none l c y e true f =
+  apart : (link : ObjNo → Option ObjNo) → link nothing ≡ None → (l : List ObjNo) → Climbs link x l → (y : ObjNo) → link x ≡ Some y → same_object x y ≡ false
+  apart link none l c y e = false_from_ne_true (same_object x y) (λ f.
       let itself : link x ≡ Some x = e ∙ ap Some (sym ((same_object-Decides x y).0 f)) in
       let longer : l ≡ x ∷ l = Climbs-unique link none l (x ∷ l) x c (refl, x, itself, c) in
       let more : length l ≡ length (x ∷ l) = ap length longer in
-      absurd (omega (arith, more))
+      omega (arith, more))
 
   no_place : location_of (world_of t) nothing ≡ None
-  no_place = by ((world_of t).object nothing) (nothing_is_no_object (world_of t) good.formed.tree)
-    where
-      by : (o : Option Record) → is_some o ≡ false → option_map (λ r. r.row.location) o ≡ None
-      by None e = refl
-      by (Some r) e = absurd (false≢true (sym e))
+  no_place = ap (option_map (λ (r : WorldObject). r.row.location)) (none_of ((world_of t).object nothing) (nothing_is_no_object (world_of t) good.formed.tree))
 
   unlinked : links_to x row ≡ false
   unlinked =
       let c = good.formed.tree.chains x xo in
-      let p = good.formed.tree.places x xo in
+      let p = good.formed.tree.locations x xo in
       λ i.
-      apart (parent_of (world_of t)) (no_parent (world_of t) good.formed.tree) c.0 c.1 row.parent (ap (option_map (λ (r : Record). r.row.parent)) seen) (same_object x row.parent) refl i
-      || apart (location_of (world_of t)) no_place p.0 p.1 row.location (ap (option_map (λ (r : Record). r.row.location)) seen) (same_object x row.location) refl i
+      apart (parent_of (world_of t)) (no_parent (world_of t) good.formed.tree) c.0 c.1 row.parent (ap (option_map (λ (r : WorldObject). r.row.parent)) seen) i
+      || apart (location_of (world_of t)) no_place p.0 p.1 row.location (ap (option_map (λ (r : WorldObject). r.row.location)) seen) i
 
   pub relinked_there : ArePresent after.maps.objects (linked_among x (entries t.objects))
   relinked_there = all_made (λ e. find object_cmp e.0 (entries t.objects) ≡ Some e.1) (λ y. is_some (get after.maps.objects y) ≡ true) (λ e. links_to x e.1) (λ e. e.0)

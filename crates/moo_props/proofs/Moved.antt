@@ -1,34 +1,27 @@
 -- What the steps of a change of parent come to.
-use Rattle.moo_props.proofs.Words.{◌≡◌, ◌+◌, Bool, true, false, cond, Option, None, Some, List, [], ◌∷◌, map, length, refl, sym, ap, ◌∙◌, subst, arith, length-append, ◌&&◌, is_some, unwrap_or, drop, if◌then◌else◌, option_map, filter, list_any, cons_option, AllByRecursion, FinMap, get, insert, entries, get-entries, get-insert, entries_sorted, false≢true, none-some, same_Some, ObjNo, ObjRow, PropId, PropRow, SlotRow, Maps, Held, wrote, object_cmp, prop_cmp, slot_cmp, object_exact, prop_exact, object_total, prop_total, same_object, is_among, nothing, same_object-Decides, World, Record, chain, owner_of, reparented, IsSound, look_ups, world_of, MayReparent, ancestors, lost, gained, chain_of_row, chain_of_no_row, object_seen, object_key, Origin, owners_under, props_only_of, slots_moved, relinked, relinked_list, props_of, is_defined_among, slot_after, row_after, IsSameButSlotsAndObjects, id_of, origin_of, origins, fresh_of, slot_removed, slot_put, without_on, with_fresh, keys_on, keys_over, fresh_row, listed, own_entries, all_made}
+use Rattle.moo_props.proofs.Words.{◌≡◌, ◌+◌, Bool, true, false, cond, Option, None, Some, List, [], ◌∷◌, map, length, refl, sym, ap, ◌∙◌, subst, arith, length-append, ◌&&◌, is_some, unwrap_or, drop, if◌then◌else◌, option_map, filter, list_any, cons_option, AllByRecursion, FinMap, get, insert, entries, get-entries, get-insert, entries_sorted, false≢true, none-some, same_Some, ObjNo, ObjRow, PropId, PropRow, SlotRow, Maps, Held, wrote, object_cmp, prop_cmp, slot_cmp, object_exact, prop_exact, object_total, prop_total, same_object, is_among, nothing, same_object-Decides, World, WorldObject, chain, owner_of, reparented, IsSound, look_ups, world_of, MayReparent, ancestors, lost, gained, chain_of_row, chain_of_no_row, object_seen, object_key, Origin, owners_under, props_only_of, slots_moved, relinked, relinked_list, props_of, is_defined_among, slot_after, row_after, IsSameButSlotsAndObjects, id_of, origin_of, origins, fresh_of, slot_removed, slot_put, without_on, with_fresh, keys_on, keys_over, fresh_row, listed, own_entries, all_made, cond_both, some_of}
 use Rattle.std.specs.FinMap.{find}
+use Rattle.moo_props.proofs.Cases.{passing}
 use Rattle.moo_props.proofs.Folding.{has_id, is_id, all_moved}
+use Rattle.moo_props.proofs.Folds.{but_slots, same_base, same_maps}
 use Rattle.moo_props.proofs.Definers.{only_lost, only_gained}
 use Rattle.moo_props.proofs.Gains.{slot_on_new}
 use Rattle.moo_props.proofs.After.{world_after, sound_after}
 
 -- ---- only slots change, and each change is counted
 
-abbrev pub IsSlotsOnly : Maps → Maps → Type 0
-IsSlotsOnly a b = b ≡ record a { slots = b.slots }
+pub keeps-without : (y : ObjNo) (ids : List PropId) (held : Held) → but_slots (without_on y ids held) ≡ but_slots held
+keeps-without y [] held = refl
+keeps-without y (id ∷ ids) held = keeps-without y ids (slot_removed y id held)
 
-pub onward : (a b c : Maps) → IsSlotsOnly a b → IsSlotsOnly b c → IsSlotsOnly a c
-onward a b c h k = k ∙ ap (λ (z : Maps). record z { slots = c.slots }) h
+pub keeps-fresh : (y owner : ObjNo) (os : List Origin) (held : Held) → but_slots (with_fresh y owner os held) ≡ but_slots held
+keeps-fresh y owner [] held = refl
+keeps-fresh y owner (o ∷ os) held = keeps-fresh y owner os (slot_put y o.id (fresh_of owner o) held)
 
-pub only-without : (y : ObjNo) (ids : List PropId) (held : Held) → IsSlotsOnly held.maps (without_on y ids held).maps
-only-without y [] held = refl
-only-without y (id ∷ ids) held = onward held.maps (slot_removed y id held).maps (without_on y (id ∷ ids) held).maps refl (only-without y ids (slot_removed y id held))
-
-pub only-fresh : (y owner : ObjNo) (os : List Origin) (held : Held) → IsSlotsOnly held.maps (with_fresh y owner os held).maps
-only-fresh y owner [] held = refl
-only-fresh y owner (o ∷ os) held = onward held.maps (slot_put y o.id (fresh_of owner o) held).maps (with_fresh y owner (o ∷ os) held).maps refl (only-fresh y owner os (slot_put y o.id (fresh_of owner o) held))
-
-pub only-moved : (lost : List PropId) (gained : List Origin) (es : List (ObjNo × ObjNo)) (held : Held) → IsSlotsOnly held.maps (slots_moved lost gained es held).maps
-only-moved lost gained [] held = refl
-only-moved lost gained (e ∷ es) held =
-    let after = with_fresh e.0 e.1 gained (without_on e.0 lost held) in
-    onward held.maps after.maps (slots_moved lost gained (e ∷ es) held).maps
-    (onward held.maps (without_on e.0 lost held).maps after.maps (only-without e.0 lost held) (only-fresh e.0 e.1 gained (without_on e.0 lost held)))
-    (only-moved lost gained es after)
+keeps-moved : (lost : List PropId) (gained : List Origin) (es : List (ObjNo × ObjNo)) (held : Held) → but_slots (slots_moved lost gained es held) ≡ but_slots held
+keeps-moved lost gained [] held = refl
+keeps-moved lost gained (e ∷ es) held =
+    keeps-moved lost gained es (with_fresh e.0 e.1 gained (without_on e.0 lost held)) ∙ keeps-fresh e.0 e.1 gained (without_on e.0 lost held) ∙ keeps-without e.0 lost held
 
 pub writes-without : (y : ObjNo) (ids : List PropId) (held : Held) → (without_on y ids held).writes ≡ held.writes + length ids
 writes-without y [] held = omega arith
@@ -37,20 +30,6 @@ writes-without y (id ∷ ids) held = omega (arith, writes-without y ids (slot_re
 pub writes-fresh : (y owner : ObjNo) (os : List Origin) (held : Held) → (with_fresh y owner os held).writes ≡ held.writes + length os
 writes-fresh y owner [] held = omega arith
 writes-fresh y owner (o ∷ os) held = omega (arith, writes-fresh y owner os (slot_put y o.id (fresh_of owner o) held))
-
-pub base-without : (y : ObjNo) (ids : List PropId) (held : Held) → (without_on y ids held).base ≡ held.base
-base-without y [] held = refl
-base-without y (id ∷ ids) held = base-without y ids (slot_removed y id held)
-
-pub base-fresh : (y owner : ObjNo) (os : List Origin) (held : Held) → (with_fresh y owner os held).base ≡ held.base
-base-fresh y owner [] held = refl
-base-fresh y owner (o ∷ os) held = base-fresh y owner os (slot_put y o.id (fresh_of owner o) held)
-
-base-moved : (lost : List PropId) (gained : List Origin) (es : List (ObjNo × ObjNo)) (held : Held) → (slots_moved lost gained es held).base ≡ held.base
-base-moved lost gained [] held = refl
-base-moved lost gained (e ∷ es) held =
-    base-moved lost gained es (with_fresh e.0 e.1 gained (without_on e.0 lost held))
-    ∙ base-fresh e.0 e.1 gained (without_on e.0 lost held) ∙ base-without e.0 lost held
 
 pub length-made : {A B : Type 0} (f : A → B) (l : List A) → length (map f l) ≡ length l
 length-made f [] = refl
@@ -75,11 +54,9 @@ writes-moved lost gained (e ∷ es) held =
 
 ids_of-origins : (slots : FinMap slot_cmp SlotRow) (q : ObjNo) (ids : List PropId) → AllByRecursion (λ id. is_some (get slots (q, id)) ≡ true) ids → map id_of (origins slots q ids) ≡ ids
 ids_of-origins slots q [] a = refl
-ids_of-origins slots q (id ∷ ids) a = by (get slots (q, id)) a.0 (ids_of-origins slots q ids a.1)
-  where
-    by : (o : Option SlotRow) → is_some o ≡ true → map id_of (origins slots q ids) ≡ ids → map id_of (cons_option (option_map (origin_of id) o) (origins slots q ids)) ≡ id ∷ ids
-    by None e r = absurd (false≢true e)
-    by (Some s) e r = ap (λ l. id ∷ l) r
+ids_of-origins slots q (id ∷ ids) a =
+    let s = some_of (get slots (q, id)) a.0 in
+    ap (λ o. map id_of (cons_option (option_map (origin_of id) o) (origins slots q ids))) s.1 ∙ ap (λ l. id ∷ l) (ids_of-origins slots q ids a.1)
 
 -- the objects under x are those that have x in their chains
 pub under_is : (t : Maps) (x z : ObjNo) → list_any (λ e. same_object e.0 z) (owners_under t x) ≡ is_among x (chain (world_of t) z)
@@ -94,7 +71,7 @@ under_is t x z =
 -- with their owners
 pub owners_are : (t : Maps) (x : ObjNo) → AllByRecursion (λ e. e.1 ≡ owner_of (world_of t) e.0) (owners_under t x)
 owners_are t x = all_made (λ e. find object_cmp e.0 (entries t.objects) ≡ Some e.1) (λ e. e.1 ≡ owner_of (world_of t) e.0) (λ e. is_among x (chain (world_of t) e.0)) (λ e. (e.0, e.1.owner))
-    (λ e h k. sym (ap (λ o. unwrap_or (option_map (λ (r : Record). r.row.owner) o) nothing) (object_seen (look_ups t) e.0 e.1 (get-entries t.objects e.0 ∙ h))))
+    (λ e h k. sym (ap (λ o. unwrap_or (option_map (λ (r : WorldObject). r.row.owner) o) nothing) (object_seen (look_ups t) e.0 e.1 (get-entries t.objects e.0 ∙ h))))
     (entries t.objects) (own_entries object_cmp object_total object_exact (entries t.objects) (entries_sorted t.objects))
 
 -- the properties that objects of a list define
@@ -147,57 +124,53 @@ module _ (t : Maps) (sound : IsSound t) (x q : ObjNo) (may : MayReparent (world_
         settle : Bool → Bool → Bool → Option SlotRow → Option SlotRow
         settle u g l o = cond u (cond (g && is_some (get t.slots (q, key.1))) (option_map (fresh_row (owner_of w key.0)) (get t.slots (q, key.1))) (cond l None o)) o
 
-        on_new : (o : Option PropRow) → get t.props key.1 ≡ o → unwrap_or (option_map (λ (p : PropRow). is_among p.definer (gained w x q)) o) false ≡ true → is_some (get t.slots (q, key.1)) ≡ true
-        on_new None e h = absurd (false≢true h)
-        on_new (Some p) e h = slot_on_new t sound x q may key.1.0 p e h
+        on_new : is_defined_among (gained w x q) t key.1 ≡ true → is_some (get t.slots (q, key.1)) ≡ true
+        on_new h = let p = passing (λ (p : PropRow). is_among p.definer (gained w x q)) (get t.props key.1) h in slot_on_new t sound x q may key.1.0 p.0 p.1 p.2
 
         by : (g : Bool) → is_defined_among (gained w x q) t key.1 ≡ g → settle (is_among x (chain w key.0)) g (is_defined_among (lost w x q) t key.1) (get t.slots key)
             ≡ (if is_among x (chain w key.0) then (if g then option_map (fresh_row (owner_of w key.0)) (get t.slots (q, key.1)) else (if is_defined_among (lost w x q) t key.1 then None else get t.slots key)) else get t.slots key)
-        by true e = ap (λ b. cond (is_among x (chain w key.0)) (cond b (option_map (fresh_row (owner_of w key.0)) (get t.slots (q, key.1))) (cond (is_defined_among (lost w x q) t key.1) None (get t.slots key))) (get t.slots key)) (on_new (get t.props key.1) refl e)
+        by true e = ap (λ b. cond (is_among x (chain w key.0)) (cond b (option_map (fresh_row (owner_of w key.0)) (get t.slots (q, key.1))) (cond (is_defined_among (lost w x q) t key.1) None (get t.slots key))) (get t.slots key)) (on_new e)
         by false e = refl
 
     only1 : held1.maps ≡ record t { slots = held1.maps.slots }
-    only1 = only-moved lost_ids (origins t.slots q gained_ids) (owners_under t x) held ∙ ap (λ (z : Maps). record z { slots = held1.maps.slots }) at
+    only1 = same_maps (keeps-moved lost_ids (origins t.slots q gained_ids) (owners_under t x) held) held1.maps.slots ∙ ap (λ (z : Maps). record z { slots = held1.maps.slots }) at
+
+    base1 : held1.base ≡ held.base
+    base1 = same_base (keeps-moved lost_ids (origins t.slots q gained_ids) (owners_under t x) held)
 
     abbrev changed : ObjRow → ObjRow
     changed r = record r { parent = q }
 
-    linked : (b : Bool) → same_object row.parent q ≡ b → (y : ObjNo) → get (if b then held1 else wrote held1 (record (held1.maps) { objects = insert held1.maps.objects x (changed row) })).maps.objects y ≡ row_after t x q y
-    linked true e y = ap (λ (z : Maps). get z.objects y) only1 ∙ by (same_object x y) refl (get t.objects y) refl
+    -- what holds both if the parent is the new one and if it is put
+    either : (P : Held → Type 0) → (same_object row.parent q ≡ true → P held1) → (same_object row.parent q ≡ false → P (wrote held1 (record (held1.maps) { objects = insert held1.maps.objects x (changed row) }))) → P held2
+    either P is_new other = cond_both (same_object row.parent q) held1 (wrote held1 (record (held1.maps) { objects = insert held1.maps.objects x (changed row) })) P is_new other
+
+    -- the row of x is the one with the new parent, and each other one is as it was
+    after_is : (y : ObjNo) (b : Bool) → same_object x y ≡ b → cond b (Some (changed row)) (get t.objects y) ≡ option_map (λ (r : ObjRow). if b then record r { parent = q } else r) (get t.objects y)
+    after_is y true h = sym (ap (option_map changed) (ap (get t.objects) (sym ((same_object-Decides x y).0 h)) ∙ here))
+    after_is y false h = by (get t.objects y)
       where
-        by : (b : Bool) → same_object x y ≡ b → (o : Option ObjRow) → get t.objects y ≡ o → o ≡ option_map (λ (r : ObjRow). if b then record r { parent = q } else r) o
-        by b h None k = refl
-        by false h (Some r) k = refl
-        by true h (Some r) k =
-            let same : row ≡ r = same_Some row r (sym here ∙ ap (get t.objects) ((same_object-Decides x y).0 h) ∙ k) in
-            let parent : r.parent ≡ q = ap (λ (z : ObjRow). z.parent) (sym same) ∙ (same_object-Decides row.parent q).0 e in
-            λ i. Some (record r { parent = parent i })
-    linked false e y =
-        ap (λ (z : Maps). get (insert z.objects x (changed row)) y) only1 ∙ get-insert object_total t.objects x (changed row) y
-        ∙ ap (λ b. cond b (Some (changed row)) (get t.objects y)) (object_key x y) ∙ by (same_object x y) refl (get t.objects y) refl
-      where
-        by : (b : Bool) → same_object x y ≡ b → (o : Option ObjRow) → get t.objects y ≡ o → cond b (Some (changed row)) o ≡ option_map (λ (r : ObjRow). if b then record r { parent = q } else r) o
-        by false h None k = refl
-        by false h (Some r) k = refl
-        by true h None k = absurd (none-some row (sym k ∙ ap (get t.objects) (sym ((same_object-Decides x y).0 h)) ∙ here))
-        by true h (Some r) k = ap (λ (z : ObjRow). Some (changed z)) (same_Some row r (sym here ∙ ap (get t.objects) ((same_object-Decides x y).0 h) ∙ k))
+        by : (o : Option ObjRow) → o ≡ option_map (λ (r : ObjRow). r) o
+        by None = refl
+        by (Some r) = refl
+
+    kept_is : (y : ObjNo) (b : Bool) → same_object x y ≡ b → row.parent ≡ q → get t.objects y ≡ cond b (Some (changed row)) (get t.objects y)
+    kept_is y true h p = ap (get t.objects) (sym ((same_object-Decides x y).0 h)) ∙ here ∙ (λ i. Some (record row { parent = p i }))
+    kept_is y false h p = refl
 
     pub objects2 : (y : ObjNo) → get held2.maps.objects y ≡ row_after t x q y
-    objects2 y = linked (same_object row.parent q) refl y
-
-    same_slots : (b : Bool) → (if b then held1 else wrote held1 (record (held1.maps) { objects = insert held1.maps.objects x (changed row) })).maps.slots ≡ held1.maps.slots
-    same_slots true = refl
-    same_slots false = refl
+    objects2 y = either (λ h. get h.maps.objects y ≡ row_after t x q y)
+        (λ e. ap (λ (z : Maps). get z.objects y) only1 ∙ kept_is y (same_object x y) refl ((same_object-Decides row.parent q).0 e) ∙ after_is y (same_object x y) refl)
+        (λ e. ap (λ (z : Maps). get (insert z.objects x (changed row)) y) only1 ∙ get-insert object_total t.objects x (changed row) y
+        ∙ ap (λ b. cond b (Some (changed row)) (get t.objects y)) (object_key x y) ∙ after_is y (same_object x y) refl)
 
     pub slots2 : (key : ObjNo × PropId) → get held2.maps.slots key ≡ slot_after t x q key
-    slots2 key = ap (λ m. get m key) (same_slots (same_object row.parent q)) ∙ slots1 key
+    slots2 key = either (λ h. get h.maps.slots key ≡ slot_after t x q key) (λ e. slots1 key) (λ e. slots1 key)
 
     pub rest2 : IsSameButSlotsAndObjects t held2.maps
-    rest2 = by (same_object row.parent q)
-      where
-        by : (b : Bool) → let z = (if b then held1 else wrote held1 (record (held1.maps) { objects = insert held1.maps.objects x (changed row) })).maps in z ≡ record t { objects = z.objects; slots = z.slots }
-        by true = only1 ∙ ap (λ (m : FinMap object_cmp ObjRow). record t { objects = m; slots = held1.maps.slots }) (sym (ap (λ (z : Maps). z.objects) only1))
-        by false = ap (λ (z : Maps). record z { objects = insert held1.maps.objects x (changed row) }) only1
+    rest2 = either (λ h. IsSameButSlotsAndObjects t h.maps)
+        (λ e. only1 ∙ ap (λ (m : FinMap object_cmp ObjRow). record t { objects = m; slots = held1.maps.slots }) (sym (ap (λ (z : Maps). z.objects) only1)))
+        (λ e. ap (λ (z : Maps). record z { objects = insert held1.maps.objects x (changed row) }) only1)
 
     pub world2 : world_of held2.maps ≡ reparented w x q
     world2 = ap world_of rest2 ∙ world_after t sound x q may held2.maps.objects held2.maps.slots objects2 slots2
@@ -206,11 +179,7 @@ module _ (t : Maps) (sound : IsSound t) (x q : ObjNo) (may : MayReparent (world_
     sound2 = subst IsSound (sym rest2) (sound_after t sound x q may held2.maps.objects held2.maps.slots objects2 slots2)
 
     pub base2 : held2.base ≡ held.base
-    base2 = by (same_object row.parent q)
-      where
-        by : (b : Bool) → (if b then held1 else wrote held1 (record (held1.maps) { objects = insert held1.maps.objects x (changed row) })).base ≡ held.base
-        by true = base-moved lost_ids (origins t.slots q gained_ids) (owners_under t x) held
-        by false = base-moved lost_ids (origins t.slots q gained_ids) (owners_under t x) held
+    base2 = either (λ h. h.base ≡ held.base) (λ e. base1) (λ e. base1)
 
     pub writes2 : held2.writes ≡ held.writes + (length (keys_over lost_ids (owners_under t x)) + length (keys_over gained_ids (owners_under t x)) + length (relinked_list x row q))
     writes2 = by (same_object row.parent q)

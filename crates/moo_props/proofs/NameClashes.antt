@@ -1,66 +1,47 @@
 -- Clashes of names, by what each object defines itself.
-use Rattle.moo_props.proofs.Words.{◌≡◌, Bool, true, false, cond, ◌||◌, Some, List, [], ◌∷◌, Less, refl, sym, ap, ◌∙◌, is_some, nat_cmp_is, is_lt, int_eq, filter, list_any, AllByRecursion, get, entries, ObjNo, PropId, PropRow, defined_left, Maps, prop_cmp, is_past, clashes, subtree_of, Name, Pair, same_object, same_text, folded, defines_name, World, IsWellFormed, chain, names_of, defined_by, owed_by, pair_named, slot_of, IsSound, world_of, prop_id, any-append, any_map, meets_on}
+use Rattle.moo_props.proofs.Words.{◌≡◌, Bool, true, false, cond, ◌||◌, Some, List, [], ◌∷◌, Less, refl, sym, ap, ◌∙◌, is_some, nat_cmp_is, is_lt, int_eq, filter, list_any, AllByRecursion, get, entries, ObjNo, PropId, PropRow, defined_left, Maps, prop_cmp, is_past, clashes, subtree_of, Name, Property, same_object, same_text, folded, defines_name, World, IsWellFormed, chain, property_names_of, defined_by, defined_by_any, property_named, slot_of, IsSound, world_of, prop_id, any-append, any_map, meets_on}
+use Rattle.moo_props.proofs.Shared.{has_owed}
 use Rattle.std.specs.List.{find}
-use Rattle.moo_world.specs.ObjectLists.{meets}
+use Rattle.moo_world.specs.ObjectLists.{shares_property_name}
 use Rattle.moo_world.proofs.Shown.EntriesInOrder.{all_weaker}
 use Rattle.moo_props.proofs.DefinedNames.{names_listed}
-use Rattle.moo_props.proofs.Owing.{entries_held, has_owed}
-
--- ---- lists
-
-filter_all : {A : Type 0} (p : A → Bool) (l : List A) → AllByRecursion (λ a. p a ≡ true) l → filter p l ≡ l
-filter_all p [] h = refl
-filter_all p (x ∷ l) h = ap (λ b. cond b (x ∷ filter p l) (filter p l)) h.0 ∙ ap (λ r. x ∷ r) (filter_all p l h.1)
-
-found_any : {A : Type 0} (test : A → Bool) (l : List A) → is_some (find test l) ≡ list_any test l
-found_any test [] = refl
-found_any test (x ∷ l) = by (test x) (found_any test l)
-  where
-    by : (b : Bool) → is_some (find test l) ≡ list_any test l → is_some (cond b (Some x) (find test l)) ≡ (b || list_any test l)
-    by true r = refl
-    by false r = r
+use Rattle.moo_props.proofs.Walked.{found_any}
+use Rattle.moo_props.proofs.WholeWalks.{props_all}
 
 -- ---- what the objects of a list define
 
 module _ (w : World) where
   -- what passes of what is owed, object by object
-  pub any_owed_by : (test : Pair → Bool) (l : List ObjNo) → list_any test (owed_by w l) ≡ list_any (λ y. list_any (λ n. test (y, n)) (names_of w y)) l
+  pub any_owed_by : (test : Property → Bool) (l : List ObjNo) → list_any test (defined_by_any w l) ≡ list_any (λ y. list_any (λ n. test (y, n)) (property_names_of w y)) l
   any_owed_by test [] = refl
-  any_owed_by test (y ∷ l) = any-append test (defined_by w y) (owed_by w l) ∙ (λ i. any_map test (λ n. (y, n)) (names_of w y) i || any_owed_by test l i)
+  any_owed_by test (y ∷ l) = any-append test (defined_by w y) (defined_by_any w l) ∙ (λ i. any_map test (λ n. (y, n)) (property_names_of w y) i || any_owed_by test l i)
 
   -- one of them defines the name
-  pub any_defines : (l : List ObjNo) (n : Name) → list_any (λ y. defines_name w y n) l ≡ is_some (pair_named (owed_by w l) (folded n))
-  any_defines l n = sym (found_any (λ p. same_text (folded p.1) (folded n)) (owed_by w l) ∙ any_owed_by (λ p. same_text (folded p.1) (folded n)) l)
+  pub any_defines : (l : List ObjNo) (n : Name) → list_any (λ y. defines_name w y n) l ≡ is_some (property_named (defined_by_any w l) (folded n))
+  any_defines l n = sym (found_any (λ p. same_text (folded p.1) (folded n)) (defined_by_any w l) ∙ any_owed_by (λ p. same_text (folded p.1) (folded n)) l)
 
   -- one under x defines a name that new has
-  pub any_meets : (x new : ObjNo) → list_any (meets_on w new) (subtree_of w x) ≡ meets w x new
-  any_meets x new = sym (any_owed_by (λ p. is_some (pair_named (owed_by w (chain w new)) (folded p.1))) (subtree_of w x))
+  pub any_meets : (x new : ObjNo) → list_any (meets_on w new) (subtree_of w x) ≡ shares_property_name w x new
+  any_meets x new = sym (any_owed_by (λ p. is_some (property_named (defined_by_any w (chain w new)) (folded p.1))) (subtree_of w x))
 
   module _ (wf : IsWellFormed w) where
     -- x has the name by a slot, or one under x defines it
-    pub slot_or_under : (x : ObjNo) (n : Name) → (is_some (slot_of w x (folded n)) || is_some (pair_named (owed_by w (subtree_of w x)) (folded n))) ≡ clashes w x n
-    slot_or_under x n = ap (λ b. b || is_some (pair_named (owed_by w (subtree_of w x)) (folded n))) (has_owed w wf x (folded n))
+    pub slot_or_under : (x : ObjNo) (n : Name) → (is_some (slot_of w x (folded n)) || is_some (property_named (defined_by_any w (subtree_of w x)) (folded n))) ≡ clashes w x n
+    slot_or_under x n = ap (λ b. b || is_some (property_named (defined_by_any w (subtree_of w x)) (folded n))) (has_owed w wf x (folded n))
 
     -- y defines a name of a slot that new has
-    pub meets_by_slots : (new y : ObjNo) → list_any (λ m. is_some (slot_of w new (folded m))) (names_of w y) ≡ meets_on w new y
-    meets_by_slots new y = λ i. list_any (λ m. has_owed w wf new (folded m) i) (names_of w y)
+    pub meets_by_slots : (new y : ObjNo) → list_any (λ m. is_some (slot_of w new (folded m))) (property_names_of w y) ≡ meets_on w new y
+    meets_by_slots new y = λ i. list_any (λ m. has_owed w wf new (folded m) i) (property_names_of w y)
 
 -- ---- by the rows
 
 module _ (t : Maps) (sound : IsSound t) where
-  -- each number is past 0
-  past_zero : AllByRecursion (λ e. is_past prop_cmp (Some (prop_id 0)) e.0 ≡ true) (entries t.props)
-  past_zero = all_weaker (λ e. get t.props e.0 ≡ Some e.1) (λ e. is_past prop_cmp (Some (prop_id 0)) e.0 ≡ true) past (entries t.props) (entries_held t sound)
-    where
-      past : (e : PropId × PropRow) → get t.props e.0 ≡ Some e.1 → is_past prop_cmp (Some (prop_id 0)) e.0 ≡ true
-      past e h = ap is_lt (sym (nat_cmp_is 0 e.0.0 Less (sound.props_below e.0.0 (ap is_some h)).0))
-
   -- what the walk from 0 gives is all that y defines
   pub defined_left-all : (y : ObjNo) → defined_left y (prop_id 0) t ≡ filter (λ e. int_eq e.1.definer.0 y.0) (entries t.props)
-  defined_left-all y = ap (filter (λ e. int_eq e.1.definer.0 y.0)) (filter_all (λ e. is_past prop_cmp (Some (prop_id 0)) e.0) (entries t.props) past_zero)
+  defined_left-all y = ap (filter (λ e. int_eq e.1.definer.0 y.0)) (props_all t sound)
 
   -- a name that passes, by the rows
-  pub any_defined : (p : Name → Bool) (y : ObjNo) → list_any (λ e. p e.1.name) (defined_left y (prop_id 0) t) ≡ list_any p (names_of (world_of t) y)
+  pub any_defined : (p : Name → Bool) (y : ObjNo) → list_any (λ e. p e.1.name) (defined_left y (prop_id 0) t) ≡ list_any p (property_names_of (world_of t) y)
   unfolding same_object
   any_defined p y =
       ap (list_any (λ e. p e.1.name)) (defined_left-all y)

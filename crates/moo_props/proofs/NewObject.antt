@@ -1,36 +1,19 @@
 -- Rows with a new object show the world with that object, and are good ones.
-use Rattle.moo_props.proofs.Words.{◌≡◌, ℕ, Bool, true, false, ◌||◌, Option, None, Some, List, [], ◌∷◌, map, refl, sym, ap, ◌∙◌, subst, ◌⊎◌, inl, inr, pos, arith, is_some, unwrap_or, slice_get, ◌+ℤ◌, int_lt, if◌then◌else◌, option_map, option_and_then, filter_map, cons_option, list_any, false≢true, or_cases, ints, none-some, same_Some, ObjNo, ObjRow, PropRow, SlotRow, created, Name, Pair, nothing, same_object, same_text, same_pair, folded, same_object-Decides, World, Record, Slot, IsWellFormed, Chain, is_object, chain, owed_by, owner_of, pair_named, slot_of, fresh, with_slots, without_slots, numbers_to, read_in, read_along, read_of, LookUps, AreSound, numbers_below, name_on, slot_on, slot_seen, record_of, world_shown, named_owed, SameButSlots-rebuilt, same_world, no_slot, objects_same, is_object_seen, Chain-chain, chain_of_none, new_row, fresh_row, slots_shown}
+use Rattle.moo_props.proofs.Words.{◌≡◌, ℕ, Bool, true, false, ◌||◌, Option, None, Some, List, [], ◌∷◌, map, refl, sym, ap, ◌∙◌, subst, ◌⊎◌, inl, inr, pos, arith, is_some, unwrap_or, slice_get, ◌+ℤ◌, int_lt, if◌then◌else◌, option_map, option_and_then, filter_map, cons_option, list_any, false≢true, or_cases, ints, none-some, same_Some, ObjNo, ObjRow, PropRow, SlotRow, created, Name, Property, nothing, same_object, same_text, same_property, folded, same_object-Decides, World, WorldObject, Slot, IsWellFormed, Chain, is_object, chain, defined_by_any, owner_of, property_named, slot_of, fresh, with_slots, without_slots, numbers_to, read_in, read_along, read_of, LookUps, AreSound, numbers_below, name_on, slot_on, slot_seen, object_shown, world_shown, named_owed, SameButSlots-rebuilt, same_world, no_slot, objects_same, is_object_seen, Chain-chain, chain_of_none, new_row, fresh_row, slots_shown, false_from_ne_true, slice_get-map}
+use Rattle.moo_props.proofs.Shared.{changed, none_of, put_some, some_map}
 use Rattle.std.specs.Prelude.{◌<ℤ◌}
-use Rattle.moo_world.specs.Creation.{born, with_new_record, next_object}
+use Rattle.moo_world.specs.Creation.{plain_object, object_added, next_object}
 use Rattle.moo_world.specs.Arguments.{is_number}
-use Rattle.moo_world.specs.World.{owes, slot_for, SameButSlots, climb}
+use Rattle.moo_world.specs.World.{has_property, slot_for, SameButSlots, climb}
 use Rattle.moo_world.proofs.Inheritance.Creating.{IsWellFormed-created, chain_x, chain_other, owed_still, owed_x}
 use Rattle.moo_world.proofs.Inheritance.Rebuilding.{slot_of-rebuilt, parents_same}
 use Rattle.moo_world.proofs.Ancestry.Trees.{linked}
+use Rattle.moo_props.proofs.Cases.{none_map}
+use Rattle.moo_props.proofs.Numbers.{no_names, nothing_below}
 use Rattle.moo_props.proofs.NewSlots.{with_new}
-use Rattle.moo_world.proofs.Shown.Numbered.{first_from, no_first}
 use Rattle.moo_world.proofs.Shown.Slots.{here-slot_on}
 
 -- ---- lists
-
-nothing_below : {X : Type 0} (h : ℕ → Option X) (n : ℕ) → ((k : ℕ) (v : X) → h k ≡ Some v → ⊥) → filter_map h (numbers_below n) ≡ []
-nothing_below h n none = no_first (filter_map h (numbers_below n)) (by (slice_get (filter_map h (numbers_below n)) 0) refl)
-  where
-    by : (o : Option _) → slice_get (filter_map h (numbers_below n)) 0 ≡ o → o ≡ None
-    by None e = refl
-    by (Some v) e = let k = first_from h n v e in absurd (none k.0 v k.2)
-
-made_map : {X Y : Type 0} (f : X → Y) (h : ℕ → Option X) (l : List ℕ) → filter_map (λ id. option_map f (h id)) l ≡ map f (filter_map h l)
-made_map f h [] = refl
-made_map f h (id ∷ l) = by (h id) (made_map f h l)
-  where
-    by : (o : Option _) → filter_map (λ id. option_map f (h id)) l ≡ map f (filter_map h l) → cons_option (option_map f o) (filter_map (λ id. option_map f (h id)) l) ≡ map f (cons_option o (filter_map h l))
-    by None r = r
-    by (Some v) r = ap (λ k. f v ∷ k) r
-
-first_map : {X Y : Type 0} (f : X → Y) (l : List X) → slice_get (map f l) 0 ≡ option_map f (slice_get l 0)
-first_map f [] = refl
-first_map f (v ∷ l) = refl
 
 same_chain : (a b : World) → SameButSlots a b → (x : ObjNo) → chain a x ≡ chain b x
 unfolding chain
@@ -55,7 +38,7 @@ module _ (m : LookUps) (sound : AreSound m) (wf : IsWellFormed (world_shown m)) 
   m2 = with_new m x q owner
 
   abbrev s : World
-  s = with_new_record w x (born q owner)
+  s = object_added w x (plain_object q owner)
 
   -- ---- what the number says
 
@@ -67,37 +50,21 @@ module _ (m : LookUps) (sound : AreSound m) (wf : IsWellFormed (world_shown m)) 
       by false e h = absurd (none-some x h)
 
   free : is_object w x ≡ false
-  free = by (is_object w x) refl
-    where
-      by : (b : Bool) → is_object w x ≡ b → b ≡ false
-      by false e = refl
-      by true e = let h = wf.tree.numbers x e in let n = next_is.1 in absurd (omega (arith, ints, h.1, n))
+  free = false_from_ne_true (is_object w x) (λ e. let h = wf.tree.numbers x e in let n = next_is.1 in omega (arith, ints, h.1, n))
 
   parent_is : (is_object w q ≡ true) ⊎ (q ≡ nothing)
   parent_is = elim (or_cases _ _ parent) [ inl e ↦ inl e | inr e ↦ inr (sym ((same_object-Decides nothing q).0 e)) ]
 
   pub no_row : m.object x ≡ None
-  no_row = by (m.object x) refl
-    where
-      by : (o : Option ObjRow) → m.object x ≡ o → o ≡ None
-      by None e = refl
-      by (Some r) e = absurd (false≢true (sym free ∙ is_object_seen m x ∙ ap is_some e))
+  no_row = none_of (m.object x) (sym (is_object_seen m x) ∙ free)
 
   is_x : same_object x x ≡ true
   is_x = (same_object-Decides x x).1 refl
 
   -- ---- all but the slots
 
-  no_names : filter_map (name_on m x) (numbers_below m.head.next_prop) ≡ []
-  no_names = nothing_below (name_on m x) m.head.next_prop (λ id n e. by id n (m.prop id) refl e)
-    where
-      by : (id : ℕ) (n : Name) (o : Option PropRow) → m.prop id ≡ o → option_and_then (λ (p : PropRow). if same_object p.definer x then Some p.name else None) o ≡ Some n → ⊥
-      by id n None g e = none-some n e
-      by id n (Some p) g e = test (same_object p.definer x) refl e
-        where
-          test : (b : Bool) → same_object p.definer x ≡ b → (if b then Some p.name else None) ≡ Some n → ⊥
-          test false h k = none-some n k
-          test true h k = false≢true (ap is_some (sym no_row ∙ ap m.object (sym ((same_object-Decides p.definer x).0 h))) ∙ sound.definers id p g)
+  no_names_yet : filter_map (name_on m x) (numbers_below m.head.next_prop) ≡ []
+  no_names_yet = no_names m sound x no_row
 
   no_verbs : filter_map (m.verb x) (numbers_below m.head.next_verb) ≡ []
   no_verbs = nothing_below (m.verb x) m.head.next_verb (λ id v e. false≢true (ap is_some (sym no_row) ∙ (sound.verbs x id (ap is_some e)).0))
@@ -107,14 +74,14 @@ module _ (m : LookUps) (sound : AreSound m) (wf : IsWellFormed (world_shown m)) 
   links = λ i. record s { object = λ y. bare y (same_object x y) refl (m.object y) i }
     where
       bare : (y : ObjNo) (b : Bool) → same_object x y ≡ b → (o : Option ObjRow)
-          → option_map (with_slots (λ n. None)) (option_map (record_of m2 y) (if b then Some (new_row q owner) else o))
-          ≡ option_map (with_slots (λ n. None)) (if b then Some (born q owner) else option_map (record_of m y) o)
+          → option_map (with_slots (λ n. None)) (option_map (object_shown m2 y) (if b then Some (new_row q owner) else o))
+          ≡ option_map (with_slots (λ n. None)) (if b then Some (plain_object q owner) else option_map (object_shown m y) o)
       bare y false e None = refl
       bare y false e (Some r) = refl
       bare y true e o =
           let own : x ≡ y = (same_object-Decides x y).0 e in
-          subst (λ z. option_map (with_slots (λ n. None)) (Some (record_of m2 z (new_row q owner))) ≡ Some (born q owner)) own
-          (λ i. Some (record { row = new_row q owner; defines = no_names i; slot = λ n. None; verbs = no_verbs i }))
+          subst (λ z. option_map (with_slots (λ n. None)) (Some (object_shown m2 z (new_row q owner))) ≡ Some (plain_object q owner)) own
+          (λ i. Some (record { row = new_row q owner; defines = no_names_yet i; slot = λ n. None; verbs = no_verbs i }))
 
   -- ---- the slots of the new object
 
@@ -135,56 +102,47 @@ module _ (m : LookUps) (sound : AreSound m) (wf : IsWellFormed (world_shown m)) 
   slots_of_new : (n : Name) → slot_of (world_shown m2) x n ≡ option_map (fresh owner) (slot_of w q n)
   slots_of_new n =
       slots_shown m2 x n (new_row q owner) (ap (λ b. if b then Some (new_row q owner) else m.object x) is_x)
-      ∙ ap (λ (h : ℕ → Option Slot). slice_get (filter_map h (numbers_below m.head.next_prop)) 0) (λ i id. fresh_on n id i)
-      ∙ ap (λ l. slice_get l 0) (made_map (fresh owner) (slot_on m q n) (numbers_below m.head.next_prop))
-      ∙ first_map (fresh owner) (filter_map (slot_on m q n) (numbers_below m.head.next_prop))
+      ∙ ap (λ l. slice_get l 0) (changed (fresh owner) (slot_on m q n) (slot_on m2 x n) (numbers_below m.head.next_prop) (fresh_on n))
+      ∙ slice_get-map (fresh owner) (filter_map (slot_on m q n) (numbers_below m.head.next_prop)) 0
       ∙ ap (option_map (fresh owner)) (sym (shown_any m sound q n))
 
   -- every other object has its own
   slots_of_other : (y : ObjNo) (n : Name) → same_object x y ≡ false → slot_of (world_shown m2) y n ≡ slot_of w y n
   unfolding world_shown
-  slots_of_other y n e = ap (λ b. option_and_then (λ (r : Record). r.slot n) (option_map (record_of (record m { slot = λ z j. if b then option_map (fresh_row owner) (m.slot q j) else m.slot z j }) y) (if b then Some (new_row q owner) else m.object y))) e
+  slots_of_other y n e = ap (λ b. option_and_then (λ (r : WorldObject). r.slot n) (option_map (object_shown (record m { slot = λ z j. if b then option_map (fresh_row owner) (m.slot q j) else m.slot z j }) y) (if b then Some (new_row q owner) else m.object y))) e
 
   -- ---- the slots of the rebuilt world
 
-  owed_none : (n : Name) → pair_named (owed_by w (chain w q)) n ≡ None → slot_of w q n ≡ None
+  owed_none : (n : Name) → property_named (defined_by_any w (chain w q)) n ≡ None → slot_of w q n ≡ None
   owed_none n e = by (is_object w q) refl
     where
-      none : (o : Option Slot) → option_map (λ k. k.definer) o ≡ None → o ≡ None
-      none None h = refl
-      none (Some k) h = absurd (none-some k.definer (sym h))
-
       by : (b : Bool) → is_object w q ≡ b → slot_of w q n ≡ None
-      by true h = none (slot_of w q n) (wf.slots q (chain w q) n h (Chain-chain w wf.tree q h) ∙ ap (option_map (λ p. p.0)) e)
+      by true h = none_map (λ (k : Slot). k.definer) (slot_of w q n) (wf.slots q (chain w q) n h (Chain-chain w wf.tree q h) ∙ ap (option_map (λ p. p.0)) e)
       by false h = no_slot (w.object q) n h
 
   rebuilt_new : (n : Name) → slot_of (created w x q owner) x n ≡ option_map (fresh owner) (slot_of w q n)
   rebuilt_new n =
       slot_of-rebuilt w s q x n
-      ∙ ap (slot_for w s q x n) (ap (λ k. pair_named k n) (owed_still w x q owner wf free next_is.1 next_is.0 parent_is (chain s x) ∙ ap (owed_by w) (chain_x w x q owner wf free next_is.1 next_is.0 parent_is) ∙ owed_x w x q owner wf free next_is.1 next_is.0 parent_is))
-      ∙ by (pair_named (owed_by w (chain w q)) n) refl
+      ∙ ap (slot_for w s q x n) (ap (λ k. property_named k n) (owed_still w x q owner wf free next_is.1 next_is.0 parent_is (chain s x) ∙ ap (defined_by_any w) (chain_x w x q owner wf free next_is.1 next_is.0 parent_is) ∙ owed_x w x q owner wf free next_is.1 next_is.0 parent_is))
+      ∙ by (property_named (defined_by_any w (chain w q)) n) refl
     where
-      not_owed : (p : Pair) → owes w x p ≡ false
-      not_owed p = ap (λ l. list_any (same_pair p) (owed_by w l)) (chain_of_none w x free)
+      not_owed : (p : Property) → has_property w x p ≡ false
+      not_owed p = ap (λ l. list_any (same_property p) (defined_by_any w l)) (chain_of_none w x free)
 
-      by : (o : Option Pair) → pair_named (owed_by w (chain w q)) n ≡ o → slot_for w s q x n o ≡ option_map (fresh owner) (slot_of w q n)
+      by : (o : Option Property) → property_named (defined_by_any w (chain w q)) n ≡ o → slot_for w s q x n o ≡ option_map (fresh owner) (slot_of w q n)
       by None e = sym (ap (option_map (fresh owner)) (owed_none n e))
       by (Some p) e =
           ap (λ b. if b then slot_of w x n else option_map (fresh (owner_of s x)) (slot_of w q n)) (not_owed p)
-          ∙ ap (λ b. option_map (fresh (unwrap_or (option_map (λ (r : Record). r.row.owner) (if b then Some (born q owner) else w.object x)) nothing)) (slot_of w q n)) is_x
+          ∙ ap (λ b. option_map (fresh (unwrap_or (option_map (λ (r : WorldObject). r.row.owner) (if b then Some (plain_object q owner) else w.object x)) nothing)) (slot_of w q n)) is_x
 
   rebuilt_other : (y : ObjNo) (n : Name) → is_object w y ≡ true → slot_of (created w x q owner) y n ≡ slot_of w y n
   rebuilt_other y n o =
       slot_of-rebuilt w s q y n
-      ∙ ap (slot_for w s q y n) (ap (λ k. pair_named k n) (owed_still w x q owner wf free next_is.1 next_is.0 parent_is (chain s y) ∙ ap (owed_by w) (chain_other w x q owner wf free next_is.1 next_is.0 parent_is y o)))
-      ∙ by (pair_named (owed_by w (chain w y)) n) refl
+      ∙ ap (slot_for w s q y n) (ap (λ k. property_named k n) (owed_still w x q owner wf free next_is.1 next_is.0 parent_is (chain s y) ∙ ap (defined_by_any w) (chain_other w x q owner wf free next_is.1 next_is.0 parent_is y o)))
+      ∙ by (property_named (defined_by_any w (chain w y)) n) refl
     where
-      none : (v : Option Slot) → option_map (λ k. k.definer) v ≡ None → None ≡ v
-      none None h = refl
-      none (Some k) h = absurd (none-some k.definer (sym h))
-
-      by : (v : Option Pair) → pair_named (owed_by w (chain w y)) n ≡ v → slot_for w s q y n v ≡ slot_of w y n
-      by None e = none (slot_of w y n) (wf.slots y (chain w y) n o (Chain-chain w wf.tree y o) ∙ ap (option_map (λ p. p.0)) e)
+      by : (v : Option Property) → property_named (defined_by_any w (chain w y)) n ≡ v → slot_for w s q y n v ≡ slot_of w y n
+      by None e = sym (none_map (λ (k : Slot). k.definer) (slot_of w y n) (wf.slots y (chain w y) n o (Chain-chain w wf.tree y o) ∙ ap (option_map (λ p. p.0)) e))
       by (Some p) e = ap (λ b. if b then slot_of w y n else option_map (fresh (owner_of s y)) (slot_of w q n)) (named_owed w (chain w y) n p e)
 
   same_slots : (y : ObjNo) (n : Name) → slot_of (world_shown m2) y n ≡ slot_of (created w x q owner) y n
@@ -194,7 +152,7 @@ module _ (m : LookUps) (sound : AreSound m) (wf : IsWellFormed (world_shown m)) 
       by true e o h = subst (λ z. slot_of (world_shown m2) z n ≡ slot_of (created w x q owner) z n) ((same_object-Decides x y).0 e) (slots_of_new n ∙ sym (rebuilt_new n))
       by false e true h = slots_of_other y n e ∙ sym (rebuilt_other y n h)
       by false e false h =
-          let none : is_object s y ≡ false = ap (λ b. is_some (if b then Some (born q owner) else w.object y)) e ∙ h in
+          let none : is_object s y ≡ false = ap (λ b. is_some (if b then Some (plain_object q owner) else w.object y)) e ∙ h in
           slots_of_other y n e ∙ no_slot (w.object y) n h
           ∙ sym (no_slot ((created w x q owner).object y) n (objects_same (created w x q owner) s (SameButSlots-rebuilt w s q) y ∙ none))
 
@@ -207,15 +165,10 @@ module _ (m : LookUps) (sound : AreSound m) (wf : IsWellFormed (world_shown m)) 
   -- ---- the rows are sound
 
   still : (y : ObjNo) → is_some (m.object y) ≡ true → is_some (m2.object y) ≡ true
-  still y e = by (same_object x y)
-    where
-      by : (b : Bool) → is_some (if b then Some (new_row q owner) else m.object y) ≡ true
-      by true = refl
-      by false = e
+  still y e = put_some (same_object x y) (new_row q owner) (m.object y) e
 
   from_parent : (o : Option SlotRow) → is_some (option_map (fresh_row owner) o) ≡ true → is_some o ≡ true
-  from_parent None e = e
-  from_parent (Some r) e = refl
+  from_parent o e = sym (some_map (fresh_row owner) o) ∙ e
 
   rows_of : (y : ObjNo) (id : ℕ) → is_some (m2.slot y id) ≡ true → (is_some (m2.object y) ≡ true) × (is_some (m.prop id) ≡ true)
   rows_of y id = by (same_object x y) refl

@@ -1,11 +1,10 @@
 -- Rows with a new property show the world with it, and are sound.
-use Rattle.moo_props.proofs.Words.{◌≡◌, ℕ, zero, suc, ◌+◌, ◌<◌, Bool, true, false, eqb, Option, None, Some, List, [], ◌∷◌, ◌++◌, refl, sym, ap, ◌∙◌, subst, arith, ◌&&◌, is_some, unwrap_or, slice_get, if◌then◌else◌, option_map, option_and_then, option_or, filter_map, cons_option, false≢true, eqb-true, eq-eqb, filter_map-append, none-some, same_Some, ObjNo, Value, ObjRow, PropRow, SlotRow, Set, clashes, defined, Name, nothing, same_object, same_text, folded, is_among, same_object-Decides, same_text-Decides, World, Record, Slot, IsWellFormed, is_object, is_property_name, chain, owner_of, slot_of, names_of, fresh, slot_fits, LookUps, AreSound, numbers_below, name_on, slot_on, slot_seen, record_of, world_shown, names_shown, slot_shown, is_object_seen, object_seen, Chain-chain, chain_of_none, fresh_of, some_of, slots_shown}
+use Rattle.moo_props.proofs.Words.{◌≡◌, ℕ, zero, suc, ◌+◌, ◌<◌, Bool, true, false, eqb, Option, None, Some, List, [], ◌∷◌, ◌++◌, refl, sym, ap, ◌∙◌, subst, arith, ◌&&◌, is_some, unwrap_or, slice_get, if◌then◌else◌, option_map, option_and_then, option_or, filter_map, cons_option, false≢true, eqb-true, eq-eqb, filter_map-append, none-some, same_Some, ObjNo, Value, ObjRow, PropRow, SlotRow, Set, clashes, property_added, Name, nothing, same_object, same_text, folded, is_among, same_object-Decides, same_text-Decides, World, WorldObject, Slot, IsWellFormed, is_object, is_property_name, chain, owner_of, slot_of, property_names_of, fresh, slot_fits, LookUps, AreSound, numbers_below, name_on, slot_on, slot_seen, object_shown, world_shown, names_shown, slot_shown, is_object_seen, object_seen, Chain-chain, chain_of_none, fresh_of, some_of, slots_shown, ne_eqb, false_from_ne_true}
+use Rattle.moo_props.proofs.Shared.{has_owed, no_value, none_of, object_of_chain, put_some, same_below, seen_at}
 use Rattle.std.proofs.Common.{add-one}
-use Rattle.std.proofs.lemmas.Bool.{ne_eqb}
 use Rattle.moo_rows.specs.declared.row.Bits.{Bits}
 use Rattle.moo_world.proofs.Shown.RowLaws.{with_prop, names_with_prop, other_names_with_prop}
-use Rattle.moo_world.proofs.Inheritance.Insertion.{IsWellFormed-defined, none_owed}
-use Rattle.moo_props.proofs.Owing.{has_owed}
+use Rattle.moo_world.proofs.Inheritance.Insertion.{IsWellFormed-property_added, none_owed}
 
 -- the look-ups with a property of the next number: on x its slot, on each descendant a fresh one
 abbrev pub with_property : LookUps → ObjNo → Name → SlotRow → LookUps
@@ -13,13 +12,6 @@ with_property m x name row =
     record (with_prop m (record { definer = x; name = name })) {
       slot = λ y j. if eqb j m.head.next_prop && is_among x (chain (world_shown m) y) then Some (if same_object x y then row else fresh_of (owner_of (world_shown m) y) (record { id = record { 0 = m.head.next_prop }; owner = row.owner; bits = row.bits })) else m.slot y j;
     }
-
-pub same_below : {X : Type 0} (h g : ℕ → Option X) (n : ℕ) → ((j : ℕ) → j < n → h j ≡ g j) → filter_map h (numbers_below n) ≡ filter_map g (numbers_below n)
-same_below h g zero e = refl
-same_below h g (suc n) e =
-    filter_map-append h (numbers_below n) (n ∷ [])
-    ∙ (λ i. same_below h g n (λ j l. e j (omega arith)) i ++ cons_option (e n (omega arith) i) [])
-    ∙ sym (filter_map-append g (numbers_below n) (n ∷ []))
 
 module _ (m : LookUps) (sound : AreSound m) (wf : IsWellFormed (world_shown m)) (x : ObjNo) (name : Name) (owner : ObjNo) (bits : Bits) (value : Value) (xo : is_object (world_shown m) x ≡ true) (free : clashes (world_shown m) x name ≡ false) where
   abbrev w : World
@@ -56,18 +48,10 @@ module _ (m : LookUps) (sound : AreSound m) (wf : IsWellFormed (world_shown m)) 
   -- ---- no slot is of the next number yet
 
   no_prop : m.prop next ≡ None
-  no_prop = by (m.prop next) refl
-    where
-      by : (o : Option PropRow) → m.prop next ≡ o → o ≡ None
-      by None e = refl
-      by (Some p) e = let l = (sound.props_below next (ap is_some e)).1 in absurd (omega arith)
+  no_prop = no_value (m.prop next) (λ p e. let l = (sound.props_below next (ap is_some e)).1 in omega arith)
 
   no_slot : (y : ObjNo) → m.slot y next ≡ None
-  no_slot y = by (m.slot y next) refl
-    where
-      by : (o : Option SlotRow) → m.slot y next ≡ o → o ≡ None
-      by None e = refl
-      by (Some k) e = absurd (false≢true (ap is_some (sym no_prop) ∙ (sound.slots y next (ap is_some e)).1))
+  no_slot y = no_value (m.slot y next) (λ k e. false≢true (ap is_some (sym no_prop) ∙ (sound.slots y next (ap is_some e)).1))
 
   is_next : eqb next next ≡ true
   is_next = eq-eqb next next refl
@@ -80,13 +64,13 @@ module _ (m : LookUps) (sound : AreSound m) (wf : IsWellFormed (world_shown m)) 
   names : (y : ObjNo) (r : ObjRow) → m.object y ≡ Some r → filter_map (name_on m2 y) (numbers_below (next + 1)) ≡ (if same_object x y then filter_map (name_on m y) (numbers_below next) ++ name ∷ [] else filter_map (name_on m y) (numbers_below next))
   names y r e = by (same_object x y) refl
     where
-      after : names_of (world_shown (with_prop m prop)) y ≡ filter_map (name_on m2 y) (numbers_below (next + 1))
+      after : property_names_of (world_shown (with_prop m prop)) y ≡ filter_map (name_on m2 y) (numbers_below (next + 1))
       after = names_shown (with_prop m prop) y r e
 
       by : (b : Bool) → same_object x y ≡ b → filter_map (name_on m2 y) (numbers_below (next + 1)) ≡ (if b then filter_map (name_on m y) (numbers_below next) ++ name ∷ [] else filter_map (name_on m y) (numbers_below next))
       by true f =
           sym after
-          ∙ subst (λ z. m.object z ≡ Some r → names_of (world_shown (with_prop m prop)) z ≡ names_of (world_shown m) z ++ name ∷ []) ((same_object-Decides x y).0 f) (λ g. names_with_prop m prop r g) e
+          ∙ subst (λ z. m.object z ≡ Some r → property_names_of (world_shown (with_prop m prop)) z ≡ property_names_of (world_shown m) z ++ name ∷ []) ((same_object-Decides x y).0 f) (λ g. names_with_prop m prop r g) e
           ∙ ap (λ l. l ++ name ∷ []) (names_shown m y r e)
       by false f = sym after ∙ other_names_with_prop m prop y r e f ∙ names_shown m y r e
 
@@ -125,11 +109,7 @@ module _ (m : LookUps) (sound : AreSound m) (wf : IsWellFormed (world_shown m)) 
   none_yet : (y : ObjNo) (r : ObjRow) → m.object y ≡ Some r → under y ≡ true → old y (folded name) ≡ None
   none_yet y r e u =
       let yo : is_object w y ≡ true = is_object_seen m y ∙ ap is_some e in
-      none (old y (folded name)) (ap is_some (sym (slots_shown m y (folded name) r e)) ∙ has_owed w wf y (folded name) ∙ ap is_some (none_owed w wf x name s xo free y (chain w y) (Chain-chain w wf.tree y yo) u))
-    where
-      none : (o : Option Slot) → is_some o ≡ false → o ≡ None
-      none None h = refl
-      none (Some k) h = absurd (false≢true (sym h))
+      none_of (old y (folded name)) (ap is_some (sym (slots_shown m y (folded name) r e)) ∙ has_owed w wf y (folded name) ∙ ap is_some (none_owed w wf x name s xo free y (chain w y) (Chain-chain w wf.tree y yo) u))
 
   seen : (y : ObjNo) (o : ObjNo) (b : Bool) → slot_seen x (if b then row else fresh_of o (record { id = record { 0 = next }; owner = owner; bits = bits })) ≡ (if b then s else fresh o s)
   seen y o true = refl
@@ -139,7 +119,7 @@ module _ (m : LookUps) (sound : AreSound m) (wf : IsWellFormed (world_shown m)) 
   slots y r e n = all_slots y n ∙ by (under y) refl (same_text (folded name) n) refl
     where
       owner_is : owner_of w y ≡ r.owner
-      owner_is = ap (λ o. unwrap_or (option_map (λ (k : Record). k.row.owner) o) nothing) (object_seen m y r e)
+      owner_is = ap (λ o. unwrap_or (option_map (λ (k : WorldObject). k.row.owner) o) nothing) (object_seen m y r e)
 
       by : (u : Bool) → under y ≡ u → (b : Bool) → same_text (folded name) n ≡ b → option_or (old y n) (if b then option_map (slot_seen x) (if u then Some (made y) else None) else None) ≡ (if u then (if b then Some (if same_object x y then s else fresh r.owner s) else old y n) else old y n)
       by false u true f = or_none (old y n)
@@ -151,38 +131,27 @@ module _ (m : LookUps) (sound : AreSound m) (wf : IsWellFormed (world_shown m)) 
 
   -- ---- the world
 
-  pub world_with : world_shown m2 ≡ defined w x name s
+  pub world_with : world_shown m2 ≡ property_added w x name s
   unfolding world_shown
   world_with = λ i. record { object = λ y. at y (m.object y) refl i; top = m.head.top; next_prop = next + 1; next_verb = m.head.next_verb }
     where
-      at : (y : ObjNo) (o : Option ObjRow) → m.object y ≡ o → option_map (record_of m2 y) o ≡ option_map (λ (r : Record). record r {
+      at : (y : ObjNo) (o : Option ObjRow) → m.object y ≡ o → option_map (object_shown m2 y) o ≡ option_map (λ (r : WorldObject). record r {
         defines = if same_object x y then r.defines ++ name ∷ [] else r.defines;
         slot = λ n. if is_among x (chain (world_shown m) y) then (if same_text (folded name) n then Some (if same_object x y then s else fresh r.row.owner s) else r.slot n) else r.slot n;
-      }) (option_map (record_of m y) o)
+      }) (option_map (object_shown m y) o)
       at y None e = refl
-      at y (Some r) e = λ i. Some (record (record_of m2 y r) { defines = names y r e i; slot = λ n. slots y r e n i })
+      at y (Some r) e = λ i. Some (record (object_shown m2 y r) { defines = names y r e i; slot = λ n. slots y r e n i })
 
-  pub formed_with : is_property_name name ≡ true → next < 4294967295 → slot_fits s ≡ true → IsWellFormed (defined w x name s)
-  formed_with n l f = IsWellFormed-defined w wf x name s xo free refl (λ c. absurd (cc)) n (subst (λ k. k < 4294967295) (sym counter) l) f
+  pub formed_with : is_property_name name ≡ true → next < 4294967295 → slot_fits s ≡ true → IsWellFormed (property_added w x name s)
+  formed_with n l f = IsWellFormed-property_added w wf x name s xo free refl (λ c. absurd (cc)) n (subst (λ k. k < 4294967295) (sym counter) l) f
 
   -- ---- the rows are sound
 
   x_there : is_some (m.object x) ≡ true
   x_there = ap is_some x_row.1
 
-  prop_still : (j : ℕ) → is_some (m.prop j) ≡ true → is_some (m2.prop j) ≡ true
-  prop_still j e = by (eqb j next)
-    where
-      by : (b : Bool) → is_some (if b then Some prop else m.prop j) ≡ true
-      by true = refl
-      by false = e
-
   there : (y : ObjNo) → under y ≡ true → is_some (m.object y) ≡ true
-  there y u = by (m.object y) refl
-    where
-      by : (o : Option ObjRow) → m.object y ≡ o → is_some o ≡ true
-      by (Some r) e = refl
-      by None e = absurd (false≢true (sym (ap (is_among x) (chain_of_none w y (is_object_seen m y ∙ ap is_some e))) ∙ u))
+  there y u = sym (is_object_seen m y) ∙ object_of_chain w x y u
 
   -- a slot is of the new property, or was there
   data Origin (y : ObjNo) (j : ℕ) : Type 0 where
@@ -199,15 +168,13 @@ module _ (m : LookUps) (sound : AreSound m) (wf : IsWellFormed (world_shown m)) 
 
   rows_of : (y : ObjNo) (j : ℕ) → Origin y j → (is_some (m.object y) ≡ true) × (is_some (m2.prop j) ≡ true)
   rows_of y j (new e u) = (there y u, ap (λ k. is_some (if eqb k next then Some prop else m.prop k)) e ∙ ap (λ b. is_some (if b then Some prop else m.prop next)) is_next)
-  rows_of y j (before_it h) = let r = sound.slots y j h in (r.0, prop_still j r.1)
+  rows_of y j (before_it h) = let r = sound.slots y j h in (r.0, put_some (eqb j next) prop (m.prop j) r.1)
 
   -- the property of an old slot is an old one
   old_prop : (y : ObjNo) (j : ℕ) (p : PropRow) → is_some (m.slot y j) ≡ true → m2.prop j ≡ Some p → m.prop j ≡ Some p
-  old_prop y j p h = by (eqb j next) refl
-    where
-      by : (b : Bool) → eqb j next ≡ b → (if b then Some prop else m.prop j) ≡ Some p → m.prop j ≡ Some p
-      by false e f = f
-      by true e f = absurd (false≢true (ap is_some (sym (no_slot y)) ∙ ap (λ k. is_some (m.slot y k)) (sym (eqb-true j next e)) ∙ h))
+  old_prop y j p h f =
+      let other = false_from_ne_true (eqb j next) (λ e. false≢true (ap is_some (sym (no_slot y)) ∙ ap (λ k. is_some (m.slot y k)) (sym (eqb-true j next e)) ∙ h)) in
+      sym (ap (λ b. if b then Some prop else m.prop j) other) ∙ f
 
   new_prop : (j : ℕ) (p : PropRow) → j ≡ next → m2.prop j ≡ Some p → prop ≡ p
   new_prop j p e f = same_Some prop p (sym (ap (λ k. if eqb k next then Some prop else m.prop k) e ∙ ap (λ b. if b then Some prop else m.prop next) is_next) ∙ f)
@@ -216,8 +183,8 @@ module _ (m : LookUps) (sound : AreSound m) (wf : IsWellFormed (world_shown m)) 
   clash y j r u h e n =
       let k = some_of (m.slot y j) h in
       let o = some_of (m.object y) (sound.slots y j h).0 in
-      let found = slot_shown m sound y o.0 o.1 j r k.0 e k.1 in
-      none-some (slot_seen r.definer k.0) (sym (none_yet y o.0 o.1 u) ∙ sym (slots_shown m y (folded name) o.0 o.1) ∙ ap (slot_of w y) n ∙ found)
+      let found = seen_at m sound y (folded name) j (record { prop = r; row = k.0; there = e; held = k.1; name = sym n }) in
+      none-some (slot_seen r.definer k.0) (sym (none_yet y o.0 o.1 u) ∙ sym (slots_shown m y (folded name) o.0 o.1) ∙ found)
 
   one_name : (y : ObjNo) (i j : ℕ) (p r : PropRow) → Origin y i → Origin y j → m2.prop i ≡ Some p → m2.prop j ≡ Some r → folded p.name ≡ folded r.name → i ≡ j
   one_name y i j p r (new e u) (new f v) g h n = e ∙ sym f

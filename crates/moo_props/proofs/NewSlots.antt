@@ -1,8 +1,7 @@
 -- The rows once a new object has its slots.
 use Rattle.moo_props.proofs.Words.{◌≡◌, Bool, true, false, cond, Option, None, Some, List, [], ◌∷◌, map, refl, sym, ap, ◌∙◌, ◌&&◌, is_some, if◌then◌else◌, option_map, int_eq, cons_option, AllByRecursion, get, insert, get-insert, false≢true, Decides-int_eq, ObjNo, PropId, SlotRow, Maps, Held, object_total, same_object, same_object-Decides, LookUps, IsSound, look_ups, prop_id, object_key, Origin, new_row, with_new_row, origins_among, origin_of, origins, fresh_of, slot_put, with_fresh, fresh_row, any_map}
-use Rattle.moo_props.proofs.Folding.{is_id, has_id, is_id-Decides, slot_at-fresh, fresh_in, fresh_in-origins}
-use Rattle.moo_props.proofs.Moved.{only-fresh}
-use Rattle.moo_props.proofs.Walked.{Entry, walk, walk_held, walk_meets}
+use Rattle.moo_props.proofs.Shared.{Entry, has_id, is_id, is_id-Decides, keeps-fresh, no_value, same_maps, walk, walk_held, walk_meets}
+use Rattle.moo_props.proofs.Folding.{slot_at-fresh, fresh_in, fresh_in-origins}
 
 -- ---- the origins that the walk gives are those of the properties of q
 
@@ -43,11 +42,7 @@ module _ (t : Maps) (sound : IsSound t) (x q owner : ObjNo) (free : get t.object
   held2 = with_fresh x owner (origins_among (walk t q)) held1
 
   no_slots : (j : PropId) → get t.slots (x, j) ≡ None
-  no_slots j = by (get t.slots (x, j)) refl
-    where
-      by : (o : Option SlotRow) → get t.slots (x, j) ≡ o → o ≡ None
-      by None e = refl
-      by (Some s) e = absurd (false≢true (ap is_some (sym free) ∙ (sound.slots x j.0 (ap is_some e)).0))
+  no_slots j = no_value (get t.slots (x, j)) (λ s e. false≢true (ap is_some (sym free) ∙ (sound.slots x j.0 (ap is_some e)).0))
 
   slots2 : (z : ObjNo) (j : PropId) → get held2.maps.slots (z, j) ≡ (if same_object x z then option_map (fresh_row owner) (get t.slots (q, j)) else get t.slots (z, j))
   slots2 z j =
@@ -71,7 +66,7 @@ module _ (t : Maps) (sound : IsSound t) (x q owner : ObjNo) (free : get t.object
           ∙ all_here (get t.slots (q, j)) refl
 
   only2 : held2.maps ≡ record t { head = record (t.head) { top = x.0 }; objects = insert t.objects x (new_row q owner); slots = held2.maps.slots }
-  only2 = only-fresh x owner (origins_among (walk t q)) held1 ∙ ap (λ (z : Maps). record z { head = record (z.head) { top = x.0 }; objects = insert z.objects x (new_row q owner); slots = held2.maps.slots }) at
+  only2 = same_maps (keeps-fresh x owner (origins_among (walk t q)) held1) held2.maps.slots ∙ ap (λ (z : Maps). record z { head = record (z.head) { top = x.0 }; objects = insert z.objects x (new_row q owner); slots = held2.maps.slots }) at
 
   pub look_ups-new : look_ups held2.maps ≡ with_new (look_ups t) x q owner
   look_ups-new =
@@ -81,8 +76,3 @@ module _ (t : Maps) (sound : IsSound t) (x q owner : ObjNo) (free : get t.object
         object = λ y. (get-insert object_total t.objects x (new_row q owner) y ∙ ap (λ b. cond b (Some (new_row q owner)) (get t.objects y)) (object_key x y)) i;
         slot = λ y j. slots2 y (prop_id j) i;
       })
-
--- what the new slots leave
-pub head-fresh : (y owner : ObjNo) (os : List Origin) (held : Held) → (with_fresh y owner os held).maps.head ≡ held.maps.head
-head-fresh y owner [] held = refl
-head-fresh y owner (o ∷ os) held = head-fresh y owner os (slot_put y o.id (fresh_of owner o) held)

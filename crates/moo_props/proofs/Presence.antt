@@ -1,11 +1,11 @@
 -- Removed keys had rows and have none, added ones had none and have rows.
-use Rattle.moo_props.proofs.Words.{◌≡◌, Bool, true, false, not, Option, None, Some, List, [], ◌∷◌, ◌++◌, refl, sym, ap, ◌∙◌, is_some, if◌then◌else◌, option_map, AllByRecursion, FinMap, get, entries, get-entries, entries_sorted, false≢true, and_parts, both_ways, ObjNo, PropId, PropRow, SlotRow, Maps, object_cmp, prop_cmp, slot_cmp, object_exact, prop_exact, object_total, prop_total, folded, is_among, World, Slot, is_object, chain, owner_of, IsSound, world_of, MayReparent, ancestors, lost, gained, chain_of_none, owners_under, props_of, is_defined_among, slot_after, removed_keys, added_keys, ArePresent, AreAbsent, keys_on, keys_over, fresh_row, own_entries, all_made}
+use Rattle.moo_props.proofs.Words.{◌≡◌, Bool, true, false, not, Option, None, Some, List, [], ◌∷◌, ◌++◌, refl, sym, ap, ◌∙◌, is_some, if◌then◌else◌, option_map, AllByRecursion, FinMap, get, entries, get-entries, entries_sorted, false≢true, and_parts, both_ways, ObjNo, PropId, PropRow, SlotRow, Maps, object_cmp, prop_cmp, slot_cmp, object_exact, prop_exact, object_total, prop_total, folded, is_among, World, Slot, is_object, chain, owner_of, IsSound, world_of, MayReparent, ancestors, lost, gained, chain_of_none, owners_under, props_of, is_defined_among, slot_after, removed_keys, added_keys, ArePresent, AreAbsent, keys_on, keys_over, fresh_row, own_entries, all_made, false_from_ne_true, not-true}
+use Rattle.moo_props.proofs.Shared.{new_is, no_clash, no_value, object_of_chain, slot_on_heir, some_map}
 use Rattle.std.specs.FinMap.{find}
-use Rattle.std.proofs.lemmas.Bool.{false_from_ne_true}
 use Rattle.moo_world.proofs.Inheritance.ManualLaw.{chain_y}
 use Rattle.moo_world.proofs.Inheritance.Owed.{is_among-right}
-use Rattle.moo_props.proofs.Definers.{new_is, no_clash, only_lost, only_gained}
-use Rattle.moo_props.proofs.Gains.{object_row, slot_on_heir, slot_on_new}
+use Rattle.moo_props.proofs.Definers.{only_lost, only_gained}
+use Rattle.moo_props.proofs.Gains.{slot_on_new}
 use Rattle.moo_props.proofs.After.{slot_is, tests, gained_named, no_both}
 
 all_keys : (P : ObjNo × PropId → Type 0) (good : ObjNo → Type 0) (right : PropId → Type 0) → ((y : ObjNo) (id : PropId) → good y → right id → P (y, id)) → (ids : List PropId) → AllByRecursion right ids → (es : List (ObjNo × ObjNo)) → AllByRecursion (λ e. good e.0) es → AllByRecursion P (keys_over ids es)
@@ -38,21 +38,13 @@ module _ (t : Maps) (sound : IsSound t) (x q : ObjNo) (may : MayReparent (world_
   over P definers h = all_keys P (λ y. is_among x (chain w y) ≡ true) (IsOf definers) h (props_of definers t.props) (all_of definers) (owners_under t x) all_under
 
   there : (y : ObjNo) → is_among x (chain w y) ≡ true → is_object w y ≡ true
-  there y u = by (is_object w y) refl
-    where
-      by : (b : Bool) → is_object w y ≡ b → b ≡ true
-      by true e = refl
-      by false e = absurd (false≢true (sym (ap (is_among x) (chain_of_none w y e)) ∙ u))
-
-  untrue : (b : Bool) → not b ≡ true → b ≡ false
-  untrue true e = sym e
-  untrue false e = refl
+  there y u = object_of_chain w x y u
 
   lost_above : (d : ObjNo) → is_among d (lost w x q) ≡ true → is_among d (ancestors w x) ≡ true
   lost_above d h = (and_parts _ _ (only_lost w x q may d ∙ h)).0
 
   gained_apart : (d : ObjNo) → is_among d (gained w x q) ≡ true → is_among d (ancestors w x) ≡ false
-  gained_apart d h = untrue _ (and_parts (is_among d (chain w q)) _ (only_gained w x q may d ∙ h)).1
+  gained_apart d h = not-true _ (and_parts (is_among d (chain w q)) _ (only_gained w x q may d ∙ h)).1
 
   never_both : (d : ObjNo) → is_among d (lost w x q) ≡ true → is_among d (gained w x q) ≡ false
   never_both d h = false_from_ne_true (is_among d (gained w x q)) (λ g. both_ways (is_among d (ancestors w x)) (gained_apart d g) (lost_above d h))
@@ -64,16 +56,14 @@ module _ (t : Maps) (sound : IsSound t) (x q : ObjNo) (may : MayReparent (world_
       ∙ is_among-right p.0.definer _ (ancestors w x) (lost_above p.0.definer p.2)))
 
   pub added_had : AreAbsent t.slots (added_keys t x q)
-  added_had = over (λ key. get t.slots key ≡ None) (gained w x q) (λ y id u p. by y id u p (get t.slots (y, id)) refl)
+  added_had = over (λ key. get t.slots key ≡ None) (gained w x q) (λ y id u p. no_value (get t.slots (y, id)) (has_none y id u p))
     where
-      by : (y : ObjNo) (id : PropId) → is_among x (chain w y) ≡ true → (p : IsOf (gained w x q) id) → (o : Option SlotRow) → get t.slots (y, id) ≡ o → o ≡ None
-      by y id u p None e = refl
-      by y id u p (Some s) e =
-          let row = object_row t sound y (there y u) in
+      has_none : (y : ObjNo) (id : PropId) → is_among x (chain w y) ≡ true → (p : IsOf (gained w x q) id) → (s : SlotRow) → get t.slots (y, id) ≡ Some s → ⊥
+      has_none y id u p s e =
           let named = gained_named t sound x q may (folded p.0.name) id.0 p.0 p.1 refl p.2 in
-          let seen = slot_is t sound x q may y (folded p.0.name) row.0 row.1 id.0 (record { prop = p.0; row = s; there = p.1; held = e; name = refl }) in
-          absurd (no_both t sound x q may y (there y u) u (folded p.0.name) p.0.definer named.0 (ap (option_map (λ (z : Slot). z.definer)) seen)
-          (false_from_ne_true _ (λ l. both_ways (is_among p.0.definer (gained w x q)) (never_both p.0.definer l) p.2)) named.1)
+          let seen = slot_is t sound x q may y (folded p.0.name) id.0 (record { prop = p.0; row = s; there = p.1; held = e; name = refl }) in
+          no_both t sound x q may y (there y u) u (folded p.0.name) p.0.definer named.0 (ap (option_map (λ (z : Slot). z.definer)) seen)
+          (false_from_ne_true _ (λ l. both_ways (is_among p.0.definer (gained w x q)) (never_both p.0.definer l) p.2)) named.1
 
   module _ (S : FinMap slot_cmp SlotRow) (slots : (key : ObjNo × PropId) → get S key ≡ slot_after t x q key) where
     settle : Bool → Bool → Bool → Option SlotRow → Option SlotRow → Option SlotRow
@@ -90,8 +80,4 @@ module _ (t : Maps) (sound : IsSound t) (x q : ObjNo) (may : MayReparent (world_
     added_there = over (λ key. is_some (get S key) ≡ true) (gained w x q) (λ y id u p.
         ap is_some (slots (y, id)
         ∙ (λ i. settle (u i) ((tests t sound x q may (gained w x q) id.0 p.0 p.1 ∙ p.2) i) (is_defined_among (lost w x q) t id) (option_map (fresh_row (owner_of w y)) (get t.slots (q, id))) (get t.slots (y, id))))
-        ∙ some_map (fresh_row (owner_of w y)) (get t.slots (q, id)) (slot_on_new t sound x q may id.0 p.0 p.1 p.2))
-      where
-        some_map : (f : SlotRow → SlotRow) (o : Option SlotRow) → is_some o ≡ true → is_some (option_map f o) ≡ true
-        some_map f None e = e
-        some_map f (Some r) e = refl
+        ∙ some_map (fresh_row (owner_of w y)) (get t.slots (q, id)) ∙ slot_on_new t sound x q may id.0 p.0 p.1 p.2)

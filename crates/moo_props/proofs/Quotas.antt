@@ -1,14 +1,14 @@
 -- What an object reads as its quota.
-use Rattle.moo_props.proofs.Words.{◌≡◌, true, false, [], FitsSigned, w64, pos, negsuc, arith, Option, Some, None, refl, sym, ap, ◌∙◌, is_some, unwrap_or, ◌+ℤ◌, int_lt, option_map, get, false≢true, ints, ObjNo, Value, Int, PropId, PropRow, Set, Maps, with_slot_of, Name, folded, quota_in, quota_of, World, Record, IsTree, with_record, read_in, read_along, read_of, slot_of, chain-step, chain_of_none, name_of, spelling_of}
+use Rattle.moo_props.proofs.Words.{◌≡◌, true, false, [], FitsSigned, w64, pos, negsuc, arith, Option, Some, None, refl, sym, ap, ◌∙◌, is_some, unwrap_or, ◌+ℤ◌, int_lt, option_map, get, false≢true, ints, ObjNo, Value, Int, PropId, PropRow, Set, Maps, with_slot_of, Name, folded, quota_in, quota_of, World, WorldObject, IsTree, object_changed, read_in, read_along, read_of, slot_of, chain-step, chain_of_none, name_of, spelling_of}
 use Rattle.std.proofs.Common.{ℤ}
-use Rattle.moo_world.specs.Quota.{quota_name, quota_moved, set_slot}
+use Rattle.moo_world.specs.Quota.{quota_name, quota_changed, set_slot}
 use Rattle.moo_props.specs.Quotas.{HasRoom}
 
 -- without a slot nothing is read
 pub nothing_read : (w : World) → IsTree w → (x : ObjNo) (n : Name) → slot_of w x n ≡ None → read_of w x n ≡ None
 nothing_read w t x n e = by (w.object x) refl
   where
-    by : (o : Option Record) → w.object x ≡ o → read_of w x n ≡ None
+    by : (o : Option WorldObject) → w.object x ≡ o → read_of w x n ≡ None
     by None h = ap (read_along w n) (chain_of_none w x (ap is_some h))
     by (Some r) h = ap (read_along w n) (chain-step w t x r h) ∙ ap (λ s. read_in s (read_of w r.row.parent n)) e
 
@@ -23,10 +23,6 @@ pub no_integer : (v : Value) → ((k : ℤ) → v ≡ Int k → ⊥) → quota_i
 no_integer (Int k) h = absurd (h k refl)
 no_integer v h = refl
 
-pub none_of : {A : Type 0} (o : Option A) → is_some o ≡ false → o ≡ None
-none_of None e = refl
-none_of (Some a) e = absurd (false≢true (sym e))
-
 pub folded_spelling : (m : Maps) (id : PropId) → folded (spelling_of m id) ≡ name_of m id
 unfolding folded
 folded_spelling m id = by (get m.props id)
@@ -36,10 +32,10 @@ folded_spelling m id = by (get m.props id)
     by (Some p) = refl
 
 -- the state set on the slot is the quota moved
-pub moved : (w : World) (o : ObjNo) (n : Name) (had by : ℤ) → folded n ≡ quota_name → quota_of w o ≡ Some had → with_slot_of w o n (λ s. record s { state = Set (Int (had +ℤ by)) }) ≡ quota_moved w o by
+pub moved : (w : World) (o : ObjNo) (n : Name) (had by : ℤ) → folded n ≡ quota_name → quota_of w o ≡ Some had → with_slot_of w o n (λ s. record s { state = Set (Int (had +ℤ by)) }) ≡ quota_changed w o by
 moved w o n had by e h =
-    ap (λ k. with_record w o (set_slot k (Set (Int (had +ℤ by))))) e
-    ∙ sym (ap (λ q. elim q [ None ↦ w | Some k ↦ with_record w o (set_slot quota_name (Set (Int (k +ℤ by)))) ]) h)
+    ap (λ k. object_changed w o (set_slot k (Set (Int (had +ℤ by))))) e
+    ∙ sym (ap (λ q. elim q [ None ↦ w | Some k ↦ object_changed w o (set_slot quota_name (Set (Int (k +ℤ by)))) ]) h)
 
 fits_less : (k : ℤ) → FitsSigned w64 k → int_lt (pos 0) k ≡ true → FitsSigned w64 (k +ℤ negsuc 0)
 fits_less k f h = grind (arith, ints)

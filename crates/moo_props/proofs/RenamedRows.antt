@@ -1,25 +1,15 @@
 -- Rows whose property has another name show the world with that name, and are sound.
-use Rattle.moo_props.proofs.Words.{◌≡◌, ℕ, Bool, true, false, cond, eqb, Option, None, Some, List, [], ◌∷◌, map, refl, sym, ap, ◌∙◌, is_some, unwrap_or, slice_get, if◌then◌else◌, unsigned_tied, option_map, option_and_then, filter_map, cons_option, list_any, get, insert, get-insert, false≢true, both_ways, eqb-true, eq-eqb, none-some, same_Some, ObjNo, ObjRow, PropRow, SlotRow, Maps, prop_total, clashes, renamed, Name, same_object, same_text, same_pair, folded, is_among, same_object-Decides, same_text-Decides, World, Record, Slot, IsWellFormed, is_object, is_property_name, chain, defined_by, slot_of, LookUps, AreSound, IsGood, look_ups, world_of, world_shown, numbers_below, name_on, slot_on, slot_seen, record_of, prop_id, slot_shown, is_object_seen, Chain-chain, some_of, SlotHere, slots_shown, slot_from}
-use Rattle.moo_props.proofs.Gains.{one_prop, defines_pair, slot_on_heir}
-use Rattle.moo_props.proofs.LessRows.{own_under}
-use Rattle.moo_props.proofs.NewProp.{same_below}
-use Rattle.moo_props.proofs.Owing.{has_owed}
-use Rattle.moo_world.proofs.Inheritance.Replacement.{renames, none_of_name, IsWellFormed-renamed}
+use Rattle.moo_props.proofs.Words.{◌≡◌, ℕ, Bool, true, false, cond, eqb, Option, None, Some, List, [], ◌∷◌, map, refl, sym, ap, ◌∙◌, is_some, unwrap_or, slice_get, if◌then◌else◌, unsigned_tied, option_map, option_and_then, filter_map, cons_option, list_any, get, insert, get-insert, false≢true, both_ways, eqb-true, eq-eqb, none-some, same_Some, ObjNo, ObjRow, PropRow, SlotRow, Maps, prop_total, clashes, property_renamed, Name, same_object, same_text, same_property, folded, is_among, same_object-Decides, same_text-Decides, World, WorldObject, Slot, IsWellFormed, is_object, is_property_name, chain, defined_by, slot_of, LookUps, AreSound, IsGood, look_ups, world_of, world_shown, numbers_below, name_on, slot_on, slot_seen, object_shown, prop_id, slot_shown, is_object_seen, Chain-chain, some_of, SlotHere, slots_shown, slot_from, false_from_ne_true}
+use Rattle.moo_props.proofs.Shared.{changed, cond_same, has_owed, no_value, none_of, one_prop, own_under, put_some, same_below, seen_at, slot_on_heir}
+use Rattle.moo_props.proofs.Gains.{defines_pair}
+use Rattle.moo_world.proofs.Inheritance.Replacement.{renames, none_of_name, IsWellFormed-property_renamed}
 
 -- the look-ups with a property of x under another name
 abbrev pub with_new_name : LookUps → ObjNo → ℕ → Name → LookUps
 with_new_name m x id new = record m { prop = λ j. if eqb j id then Some (record { definer = x; name = new }) else m.prop j }
 
-pub look_ups-renamed : (t : Maps) (x : ObjNo) (id : ℕ) (new : Name) → look_ups (record t { props = insert t.props (prop_id id) (record { definer = x; name = new }) }) ≡ with_new_name (look_ups t) x id new
-look_ups-renamed t x id new = λ i. record (look_ups t) { prop = λ j. (get-insert prop_total t.props (prop_id id) (record { definer = x; name = new }) (prop_id j) ∙ ap (λ b. cond b (Some (record { definer = x; name = new })) (get t.props (prop_id j))) (unsigned_tied j id)) i }
-
-changed : {A : Type 0} (f : A → A) (h k : ℕ → Option A) (l : List ℕ) → ((j : ℕ) → k j ≡ option_map f (h j)) → filter_map k l ≡ map f (filter_map h l)
-changed f h k [] e = refl
-changed {A = A} f h k (j ∷ l) e = ap (λ o. cons_option o (filter_map k l)) (e j) ∙ by (h j) (changed f h k l e)
-  where
-    by : (o : Option A) → filter_map k l ≡ map f (filter_map h l) → cons_option (option_map f o) (filter_map k l) ≡ map f (cons_option o (filter_map h l))
-    by None r = r
-    by (Some v) r = ap (λ u. f v ∷ u) r
+pub look_ups-property_renamed : (t : Maps) (x : ObjNo) (id : ℕ) (new : Name) → look_ups (record t { props = insert t.props (prop_id id) (record { definer = x; name = new }) }) ≡ with_new_name (look_ups t) x id new
+look_ups-property_renamed t x id new = λ i. record (look_ups t) { prop = λ j. (get-insert prop_total t.props (prop_id id) (record { definer = x; name = new }) (prop_id j) ∙ ap (λ b. cond b (Some (record { definer = x; name = new })) (get t.props (prop_id j))) (unsigned_tied j id)) i }
 
 module _ (t : Maps) (good : IsGood t) (x : ObjNo) (id : ℕ) (p : PropRow) (there : get t.props (prop_id id) ≡ Some p) (own : p.definer ≡ x) (new : Name) (free : clashes (world_of t) x new ≡ false) where
   abbrev m : LookUps
@@ -46,8 +36,8 @@ module _ (t : Maps) (good : IsGood t) (x : ObjNo) (id : ℕ) (p : PropRow) (ther
   xo : is_object w x ≡ true
   xo = is_object_seen m x ∙ ap is_some x_row.1
 
-  mine : list_any (same_pair (x, p.name)) (defined_by w x) ≡ true
-  mine = ap (λ d. list_any (same_pair (d, p.name)) (defined_by w d)) (sym own) ∙ defines_pair t good.sound id p there
+  mine : list_any (same_property (x, p.name)) (defined_by w x) ≡ true
+  mine = ap (λ d. list_any (same_property (d, p.name)) (defined_by w d)) (sym own) ∙ defines_pair t good.sound id p there
 
   -- x defines no other property of the name
   only : (j : ℕ) (r : PropRow) → m.prop j ≡ Some r → r.definer ≡ x → folded r.name ≡ folded p.name → eqb j id ≡ true
@@ -57,7 +47,7 @@ module _ (t : Maps) (good : IsGood t) (x : ObjNo) (id : ℕ) (p : PropRow) (ther
   slot_under : (y : ObjNo) → is_some (m.slot y id) ≡ true → under y ≡ true
   slot_under y h =
       let k = some_of (m.slot y id) h in
-      own_under t good x x_row.0 x_row.1 (record { maps = t; writes = 0; base = t }) refl y (prop_id id) k.0 k.1
+      own_under t good x y (prop_id id) k.0 k.1
       (ap (λ o. unwrap_or (option_map (λ (r : PropRow). same_object r.definer x) o) false) there ∙ (same_object-Decides p.definer x).1 own)
 
   under_slot : (y : ObjNo) → is_object w y ≡ true → under y ≡ true → is_some (m.slot y id) ≡ true
@@ -65,16 +55,7 @@ module _ (t : Maps) (good : IsGood t) (x : ObjNo) (id : ℕ) (p : PropRow) (ther
 
   -- none of them has one of the new name yet
   none_yet : (y : ObjNo) → is_object w y ≡ true → under y ≡ true → slot_of w y (folded new) ≡ None
-  none_yet y o u = none (slot_of w y (folded new)) (has_owed w good.formed y (folded new) ∙ ap is_some (none_of_name w good.formed x p.name new xo mine free y (chain w y) (Chain-chain w good.formed.tree y o) u))
-    where
-      none : (o : Option Slot) → is_some o ≡ false → o ≡ None
-      none None h = refl
-      none (Some k) h = absurd (false≢true (sym h))
-
-  seen_at : (k : LookUps) → AreSound k → (y : ObjNo) (n : Name) (j : ℕ) (h : SlotHere k y n j) → slot_of (world_shown k) y n ≡ Some (slot_seen h.prop.definer h.row)
-  seen_at k sk y n j h =
-      let r = some_of (k.object y) (sk.slots y j (ap is_some h.held)).0 in
-      ap (slot_of (world_shown k) y) (sym h.name) ∙ slot_shown k sk y r.0 r.1 j h.prop h.row h.there h.held
+  none_yet y o u = none_of (slot_of w y (folded new)) (has_owed w good.formed y (folded new) ∙ ap is_some (none_of_name w good.formed x p.name new xo mine free y (chain w y) (Chain-chain w good.formed.tree y o) u))
 
   -- ---- sound rows
 
@@ -84,13 +65,6 @@ module _ (t : Maps) (good : IsGood t) (x : ObjNo) (id : ℕ) (p : PropRow) (ther
       by : (b : Bool) → eqb j id ≡ b → is_some (if b then Some put else m.prop j) ≡ true → is_some (m.prop j) ≡ true
       by true f e = ap is_some (ap m.prop (eqb-true j id f) ∙ there)
       by false f e = e
-
-  prop_still : (j : ℕ) → is_some (m.prop j) ≡ true → is_some (m2.prop j) ≡ true
-  prop_still j e = by (eqb j id)
-    where
-      by : (b : Bool) → is_some (if b then Some put else m.prop j) ≡ true
-      by true = refl
-      by false = e
 
   -- a row is the one with the new name, or is as it was
   data Origin (j : ℕ) (r : PropRow) : Type 0 where
@@ -124,7 +98,7 @@ module _ (t : Maps) (good : IsGood t) (x : ObjNo) (id : ℕ) (p : PropRow) (ther
   sound_renamed = record {
     props_below = λ j e. good.sound.props_below j (prop_was j e);
     definers = λ j r e. definer j r (origin j r e);
-    slots = λ y j e. let r = good.sound.slots y j e in (r.0, prop_still j r.1);
+    slots = λ y j e. let r = good.sound.slots y j e in (r.0, put_some (eqb j id) put (m.prop j) r.1);
     one_name = λ y i j a b k l e f n. one_name y i j a b k l (origin i a e) (origin j b f) n;
     verbs = good.sound.verbs;
   }
@@ -144,16 +118,13 @@ module _ (t : Maps) (good : IsGood t) (x : ObjNo) (id : ℕ) (p : PropRow) (ther
 
       stays : (j : ℕ) (r : PropRow) → m.prop j ≡ Some r → eqb j id ≡ false → (c : Bool) → same_object r.definer x ≡ c → (if c then Some r.name else None) ≡ option_map (renames p.name new) (if c then Some r.name else None)
       stays j r e f false g = refl
-      stays j r e f true g = ap Some (same (same_text (folded r.name) (folded p.name)) refl)
-        where
-          same : (b : Bool) → same_text (folded r.name) (folded p.name) ≡ b → r.name ≡ (if b then new else r.name)
-          same false h = refl
-          same true h = absurd (both_ways (eqb j id) f (only j r e ((same_object-Decides r.definer x).0 g) ((same_text-Decides (folded r.name) (folded p.name)).0 h)))
+      stays j r e f true g = sym (ap (λ b. Some (if b then new else r.name)) (false_from_ne_true (same_text (folded r.name) (folded p.name)) (λ h.
+          both_ways (eqb j id) f (only j r e ((same_object-Decides r.definer x).0 g) ((same_text-Decides (folded r.name) (folded p.name)).0 h)))))
 
-      by : (j : ℕ) (b : Bool) → eqb j id ≡ b → (o : Option PropRow) → m.prop j ≡ o → name_in x (if b then Some put else m.prop j) ≡ option_map (renames p.name new) (name_on m x j)
-      by j true f o e = here ∙ sym (ap (λ o. option_map (renames p.name new) (name_in x o)) (ap m.prop (eqb-true j id f) ∙ there))
-      by j false f None e = ap (name_in x) e ∙ sym (ap (λ o. option_map (renames p.name new) (name_in x o)) e)
-      by j false f (Some r) e = ap (name_in x) e ∙ stays j r e f (same_object r.definer x) refl ∙ sym (ap (λ o. option_map (renames p.name new) (name_in x o)) e)
+      by : (j : ℕ) (b : Bool) → eqb j id ≡ b → (o : Option PropRow) → m.prop j ≡ o → name_in x (if b then Some put else o) ≡ option_map (renames p.name new) (name_in x o)
+      by j true f o e = here ∙ sym (ap (λ o. option_map (renames p.name new) (name_in x o)) (sym e ∙ ap m.prop (eqb-true j id f) ∙ there))
+      by j false f None e = refl
+      by j false f (Some r) e = stays j r e f (same_object r.definer x) refl
 
   names_of_other : (y : ObjNo) → same_object x y ≡ false → name_on m2 y ≡ name_on m y
   names_of_other y e = λ i j. by j (eqb j id) refl i
@@ -189,11 +160,7 @@ module _ (t : Maps) (good : IsGood t) (x : ObjNo) (id : ℕ) (p : PropRow) (ther
   slotless y n e = none put ∙ sym (none p)
     where
       none : (q : PropRow) → slot_in y n id (Some q) ≡ None
-      none q = ap (λ o. if same_text (folded q.name) n then option_map (slot_seen q.definer) o else None) e ∙ by (same_text (folded q.name) n)
-        where
-          by : (b : Bool) → ◌≡◌ {A = Option Slot} (if b then None else None) None
-          by true = refl
-          by false = refl
+      none q = ap (λ o. if same_text (folded q.name) n then option_map (slot_seen q.definer) o else None) e ∙ cond_same (same_text (folded q.name) n) None
 
   -- under the new name stands what stood under the old one
   new_slot : (y : ObjNo) → is_object w y ≡ true → under y ≡ true → slot_of (world_shown m2) y (folded new) ≡ slot_of w y (folded p.name)
@@ -205,16 +172,12 @@ module _ (t : Maps) (good : IsGood t) (x : ObjNo) (id : ℕ) (p : PropRow) (ther
 
   -- and under the old one nothing
   old_slot : (y : ObjNo) (r : ObjRow) → m.object y ≡ Some r → under y ≡ true → same_text (folded new) (folded p.name) ≡ false → slot_of (world_shown m2) y (folded p.name) ≡ None
-  old_slot y r e u ne = by (slot_of (world_shown m2) y (folded p.name)) refl
+  old_slot y r e u ne = no_value (slot_of (world_shown m2) y (folded p.name)) (λ z f. let k = slot_from m2 y (folded p.name) r e z f in gone k.0 k.1 (origin k.0 k.1.prop k.1.there))
     where
       gone : (j : ℕ) (h : SlotHere m2 y (folded p.name) j) → Origin j h.prop → ⊥
       gone j h (it f g) = both_ways (same_text (folded new) (folded p.name)) ne ((same_text-Decides (folded new) (folded p.name)).1 (ap (λ (q : PropRow). folded q.name) g ∙ h.name))
       gone j h (other f g) =
           both_ways (eqb j id) f (eq-eqb j id (good.sound.one_name y j id h.prop p (ap is_some h.held) (under_slot y (is_object_seen m y ∙ ap is_some e) u) g there h.name))
-
-      by : (o : Option Slot) → slot_of (world_shown m2) y (folded p.name) ≡ o → o ≡ None
-      by None f = refl
-      by (Some z) f = let k = slot_from m2 y (folded p.name) r e z f in absurd (gone k.0 k.1 (origin k.0 k.1.prop k.1.there))
 
   slots : (y : ObjNo) (r : ObjRow) → m.object y ≡ Some r → (n : Name) → slot_of (world_shown m2) y n ≡ (if under y then (if same_text (folded new) n then slot_of w y (folded p.name) else (if same_text (folded p.name) n then None else slot_of w y n)) else slot_of w y n)
   slots y r e n = by (under y) refl (same_text (folded new) n) refl (same_text (folded p.name) n) refl
@@ -222,12 +185,11 @@ module _ (t : Maps) (good : IsGood t) (x : ObjNo) (id : ℕ) (p : PropRow) (ther
       yo : is_object w y ≡ true
       yo = is_object_seen m y ∙ ap is_some e
 
-      absent : under y ≡ false → (o : Option SlotRow) → m.slot y id ≡ o → o ≡ None
-      absent u None f = refl
-      absent u (Some k) f = absurd (both_ways (under y) u (slot_under y (ap is_some f)))
+      absent : under y ≡ false → m.slot y id ≡ None
+      absent u = no_value (m.slot y id) (λ k f. both_ways (under y) u (slot_under y (ap is_some f)))
 
       by : (u : Bool) → under y ≡ u → (a : Bool) → same_text (folded new) n ≡ a → (b : Bool) → same_text (folded p.name) n ≡ b → slot_of (world_shown m2) y n ≡ (if u then (if a then slot_of w y (folded p.name) else (if b then None else slot_of w y n)) else slot_of w y n)
-      by false u a f b g = same_slots y r e n (slotless y n (absent u (m.slot y id) refl))
+      by false u a f b g = same_slots y r e n (slotless y n (absent u))
       by true u true f b g = ap (slot_of (world_shown m2) y) (sym ((same_text-Decides (folded new) n).0 f)) ∙ new_slot y yo u
       by true u false f true g =
           let is : folded p.name ≡ n = (same_text-Decides (folded p.name) n).0 g in
@@ -240,7 +202,7 @@ module _ (t : Maps) (good : IsGood t) (x : ObjNo) (id : ℕ) (p : PropRow) (ther
   abbrev slot_shown_by : LookUps → ObjNo → Name → Option Slot
   slot_shown_by k y n = slice_get (filter_map (slot_on k y n) (numbers_below m.head.next_prop)) 0
 
-  pub world_renamed : world_shown m2 ≡ renamed w x p.name new
+  pub world_renamed : world_shown m2 ≡ property_renamed w x p.name new
   unfolding world_shown
   world_renamed = λ i. record { object = λ y. at y (m.object y) refl i; top = m.head.top; next_prop = m.head.next_prop; next_verb = m.head.next_verb }
     where
@@ -253,12 +215,12 @@ module _ (t : Maps) (good : IsGood t) (x : ObjNo) (id : ℕ) (p : PropRow) (ther
           sym (slots_shown m2 y n r e) ∙ slots y r e n
           ∙ (λ i. if under y then (if same_text (folded new) n then slots_shown m y (folded p.name) r e i else (if same_text (folded p.name) n then None else slots_shown m y n r e i)) else slots_shown m y n r e i)
 
-      at : (y : ObjNo) (o : Option ObjRow) → m.object y ≡ o → option_map (record_of m2 y) o ≡ option_map (λ (r : Record). record r {
+      at : (y : ObjNo) (o : Option ObjRow) → m.object y ≡ o → option_map (object_shown m2 y) o ≡ option_map (λ (r : WorldObject). record r {
         defines = if same_object x y then map (λ k. if same_text (folded k) (folded p.name) then new else k) r.defines else r.defines;
         slot = λ n. if is_among x (chain (world_shown m) y) then (if same_text (folded new) n then r.slot (folded p.name) else (if same_text (folded p.name) n then None else r.slot n)) else r.slot n;
-      }) (option_map (record_of m y) o)
+      }) (option_map (object_shown m y) o)
       at y None e = refl
-      at y (Some r) e = λ i. Some (record (record_of m2 y r) { defines = names y (same_object x y) refl i; slot = λ n. shown y r e n i })
+      at y (Some r) e = λ i. Some (record (object_shown m2 y r) { defines = names y (same_object x y) refl i; slot = λ n. shown y r e n i })
 
-  pub formed_renamed : is_property_name new ≡ true → IsWellFormed (renamed w x p.name new)
-  formed_renamed n = IsWellFormed-renamed w good.formed x p.name new xo mine free n
+  pub formed_renamed : is_property_name new ≡ true → IsWellFormed (property_renamed w x p.name new)
+  formed_renamed n = IsWellFormed-property_renamed w good.formed x p.name new xo mine free n

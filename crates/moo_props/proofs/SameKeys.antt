@@ -11,11 +11,10 @@ module _ {K : Type 0} (cmp : K → K → Ordering) (total : IsTotalOrder cmp) (e
 
   of_all : (P : K → Type 0) (l : List K) → AllByRecursion P l → (k : K) → holds l k ≡ true → P k
   of_all P [] a k h = absurd (false≢true h)
-  of_all P (x ∷ l) a k h = by (or_cases _ _ h) (of_all P l a.1 k)
-    where
-      by : (eq_by_cmp cmp k x ≡ true) ⊎ (holds l k ≡ true) → (holds l k ≡ true → P k) → P k
-      by (inl e) r = subst P (sym ((same_key k x).0 e)) a.0
-      by (inr e) r = r e
+  of_all P (x ∷ l) a k h = elim (or_cases (eq_by_cmp cmp k x) (holds l k) h) [
+    | inl e ↦ subst P (sym ((same_key k x).0 e)) a.0
+    | inr e ↦ of_all P l a.1 k e
+  ]
 
   not_less : (a : K) → cmp a a ≡ Less → ⊥
   not_less a e = false≢true (ap is_lt (sym (tied_itself total a)) ∙ ap is_lt e)
@@ -33,11 +32,10 @@ module _ {K : Type 0} (cmp : K → K → Ordering) (total : IsTotalOrder cmp) (e
       by (inr e) (inr f) = absurd (not_both x y (of_all (λ z. cmp x z ≡ Less) a u.0 y f) (of_all (λ z. cmp y z ≡ Less) b v.0 x e))
 
   later : (x y : K) (a b : List K) → x ≡ y → AreAscending cmp (x ∷ a) → (k : K) → holds a k ≡ true → holds (y ∷ b) k ≡ true → holds b k ≡ true
-  later x y a b e u k h g = by (or_cases _ _ g)
-    where
-      by : (eq_by_cmp cmp k y ≡ true) ⊎ (holds b k ≡ true) → holds b k ≡ true
-      by (inl f) = absurd (not_less x (ap (cmp x) (e ∙ sym ((same_key k y).0 f)) ∙ of_all (λ z. cmp x z ≡ Less) a u.0 k h))
-      by (inr f) = f
+  later x y a b e u k h g = elim (or_cases (eq_by_cmp cmp k y) (holds b k) g) [
+    | inl f ↦ absurd (not_less x (ap (cmp x) (e ∙ sym ((same_key k y).0 f)) ∙ of_all (λ z. cmp x z ≡ Less) a u.0 k h))
+    | inr f ↦ f
+  ]
 
   also : (x k : K) (a : List K) → holds a k ≡ true → holds (x ∷ a) k ≡ true
   also x k a h = or_right (eq_by_cmp cmp k x) (holds a k) h

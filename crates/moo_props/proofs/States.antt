@@ -1,10 +1,10 @@
 -- What another row of one slot does to the World.
-use Rattle.moo_props.proofs.Words.{◌≡◌, ℕ, Bool, true, false, eqb, Option, None, Some, [], refl, sym, ap, subst, ◌∙◌, ◌&&◌, is_some, unwrap_or, if◌then◌else◌, option_map, option_and_then, get, insert, and_parts, both_ways, eqb-true, same_Some, ObjNo, ObjRow, PropId, PropRow, SlotRow, Clear, Maps, with_slot_of, Name, same_object, same_text, folded, same_object-Decides, same_text-Decides, World, Record, IsWellFormed, Slot, slot_of, with_record, slot_fits, LookUps, IsSound, IsGood, look_ups, world_of, world_shown, slot_seen, prop_id, slot_shown, name_of, spelling_of, defines, some_of}
+use Rattle.moo_props.proofs.Words.{◌≡◌, ℕ, Bool, true, false, eqb, Option, None, Some, [], refl, sym, ap, subst, ◌∙◌, ◌&&◌, is_some, unwrap_or, if◌then◌else◌, option_map, option_and_then, get, insert, and_parts, both_ways, eqb-true, same_Some, ObjNo, ObjRow, PropId, PropRow, SlotRow, Clear, Maps, with_slot_of, Name, same_object, same_text, folded, same_object-Decides, same_text-Decides, World, WorldObject, IsWellFormed, Slot, slot_of, object_changed, slot_fits, LookUps, IsSound, IsGood, look_ups, world_of, world_shown, slot_seen, prop_id, slot_shown, name_of, spelling_of, defines, some_of, false_from_ne_true}
+use Rattle.moo_props.proofs.Shared.{passing, seen_at, slot_here}
 use Rattle.moo_world.specs.Petitions.{PetitionsStand}
 use Rattle.moo_world.proofs.Shown.RowLaws.{world_shown-with_slot_row}
 use Rattle.moo_world.proofs.Shown.MapLaws.{look_ups-put_slot}
 use Rattle.moo_world.proofs.Form.Slots.{IsWellFormed-with_slot_of}
-use Rattle.moo_props.proofs.Walked.{slot_here}
 
 module _ (t : Maps) (sound : IsSound t) (x : ObjNo) (id : PropId) (k : SlotRow) (held : get t.slots (x, id) ≡ Some k) (next : SlotRow) (change : Slot → Slot) (agrees : (d : ObjNo) → change (slot_seen d k) ≡ slot_seen d next) where
   abbrev m : LookUps
@@ -19,30 +19,27 @@ module _ (t : Maps) (sound : IsSound t) (x : ObjNo) (id : PropId) (k : SlotRow) 
   prop : (p : PropRow) × (m.prop id.0 ≡ Some p)
   prop = some_of (m.prop id.0) there.1
 
-  row : (r : ObjRow) × (m.object x ≡ Some r)
-  row = some_of (m.object x) there.0
-
-  one : world_of (record t { slots = insert t.slots (x, id) next }) ≡ with_record w x (λ r. record r { slot = λ n. if same_text (folded prop.0.name) n then Some (slot_seen prop.0.definer next) else r.slot n })
+  one : world_of (record t { slots = insert t.slots (x, id) next }) ≡ object_changed w x (λ r. record r { slot = λ n. if same_text (folded prop.0.name) n then Some (slot_seen prop.0.definer next) else r.slot n })
   one = ap world_shown (look_ups-put_slot t x id next)
       ∙ world_shown-with_slot_row m x id.0 next prop.0 prop.1 (sound.props_below id.0 (ap is_some prop.1)).1 (λ j r e s n. sound.one_name x j id.0 r prop.0 s (ap is_some held) e prop.1 n)
 
   shown : slot_of w x (folded prop.0.name) ≡ Some (slot_seen prop.0.definer k)
-  shown = slot_shown m sound x row.0 row.1 id.0 prop.0 k prop.1 held
+  shown = seen_at m sound x (folded prop.0.name) id.0 (record { prop = prop.0; row = k; there = prop.1; held = held; name = refl })
 
-  same : with_record w x (λ r. record r { slot = λ n. if same_text (folded prop.0.name) n then Some (slot_seen prop.0.definer next) else r.slot n }) ≡ with_slot_of w x prop.0.name change
+  same : object_changed w x (λ r. record r { slot = λ n. if same_text (folded prop.0.name) n then Some (slot_seen prop.0.definer next) else r.slot n }) ≡ with_slot_of w x prop.0.name change
   same = λ i. record w { object = λ y. at y (same_object x y) refl (w.object y) refl i }
     where
-      slots : (r : Record) → r.slot (folded prop.0.name) ≡ Some (slot_seen prop.0.definer k) → (n : Name) (b : Bool) → same_text (folded prop.0.name) n ≡ b → (if b then Some (slot_seen prop.0.definer next) else r.slot n) ≡ (if b then option_map change (r.slot n) else r.slot n)
+      slots : (r : WorldObject) → r.slot (folded prop.0.name) ≡ Some (slot_seen prop.0.definer k) → (n : Name) (b : Bool) → same_text (folded prop.0.name) n ≡ b → (if b then Some (slot_seen prop.0.definer next) else r.slot n) ≡ (if b then option_map change (r.slot n) else r.slot n)
       slots r h n true e = sym (ap (option_map change) (ap r.slot (sym ((same_text-Decides (folded prop.0.name) n).0 e)) ∙ h) ∙ ap Some (agrees prop.0.definer))
       slots r h n false e = refl
 
-      at : (y : ObjNo) (b : Bool) → same_object x y ≡ b → (o : Option Record) → w.object y ≡ o
-          → option_map (λ (r : Record). if b then record r { slot = λ n. if same_text (folded prop.0.name) n then Some (slot_seen prop.0.definer next) else r.slot n } else r) o
-          ≡ option_map (λ (r : Record). if b then record r { slot = λ n. if same_text (folded prop.0.name) n then option_map change (r.slot n) else r.slot n } else r) o
+      at : (y : ObjNo) (b : Bool) → same_object x y ≡ b → (o : Option WorldObject) → w.object y ≡ o
+          → option_map (λ (r : WorldObject). if b then record r { slot = λ n. if same_text (folded prop.0.name) n then Some (slot_seen prop.0.definer next) else r.slot n } else r) o
+          ≡ option_map (λ (r : WorldObject). if b then record r { slot = λ n. if same_text (folded prop.0.name) n then option_map change (r.slot n) else r.slot n } else r) o
       at y b e None h = refl
       at y false e (Some r) h = refl
       at y true e (Some r) h =
-          let own : r.slot (folded prop.0.name) ≡ Some (slot_seen prop.0.definer k) = sym (ap (option_and_then (λ (z : Record). z.slot (folded prop.0.name))) (ap w.object ((same_object-Decides x y).0 e) ∙ h)) ∙ shown in
+          let own : r.slot (folded prop.0.name) ≡ Some (slot_seen prop.0.definer k) = sym (ap (option_and_then (λ (z : WorldObject). z.slot (folded prop.0.name))) (ap w.object ((same_object-Decides x y).0 e) ∙ h)) ∙ shown in
           λ i. Some (record r { slot = λ n. slots r own n (same_text (folded prop.0.name) n) refl i })
 
   pub put_slot_world : world_of (record t { slots = insert t.slots (x, id) next }) ≡ with_slot_of w x (spelling_of t id) change
@@ -88,11 +85,6 @@ module _ (t : Maps) (sound : IsSound t) (x : ObjNo) (id : PropId) (k : SlotRow) 
 
 -- a slot that is clear isn't the definer's
 pub clear_inherited : (t : Maps) → IsGood t → (x : ObjNo) (id : PropId) (k : SlotRow) → get t.slots (x, id) ≡ Some k → k.state ≡ Clear → defines t x id ≡ false
-clear_inherited t good x id k held clear = by (some_of (get t.props id) (good.sound.slots x id.0 (ap is_some held)).1)
-  where
-    by : (p : PropRow) × (get t.props id ≡ Some p) → defines t x id ≡ false
-    by p = ap (λ o. unwrap_or (option_map (λ (p : PropRow). same_object p.definer x) o) false) p.1 ∙ other (same_object p.0.definer x) refl
-      where
-        other : (b : Bool) → same_object p.0.definer x ≡ b → b ≡ false
-        other false e = refl
-        other true e = absurd (good.formed.set x (name_of t id) (slot_seen p.0.definer k) (slot_here t good.sound x id k held p.0 p.1) ((same_object-Decides p.0.definer x).0 e) clear)
+clear_inherited t good x id k held clear = false_from_ne_true (defines t x id) (λ h.
+    let p = passing (λ (p : PropRow). same_object p.definer x) (get t.props id) h in
+    good.formed.set x (name_of t id) (slot_seen p.0.definer k) (slot_here t good.sound x id k held p.0 p.1) ((same_object-Decides p.0.definer x).0 p.2) clear)

@@ -1,7 +1,8 @@
 -- What an object reads, by the rows.
-use Rattle.moo_props.proofs.Words.{◌≡◌, Bool, true, false, Option, None, Some, [], refl, sym, ap, ◌∙◌, ◌⊎◌, inl, inr, is_some, unwrap_or, option_map, get, false≢true, or_cases, none-some, same_Some, ObjNo, Value, ObjRow, PropId, PropRow, SlotRow, Clear, Set, Maps, Pair, same_object, folded, is_among, same_object-Decides, World, Slot, IsWellFormed, is_object, chain, owed_by, pair_named, slot_of, read_of, LookUps, IsSound, look_ups, world_of, slot_seen, definer_among, named_owed, slot_shown, is_object_seen, chain_of_row, object_seen, Chain-chain, chain_of_none, name_of, some_of}
+use Rattle.moo_props.proofs.Words.{◌≡◌, Bool, true, false, Option, None, Some, [], refl, sym, ap, ◌∙◌, ◌⊎◌, inl, inr, is_some, unwrap_or, option_map, get, false≢true, or_cases, none-some, same_Some, ObjNo, Value, ObjRow, PropId, PropRow, SlotRow, Clear, Set, Maps, Property, same_object, folded, is_among, same_object-Decides, World, Slot, IsWellFormed, is_object, chain, defined_by_any, property_named, slot_of, read_of, LookUps, IsSound, look_ups, world_of, slot_seen, definer_among, named_owed, slot_shown, is_object_seen, chain_of_row, object_seen, Chain-chain, chain_of_none, name_of, some_of}
+use Rattle.moo_props.proofs.Shared.{object_of_chain, slot_here, slot_on_heir}
 use Rattle.moo_world.proofs.Shown.Reading.{read_step}
-use Rattle.moo_props.proofs.Gains.{slot_on_heir}
+use Rattle.moo_props.proofs.Owing.{definer_in}
 
 module _ (t : Maps) (sound : IsSound t) (wf : IsWellFormed (world_of t)) (x : ObjNo) (id : PropId) (k : SlotRow) (held : get t.slots (x, id) ≡ Some k) where
   abbrev m : LookUps
@@ -16,14 +17,8 @@ module _ (t : Maps) (sound : IsSound t) (wf : IsWellFormed (world_of t)) (x : Ob
   pub prop : (p : PropRow) × (m.prop id.0 ≡ Some p)
   prop = some_of (m.prop id.0) rows_there.1
 
-  row : (r : ObjRow) × (m.object x ≡ Some r)
-  row = some_of (m.object x) rows_there.0
-
-  name_is : name_of t id ≡ folded prop.0.name
-  name_is = ap (λ o. unwrap_or (option_map (λ p. folded p.name) o) []) prop.1
-
   pub slot_read : slot_of w x (name_of t id) ≡ Some (slot_seen prop.0.definer k)
-  slot_read = ap (slot_of w x) name_is ∙ slot_shown m sound x row.0 row.1 id.0 prop.0 k prop.1 held
+  slot_read = slot_here t sound x id k held prop.0 prop.1
 
   pub set_read : (v : Value) → k.state ≡ Set v → read_of w x (name_of t id) ≡ Some v
   set_read v e =
@@ -40,29 +35,14 @@ module _ (t : Maps) (sound : IsSound t) (wf : IsWellFormed (world_of t)) (x : Ob
     xo : is_object w x ≡ true
     xo = is_object_seen m x ∙ rows_there.0
 
-    definer_in : is_among prop.0.definer (chain w x) ≡ true
-    definer_in = by (pair_named (owed_by w (chain w x)) (name_of t id)) refl
-      where
-        definer : Some prop.0.definer ≡ option_map (λ p. p.0) (pair_named (owed_by w (chain w x)) (name_of t id))
-        definer = sym (ap (option_map (λ (s : Slot). s.definer)) slot_read) ∙ wf.slots x (chain w x) (name_of t id) xo (Chain-chain w wf.tree x xo)
-
-        by : (o : Option Pair) → pair_named (owed_by w (chain w x)) (name_of t id) ≡ o → is_among prop.0.definer (chain w x) ≡ true
-        by None e = absurd (none-some prop.0.definer (sym (definer ∙ ap (option_map (λ p. p.0)) e)))
-        by (Some p) e = ap (λ d. is_among d (chain w x)) (same_Some prop.0.definer p.0 (definer ∙ ap (option_map (λ p. p.0)) e)) ∙ (definer_among w p (chain w x) (named_owed w (chain w x) (name_of t id) p e)).0
-
     definer_above : is_among prop.0.definer (chain w r.parent) ≡ true
-    definer_above = by (or_cases _ _ (sym (ap (is_among prop.0.definer) (chain_of_row m wf.tree x r (sym there))) ∙ definer_in))
-      where
-        by : (same_object prop.0.definer x ≡ true) ⊎ (is_among prop.0.definer (chain w r.parent) ≡ true) → is_among prop.0.definer (chain w r.parent) ≡ true
-        by (inl h) = absurd (wf.set x (name_of t id) (slot_seen prop.0.definer k) slot_read ((same_object-Decides prop.0.definer x).0 h) clear)
-        by (inr h) = h
+    definer_above = elim (or_cases (same_object prop.0.definer x) (is_among prop.0.definer (chain w r.parent)) (sym (ap (is_among prop.0.definer) (chain_of_row m wf.tree x r (sym there))) ∙ definer_in w wf x xo (name_of t id) (slot_seen prop.0.definer k) slot_read)) [
+      | inl h ↦ absurd (wf.set x (name_of t id) (slot_seen prop.0.definer k) slot_read ((same_object-Decides prop.0.definer x).0 h) clear)
+      | inr h ↦ h
+    ]
 
     parent_there : is_object w r.parent ≡ true
-    parent_there = by (is_object w r.parent) refl
-      where
-        by : (b : Bool) → is_object w r.parent ≡ b → b ≡ true
-        by true e = refl
-        by false e = absurd (false≢true (sym (ap (is_among prop.0.definer) (chain_of_none w r.parent e)) ∙ definer_above))
+    parent_there = object_of_chain w prop.0.definer r.parent definer_above
 
     -- the parent has the property too
     pub parent_has : is_some (get t.slots (r.parent, id)) ≡ true

@@ -1,23 +1,13 @@
 -- The walk over an object's slots gives its properties in order.
-use Rattle.moo_props.proofs.Words.{◌≡◌, Bool, true, false, cond, Some, List, [], ◌∷◌, map, Ordering, Less, sym, ap, ◌∙◌, refl, subst, tied_itself, int_eq, ordering_then, filter, AllByRecursion, get, entries, entries_sorted, Decides-int_eq, ObjNo, Maps, object_cmp, prop_cmp, slot_cmp, object_total, ids_among}
+use Rattle.moo_props.proofs.Words.{◌≡◌, Bool, true, false, cond, Some, List, [], ◌∷◌, map, Ordering, Less, sym, ap, ◌∙◌, refl, subst, tied_itself, int_eq, ordering_then, filter, AllByRecursion, get, entries, entries_sorted, Decides-int_eq, ObjNo, Maps, object_cmp, prop_cmp, slot_cmp, object_total, ids_among, cond_both}
 use Rattle.moo_props.proofs.Ascending.{Rises, rises_made}
 use Rattle.moo_props.proofs.Walked.{Entry, all_filter, walk, walk_held}
 
 rises_fewer : {K A : Type 0} (cmp : K → K → Ordering) (key : A → K) (test : A → Bool) (l : List A) → Rises cmp key l → Rises cmp key (filter test l)
 rises_fewer cmp key test [] r = tt
-rises_fewer {A = A} cmp key test (a ∷ l) r = by (test a) (rises_fewer cmp key test l r.1)
-  where
-    fewer : (m : List A) → AllByRecursion (λ b. cmp (key a) (key b) ≡ Less) m → AllByRecursion (λ b. cmp (key a) (key b) ≡ Less) (filter test m)
-    fewer [] h = tt
-    fewer (b ∷ m) h = one (test b) (fewer m h.1)
-      where
-        one : (c : Bool) → AllByRecursion (λ b. cmp (key a) (key b) ≡ Less) (filter test m) → AllByRecursion (λ b. cmp (key a) (key b) ≡ Less) (cond c (b ∷ filter test m) (filter test m))
-        one true k = (h.0, k)
-        one false k = k
-
-    by : (b : Bool) → Rises cmp key (filter test l) → Rises cmp key (cond b (a ∷ filter test l) (filter test l))
-    by true k = (fewer l r.0, k)
-    by false k = k
+rises_fewer cmp key test (a ∷ l) r =
+    let k = rises_fewer cmp key test l r.1 in
+    cond_both (test a) (a ∷ filter test l) (filter test l) (Rises cmp key) (λ e. (all_filter (λ b. cmp (key a) (key b) ≡ Less) test l r.0, k)) (λ e. k)
 
 -- the properties of one object's slots
 ids_rise : (x : ObjNo) (es : List Entry) → AllByRecursion (λ e. e.0.0 ≡ x) es → Rises slot_cmp (λ e. e.0) es → Rises prop_cmp (λ j. j) (ids_among es)

@@ -1,5 +1,6 @@
 -- The walk over an object's slots finds the property of a name.
-use Rattle.moo_props.proofs.Words.{◌≡◌, ℕ, Bool, true, false, cond, Option, None, Some, List, [], ◌∷◌, Ordering, Less, refl, sym, ap, ◌∙◌, subst, ◌&&◌, ◌||◌, is_some, unwrap_or, option_map, option_and_then, IsTotalOrder, tied_itself, nat_cmp_is, eq_by_cmp, is_lt, int_eq, ordering_then, filter, list_any, AllByRecursion, get, entries, get-entries, entries_sorted, false≢true, both_ways, or_right, Decides-int_eq, CmpEqualImpliesEq, none-some, same_Some, ObjNo, PropId, PropRow, SlotRow, Maps, prop_cmp, slot_cmp, slots_of_left, is_past, slot_exact, object_total, slot_total, Name, same_text, folded, same_text-Decides, Record, Slot, slot_of, IsSound, look_ups, world_of, slot_seen, key-Decides, slot_shown, is_object_seen, name_of, some_of, own_entries, SlotHere, slot_from}
+use Rattle.moo_props.proofs.Words.{◌≡◌, ℕ, Bool, true, false, cond, Option, None, Some, List, [], ◌∷◌, Ordering, Less, refl, sym, ap, ◌∙◌, subst, ◌&&◌, ◌||◌, is_some, unwrap_or, option_map, option_and_then, IsTotalOrder, tied_itself, nat_cmp_is, eq_by_cmp, is_lt, int_eq, ordering_then, filter, list_any, AllByRecursion, get, entries, get-entries, entries_sorted, false≢true, both_ways, or_right, Decides-int_eq, CmpEqualImpliesEq, none-some, same_Some, ObjNo, PropId, PropRow, SlotRow, Maps, prop_cmp, slot_cmp, slots_of_left, is_past, slot_exact, object_total, slot_total, Name, same_text, folded, same_text-Decides, WorldObject, Slot, slot_of, IsSound, look_ups, world_of, slot_seen, key-Decides, slot_shown, is_object_seen, name_of, some_of, own_entries, SlotHere, slot_from, LookUps, AreSound, world_shown, or_left, cond_both, FinMap}
+use Rattle.moo_props.proofs.Cases.{no_value, passing}
 use Rattle.std.specs.List.{find}
 use Rattle.std.specs.FinMap as map
 use Rattle.moo_world.proofs.Inheritance.Owed.{find_passes}
@@ -12,19 +13,13 @@ Entry = (ObjNo × PropId) × SlotRow
 
 pub all_filter : {A : Type 0} (P : A → Type 0) (test : A → Bool) (l : List A) → AllByRecursion P l → AllByRecursion P (filter test l)
 all_filter P test [] a = tt
-all_filter P test (x ∷ l) a = by (test x) (all_filter P test l a.1)
-  where
-    by : (b : Bool) → AllByRecursion P (filter test l) → AllByRecursion P (cond b (x ∷ filter test l) (filter test l))
-    by true r = (a.0, r)
-    by false r = r
+all_filter P test (x ∷ l) a = let r = all_filter P test l a.1 in cond_both (test x) (x ∷ filter test l) (filter test l) (AllByRecursion P) (λ e. (a.0, r)) (λ e. r)
 
 all_pass : {A : Type 0} (P : A → Type 0) (test : A → Bool) (l : List A) → AllByRecursion P l → AllByRecursion (λ a. P a × (test a ≡ true)) (filter test l)
 all_pass P test [] a = tt
-all_pass P test (x ∷ l) a = by (test x) refl (all_pass P test l a.1)
-  where
-    by : (b : Bool) → test x ≡ b → AllByRecursion (λ a. P a × (test a ≡ true)) (filter test l) → AllByRecursion (λ a. P a × (test a ≡ true)) (cond b (x ∷ filter test l) (filter test l))
-    by true e r = ((a.0, e), r)
-    by false e r = r
+all_pass P test (x ∷ l) a =
+    let r = all_pass P test l a.1 in
+    cond_both (test x) (x ∷ filter test l) (filter test l) (AllByRecursion (λ a. P a × (test a ≡ true))) (λ e. ((a.0, e), r)) (λ e. r)
 
 found_of : {A : Type 0} (P : A → Type 0) (test : A → Bool) (l : List A) (a : A) → AllByRecursion P l → find test l ≡ Some a → P a
 found_of P test [] a h e = absurd (none-some a e)
@@ -34,13 +29,13 @@ found_of P test (x ∷ l) a h e = by (test x) e (found_of P test l a h.1)
     by true k r = subst P (same_Some x a k) h.0
     by false k r = r k
 
-none_passes : {A : Type 0} (test : A → Bool) (l : List A) → find test l ≡ None → list_any test l ≡ false
-none_passes test [] e = refl
-none_passes test (x ∷ l) e = by (test x) e (none_passes test l)
+pub found_any : {A : Type 0} (test : A → Bool) (l : List A) → is_some (find test l) ≡ list_any test l
+found_any test [] = refl
+found_any test (x ∷ l) = by (test x) (found_any test l)
   where
-    by : (b : Bool) → cond b (Some x) (find test l) ≡ None → (find test l ≡ None → list_any test l ≡ false) → (b || list_any test l) ≡ false
-    by true k r = absurd (none-some x (sym k))
-    by false k r = r k
+    by : (b : Bool) → is_some (find test l) ≡ list_any test l → is_some (cond b (Some x) (find test l)) ≡ (b || list_any test l)
+    by true r = refl
+    by false r = r
 
 pub any_filter : {A : Type 0} (p test : A → Bool) (l : List A) → list_any p (filter test l) ≡ list_any (λ a. test a && p a) l
 any_filter p test [] = refl
@@ -54,13 +49,17 @@ pub any_held : {K X : Type 0} (cmp : K → K → Ordering) (total : IsTotalOrder
 any_held cmp total exact p k v [] e h = absurd (none-some v e)
 any_held cmp total exact p k v (a ∷ es) e h = by (eq_by_cmp cmp k a.0) refl e (any_held cmp total exact p k v es)
   where
-    left : (a b : Bool) → a ≡ true → (a || b) ≡ true
-    left true b g = refl
-    left false b g = absurd (false≢true g)
-
     by : (b : Bool) → eq_by_cmp cmp k a.0 ≡ b → cond b (Some a.1) (map.find cmp k es) ≡ Some v → (map.find cmp k es ≡ Some v → p (k, v) ≡ true → list_any p es ≡ true) → (p a || list_any p es) ≡ true
-    by true g u r = left (p a) (list_any p es) ((λ i. p (sym ((key-Decides cmp total exact k a.0).0 g) i, same_Some a.1 v u i)) ∙ h)
+    by true g u r = or_left (p a) (list_any p es) ((λ i. p (sym ((key-Decides cmp total exact k a.0).0 g) i, same_Some a.1 v u i)) ∙ h)
     by false g u r = or_right (p a) (list_any p es) (r u h)
+
+-- each entry is held
+pub all_held : {K X : Type 0} {cmp : K → K → Ordering} (total : IsTotalOrder cmp) (exact : CmpEqualImpliesEq cmp) (m : FinMap cmp X) → AllByRecursion (λ (e : K × X). get m e.0 ≡ Some e.1) (entries m)
+all_held {K = K} {X = X} {cmp = cmp} total exact m = held (entries m) (own_entries cmp total exact (entries m) (entries_sorted m))
+  where
+    held : (es : List (K × X)) → AllByRecursion (λ e. map.find cmp e.0 (entries m) ≡ Some e.1) es → AllByRecursion (λ e. get m e.0 ≡ Some e.1) es
+    held [] a = tt
+    held (e ∷ es) a = (get-entries m e.0 ∙ a.0, held es a.1)
 
 -- ---- the walk over an object's slots
 
@@ -72,11 +71,13 @@ pub walk_held : (m : Maps) (x : ObjNo) → AllByRecursion (λ e. (get m.slots e.
 walk_held m x =
     all_pass (λ e. get m.slots e.0 ≡ Some e.1) (λ e. int_eq e.0.0.0 x.0) _
     (all_filter (λ e. get m.slots e.0 ≡ Some e.1) (λ e. is_past slot_cmp (Some (x, record { 0 = 0 })) e.0) (entries m.slots)
-    (held (entries m.slots) (own_entries slot_cmp slot_total slot_exact (entries m.slots) (entries_sorted m.slots))))
-  where
-    held : (es : List Entry) → AllByRecursion (λ e. map.find slot_cmp e.0 (entries m.slots) ≡ Some e.1) es → AllByRecursion (λ e. get m.slots e.0 ≡ Some e.1) es
-    held [] a = tt
-    held (e ∷ es) a = (get-entries m.slots e.0 ∙ a.0, held es a.1)
+    (all_held slot_total slot_exact m.slots))
+
+-- a slot that is there is one of the world
+pub seen_at : (m : LookUps) → AreSound m → (x : ObjNo) (n : Name) (id : ℕ) (h : SlotHere m x n id) → slot_of (world_shown m) x n ≡ Some (slot_seen h.prop.definer h.row)
+seen_at m sound x n id h =
+    let row = some_of (m.object x) (sound.slots x id (ap is_some h.held)).0 in
+    ap (slot_of (world_shown m) x) (sym h.name) ∙ slot_shown m sound x row.0 row.1 id h.prop h.row h.there h.held
 
 abbrev pub is_called_entry : Maps → Name → Entry → Bool
 is_called_entry m n e = is_called m n e.0.1
@@ -103,10 +104,6 @@ module _ (m : Maps) (sound : IsSound m) (x : ObjNo) where
           ∙ ap is_lt (sym (nat_cmp_is 0 id.0 Less (sound.props_below id.0 (sound.slots x id.0 (ap is_some e)).1).0))
 
   module _ (n : Name) where
-    called : (o : Option PropRow) → unwrap_or (option_map (λ (p : PropRow). same_text (folded p.name) n) o) false ≡ true → (p : PropRow) × (o ≡ Some p) × (folded p.name ≡ n)
-    called None e = absurd (false≢true e)
-    called (Some p) e = (p, refl, (same_text-Decides (folded p.name) n).0 e)
-
     call : (p : PropRow) (id : PropId) → get m.props id ≡ Some p → folded p.name ≡ n → (s : SlotRow) → is_called m n id ≡ true
     call p id e f s = ap (λ o. unwrap_or (option_map (λ (p : PropRow). same_text (folded p.name) n) o) false) e ∙ (same_text-Decides (folded p.name) n).1 f
 
@@ -115,32 +112,26 @@ module _ (m : Maps) (sound : IsSound m) (x : ObjNo) where
     found_here e f =
         let at = found_of (λ e. (get m.slots e.0 ≡ Some e.1) × (int_eq e.0.0.0 x.0 ≡ true)) (is_called_entry m n) (walk m x) e (walk_held m x) f in
         let own : e.0.0 ≡ x = let k = (Decides-int_eq e.0.0.0 x.0).0 at.1 in λ i. record { 0 = k i } in
-        let p = called (get m.props e.0.1) (find_passes (is_called_entry m n) (walk m x) e f) in
-        (own, record { prop = p.0; row = e.1; there = p.1; held = ap (λ y. get m.slots (y, e.0.1)) (sym own) ∙ at.0; name = p.2 })
+        let p = passing (λ (p : PropRow). same_text (folded p.name) n) (get m.props e.0.1) (find_passes (is_called_entry m n) (walk m x) e f) in
+        (own, record { prop = p.0; row = e.1; there = p.1; held = ap (λ y. get m.slots (y, e.0.1)) (sym own) ∙ at.0; name = (same_text-Decides (folded p.0.name) n).0 p.2 })
 
     -- where nothing is found the object has no slot of that name
     pub none_here : first_called m n (walk m x) ≡ None → slot_of (world_of m) x n ≡ None
-    none_here f = by (slot_of (world_of m) x n) refl
+    none_here f = no_value (slot_of (world_of m) x n) (λ s e.
+        let row = some_of (get m.objects x) (there s e) in
+        let k = slot_from (look_ups m) x n row.0 row.1 s e in
+        both_ways _ (sym (found_any (is_called_entry m n) (walk m x)) ∙ ap is_some f) (walk_meets (is_called_entry m n) (record { 0 = k.0 }) k.1.row k.1.held (call k.1.prop (record { 0 = k.0 }) k.1.there k.1.name k.1.row)))
       where
         there : (s : Slot) → slot_of (world_of m) x n ≡ Some s → is_some (get m.objects x) ≡ true
         there s e = sym (is_object_seen (look_ups m) x) ∙ slotted ((world_of m).object x) s e
           where
-            slotted : (o : Option Record) (s : Slot) → option_and_then (λ r. r.slot n) o ≡ Some s → is_some o ≡ true
+            slotted : (o : Option WorldObject) (s : Slot) → option_and_then (λ r. r.slot n) o ≡ Some s → is_some o ≡ true
             slotted None s k = absurd (none-some s k)
             slotted (Some r) s k = refl
 
-        by : (o : Option Slot) → slot_of (world_of m) x n ≡ o → o ≡ None
-        by None e = refl
-        by (Some s) e =
-            let row = some_of (get m.objects x) (there s e) in
-            let k = slot_from (look_ups m) x n row.0 row.1 s e in
-            absurd (both_ways _ (none_passes (is_called_entry m n) (walk m x) f) (walk_meets (is_called_entry m n) (record { 0 = k.0 }) k.1.row k.1.held (call k.1.prop (record { 0 = k.0 }) k.1.there k.1.name k.1.row)))
-
   -- a slot that is there is one of the world
   pub here_seen : (n : Name) (id : ℕ) (h : SlotHere (look_ups m) x n id) → slot_of (world_of m) x n ≡ Some (slot_seen h.prop.definer h.row)
-  here_seen n id h =
-      let row = some_of (get m.objects x) (sound.slots x id (ap is_some h.held)).0 in
-      ap (slot_of (world_of m) x) (sym h.name) ∙ slot_shown (look_ups m) sound x row.0 row.1 id h.prop h.row h.there h.held
+  here_seen n id h = seen_at (look_ups m) sound x n id h
 
 -- and its property has that name
 pub here_name : (m : Maps) (x : ObjNo) (n : Name) (id : PropId) → SlotHere (look_ups m) x n id.0 → name_of m id ≡ n

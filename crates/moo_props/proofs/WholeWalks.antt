@@ -1,9 +1,8 @@
 -- In a good world the walks that begin below the least number go over all rows.
-use Rattle.moo_props.proofs.Words.{◌≡◌, ◌≢◌, ◌<◌, T, ◌||◌, Option, None, Some, List, [], ◌∷◌, map, Less, Ordering, negsuc, refl, sym, ap, ◌∙◌, arith, is_some, IsTotalOrder, tied_itself, nat_cmp_is, int_eq, filter, FinMap, get, is_sorted, entries, entries_sorted, get-entries, true≢false, ints, ObjNo, ObjRow, PropId, PropRow, VerbId, VerbRow, ChildOf, Within, object_exact, IsFirst, defined_left, Maps, object_cmp, prop_cmp, is_past, entries_past, verbs_of_left, object_total, prop_total, first_of, nothing, same_object, same_object-eq, IsGood, look_ups, prop_id, verb_id, is_object_seen, links_to, linked_among, verbs_among, props_of}
+use Rattle.moo_props.proofs.Words.{◌≡◌, ◌≢◌, ◌<◌, T, ◌||◌, Option, None, Some, List, [], ◌∷◌, map, Less, Ordering, negsuc, refl, sym, ap, ◌∙◌, arith, is_some, IsTotalOrder, tied_itself, nat_cmp_is, int_eq, filter, FinMap, get, is_sorted, entries, entries_sorted, get-entries, true≢false, ints, ObjNo, ObjRow, PropId, PropRow, VerbId, VerbRow, ChildOf, Within, object_exact, IsFirst, defined_left, Maps, object_cmp, prop_cmp, is_past, entries_past, verbs_of_left, object_total, prop_total, first_of, nothing, same_object, same_object-eq, IsGood, look_ups, prop_id, verb_id, is_object_seen, links_to, linked_among, verbs_among, props_of, or-false, IsSound}
 use Rattle.std.specs.Cmp.{int_cmp_is}
 use Rattle.std.specs.Ordering.{is_eq}
 use Rattle.std.specs.FinMap.{find}
-use Rattle.std.proofs.Math.Bool.{or-false}
 use Rattle.moo_rows.specs.Links as links
 use Rattle.moo_rows.proofs.Firsts.{first-alike, first-end, first-step}
 use Rattle.moo_rows.proofs.OfObject.{verbs_of_left-all}
@@ -22,16 +21,16 @@ module _ {K X : Type 0} {cmp : K → K → Ordering} (total : IsTotalOrder cmp) 
   all_entries : (m : FinMap cmp X) → ((k : K) (row : X) → get m k ≡ Some row → cmp from k ≡ Less) → entries_past cmp (Some from) (entries m) ≡ entries m
   all_entries m h = all_of (entries m) (entries_sorted m) (λ k row held. h k row (get-entries m k ∙ held))
 
+pub props_all : (t : Maps) → IsSound t → entries_past prop_cmp (Some (prop_id 0)) (entries t.props) ≡ entries t.props
+props_all t sound = all_entries prop_total (prop_id 0) t.props (λ id row held. sym (nat_cmp_is 0 id.0 Less (sound.props_below id.0 (ap is_some held)).0))
+
 module _ (t : Maps) (good : IsGood t) (x : ObjNo) where
   -- ---- properties
 
   pub defined_all : defined_left x (prop_id 0) t ≡ filter (λ e. same_object e.1.definer x) (entries t.props)
   defined_all =
-      ap (filter (λ e. int_eq e.1.definer.0 x.0)) (all_entries prop_total (prop_id 0) t.props past)
+      ap (filter (λ e. int_eq e.1.definer.0 x.0)) (props_all t good.sound)
       ∙ (λ i. filter (λ e. (same_object-eq x e.1.definer ∙ same_object-symm x e.1.definer) i) (entries t.props))
-    where
-      past : (id : PropId) (row : PropRow) → get t.props id ≡ Some row → prop_cmp (prop_id 0) id ≡ Less
-      past id row held = sym (nat_cmp_is 0 id.0 Less (good.sound.props_below id.0 (ap is_some held)).0)
 
   pub defined_keys : map (λ e. e.0) (defined_left x (prop_id 0) t) ≡ props_of (x ∷ []) t.props
   defined_keys = ap (map (λ e. e.0)) defined_all ∙ (λ i. map (λ e. e.0) (filter (λ e. sym (or-false (same_object e.1.definer x)) i) (entries t.props)))

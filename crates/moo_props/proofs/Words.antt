@@ -7,7 +7,8 @@ pub use Rattle.std.specs.List.{AllByRecursion, cons_option, filter, filter_map, 
 pub use Rattle.std.specs.Option.{option_and_then, option_map, option_or}
 pub use Rattle.std.specs.Ordering.{eq_by_cmp, int_eq, is_lt, ordering_then}
 pub use Rattle.std.specs.Prelude.{if◌then◌else◌, int_lt, is_some, not, slice_get, unwrap_or, ◌&&◌, ◌+ℤ◌}
-pub use Rattle.std.proofs.lemmas.Bool.{and_parts, both_ways, eq-eqb, eqb-true, false≢true, or_cases, or_left, or_right, true≢false}
+pub use Rattle.std.proofs.lemmas.Bool.{and_from, and_parts, both_ways, cases_eq, cases_lt, cases_order, cond_both, eq-eqb, eqb-true, false_from_ne_true, false≢true, le-ltb, lt-ltb, ne_eqb, not-true, or_cases, or_left, or_parts, or_right, true_from_ne_false, true≢false}
+pub use Rattle.std.proofs.Math.Bool.{and-false, and-true, or-false}
 pub use Rattle.std.proofs.lemmas.Bool.Decides.{Decides-int_eq}
 pub use Rattle.std.proofs.lemmas.Int.{ints, to_z-of_z}
 pub use Rattle.std.proofs.lemmas.Iterator.{YieldsList-from_map, items_from_collect}
@@ -16,7 +17,7 @@ pub use Rattle.std.proofs.lemmas.Iterator.Search.{any_from_yields_List}
 pub use Rattle.std.proofs.lemmas.List.{at_drop_more}
 pub use Rattle.std.proofs.lemmas.List.Elements.{filter_map-append}
 pub use Rattle.std.proofs.lemmas.Map.Lookups.{CmpEqualImpliesEq}
-pub use Rattle.std.proofs.lemmas.Option.{none-some, same_Some}
+pub use Rattle.std.proofs.lemmas.Option.{cond_some, none-some, same_Some, slice_get-map}
 pub use Rattle.moo_value.specs.declared.value.ObjNo.{ObjNo}
 pub use Rattle.moo_value.specs.declared.value.Value.{Value}
 pub use Rattle.moo_value.specs.declared.value.Value.TheVariants.{Int}
@@ -48,21 +49,21 @@ pub use Rattle.moo_world.proofs.Shown.PairLists.{any_map, some_of}
 pub use Rattle.moo_world.proofs.Shown.RowLaws.{names_shown, slot_shown}
 pub use Rattle.moo_world.proofs.Shown.Seen.{chain_of_no_row, chain_of_row, is_object_seen, object_seen}
 pub use Rattle.moo_world.proofs.Shown.Slots.{SlotHere, slot_from, slots_shown}
-pub use Rattle.moo_world.specs.Changes.{clashes, defined, renamed, undefined, with_slot_of}
+pub use Rattle.moo_world.specs.Changes.{clashes, property_added, property_renamed, property_removed, with_slot_of}
 pub use Rattle.moo_world.specs.Creation.{created}
 pub use Rattle.moo_world.specs.Keeps.{beside_world}
 pub use Rattle.moo_world.specs.Laws.{MayReparent}
-pub use Rattle.moo_world.specs.Manual.{ancestors, gained, kept_from, lost}
+pub use Rattle.moo_world.specs.Manual.{ancestors, gained, unless_defined_by, lost}
 pub use Rattle.moo_world.specs.Numbers.{IsSameButSlots, verbs_stay}
 pub use Rattle.moo_world.specs.ObjectLists.{subtree_of}
-pub use Rattle.moo_world.specs.Objects.{Name, Pair, is_among, nothing, same_object-Decides, same_object-eq, same_pair, same_text, same_text-Decides}
+pub use Rattle.moo_world.specs.Objects.{Name, Property, is_among, nothing, same_object-Decides, same_object-eq, same_property, same_text, same_text-Decides}
 unfoldable pub use Rattle.moo_world.specs.Objects.{folded, same_object}
 pub use Rattle.moo_world.specs.PropertyCalls.{defines_name}
 pub use Rattle.moo_world.specs.Quota.{quota_in, quota_of}
 pub use Rattle.moo_world.specs.Recycling.{recycled}
-pub use Rattle.moo_world.specs.Rows.{AreSound, IsGood, IsSound, LookUps, look_ups, name_on, numbers_below, prop_id, record_of, slot_on, slot_seen, verb_id, world_of}
+pub use Rattle.moo_world.specs.Rows.{AreSound, IsGood, IsSound, LookUps, look_ups, name_on, numbers_below, prop_id, object_shown, slot_on, slot_seen, verb_id, world_of}
 unfoldable pub use Rattle.moo_world.specs.Rows.{world_shown}
-pub use Rattle.moo_world.specs.World.{Chain, IsTree, IsWellFormed, NamesDiffer, Record, Slot, World, defined_by, fresh, is_object, is_property_name, names_of, numbers_to, owed_by, owner_of, pair_named, parent_of, read_along, read_in, read_of, reparented, slot_fits, slot_of, with_record, with_slots, without_slots}
+pub use Rattle.moo_world.specs.World.{Chain, IsTree, IsWellFormed, NamesDiffer, WorldObject, Slot, World, defined_by, fresh, is_object, is_property_name, property_names_of, numbers_to, defined_by_any, owner_of, property_named, parent_of, read_along, read_in, read_of, reparented, slot_fits, slot_of, object_changed, with_slots, without_slots}
 unfoldable pub use Rattle.moo_world.specs.World.{chain}
 pub use Rattle.moo_tree.specs.Under.{owners_under}
 pub use Rattle.moo_props.specs.Birth.{new_row, with_new_row}

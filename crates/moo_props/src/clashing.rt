@@ -3,11 +3,11 @@
 ghost use Rattle.std.specs.Prelude.{◌≡◌, is_some};
 ghost use Rattle.std.specs.List.{list_any};
 ghost use Rattle.moo_world.specs.Changes.{clashes};
-ghost use Rattle.moo_world.specs.ObjectLists.{meets, subtree_of};
+ghost use Rattle.moo_world.specs.ObjectLists.{shares_property_name, subtree_of};
 ghost use Rattle.moo_world.specs.Objects.{folded};
 ghost use Rattle.moo_world.specs.PropertyCalls.{defines_name};
 ghost use Rattle.moo_world.specs.Rows.{world_of, IsGood, IsSound};
-ghost use Rattle.moo_world.specs.World.{owed_by, pair_named};
+ghost use Rattle.moo_world.specs.World.{defined_by_any, property_named};
 ghost use Rattle.moo_props.specs.Clashes.{meets_on};
 
 use crate::descent::{next_under, subtree_top};
@@ -27,7 +27,7 @@ fn defines_named<R: Rows>(rows: &R, y: ObjNo, name: &MooStr) -> bool
 /// Whether x or a descendant of x defines a property of the name.
 fn is_defined_under<R: Rows>(rows: &R, x: ObjNo, name: &MooStr) -> bool
     requires { IsGood (R.held rows.now).maps }
-    ensures { let w = world_of (R.held rows.now).maps in result ≡ is_some (pair_named (owed_by w (subtree_of w x)) (folded name.now)) }
+    ensures { let w = world_of (R.held rows.now).maps in result ≡ is_some (property_named (defined_by_any w (subtree_of w x)) (folded name.now)) }
 {
     let mut at = subtree_top(rows, x);
     while let Some(y) = at {
@@ -65,9 +65,9 @@ fn meets_on<R: Rows>(rows: &R, new: ObjNo, y: ObjNo) -> bool
 /// It takes no memory. Each property that x or a descendant defines is looked for among the slots of new.
 ///
 /// LambdaMOO Programmer's Manual, 'Fundamental Operations on Objects': `chparent`.
-pub fn meets<R: Rows>(rows: &R, x: ObjNo, new: ObjNo) -> bool
+pub fn shares_property_name<R: Rows>(rows: &R, x: ObjNo, new: ObjNo) -> bool
     requires { IsGood (R.held rows.now).maps }
-    ensures { result ≡ meets (world_of (R.held rows.now).maps) x new }
+    ensures { result ≡ shares_property_name (world_of (R.held rows.now).maps) x new }
 {
     let mut at = subtree_top(rows, x);
     while let Some(y) = at {

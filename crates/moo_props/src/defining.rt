@@ -3,7 +3,7 @@
 ghost use Rattle.std.specs.Prelude.{◌≡◌, ◌<◌, true, false, IfOk, OnOk};
 ghost use Rattle.std.specs.FinMap.{insert};
 ghost use Rattle.moo_world.specs.Arguments.{fits};
-ghost use Rattle.moo_world.specs.Changes.{clashes, defined};
+ghost use Rattle.moo_world.specs.Changes.{clashes, property_added};
 ghost use Rattle.moo_world.specs.Rows.{world_of, prop_id, IsGood};
 ghost use Rattle.moo_world.specs.World.{is_object, is_property_name};
 ghost use Rattle.moo_props.specs.Defining.{fresh_over, with_definition};
@@ -65,7 +65,7 @@ pub fn define<R: Rows>(
     requires free { clashes (world_of (R.held rows.old).maps) x name ≡ false }
     requires left { (R.held rows.old).maps.head.next_prop < 4294967295 }
     requires fit { fits value ≡ true }
-    ensures world { OnOk result (world_of (R.held rows.new).maps ≡ defined (world_of (R.held rows.old).maps) x name (record { definer = x; owner = owner; bits = bits; state = SlotState.Set value })) }
+    ensures world { OnOk result (world_of (R.held rows.new).maps ≡ property_added (world_of (R.held rows.old).maps) x name (record { definer = x; owner = owner; bits = bits; state = SlotState.Set value })) }
     ensures kept { OnOk result (Keeps (R.held rows.old) (R.held rows.new)) }
     ensures id { IfOk result (λ id. id.0 ≡ (R.held rows.old).maps.head.next_prop) }
     ensures props { OnOk result ((R.held rows.new).maps.props ≡ insert (R.held rows.old).maps.props (prop_id (R.held rows.old).maps.head.next_prop) (record { definer = x; name = name })) }

@@ -12,7 +12,7 @@ use moo_value::{MooStr, ObjNo};
 
 /// A slot on an object, with its property's number and definer.
 #[derive(Clone, Copy)]
-pub struct Found<'a> {
+pub struct FoundSlot<'a> {
     pub id: PropId,
     pub definer: ObjNo,
     pub slot: &'a SlotRow,
@@ -61,7 +61,7 @@ pub fn find<R: Rows>(rows: &R, x: ObjNo, name: &MooStr) -> Option<PropId>
 }
 
 /// The slot on x of the property of a name. Names compare without ASCII case.
-pub fn slot_of<'a, R: Rows>(rows: &'a R, x: ObjNo, name: &MooStr) -> Option<Found<'a>>
+pub fn slot_of<'a, R: Rows>(rows: &'a R, x: ObjNo, name: &MooStr) -> Option<FoundSlot<'a>>
     requires { IsSound (R.held rows.now).maps }
     ensures slot { option_map (λ f. slot_seen f.definer f.slot.now) result ≡ slot_of (world_of (R.held rows.now).maps) x (folded name.now) }
     ensures held { IfSome result (λ f. is_some (get (R.held rows.now).maps.slots (x, f.id)) ≡ true) }
@@ -77,6 +77,6 @@ pub fn slot_of<'a, R: Rows>(rows: &'a R, x: ObjNo, name: &MooStr) -> Option<Foun
     };
     match rows.slot((x, id)) {
         None => unreachable!(),
-        Some(slot) => Some(Found { id, definer, slot }),
+        Some(slot) => Some(FoundSlot { id, definer, slot }),
     }
 }

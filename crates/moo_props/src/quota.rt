@@ -3,7 +3,7 @@
 
 ghost use Rattle.std.specs.Prelude.{◌≡◌, ◌+ℤ◌, is_some, true, option_map, negsuc, pos, IfSome, OnOk};
 ghost use Rattle.std.specs.FinMap.{get};
-ghost use Rattle.moo_world.specs.Quota.{quota_name, quota_of, quota_moved, quota_returned, has_quota_left};
+ghost use Rattle.moo_world.specs.Quota.{quota_name, quota_of, quota_changed, quota_returned, has_quota_left};
 ghost use Rattle.moo_world.specs.Rows.{world_of, IsGood};
 ghost use Rattle.moo_world.specs.Keeps.{Keeps};
 ghost use Rattle.moo_world.specs.Numbers.{IsSameButSlots};
@@ -59,7 +59,7 @@ fn set_to(quota: i64, by: i64) -> SlotState
 pub fn move_quota<R: Rows>(rows: &mut R, o: ObjNo, by: i64) -> Result<(), AllocError>
     requires good { IsGood (R.held rows.old).maps }
     requires room { HasRoom (quota_of (world_of (R.held rows.old).maps) o) by }
-    ensures world { OnOk result (world_of (R.held rows.new).maps ≡ quota_moved (world_of (R.held rows.old).maps) o by) }
+    ensures world { OnOk result (world_of (R.held rows.new).maps ≡ quota_changed (world_of (R.held rows.old).maps) o by) }
     ensures kept { OnOk result (Keeps (R.held rows.old) (R.held rows.new)) }
     ensures rest { OnOk result (IsSameButSlots (R.held rows.old).maps (R.held rows.new).maps) }
 {
@@ -75,7 +75,7 @@ pub fn move_quota<R: Rows>(rows: &mut R, o: ObjNo, by: i64) -> Result<(), AllocE
 pub fn take_quota<R: Rows>(rows: &mut R, o: ObjNo) -> Result<(), AllocError>
     requires good { IsGood (R.held rows.old).maps }
     requires left { has_quota_left (world_of (R.held rows.old).maps) o ≡ true }
-    ensures world { OnOk result (world_of (R.held rows.new).maps ≡ quota_moved (world_of (R.held rows.old).maps) o (negsuc 0)) }
+    ensures world { OnOk result (world_of (R.held rows.new).maps ≡ quota_changed (world_of (R.held rows.old).maps) o (negsuc 0)) }
     ensures kept { OnOk result (Keeps (R.held rows.old) (R.held rows.new)) }
     ensures rest { OnOk result (IsSameButSlots (R.held rows.old).maps (R.held rows.new).maps) }
 {

@@ -2,7 +2,7 @@
 
 ghost use Rattle.std.specs.Prelude.{◌≡◌, true, OnOk};
 ghost use Rattle.std.specs.FinMap.{remove};
-ghost use Rattle.moo_world.specs.Changes.{undefined};
+ghost use Rattle.moo_world.specs.Changes.{property_removed};
 ghost use Rattle.moo_world.specs.Rows.{world_of, IsGood};
 ghost use Rattle.moo_world.specs.Keeps.{Keeps};
 ghost use Rattle.moo_props.specs.Names.{defines, spelling_of};
@@ -40,7 +40,7 @@ pub fn undefine<R: Rows>(
 ) -> Result<(), AllocError>
     requires good { IsGood (R.held rows.old).maps }
     requires own { defines (R.held rows.old).maps x id ≡ true }
-    ensures world { OnOk result (world_of (R.held rows.new).maps ≡ undefined (world_of (R.held rows.old).maps) x (spelling_of (R.held rows.old).maps id)) }
+    ensures world { OnOk result (world_of (R.held rows.new).maps ≡ property_removed (world_of (R.held rows.old).maps) x (spelling_of (R.held rows.old).maps id)) }
     ensures kept { OnOk result (Keeps (R.held rows.old) (R.held rows.new)) }
     ensures props { OnOk result ((R.held rows.new).maps.props ≡ remove (R.held rows.old).maps.props id) }
 {

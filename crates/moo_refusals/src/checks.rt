@@ -1,151 +1,142 @@
-//! What calls check.
+//! What calls check, and the error if a check fails.
 
-use moo_value::{Code, MooStr, ObjNo, Value, ValueList};
-use moo_world::BuiltIn;
-use std::alloc::AllocError;
+use crate::given::Position;
+use moo_value::Code;
 
-/// The checks of a call, in their order.
-pub(crate) type Ladder<'a> = Result<Vec<Rung<'a>>, AllocError>;
-
-/// One check of a call, and the error if it fails.
+/// What a call checks. A text or a list that it isn't given passes.
 #[derive(Clone, Copy)]
-pub(crate) struct Rung<'a> {
-    pub(crate) code: Code,
-    pub(crate) check: Check<'a>,
-}
-
-impl<'a> Rung<'a> {
-    /// What is E_PERM if it fails.
-    pub(crate) fn permission(check: Check<'a>) -> Rung<'a> {
-        Rung {
-            code: Code::Permission,
-            check,
-        }
-    }
-
-    /// What is E_INVARG if it fails.
-    pub(crate) fn invalid(check: Check<'a>) -> Rung<'a> {
-        Rung {
-            code: Code::InvalidArgument,
-            check,
-        }
-    }
-}
-
-/// What a call checks.
-#[derive(Clone, Copy)]
-pub(crate) enum Check<'a> {
+pub(crate) enum Check {
     /// The programmer is an object.
     Programmer,
+    /// The programmer is a wizard.
+    Wizard,
     /// It is an object.
-    Object(ObjNo),
+    Object(Position),
+    /// The object of `get` or `set` is one.
+    Target,
     /// It is an object or `#-1`.
-    ObjectOrNothing(ObjNo),
+    ObjectOrNothing(Position),
+    /// The parent that `create` is given is an object or `#-1`.
+    Parent,
     /// The programmer has the right.
-    Right(Right),
-    /// The objects may be put together so.
-    Tree(Tree),
-    /// Of a property of this name on the object.
-    Property(ObjNo, &'a MooStr, PropertyCheck<'a>),
+    Right(Right, Position),
+    /// The two objects may be put together so.
+    Pair(Pair),
+    /// The quota of the owner that `create` is given isn't used up.
+    Quota,
+    /// Of a built-in property, if the name is that of one.
+    BuiltIn(BuiltInCheck),
+    /// Of the property of the name on the object.
+    Property(PropertyCheck),
     /// Of a verb of the object, by its number or by a name.
-    Verb(ObjNo, &'a Value, VerbCheck),
-    /// What a new property or a new verb is made of is right.
-    Part(Part<'a>),
-    /// Of the petition of a number.
-    Petition(i64, PetitionCheck),
-    /// The calls may be asked for.
-    Asked(Asked<'a>),
+    Verb(VerbCheck),
+    /// Of a text.
+    Text(TextCheck, Position),
+    /// Of a list.
+    List(ListCheck, Position),
+    /// Of the petition of the number.
+    Petition(PetitionCheck),
 }
 
-/// A right of the programmer's.
+/// A right of the programmer's on an object.
 #[derive(Clone, Copy)]
 pub(crate) enum Right {
-    /// It is a wizard.
-    Wizard,
     /// It owns the object, or is a wizard.
-    Controls(ObjNo),
+    Controls,
     /// It may put objects under this one.
-    BeParent(ObjNo),
+    BeParent,
     /// It may make this one the owner of what it makes.
-    Own(ObjNo),
+    Own,
     /// It may list the properties and verbs of the object.
-    Read(ObjNo),
+    Read,
     /// It may add properties and verbs to the object, and delete them.
-    Write(ObjNo),
-    /// It may set this built-in property, as wizards may.
-    Set(BuiltIn),
-    /// The object isn't a player, or the programmer is a wizard.
-    Rename(ObjNo),
+    Write,
 }
 
-/// How objects may be put together.
+/// How an object and another one may be put together.
 #[derive(Clone, Copy)]
-pub(crate) enum Tree {
+pub(crate) enum Pair {
     /// The new parent is neither the object nor under it.
-    Parent { object: ObjNo, new: ObjNo },
+    Parent,
     /// What the object and those under it define, the new parent doesn't have.
-    Names { object: ObjNo, new: ObjNo },
+    Names,
     /// The place accepts the object.
-    Accepted { object: ObjNo, place: ObjNo },
+    Accepted,
     /// The place is neither the object nor inside it.
-    Place { object: ObjNo, place: ObjNo },
-    /// The owner's quota isn't used up.
-    Quota(ObjNo),
+    Place,
+}
+
+/// A check of a built-in property.
+#[derive(Clone, Copy)]
+pub(crate) enum BuiltInCheck {
+    /// The property isn't built in.
+    Absent,
+    /// It isn't `location` or `contents`.
+    Settable,
+    /// It takes such a value.
+    Takes,
+    /// It isn't the name of a player, or the programmer is a wizard.
+    Rename,
+    /// The programmer may set it.
+    Set,
+    /// It isn't `owner`, or the value is an object.
+    Owner,
 }
 
 /// A check of a property on an object.
 #[derive(Clone, Copy)]
-pub(crate) enum PropertyCheck<'a> {
-    /// It isn't built in.
-    NotBuiltIn,
-    /// It isn't `location` or `contents`.
-    Settable,
+pub(crate) enum PropertyCheck {
     /// The object has it.
     Present,
     /// The object itself defines it.
     Defined,
+    /// The object itself defines it, if it gets a new name.
+    Renamed,
     /// The object doesn't define it itself.
     Inherited,
-    /// A new property of the object may have the name.
-    Free,
+    /// A new property of the object may have this name.
+    Free(Position),
     /// The programmer may read it.
     Read,
     /// The programmer may write it.
     Write,
     /// The programmer may give it to this owner.
-    Give(ObjNo),
-    /// A built-in property takes such a value.
-    Takes(&'a Value),
+    Give(Position),
 }
 
-/// A check of a verb of an object.
+/// A check of a verb: the object has it, and the programmer may read it or change it.
 #[derive(Clone, Copy)]
 pub(crate) enum VerbCheck {
-    /// The object has it.
     Present,
-    /// The programmer may read it.
     Read,
-    /// The programmer may change it.
     Write,
 }
 
-/// A part of a new property or a new verb.
+/// A check of a text that a property or a verb is made of.
 #[derive(Clone, Copy)]
-pub(crate) enum Part<'a> {
+pub(crate) enum TextCheck {
     /// The name of a property has 1 to 255 bytes, and isn't that of a built-in one.
-    PropertyName(&'a MooStr),
-    /// Perms of a property.
-    PropertyPerms(&'a MooStr),
-    /// Perms of a verb.
-    VerbPerms(&'a MooStr),
+    PropertyName,
+    PropertyPerms,
+    VerbPerms,
     /// The names of a verb have a word.
-    VerbNames(&'a MooStr),
+    VerbNames,
     /// A direct or indirect object.
-    VerbObject(&'a MooStr),
-    /// A preposition.
-    VerbPreposition(&'a MooStr),
-    /// An accept list of at most 1,000 entries.
-    AcceptList(&'a ValueList),
+    VerbObject,
+    VerbPreposition,
+}
+
+/// A check of a list.
+#[derive(Clone, Copy)]
+pub(crate) enum ListCheck {
+    /// An accept list has at most 1,000 entries.
+    Accept,
+    /// A petition has 1 to 64 calls.
+    Count,
+    /// Each of its calls names a call on the world.
+    Names,
+    /// Its lists are at most 30 deep.
+    Depth,
 }
 
 /// A check of a petition.
@@ -159,13 +150,27 @@ pub(crate) enum PetitionCheck {
     Granted,
 }
 
-/// What a petition may ask for.
-#[derive(Clone, Copy)]
-pub(crate) enum Asked<'a> {
-    /// There are 1 to 64 calls.
-    Count(&'a ValueList),
-    /// Each names a call on the world.
-    Names(&'a ValueList),
-    /// Lists are at most 30 deep.
-    Depth(&'a ValueList),
+/// The error if a check fails.
+pub(crate) fn code_of(check: Check) -> Code {
+    match check {
+        Check::Target => Code::InvalidIndirection,
+        Check::Pair(Pair::Parent | Pair::Place) => Code::RecursiveMove,
+        Check::Pair(Pair::Accepted) => Code::NotAccepted,
+        Check::Quota => Code::Quota,
+        Check::BuiltIn(BuiltInCheck::Takes) => Code::Type,
+        Check::BuiltIn(BuiltInCheck::Absent) => Code::PropertyNotFound,
+        Check::Property(PropertyCheck::Present | PropertyCheck::Defined) => {
+            Code::PropertyNotFound
+        }
+        Check::Verb(VerbCheck::Present) => Code::VerbNotFound,
+        Check::Object(_) | Check::ObjectOrNothing(_) | Check::Text(_, _) | Check::List(_, _) => {
+            Code::InvalidArgument
+        }
+        Check::Pair(Pair::Names) | Check::BuiltIn(BuiltInCheck::Owner) => Code::InvalidArgument,
+        Check::Property(
+            PropertyCheck::Renamed | PropertyCheck::Inherited | PropertyCheck::Free(_),
+        ) => Code::InvalidArgument,
+        Check::Petition(PetitionCheck::Present) => Code::InvalidArgument,
+        _ => Code::Permission,
+    }
 }

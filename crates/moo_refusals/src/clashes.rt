@@ -2,8 +2,9 @@
 
 ghost use Rattle.moo_world.specs.Rows.{IsGood};
 
-use crate::checks::{Check, PropertyCheck, Tree};
-use crate::shown::{shown_object, shown_text};
+use crate::checks::{Check, Pair, PropertyCheck};
+use crate::given::{FIRST, Given, SECOND, object_at, text_at};
+use crate::shown::Reason;
 use moo_props::{find, slot_of};
 use moo_rows::{PropId, Rows, each_defined};
 use moo_tree::subtree;
@@ -22,26 +23,25 @@ fn common_name<R: Rows>(rows: &R, object: ObjNo, other: ObjNo) -> Option<&MooStr
     None
 }
 
-/// Which object under this one defines a property that the new parent has.
+/// Says which object under this one defines a property that the new parent has. False if there is none.
 fn told_names<R: Rows>(
-    alloc: Global,
+    reason: &mut Reason,
     rows: &R,
     object: ObjNo,
     new: ObjNo,
-) -> Result<Option<String>, AllocError>
+) -> Result<bool, AllocError>
     requires { IsGood (R.held rows.now).maps }
 {
-    for under in subtree(alloc, rows, object)? {
+    for under in subtree(reason.alloc, rows, object)? {
         if let Some(name) = common_name(rows, under, new) {
-            let name = shown_text(alloc, name)?;
-            let under = shown_object(alloc, under)?;
-            let new = shown_object(alloc, new)?;
-            return Ok(Some(format!(in alloc;
-                "{under} defines {name} already, which {new} has too"
-            )?));
+            put_definer(reason, under, name)?;
+            reason.put(b", which ")?;
+            reason.put_object(new)?;
+            reason.put(b" has too")?;
+            return Ok(true);
         }
     }
-    Ok(None)
+    Ok(false)
 }
 
 /// Whether the object itself defines a property of the name.
@@ -71,36 +71,48 @@ fn definer<R: Rows>(
     Ok(None)
 }
 
-/// That a property of the name is defined already, and by which object.
+/// Says that the object defines a property of the name.
+fn put_definer(reason: &mut Reason, definer: ObjNo, name: &MooStr) -> Result<(), AllocError> {
+    reason.put_object(definer)?;
+    reason.put(b" defines ")?;
+    reason.put_text(name)?;
+    reason.put(b" already")
+}
+
+/// Says which object defines a property of the name already. False if there is none.
 fn told_definer<R: Rows>(
-    alloc: Global,
+    reason: &mut Reason,
     rows: &R,
     object: ObjNo,
     name: &MooStr,
-) -> Result<Option<String>, AllocError>
+) -> Result<bool, AllocError>
     requires { IsGood (R.held rows.now).maps }
 {
-    let Some(definer) = definer(alloc, rows, object, name)? else {
-        return Ok(None);
-    };
-    let definer = shown_object(alloc, definer)?;
-    let name = shown_text(alloc, name)?;
-    Ok(Some(format!(in alloc; "{definer} defines {name} already")?))
+    match definer(reason.alloc, rows, object, name)? {
+        Some(definer) => {
+            put_definer(reason, definer, name)?;
+            Ok(true)
+        }
+        None => Ok(false),
+    }
 }
 
-/// What is said of a check of names that fails, by the property that is in the way; none for another check.
+/// Says by which property a check of names fails. False for another check.
 pub(crate) fn told_clash<R: Rows>(
-    alloc: Global,
+    reason: &mut Reason,
     rows: &R,
-    check: Check<'_>,
-) -> Result<Option<String>, AllocError>
+    given: Given<'_>,
+    check: Check,
+) -> Result<bool, AllocError>
     requires { IsGood (R.held rows.now).maps }
 {
+    let object = object_at(given, FIRST);
     match check {
-        Check::Tree(Tree::Names { object, new }) => told_names(alloc, rows, object, new),
-        Check::Property(object, name, PropertyCheck::Free) => {
-            told_definer(alloc, rows, object, name)
-        }
-        _ => Ok(None),
+        Check::Pair(Pair::Names) => { told_names(reason, rows, object, object_at(given, SECOND)) }
+        Check::Property(PropertyCheck::Free(position)) => match text_at(given, position) {
+            Some(name) => told_definer(reason, rows, object, name),
+            None => Ok(false),
+        },
+        _ => Ok(false),
     }
 }

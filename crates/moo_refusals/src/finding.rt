@@ -3,12 +3,13 @@
 ghost use Rattle.std.specs.Prelude.{◌≡◌, true};
 ghost use Rattle.moo_world.specs.Rows.{IsGood};
 
-use crate::checks::{Check, PetitionCheck, Rung};
+use crate::calls::rules_of;
+use crate::checks::{Check, PetitionCheck, code_of};
 use crate::clashes::told_clash;
-use crate::forms::form;
-use crate::granted::told_held;
+use crate::given::{Given, first_number, given_by};
+use crate::granted::told_grant;
 use crate::holding::holds;
-use crate::ladders::whole_ladder;
+use crate::shown::Reason;
 use crate::telling::tell;
 use moo_draft::Draft;
 use moo_petitions::step;
@@ -37,104 +38,100 @@ pub(crate) fn do_calls<R: Rows>(
     true
 }
 
-/// The first check with this error that fails in the world of these rows.
-fn first_failing<'a, R: Rows>(
+/// Whether the check fails with this error in the world of these rows. A grant may have any error, from a call of its petition.
+fn fails<R: Rows>(
     alloc: Global,
     rows: &R,
-    programmer: ObjNo,
-    ladder: &[Rung<'a>],
+    given: Given<'_>,
+    check: Check,
     code: Code,
-) -> Result<Option<Check<'a>>, AllocError>
+) -> Result<bool, AllocError>
     requires { IsGood (R.held rows.now).maps }
 {
-    for rung in ladder {
-        if rung.code == code && !holds(alloc, rows, programmer, rung.check)? {
-            return Ok(Some(rung.check));
+    if matches!(check, Check::Petition(PetitionCheck::Granted)) {
+        return Ok(first_number(given).is_some());
+    }
+    if code_of(check) != code {
+        return Ok(false);
+    }
+    Ok(!holds(alloc, rows, given, check)?)
+}
+
+/// The check at which a call fails with this error in the world of these rows, if one is found.
+pub(crate) fn failing_check<R: Rows>(
+    alloc: Global,
+    rows: &R,
+    given: Given<'_>,
+    code: Code,
+) -> Result<Option<Check>, AllocError>
+    requires { IsGood (R.held rows.now).maps }
+{
+    if fails(alloc, rows, given, Check::Programmer, code)? {
+        return Ok(Some(Check::Programmer));
+    }
+    for check in rules_of(given.name).checks {
+        if fails(alloc, rows, given, *check, code)? {
+            return Ok(Some(*check));
         }
     }
     Ok(None)
 }
 
-/// How a call is written that was given a wrong number of arguments, or a wrong type.
-fn told_form(alloc: Global, name: CallName, code: Code) -> Result<Option<String>, AllocError> {
-    if code != Code::Arguments && code != Code::Type {
-        return Ok(None);
-    }
-    let written = form(name);
-    Ok(Some(format!(in alloc; "it is written {written}")?))
-}
-
-/// The check at which a call fails with this error in the world of these rows, if one is found.
-pub(crate) fn failing_check<'a, R: Rows>(
-    alloc: Global,
-    rows: &R,
-    programmer: ObjNo,
-    call: &'a Call,
-    code: Code,
-) -> Result<Option<Check<'a>>, AllocError>
-    requires { IsGood (R.held rows.now).maps }
-{
-    let ladder = whole_ladder(alloc, programmer, call, code)?;
-    first_failing(alloc, rows, programmer, &ladder, code)
-}
-
-/// What is said of the check at which a call fails. If it is none of the call's own, how the call is written.
-pub(crate) fn told_check<R: Rows>(
-    alloc: Global,
-    rows: &R,
-    programmer: ObjNo,
+/// Says how a call is written, if it was given a wrong number of values, or a wrong type. What is said begins with the lead.
+fn tell_form(
+    reason: &mut Reason,
+    lead: &[u8],
     name: CallName,
-    check: Option<Check<'_>>,
     code: Code,
-) -> Result<Option<String>, AllocError>
-    requires { IsGood (R.held rows.now).maps }
-{
-    let Some(check) = check else {
-        return told_form(alloc, name, code);
-    };
-    match told_clash(alloc, rows, check)? {
-        Some(text) => Ok(Some(text)),
-        None => Ok(Some(tell(alloc, programmer, check)?)),
+) -> Result<(), AllocError> {
+    if code != Code::Arguments && code != Code::Type {
+        return Ok(());
     }
+    reason.put(lead)?;
+    reason.put(b"it is written ")?;
+    reason.put(rules_of(name).form.as_bytes())
 }
 
-/// What is said of a call that fails in the world of these rows. Of a grant whose petition is there: which of its calls fails.
-fn told_failing<R: Rows>(
-    alloc: Global,
+/// Says why a call fails in the world of these rows: which of its checks fails, or how it is written if none does.
+pub(crate) fn tell_failing<R: Rows>(
+    reason: &mut Reason,
+    lead: &[u8],
     rows: &R,
-    programmer: ObjNo,
-    call: &Call,
+    given: Given<'_>,
     code: Code,
-) -> Result<Option<String>, AllocError>
+) -> Result<(), AllocError>
     requires { IsGood (R.held rows.now).maps }
 {
-    let check = failing_check(alloc, rows, programmer, call, code)?;
-    if let Some(Check::Petition(number, PetitionCheck::Granted)) = check {
-        if let Some(text) = told_held(alloc, rows, programmer, number, code)? {
-            return Ok(Some(text));
-        }
+    let Some(check) = failing_check(reason.alloc, rows, given, code)? else {
+        return tell_form(reason, lead, given.name, code);
+    };
+    reason.put(lead)?;
+    if told_clash(reason, rows, given, check)? {
+        return Ok(());
     }
-    told_check(alloc, rows, programmer, call.name, check, code)
+    tell(reason, given, check)
 }
 
-/// What is said of the check at which a call of a batch fails, after the calls before it are done on a draft. The first call is 1.
-pub(crate) fn told_refusal<R: Rows>(
-    alloc: Global,
+/// Says after a comma why a call of a batch fails, after the calls before it are done on a draft. Of a grant whose petition is there: which
+/// of its calls fails.
+pub(crate) fn tell_refusal<R: Rows>(
+    reason: &mut Reason,
     rows: &R,
     batch: &Batch,
-    number: u32,
+    place: usize,
+    call: &Call,
     code: Code,
-) -> Result<Option<String>, AllocError>
+) -> Result<(), AllocError>
     requires { IsGood (R.held rows.now).maps }
 {
+    let mut draft = Draft::new(reason.alloc, rows);
     let calls = batch.calls.items();
-    let place = (number as usize).saturating_sub(1);
-    let Some(call) = calls.get(place) else {
-        return Ok(None);
-    };
-    let mut draft = Draft::new(alloc, rows);
-    if !do_calls(&mut draft, alloc, batch.programmer, calls, place) {
-        return Ok(None);
+    if !do_calls(&mut draft, reason.alloc, batch.programmer, calls, place) {
+        return Ok(());
     }
-    told_failing(alloc, &draft, batch.programmer, call, code)
+    let given = given_by(batch.programmer, call);
+    if told_grant(reason, &draft, given, code)? {
+        return Ok(());
+    }
+    tell_failing(reason, b", ", &draft, given, code)
 }

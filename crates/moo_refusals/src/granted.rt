@@ -5,9 +5,11 @@ ghost use Rattle.std.specs.List.{list_all};
 ghost use Rattle.moo_world.specs.Arguments.{fits as within_limits};
 ghost use Rattle.moo_world.specs.Rows.{IsGood};
 
-use crate::finding::{do_calls, failing_check, told_check};
+use crate::checks::{Check, PetitionCheck};
+use crate::finding::{do_calls, failing_check, tell_failing};
+use crate::given::{Given, first_number, given_by};
 use crate::holding::petition_at;
-use crate::shown::shown_call;
+use crate::shown::Reason;
 use moo_call_parts::Fault;
 use moo_draft::Draft;
 use moo_petitions::{held_call, step};
@@ -92,38 +94,73 @@ fn place_of_failing<R: Rows>(
     Some(calls.len())
 }
 
-/// Which call of the petition of a number is refused with this error if the wizard grants it, and why. None if none is found.
-pub(crate) fn told_held<R: Rows>(
-    alloc: Global,
+/// Says which call of a petition fails.
+fn put_held(reason: &mut Reason, call: &Call, number: i64) -> Result<(), AllocError> {
+    reason.put(b", ")?;
+    reason.put_call(call)?;
+    reason.put(b" of petition ")?;
+    reason.put_number(number)
+}
+
+/// Says that a call of a petition names no call.
+fn put_unnamed(reason: &mut Reason, number: i64) -> Result<(), AllocError> {
+    reason.put(b", a call of petition ")?;
+    reason.put_number(number)?;
+    reason.put(b" names no call on the world")
+}
+
+/// Says why the call of a petition fails that is at the place, after those before it are done on a draft. False if one of them fails.
+fn told_at<R: Rows>(
+    reason: &mut Reason,
     rows: &R,
     wizard: ObjNo,
     number: i64,
+    calls: &[Call],
+    place: usize,
     code: Code,
-) -> Result<Option<String>, AllocError>
+) -> Result<bool, AllocError>
     requires { IsGood (R.held rows.now).maps }
 {
-    let Some(calls) = held_calls(alloc, rows, number)? else {
-        return Ok(None);
-    };
-    let mut tried = Draft::new(alloc, rows);
-    let Some(place) = place_of_failing(&mut tried, alloc, wizard, &calls, code) else {
-        return Ok(None);
-    };
     let Some(call) = calls.get(place) else {
-        return Ok(Some(format!(in alloc;
-            "a call of petition {number} names no call on the world"
-        )?));
+        put_unnamed(reason, number)?;
+        return Ok(true);
     };
-    let mut draft = Draft::new(alloc, rows);
-    if !do_calls(&mut draft, alloc, wizard, &calls, place) {
-        return Ok(None);
+    let mut draft = Draft::new(reason.alloc, rows);
+    if !do_calls(&mut draft, reason.alloc, wizard, calls, place) {
+        return Ok(false);
     }
-    let shown = shown_call(alloc, call)?;
-    let check = failing_check(alloc, &draft, wizard, call, code)?;
-    Ok(Some(
-        match told_check(alloc, &draft, wizard, call.name, check, code)? {
-            Some(why) => format!(in alloc; "{shown} of petition {number}: {why}")?,
-            None => format!(in alloc; "{shown} of petition {number}")?,
-        },
-    ))
+    put_held(reason, call, number)?;
+    tell_failing(reason, b": ", &draft, given_by(wizard, call), code)?;
+    Ok(true)
+}
+
+/// Of a grant that fails with this error at a call of its petition: says after a comma which call that is, and why. False if none is found.
+pub(crate) fn told_grant<R: Rows>(
+    reason: &mut Reason,
+    rows: &R,
+    given: Given<'_>,
+    code: Code,
+) -> Result<bool, AllocError>
+    requires { IsGood (R.held rows.now).maps }
+{
+    let Some(Check::Petition(PetitionCheck::Granted)) = failing_check(
+        reason.alloc,
+        rows,
+        given,
+        code,
+    )?
+    else {
+        return Ok(false);
+    };
+    let Some(number) = first_number(given) else {
+        return Ok(false);
+    };
+    let Some(calls) = held_calls(reason.alloc, rows, number)? else {
+        return Ok(false);
+    };
+    let mut tried = Draft::new(reason.alloc, rows);
+    match place_of_failing(&mut tried, reason.alloc, given.programmer, &calls, code) {
+        Some(place) => told_at(reason, rows, given.programmer, number, &calls, place, code),
+        None => Ok(false),
+    }
 }

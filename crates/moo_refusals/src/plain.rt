@@ -1,37 +1,37 @@
-//! Checks of the values of a call alone.
+//! Checks of texts and lists alone.
 
-use crate::checks::{Asked, Part, PropertyCheck};
+use crate::checks::{ListCheck, TextCheck};
 use moo_rows::{Bits, VerbBits};
 use moo_value::{MooStr, Value, ValueList};
 use moo_verbs::{check_names, read_prep};
 use moo_world::{BuiltIn, CallName, are_few, are_shallow};
 
-/// The name that a call of a petition begins with.
-fn held_name(held: &Value) -> Option<&MooStr> {
+/// What a call of a petition begins with.
+fn first_held(held: &Value) -> Option<&Value> {
     match held {
-        Value::List(values) => match values.items() {
-            [Value::Str(name), ..] => Some(name),
-            _ => None,
-        },
+        Value::List(values) => values.items().first(),
         _ => None,
     }
 }
 
-/// Whether a petition may ask for a call of this name.
-fn may_be_asked(name: &MooStr) -> bool {
+/// Whether it is a text, and doesn't name a call that a petition may ask for.
+fn is_unasked(name: &Value) -> bool {
+    let Value::Str(name) = name else {
+        return false;
+    };
     match CallName::read(name.bytes()) {
-        Some(name) => name.petition_call().is_none(),
-        None => false,
+        Some(name) => name.petition_call().is_some(),
+        None => true,
     }
 }
 
 /// The first name among the calls of a petition that none may ask for.
-pub(crate) fn first_unasked(calls: &ValueList) -> Option<&MooStr> {
+pub(crate) fn first_unasked(calls: &ValueList) -> Option<&Value> {
     calls
         .items()
         .iter()
-        .filter_map(held_name)
-        .find(|name| !may_be_asked(name))
+        .filter_map(first_held)
+        .find(|name| is_unasked(name))
 }
 
 /// Whether a new property may have the name: 1 to 255 bytes, and not built in.
@@ -47,44 +47,39 @@ fn is_verb_object(text: &MooStr) -> bool {
         || text.eq_ignore_ascii_case(b"none")
 }
 
-pub(crate) fn part_holds(part: Part<'_>) -> bool {
-    match part {
-        Part::PropertyName(name) => is_property_name(name),
-        Part::PropertyPerms(perms) => Bits::read(perms).is_some(),
-        Part::VerbPerms(perms) => VerbBits::read(perms).is_some(),
-        Part::VerbNames(names) => check_names(names).is_ok(),
-        Part::VerbObject(text) => is_verb_object(text),
-        Part::VerbPreposition(text) => read_prep(text).is_ok(),
-        Part::AcceptList(list) => list.items().len() <= 1000,
-    }
-}
-
-pub(crate) fn asked_holds(asked: Asked<'_>) -> bool {
-    match asked {
-        Asked::Count(calls) => are_few(calls),
-        Asked::Names(calls) => first_unasked(calls).is_none(),
-        Asked::Depth(calls) => are_shallow(calls),
-    }
-}
-
-/// Whether a built-in property of the name takes the value.
-fn takes(name: &MooStr, value: &Value) -> bool {
-    match BuiltIn::of_name(name) {
-        Some(BuiltIn::Name) => matches!(value, Value::Str(_)),
-        Some(BuiltIn::Owner) => matches!(value, Value::Obj(_)),
-        _ => true,
-    }
-}
-
-/// Whether a check of a property holds, if its name and the value say so.
-pub(crate) fn name_holds(name: &MooStr, check: PropertyCheck<'_>) -> Option<bool> {
-    let field = BuiltIn::of_name(name);
+/// Whether a check of a text holds, if there is one.
+pub(crate) fn text_holds(text: Option<&MooStr>, check: TextCheck) -> bool {
+    let Some(text) = text else {
+        return true;
+    };
     match check {
-        PropertyCheck::NotBuiltIn => Some(field.is_none()),
-        PropertyCheck::Settable => {
-            Some(!matches!(field, Some(BuiltIn::Location | BuiltIn::Contents)))
-        }
-        PropertyCheck::Takes(value) => Some(takes(name, value)),
-        _ => None,
+        TextCheck::PropertyName => is_property_name(text),
+        TextCheck::PropertyPerms => Bits::read(text).is_some(),
+        TextCheck::VerbPerms => VerbBits::read(text).is_some(),
+        TextCheck::VerbNames => check_names(text).is_ok(),
+        TextCheck::VerbObject => is_verb_object(text),
+        TextCheck::VerbPreposition => read_prep(text).is_ok(),
+    }
+}
+
+/// Whether a check of a list holds, if there is one.
+pub(crate) fn list_holds(list: Option<&ValueList>, check: ListCheck) -> bool {
+    let Some(list) = list else {
+        return true;
+    };
+    match check {
+        ListCheck::Accept => list.items().len() <= 1000,
+        ListCheck::Count => are_few(list),
+        ListCheck::Names => first_unasked(list).is_none(),
+        ListCheck::Depth => are_shallow(list),
+    }
+}
+
+/// Whether a built-in property takes what `set` is given.
+pub(crate) fn takes(field: BuiltIn, values: &[Value]) -> bool {
+    match (field, values) {
+        (BuiltIn::Name, [Value::Obj(_), _, value]) => matches!(value, Value::Str(_)),
+        (BuiltIn::Owner, [Value::Obj(_), _, value]) => matches!(value, Value::Obj(_)),
+        _ => true,
     }
 }

@@ -2,12 +2,31 @@
 
 ghost use Rattle.moo_world.specs.Rows.{IsGood};
 
-use crate::finding::told_refusal;
-use crate::shown::{shown_call, text_of};
+use crate::finding::tell_refusal;
+use crate::shown::{Reason, no_reason, text_of};
 use moo_rows::Rows;
 use moo_value::Code;
 use moo_world::Batch;
 use std::alloc::{AllocError, Global};
+
+/// Says the call with its values, the error, and why.
+fn tell_call<R: Rows>(
+    reason: &mut Reason,
+    rows: &R,
+    batch: &Batch,
+    place: usize,
+    code: Code,
+) -> Result<(), AllocError>
+    requires { IsGood (R.held rows.now).maps }
+{
+    let Some(call) = batch.calls.items().get(place) else {
+        return reason.put(code.name().as_bytes());
+    };
+    reason.put_call(call)?;
+    reason.put(b": ")?;
+    reason.put(code.name().as_bytes())?;
+    tell_refusal(reason, rows, batch, place, call, code)
+}
 
 /// The call of a batch with its values, the error with which it is refused, and why: which check failed in the world of these rows, after
 /// the calls before it. The first call is 1. AllocError: memory ran out.
@@ -20,15 +39,8 @@ pub fn refusal_reason<R: Rows>(
 ) -> Result<String, AllocError>
     requires { IsGood (R.held rows.now).maps }
 {
-    let mut text = Vec::new(alloc);
-    if let Some(call) = batch.calls.items().get((number as usize).saturating_sub(1)) {
-        text.extend_from_slice(shown_call(alloc, call)?.as_bytes())?;
-        text.extend_from_slice(b": ")?;
-    }
-    text.extend_from_slice(code.name().as_bytes())?;
-    if let Some(told) = told_refusal(alloc, rows, batch, number, code)? {
-        text.extend_from_slice(b", ")?;
-        text.extend_from_slice(told.as_bytes())?;
-    }
-    Ok(text_of(alloc, text))
+    let mut reason = no_reason(alloc);
+    let place = (number as usize).saturating_sub(1);
+    tell_call(&mut reason, rows, batch, place, code)?;
+    Ok(text_of(reason))
 }

@@ -1,4 +1,4 @@
-//! Values as a reason shows them.
+//! The text of a reason, and values as it shows them.
 
 use moo_value::{MooStr, ObjNo, Value, print_literal};
 use moo_world::Call;
@@ -7,48 +7,68 @@ use std::alloc::{AllocError, Global};
 /// So many bytes of a value are shown.
 const MOST_SHOWN: usize = 60;
 
-/// Bytes as a text. What a value is printed as is ASCII.
-pub(crate) fn text_of(alloc: Global, bytes: Vec<u8>) -> String {
-    match String::from_utf8(bytes) {
+/// What is said so far of a refusal. Each `put` adds to its end.
+#[derive(Drop)]
+pub(crate) struct Reason {
+    pub(crate) alloc: Global,
+    text: Vec<u8>,
+}
+
+/// A reason that says nothing yet.
+pub(crate) fn no_reason(alloc: Global) -> Reason {
+    Reason {
+        alloc,
+        text: Vec::new(alloc),
+    }
+}
+
+/// The text of a reason. All that is put into one is ASCII.
+pub(crate) fn text_of(reason: Reason) -> String {
+    match String::from_utf8(reason.text) {
         Ok(text) => text,
-        Err(_) => String::new(alloc),
+        Err(_) => String::new(reason.alloc),
     }
 }
 
-/// A value, and of a long one its front.
-pub(crate) fn shown(alloc: Global, value: &Value) -> Result<String, AllocError> {
-    let mut text = Vec::new(alloc);
-    print_literal(alloc, value, &mut text)?;
-    if MOST_SHOWN < text.len() {
-        text.truncate(MOST_SHOWN);
-        text.extend_from_slice(b"..")?;
+impl Reason {
+    pub(crate) fn put(&mut self, words: &[u8]) -> Result<(), AllocError> {
+        self.text.extend_from_slice(words)
     }
-    Ok(text_of(alloc, text))
-}
 
-/// A call, as it is written.
-pub(crate) fn shown_call(alloc: Global, call: &Call) -> Result<String, AllocError> {
-    let mut text = Vec::new(alloc);
-    text.extend_from_slice(call.name.spelling())?;
-    text.push(b'(')?;
-    let mut is_first = true;
-    for value in call.args.items() {
-        if !is_first {
-            text.extend_from_slice(b", ")?;
+    /// A value, and of a long one its front.
+    pub(crate) fn put_value(&mut self, value: &Value) -> Result<(), AllocError> {
+        let most = self.text.len().saturating_add(MOST_SHOWN);
+        print_literal(self.alloc, value, &mut self.text)?;
+        if most < self.text.len() {
+            self.text.truncate(most);
+            self.text.extend_from_slice(b"..")?;
         }
-        is_first = false;
-        text.extend_from_slice(shown(alloc, value)?.as_bytes())?;
+        Ok(())
     }
-    text.push(b')')?;
-    Ok(text_of(alloc, text))
-}
 
-/// A text between quotes, and of a long one its front.
-pub(crate) fn shown_text(alloc: Global, text: &MooStr) -> Result<String, AllocError> {
-    shown(alloc, &Value::Str(text.copy(alloc)?))
-}
+    /// A text between quotes, and of a long one its front.
+    pub(crate) fn put_text(&mut self, text: &MooStr) -> Result<(), AllocError> {
+        self.put_value(&Value::Str(text.copy(self.alloc)?))
+    }
 
-/// An object by its number.
-pub(crate) fn shown_object(alloc: Global, object: ObjNo) -> Result<String, AllocError> {
-    shown(alloc, &Value::Obj(object))
+    pub(crate) fn put_object(&mut self, object: ObjNo) -> Result<(), AllocError> {
+        self.put_value(&Value::Obj(object))
+    }
+
+    pub(crate) fn put_number(&mut self, number: i64) -> Result<(), AllocError> {
+        self.put_value(&Value::Int(number))
+    }
+
+    /// A call, as it is written.
+    pub(crate) fn put_call(&mut self, call: &Call) -> Result<(), AllocError> {
+        self.put(call.name.spelling())?;
+        self.put(b"(")?;
+        for (place, value) in call.args.items().iter().enumerate() {
+            if place != 0 {
+                self.put(b", ")?;
+            }
+            self.put_value(value)?;
+        }
+        self.put(b")")
+    }
 }

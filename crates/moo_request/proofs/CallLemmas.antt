@@ -1,10 +1,7 @@
 -- Calls read one after another.
-use Rattle.std.proofs.Common.{◌≡◌, ℕ, ◌+◌, ◌<◌, List, [], ◌∷◌, ◌++◌, Some, None, map, length, drop, get_or, refl, sym, ap, ◌∙◌, drop-cons, add-one, Bor, ◌≤◌, arith, Option, subst}
-use Rattle.std.proofs.lemmas.List.{drop_all}
+use Rattle.moo_request.proofs.Words.{◌≡◌, ℕ, ◌+◌, ◌<◌, List, [], ◌∷◌, ◌++◌, Some, None, map, length, drop, get_or, refl, sym, ap, ◌∙◌, drop-cons, add-one, Bor, ◌≤◌, arith, Option, subst, drop_all, call_of, Calls, Whole, Bad, with_call, calls_from}
 use Rattle.std.specs.Option.{option_map_or}
 use Rattle.moo_world.specs.declared.call.Call.{Call}
-use Rattle.moo_text.specs.LineReading.{call_of}
-use Rattle.moo_request.specs.Calls.{Calls, Whole, Bad, with_call, calls_from}
 
 -- calls before what else was read
 abbrev pub before_calls : List Call → Calls → Calls

@@ -1,10 +1,5 @@
 -- What reading takes from a reader, joined from call to call.
-use Rattle.std.proofs.Common.{◌≡◌, ◌≤◌, ◌+◌, ◌-◌, ℕ, List, [], ◌++◌, true, false, Option, Some, None, length, refl, sym, ap, subst, ◌∙◌, append-nil, append_assoc, arith}
-use Rattle.std.specs.Io.KnownBytes.{Consumes, IsAtEnd}
-use Rattle.std.specs.Prelude.{max, Result, Ok, Err, OnErr}
-use Rattle.std.proofs.lemmas.List.{length-append}
-use Rattle.moo_request.specs.Given.{Grows, TakesAtMost}
-use Rattle.moo_request.specs.Settled.{Settles}
+use Rattle.moo_request.proofs.Words.{◌≡◌, ◌≤◌, ◌+◌, ◌-◌, ℕ, List, [], ◌++◌, true, false, Option, Some, None, length, refl, sym, ap, subst, ◌∙◌, append-nil, append_assoc, arith, Consumes, IsAtEnd, max, Result, Ok, Err, OnErr, length-append, Grows, TakesAtMost, Settles}
 
 Consumes-none : (a : Option (List ℕ)) → Consumes a a []
 Consumes-none None = tt
@@ -15,16 +10,6 @@ Consumes-then None b c xs ys p q = tt
 Consumes-then (Some us) None c xs ys p q = absurd p
 Consumes-then (Some us) (Some vs) None xs ys p q = absurd q
 Consumes-then (Some us) (Some vs) (Some ws) xs ys p q = p ∙ ap (λ (t : List ℕ). xs ++ t) q ∙ sym (append_assoc xs ys ws)
-
-pub Grows-none : (a : Option (List ℕ)) (x : List ℕ) → Grows a a x x
-Grows-none a x = record { given = []; known = Consumes-none a; grown = sym (append-nil x) }
-
-pub Grows-then : (a b c : Option (List ℕ)) (x y z : List ℕ) → Grows a b x y → Grows b c y z → Grows a c x z
-Grows-then a b c x y z p q = record {
-  given = p.given ++ q.given;
-  known = Consumes-then a b c p.given q.given p.known q.known;
-  grown = q.grown ∙ ap (λ (t : List ℕ). t ++ q.given) p.grown ∙ append_assoc x p.given q.given;
-}
 
 -- what was taken stands in the bytes, where there were none before
 pub Grows-all : (a b : Option (List ℕ)) (x y : List ℕ) → x ≡ [] → Grows a b x y → Consumes a b y

@@ -1,19 +1,7 @@
 -- What is received of bytes is determined by them.
-use Rattle.std.proofs.Common.{◌≡◌, inl, inr, ℕ, List, Some, None, arith, sym, ap, subst, ◌∙◌}
-use Rattle.std.specs.Prelude.{option_and_then}
-use Rattle.httparse.specs.Grammar.{RequestHead, ReadsRequest}
-use Rattle.httparse.proofs.GrammarLemmas.{request_unique}
+use Rattle.moo_request.proofs.Words.{◌≡◌, inl, inr, ℕ, List, Some, None, arith, sym, ap, subst, ◌∙◌, option_and_then, RequestHead, ReadsRequest, request_unique, Asked, Mode, Plan, Decided, Body, Request, BodyAsks, shape_asked, plan_by, is_head, PlanAsks, Receives, nothing, no_head, request, shape_of}
 use Rattle.moo_request.proofs.HeadLemmas.{no_empty_head}
-use Rattle.moo_request.specs.declared.asked.Asked.{Asked}
-use Rattle.moo_request.specs.declared.asked.Mode.{Mode}
-use Rattle.moo_request.specs.declared.plan.Plan.{Plan}
-use Rattle.moo_request.specs.declared.plan.Plan.TheVariants.{Decided, Body}
 use Rattle.moo_request.specs.declared.request.Received.{Received}
-use Rattle.moo_request.specs.declared.request.Received.TheVariants.{Request}
-use Rattle.moo_request.specs.Body.{BodyAsks, shape_asked}
-use Rattle.moo_request.specs.Plan.{plan_by, is_head}
-use Rattle.moo_request.specs.Request.{PlanAsks, Receives, nothing, no_head, request}
-use Rattle.moo_request.specs.Shape.{shape_of}
 
 body-once : (mode : Mode) (bytes : List ℕ) (a b : Asked) → BodyAsks mode bytes a → BodyAsks mode bytes b → a ≡ b
 body-once mode bytes a b (None, j, e) (None, k, f) = e ∙ sym f

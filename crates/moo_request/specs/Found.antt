@@ -5,20 +5,20 @@ use Rattle.httparse.specs.Grammar.{RequestHead}
 use Rattle.httparse.specs.Spans.{IsRequestAt, IsRequestWithin}
 use Rattle.moo_request.specs.Head.{BeginsWithHead, HasNoHead}
 use Rattle.moo_request.specs.Settled.{Settles}
-use Rattle.moo_request.specs.declared.head.Head.{Head}
+use Rattle.moo_request.specs.declared.head.HeadSpans.{HeadSpans}
 use Rattle.moo_request.specs.declared.head.HeadRead.{HeadRead}
 use Rattle.moo_request.specs.declared.head.HeadRead.TheVariants.{Whole, Refused, Empty}
-use Rattle.moo_request.specs.declared.lines.Found.{Found}
-use Rattle.moo_request.specs.declared.lines.Found.TheVariants as line
+use Rattle.moo_request.specs.declared.lines.FoundLine.{FoundLine}
+use Rattle.moo_request.specs.declared.lines.FoundLine.TheVariants as line
 
 -- the values of the lines of a name
-abbrev pub IsFoundAmong : List (List ℕ) → Found → Type 0
+abbrev pub IsFoundAmong : List (List ℕ) → FoundLine → Type 0
 IsFoundAmong values line.Nothing = values ≡ []
 IsFoundAmong values (line.One value) = values ≡ value.now ∷ []
 IsFoundAmong values line.Several = 1 < length values
 
--- a head is at the front of the bytes, whatever follows, and its parts lie where they were found
-pub record HeadStands (bytes : List ℕ) (found : Head) : Type 0 where
+-- a head is at the front of the bytes, whatever follows, and its parts are where they were found
+pub record HeadStands (bytes : List ℕ) (found : HeadSpans) : Type 0 where
   pub head : RequestHead
   pub begins : (more : List ℕ) → BeginsWithHead (bytes ++ more) head (drop found.spans.len bytes ++ more)
   pub at : IsRequestAt bytes found.headers found.spans head

@@ -19,7 +19,7 @@ abbrev pub sample_path : Topic → List ℕ
 sample_path Seq = codes "/seq"
 sample_path Object = codes "/object/12"
 
--- the question that a path of the topic asks; none if it needs a number, and the path has something else there
+-- the question that a path of the topic asks; None if it needs a number, and the path has something else there
 abbrev pub question_of : Topic → List ℕ → Option Question
 question_of Seq path = Some ask.Seq
 question_of Object path = option_map (λ n. ask.Object (record { 0 = n })) (number_of (drop 8 path))

@@ -18,7 +18,7 @@ const MAX_LINES: usize = 32;
 
 /// The places of the parts of a head in the bytes.
 #[derive(Clone, Copy, Drop)]
-pub struct Head {
+pub struct HeadSpans {
     pub spans: RequestSpans,
     pub headers: [HeaderSpan; MAX_LINES],
 }
@@ -27,7 +27,7 @@ pub struct Head {
 #[derive(Drop)]
 pub enum HeadRead {
     /// A head within the limits.
-    Whole(Head),
+    Whole(HeadSpans),
     /// No head within the limits.
     Refused,
     /// Nothing: the input is empty.
@@ -42,7 +42,7 @@ fn parse_head(bytes: &[u8]) -> Option<HeadRead>
 {
     let mut headers = [EMPTY_HEADER_SPAN; MAX_LINES];
     match parse_request(bytes, &mut headers) {
-        Ok(Status::Complete(spans)) => Some(HeadRead::Whole(Head { spans, headers })),
+        Ok(Status::Complete(spans)) => Some(HeadRead::Whole(HeadSpans { spans, headers })),
         Ok(Status::Partial) => None,
         Err(_) => Some(HeadRead::Refused),
     }

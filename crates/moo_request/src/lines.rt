@@ -9,7 +9,7 @@ use httparse::spans::HeaderSpan;
 
 /// The value of the lines of a name.
 #[derive(Clone, Copy, Drop)]
-pub enum Found<'b> {
+pub enum FoundLine<'b> {
     /// No line has it.
     Nothing,
     /// One line has it.
@@ -27,16 +27,16 @@ fn has_name(bytes: &[u8], line: HeaderSpan, name: &[u8]) -> bool
 }
 
 /// The value of the lines of a name.
-fn find<'b>(bytes: &'b [u8], lines: &[HeaderSpan], name: &[u8]) -> Found<'b>
+fn find<'b>(bytes: &'b [u8], lines: &[HeaderSpan], name: &[u8]) -> FoundLine<'b>
     requires within { All (IsHeaderWithin (length bytes.now)) lines.now }
     ensures { IsFoundAmong (values_of name.now (map (header_bytes bytes.entry.now) lines.now)) result }
 {
-    let mut found = Found::Nothing;
+    let mut found = FoundLine::Nothing;
     for line in lines {
         if has_name(bytes, *line, name) {
             found = match found {
-                Found::Nothing => Found::One(line.value.of(bytes)),
-                _ => Found::Several,
+                FoundLine::Nothing => FoundLine::One(line.value.of(bytes)),
+                _ => FoundLine::Several,
             };
         }
     }
@@ -48,11 +48,11 @@ pub(crate) fn stated_length<'b>(bytes: &'b [u8], lines: &[HeaderSpan]) -> Option
     requires within { All (IsHeaderWithin (length bytes.now)) lines.now }
     ensures { option_map (λ text. text.now) result ≡ length_text (map (header_bytes bytes.entry.now) lines.now) }
 {
-    let Found::Nothing = find(bytes, lines, b"transfer-encoding") else {
+    let FoundLine::Nothing = find(bytes, lines, b"transfer-encoding") else {
         return None;
     };
     match find(bytes, lines, b"content-length") {
-        Found::One(text) => Some(text),
+        FoundLine::One(text) => Some(text),
         _ => None,
     }
 }

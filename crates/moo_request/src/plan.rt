@@ -52,7 +52,7 @@ fn is_method(method: &[u8], wanted: Method) -> bool
     }
 }
 
-/// The stated length of the body; none if it isn't stated once, in 1 to 10 digits, or a coding is beside it.
+/// The stated length of the body; None if it isn't stated once, in 1 to 10 digits, or a coding is beside it.
 fn body_length(bytes: &[u8], lines: &[HeaderSpan]) -> Option<u64>
     requires within { All (IsHeaderWithin (length bytes.now)) lines.now }
     ensures { result ≡ length_of (map (header_bytes bytes.now) lines.now) }

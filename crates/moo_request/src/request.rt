@@ -10,7 +10,7 @@ ghost use Rattle.moo_request.specs.Request.{Takes, StopsReading};
 use crate::asked::{Asked, Refusal};
 use crate::body::follow_plan;
 use crate::fault::ReadFault;
-use crate::head::{Head, HeadRead, read_head};
+use crate::head::{HeadRead, HeadSpans, read_head};
 use crate::plan::{Plan, make_plan};
 use crate::routes::Routes;
 use std::alloc::Global;
@@ -26,7 +26,7 @@ pub enum Received {
 }
 
 /// Whether the method of a head is HEAD.
-fn is_head(bytes: &[u8], head: &Head) -> bool
+fn is_head(bytes: &[u8], head: &HeadSpans) -> bool
     requires within { IsRequestWithin bytes.now head.now.headers head.now.spans }
     ensures { (parts : RequestHead) → IsRequestAt bytes.now head.now.headers head.now.spans parts → result ≡ is_head_of parts }
 {
@@ -34,7 +34,7 @@ fn is_head(bytes: &[u8], head: &Head) -> bool
 }
 
 /// What a head decides.
-fn plan_head(routes: &Routes, bytes: &[u8], head: &Head) -> Plan
+fn plan_head(routes: &Routes, bytes: &[u8], head: &HeadSpans) -> Plan
     requires within { IsRequestWithin bytes.now head.now.headers head.now.spans }
     requires found { IsRequestOf bytes.now head.now.headers head.now.spans }
     ensures value { (parts : RequestHead) → IsRequestAt bytes.now head.now.headers head.now.spans parts → result ≡ plan_by parts }

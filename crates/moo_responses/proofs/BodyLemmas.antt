@@ -1,10 +1,6 @@
 -- The bodies of answers hold no float.
-use Rattle.std.proofs.Common.{◌≡◌, ℕ, List, [], ◌∷◌, false, map, refl}
-use Rattle.moo_value.specs.declared.value.Value.{Value}
-use Rattle.moo_value.specs.Literal.{print}
+use Rattle.moo_responses.proofs.Words.{◌≡◌, ℕ, List, [], ◌∷◌, false, map, refl, Value, print, has_float, items_have_float, strings, object_text, accepted_body, look_body}
 use Rattle.moo_dump.specs.declared.seen.Look.{Look}
-use Rattle.serde_json.specs.Written.{has_float, items_have_float}
-use Rattle.moo_responses.specs.Bodies.{strings, object_text, accepted_body, look_body}
 
 no_float-strings : (texts : List (List ℕ)) → items_have_float (strings texts) ≡ false
 no_float-strings [] = refl

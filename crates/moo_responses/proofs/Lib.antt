@@ -1,3 +1,4 @@
+pub mod Words
 pub mod Nesting
 pub mod Ascii
 pub mod BodyLemmas

@@ -1,9 +1,6 @@
 -- A value of a list nests no deeper than the list's values do.
-use Rattle.std.proofs.Common.{◌≡◌, ap, ℕ, zero, suc, ◌<◌, ◌≤◌, List, [], ◌∷◌, length, get_or, arith}
-use Rattle.moo_value.specs.declared.value.Value.{Value}
-use Rattle.moo_value.specs.declared.value.Value.TheVariants.{Int, Obj, Str, Error, List as a_list}
-use Rattle.moo_value.specs.Values.{Values, levels}
-use Rattle.moo_value.specs.Value.{gather, prepend, nesting}
+use Rattle.moo_responses.proofs.Words.{◌≡◌, ap, ℕ, zero, suc, ◌<◌, ◌≤◌, List, [], ◌∷◌, length, get_or, arith, Value, Int, Obj, Str, Error, Values, levels, gather, prepend, nesting}
+use Rattle.moo_value.specs.declared.value.Value.TheVariants.{List as a_list}
 
 front : (v : Value) (rest : Values) → (nesting v ≤ levels (prepend v rest)) × (levels rest ≤ levels (prepend v rest))
 front (Int n) rest = (omega arith, omega arith)

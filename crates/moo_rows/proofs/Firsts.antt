@@ -1,10 +1,10 @@
 -- The first key that passes, among keys that may.
-use Rattle.moo_rows.proofs.Words.{◌≡◌, ◌≢◌, Bool, true, false, ◌||◌, cond, Option, None, Some, List, [], ◌∷◌, Less, Equal, Greater, Ordering, is_some, refl, sym, ap, ◌∙◌, subst, T, unwrap_or, option_map, IsTotalOrder, tied_itself, eq_by_cmp, is_lt, is_eq, match_ordering, ordering_reverse, ordering_then, filter, FinMap, find, is_sorted, entries, entries_sorted, get-entries, get-insert, get-remove, below_all, OnOk, OnErr, CmpEqualImpliesEq, true≢false, ObjNo, lesser, IsPast, IsNext, is_past, entries_past, object_cmp, IsFirst}
+use Rattle.moo_rows.proofs.Words.{◌≡◌, ◌≢◌, Bool, true, false, ◌||◌, cond, Option, None, Some, List, [], ◌∷◌, Less, Equal, Greater, Ordering, is_some, refl, sym, ap, ◌∙◌, subst, T, unwrap_or, option_map, IsTotalOrder, tied_itself, eq_by_cmp, is_lt, is_eq, match_ordering, ordering_reverse, ordering_then, filter, FinMap, find, is_sorted, entries, entries_sorted, get-entries, get-insert, get-remove, below_all, OnOk, OnErr, CmpEqualImpliesEq, true≢false, ObjNo, lesser, IsPast, IsNext, is_past, entries_past, IsFirst}
 use Rattle.std.specs.FinMap as map
 use Rattle.std.specs.declared.result.Result.{Result}
 use Rattle.std.specs.declared.result.Result.TheVariants.{Ok, Err}
 use Rattle.moo_rows.proofs.Orders.{object_total}
-use Rattle.moo_rows.proofs.Walking.{key_cmp, not_before, first_of, second_of, elsewhere, here, past_test, past_is, below, not_held, all_past, all_past_key, keeps, drops, some_none}
+use Rattle.moo_rows.proofs.Walking.{key_cmp, first_of, second_of, elsewhere, here, past_test, past_is, below, not_held, all_past, all_past_key, keeps, drops, some_none}
 
 -- ---- by a superset
 
@@ -73,18 +73,6 @@ pair_past number_cmp x a b h = ap (λ o. ordering_then o (number_cmp a b)) (tied
 module _ {I X : Type 0} (number_cmp : I → I → Ordering) where
   pub pair-none : (m : FinMap (key_cmp number_cmp) X) (x : ObjNo) (after : I) → IsNext m (Some (x, after)) None → IsFirst number_cmp (λ q. is_some (map.get m (x, q))) after None
   pair-none m x after h q past = ap is_some (h (x, q) (pair_past number_cmp x after q past))
-
-  pub pair-other : (m : FinMap (key_cmp number_cmp) X) (x : ObjNo) (after : I) (k : ObjNo × I) → IsNext m (Some (x, after)) (Some k) → k.0 ≢ x → IsFirst number_cmp (λ q. is_some (map.get m (x, q))) after None
-  pair-other m x after k h apart q past =
-      let above = not_before number_cmp x after k h.1 apart in
-      ap is_some (h.2 (x, q) (pair_past number_cmp x after q past) (ap (λ o. ordering_then o (number_cmp q k.1)) above))
-
-  pub pair-some : (m : FinMap (key_cmp number_cmp) X) (x : ObjNo) (after : I) (k : ObjNo × I) → IsNext m (Some (x, after)) (Some k) → k.0 ≡ x → IsFirst number_cmp (λ q. is_some (map.get m (x, q))) after (Some k.1)
-  pair-some m x after k h same = (
-    ap (λ y. is_some (map.get m (y, k.1))) (sym same) ∙ h.0,
-    sym (ap (λ o. ordering_then o (number_cmp after k.1)) (ap (object_cmp x) same ∙ tied_itself object_total x)) ∙ h.1,
-    λ q past less. ap is_some (h.2 (x, q) (pair_past number_cmp x after q past) (subst (λ y. key_cmp number_cmp (x, q) (y, k.1) ≡ Less) (sym same) (pair_past number_cmp x q k.1 less))),
-  )
 
 -- ---- puts and removals
 

@@ -8,7 +8,7 @@ use Rattle.moo_rows.proofs.Orders.{object_total, prop_total, slot_total, tie_tot
 use Rattle.moo_rows.proofs.Firsts.{lacked-insert, lacked-remove, has-insert, first-end, first-step}
 
 module _ (s : LinkSets) where
-  pub none-may : ((p : ObjNo × ObjNo) → get s.parents p ≡ None) → ((p : ObjNo × ObjNo) → get s.places p ≡ None) → ((p : ObjNo) → get s.players p ≡ None) → (l : Link) (q : ObjNo) → is_kept s l q ≡ false
+  pub none-may : ((p : ObjNo × ObjNo) → get s.parents p ≡ None) → ((p : ObjNo × ObjNo) → get s.locations p ≡ None) → ((p : ObjNo) → get s.players p ≡ None) → (l : Link) (q : ObjNo) → is_kept s l q ≡ false
   none-may a b c (ChildOf x) q = ap is_some (a (x, q))
   none-may a b c (Within x) q = ap is_some (b (x, q))
   none-may a b c Player q = ap is_some (c q)
@@ -18,10 +18,10 @@ module _ (s : LinkSets) where
   more-parents new h (Within x) q e = e
   more-parents new h Player q e = e
 
-  pub more-places : (new : FinMap tie_cmp ⊤) → ((p : ObjNo × ObjNo) → is_some (get new p) ≡ false → is_some (get s.places p) ≡ false) → (l : Link) (q : ObjNo) → is_kept (record s { places = new }) l q ≡ false → is_kept s l q ≡ false
-  more-places new h (ChildOf x) q e = e
-  more-places new h (Within x) q e = h (x, q) e
-  more-places new h Player q e = e
+  pub more-locations : (new : FinMap tie_cmp ⊤) → ((p : ObjNo × ObjNo) → is_some (get new p) ≡ false → is_some (get s.locations p) ≡ false) → (l : Link) (q : ObjNo) → is_kept (record s { locations = new }) l q ≡ false → is_kept s l q ≡ false
+  more-locations new h (ChildOf x) q e = e
+  more-locations new h (Within x) q e = h (x, q) e
+  more-locations new h Player q e = e
 
   pub more-players : (new : FinMap object_cmp ⊤) → ((p : ObjNo) → is_some (get new p) ≡ false → is_some (get s.players p) ≡ false) → (l : Link) (q : ObjNo) → is_kept (record s { players = new }) l q ≡ false → is_kept s l q ≡ false
   more-players new h (ChildOf x) q e = e
@@ -37,13 +37,13 @@ module _ (s : LinkSets) where
     less-parents x lacks new is (Within y) q has e = e
     less-parents x lacks new is Player q has e = e
 
-    pub less-places : (x : ObjNo) → false ≡ ties_have (Within x) stays → (new : FinMap tie_cmp ⊤) → new ≡ remove s.places (x, key) → (l : Link) (q : ObjNo) → (q ≡ key → ties_have l stays ≡ true) → is_kept (record s { places = new }) l q ≡ false → is_kept s l q ≡ false
-    less-places x lacks new is (ChildOf y) q has e = e
-    less-places x lacks new is (Within y) q has e =
-        lacked-remove tie_total tie_exact s.places (x, key) (y, q)
+    pub less-locations : (x : ObjNo) → false ≡ ties_have (Within x) stays → (new : FinMap tie_cmp ⊤) → new ≡ remove s.locations (x, key) → (l : Link) (q : ObjNo) → (q ≡ key → ties_have l stays ≡ true) → is_kept (record s { locations = new }) l q ≡ false → is_kept s l q ≡ false
+    less-locations x lacks new is (ChildOf y) q has e = e
+    less-locations x lacks new is (Within y) q has e =
+        lacked-remove tie_total tie_exact s.locations (x, key) (y, q)
         (λ same. true≢false (sym (has (ap (λ p. p.1) same)) ∙ ap (λ (p : ObjNo × ObjNo). ties_have (Within p.0) stays) same ∙ sym lacks))
         (ap (λ m. is_some (get m (y, q))) (sym is) ∙ e)
-    less-places x lacks new is Player q has e = e
+    less-locations x lacks new is Player q has e = e
 
     pub less-players : false ≡ ties_have Player stays → (new : FinMap object_cmp ⊤) → new ≡ remove s.players key → (l : Link) (q : ObjNo) → (q ≡ key → ties_have l stays ≡ true) → is_kept (record s { players = new }) l q ≡ false → is_kept s l q ≡ false
     less-players lacks new is (ChildOf y) q has e = e
@@ -132,12 +132,6 @@ defined-end t x from h = first-end prop_total prop_exact (λ r. int_eq r.definer
 
 pub defined-step : (t : Maps) (x : ObjNo) (from k : PropId) (row : PropRow) → IsFirst prop_cmp (is_definer t x) from (Some k) → get t.props k ≡ Some row → defined_left x from t ≡ (k, row) ∷ defined_left x k t
 defined-step t x from k row h held = first-step prop_total prop_exact (λ r. int_eq r.definer.0 x.0) t.props from k row h held
-
-pub links-missing : (t : Maps) (link : Link) (from k : ObjNo) → IsFirst object_cmp (is_linked t link) from (Some k) → get t.objects k ≢ None
-links-missing t link from k h none = true≢false (sym h.0 ∙ ap (row_has link) none)
-
-pub definer-missing : (t : Maps) (x : ObjNo) (from k : PropId) → IsFirst prop_cmp (is_definer t x) from (Some k) → get t.props k ≢ None
-definer-missing t x from k h none = true≢false (sym h.0 ∙ ap (row_defined x) none)
 
 -- ---- ties that stay
 

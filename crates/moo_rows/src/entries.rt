@@ -6,7 +6,7 @@ ghost use Rattle.moo_rows.specs.ObjectRow.{object_row-exact, object_clone};
 ghost use Rattle.moo_rows.specs.SameRows.{prop_row-exact, slot_row-exact, verb_row-exact, petition_row-exact};
 
 use crate::row::{ObjRow, PetitionId, PetitionRow, PropId, PropRow, SlotRow, VerbId, VerbRow};
-use moo_ordered::Key;
+use moo_ordered::OrderedKey;
 use std::alloc::{AllocError, Global};
 
 /// A row that `==` tells from every other, and whose clones equal it.
@@ -33,15 +33,15 @@ pub trait Row: PartialEq + Clone + Drop {
     ghost clones: { (row copy : Self) → Self.is_clone row copy → copy ≡ row };
 }
 
-impl Key for PropId {
+impl OrderedKey for PropId {
     ghost exact = { prop_exact };
 }
 
-impl Key for VerbId {
+impl OrderedKey for VerbId {
     ghost exact = { verb_id_exact };
 }
 
-impl Key for PetitionId {
+impl OrderedKey for PetitionId {
     ghost exact = { petition_exact };
 }
 

@@ -91,7 +91,7 @@ pub struct ObjRow {
 }
 
 impl ObjRow {
-    /// An object with this name, owner and parent that has no rights, no place and no accept list. An `Err` is a lack of memory.
+    /// An object with this name, owner and parent that has no rights, no location and no accept list. An `Err` is a lack of memory.
     pub fn plain(
         alloc: Global,
         name: &[u8],
@@ -117,7 +117,7 @@ impl ObjRow {
     }
 }
 
-/// What an object is looked up by, beside its number: its parent, its place, or that it is a player.
+/// What an object is looked up by, beside its number: its parent, its location, or that it is a player.
 #[derive(Clone, Copy, Debug, PartialEq, Eq)]
 pub enum Link {
     ChildOf(ObjNo),
@@ -223,9 +223,11 @@ pub struct VerbBits {
     pub d: bool,
 }
 
-/// What an object's place in a verb's arguments holds.
+/// What a verb asks of its direct or indirect object: this object, any, or none at all.
+///
+/// LambdaMOO Programmer's Manual, 'Verbs on Objects': an object specifier.
 #[derive(Clone, Copy, Debug, PartialEq, Eq)]
-pub enum Place {
+pub enum ObjectSpec {
     This,
     Any,
     None,
@@ -262,9 +264,9 @@ pub enum Preposition {
 /// The arguments that a verb takes.
 #[derive(Clone, Copy, Debug, PartialEq, Eq)]
 pub struct ArgSpec {
-    pub dobj: Place,
+    pub dobj: ObjectSpec,
     pub prep: Preposition,
-    pub iobj: Place,
+    pub iobj: ObjectSpec,
 }
 
 /// A verb.

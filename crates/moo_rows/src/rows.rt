@@ -29,15 +29,15 @@ pub trait Rows {
         ensures { held self.new
             ≡ record (held self.old) { maps = record ((held self.old).maps) { head = head } } };
 
-    /// The row of an object, or none if the map doesn't hold it.
+    /// The row of an object, or `None` if the map doesn't hold it.
     fn object(&self, key: ObjNo) -> Option<&ObjRow>
         ensures { option_map (λ row. row.now) result ≡ map.get (held self.now).maps.objects key };
 
-    /// The least object that is held past `from`, or the least of all if no `from` is given; none if there is no such object.
+    /// The least object that is held past `from`, or the least of all if no `from` is given; `None` if there is no such object.
     fn next_object(&self, from: Option<ObjNo>) -> Option<ObjNo>
         ensures { IsNext (held self.now).maps.objects from result };
 
-    /// The least object past `after` that has the link, or none if no object past it has it.
+    /// The least object past `after` that has the link, or `None` if no object past it has it.
     fn next_linked(&self, link: Link, after: ObjNo) -> Option<ObjNo>
         ensures { IsFirst object_cmp (is_linked (held self.now).maps link) after result };
 
@@ -51,15 +51,15 @@ pub trait Rows {
         ensures ok { OnOk result (held self.new ≡ without_object (held self.old) key) }
         ensures err { OnErr result (held self.new ≡ held self.old) };
 
-    /// The row of a property, or none if the map doesn't hold it.
+    /// The row of a property, or `None` if the map doesn't hold it.
     fn prop(&self, key: PropId) -> Option<&PropRow>
         ensures { option_map (λ row. row.now) result ≡ map.get (held self.now).maps.props key };
 
-    /// The least property that is held past `from`, or the least of all if no `from` is given; none if there is no such property.
+    /// The least property that is held past `from`, or the least of all if no `from` is given; `None` if there is no such property.
     fn next_prop(&self, from: Option<PropId>) -> Option<PropId>
         ensures { IsNext (held self.now).maps.props from result };
 
-    /// The least property past `after` that x defines, or none if it defines no property past it.
+    /// The least property past `after` that x defines, or `None` if it defines no property past it.
     fn next_defined(&self, x: ObjNo, after: PropId) -> Option<PropId>
         ensures { IsFirst prop_cmp (is_definer (held self.now).maps x) after result };
 
@@ -73,11 +73,11 @@ pub trait Rows {
         ensures ok { OnOk result (held self.new ≡ without_prop (held self.old) key) }
         ensures err { OnErr result (held self.new ≡ held self.old) };
 
-    /// The row of a slot, or none if the map doesn't hold it.
+    /// The row of a slot, or `None` if the map doesn't hold it.
     fn slot(&self, key: (ObjNo, PropId)) -> Option<&SlotRow>
         ensures { option_map (λ row. row.now) result ≡ map.get (held self.now).maps.slots key };
 
-    /// The least slot that is held past `from`, or the least of all if no `from` is given; none if there is no such slot.
+    /// The least slot that is held past `from`, or the least of all if no `from` is given; `None` if there is no such slot.
     fn next_slot(&self, from: Option<(ObjNo, PropId)>) -> Option<(ObjNo, PropId)>
         ensures { IsNext (held self.now).maps.slots from result };
 
@@ -91,11 +91,11 @@ pub trait Rows {
         ensures ok { OnOk result (held self.new ≡ without_slot (held self.old) key) }
         ensures err { OnErr result (held self.new ≡ held self.old) };
 
-    /// The row of a verb, or none if the map doesn't hold it.
+    /// The row of a verb, or `None` if the map doesn't hold it.
     fn verb(&self, key: (ObjNo, VerbId)) -> Option<&VerbRow>
         ensures { option_map (λ row. row.now) result ≡ map.get (held self.now).maps.verbs key };
 
-    /// The least verb that is held past `from`, or the least of all if no `from` is given; none if there is no such verb.
+    /// The least verb that is held past `from`, or the least of all if no `from` is given; `None` if there is no such verb.
     fn next_verb(&self, from: Option<(ObjNo, VerbId)>) -> Option<(ObjNo, VerbId)>
         ensures { IsNext (held self.now).maps.verbs from result };
 
@@ -109,11 +109,11 @@ pub trait Rows {
         ensures ok { OnOk result (held self.new ≡ without_verb (held self.old) key) }
         ensures err { OnErr result (held self.new ≡ held self.old) };
 
-    /// The row of a petition, or none if the map doesn't hold it.
+    /// The row of a petition, or `None` if the map doesn't hold it.
     fn petition(&self, key: PetitionId) -> Option<&PetitionRow>
         ensures { option_map (λ row. row.now) result ≡ map.get (held self.now).maps.petitions key };
 
-    /// The least petition that is held past `from`, or the least of all if no `from` is given; none if there is no such petition.
+    /// The least petition that is held past `from`, or the least of all if no `from` is given; `None` if there is no such petition.
     fn next_petition(&self, from: Option<PetitionId>) -> Option<PetitionId>
         ensures { IsNext (held self.now).maps.petitions from result };
 

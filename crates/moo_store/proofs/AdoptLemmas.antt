@@ -1,5 +1,5 @@
 -- From what was read of a connection to the World over it.
-use Rattle.moo_store.proofs.Words.{◌≡◌, ◌⊎◌, inl, inr, Result, Ok, Err, IfOk, IfErr, IsTrue, false, sym, ap, subst, subst₂, ◌∙◌, true, Trees, Ghosts, Held, state, Maps, IsGood, State, state_of, Version, First, Tables, schema_of, Rests, RestsAt, HasTables, ReadsTables, FailsToRead, stays, clean_before, ShowsRows, KeepsState, KeepsRows, ShowsState, Says, IsOfStore, Adopts, TakesOver, StoreFault, Store, Damaged, NewerVersion, OutOfMemory, Closed, World, store_of, StandsFor, Left}
+use Rattle.moo_store.proofs.Words.{◌≡◌, ◌⊎◌, inl, inr, Result, Ok, Err, IfOk, IfErr, IsTrue, false, sym, ap, subst, subst₂, ◌∙◌, true, Trees, Ghosts, Held, state, Maps, IsGood, State, state_of, Version, Tables, schema_of, Rests, RestsAt, HasTables, ReadsTables, FailsToRead, stays, clean_before, ShowsRows, KeepsState, KeepsRows, ShowsState, Says, IsOfStore, Adopts, TakesOver, StoreFault, Store, Damaged, NewerVersion, OutOfMemory, Closed, World, store_of, StandsFor, Left, IsEarlier}
 use Rattle.sqlite.specs.Effect.{Database as Content}
 use Rattle.sqlite.proofs.StateLemmas.{survives_then}
 use Rattle.sqlite.specs.State.{State as Database, HasCleanDisk, IsUnchanged, IsRolledBack, Survives}
@@ -95,14 +95,16 @@ module _ {S : Type 0} (g : Ghosts S) (old mid : Held S) (version : Version) (row
 
   module _ (new : Held S) where
     abbrev Takes : Trees → Type 0
-    Takes trees = (version ≡ First) × TakesOver rows (state g mid) trees
+    Takes trees = IsEarlier version × TakesOver rows (state g mid) trees
 
     pub crash : Survives (state g mid) (state g new) Takes → IsGood rows → (HasCleanDisk (state g mid) → ShowsOld) → (HasCleanDisk (state g mid) → IsOne) → Survives (state g old) (state g new) (Adopts (state g old))
     crash survives good shown one =
         survives_then (state g old) (state g mid) (state g new) (λ _. ⊥) Takes (Adopts (state g old)) (λ clean trees none. absurd none)
         (λ clean trees takes.
         let early = clean_before (state g mid) (state g new) Takes survives clean in (
-          has ∙ ap schema_of takes.0,
+          version,
+          takes.0,
+          has,
           λ s it.
               let same : rows ≡ it.rows = one early it.tables it.rows it.rests it.shows it.good in
               record { rows = rows; good = good; state = ap state_of same ∙ it.state; leaves = takes.1 it.tables (rests_still early it.tables it.rests) (shown early it.tables it.rests) },
@@ -160,5 +162,5 @@ says_of_store tables Closed it = absurd it
 pub left_still : (old new : Database) (s : State) → Survives old new (Adopts old) → ShowsState old s → Left old s → HasCleanDisk new → Left new s
 left_still old new s survives shown left clean trees lies = elim (survives.crash clean trees lies) [
   | inl was ↦ left trees was
-  | inr adopts ↦ adopts.1 s shown
+  | inr adopts ↦ adopts.3 s shown
 ]

@@ -1,5 +1,5 @@
 -- Whether a row that may be there has this in a column, where a test tells equal values.
-use Rattle.std.proofs.Common.{◌≡◌, Bool, Option, Some, IsTrue, refl, sym, ap, ◌∙◌, option_map}
+use Rattle.std.proofs.Common.{◌≡◌, Bool, Option, Some, IsTrue, sym, ap, ◌∙◌, option_map}
 use Rattle.moo_value.specs.Equal.{IsExact}
 
 pub has_part : {X V : Type 0} (same : V → V → Bool) → IsExact same → (part : X → V) (b : Bool) (old : Option X) (x : X) (v : V) → b ≡ same (part x) v → old ≡ Some x

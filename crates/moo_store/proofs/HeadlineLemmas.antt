@@ -1,5 +1,5 @@
 -- From what a crash left to the World that is found.
-use Rattle.moo_store.proofs.Words.{◌≡◌, ◌≤◌, ℕ, List, [], ◌∷◌, ◌++◌, take, drop, length, refl, sym, ap, subst, ◌∙◌, true, Ghosts, Trees, Batch, State, state_of, judge, left_by, after, Reply, MayOpenAs, Rests, Leaves, Maps, IsGood, Tables, ShowsRows, BatchesLead, LeavesLed, ShowsState, LeavesRows, LeavesState, acknowledged, World, StandsFor}
+use Rattle.moo_store.proofs.Words.{◌≡◌, ◌≤◌, ℕ, List, [], ◌∷◌, ◌++◌, take, drop, length, refl, sym, ap, subst, ◌∙◌, true, Ghosts, Batch, State, state_of, judge, left_by, after, Reply, MayOpenAs, Rests, Maps, IsGood, Tables, ShowsRows, BatchesLead, LeavesLed, ShowsState, LeavesRows, LeavesState, acknowledged, World, StandsFor}
 use Rattle.sqlite.specs.State.{State as Database, Opens}
 use Rattle.sqlite.specs.Effect.{IsDatabase}
 use Rattle.moo_tables.proofs.ReopenLemmas.{opened}

@@ -1,5 +1,5 @@
 -- A row that is printed over the cells of another shows itself, and keeps the columns that stay.
-use Rattle.moo_store.proofs.Words.{◌≡◌, ℕ, pos, List, [], ◌∷◌, Option, Some, None, Vec, refl, sym, ap, ◌∙◌, subst, subst₂, Row, column, ObjNo, Head, ObjRow, PropId, SlotRow, PetitionRow, SlotCells, Second, head_cells, object_cells, prop_cells, slot_cells, verb_cells, petition_cells, ShowsAccept, ShowsSlotState, ShowsObject, ShowsProp, ShowsSlot, ShowsVerb, ShowsPetition, ShowsOrNone, IfBoth, HeadColumns, ObjectColumns, PropColumns, SlotColumns, VerbColumns, PetitionColumns, PrintsOver, PrintsObject, PrintsProp, PrintsSlot, PrintsVerb, PrintsPetition}
+use Rattle.moo_store.proofs.Words.{◌≡◌, ℕ, pos, List, [], ◌∷◌, Option, Some, None, Vec, refl, sym, ap, ◌∙◌, subst, subst₂, Row, column, ObjNo, Head, ObjRow, PropId, SlotRow, PetitionRow, SlotCells, present, head_cells, object_cells, prop_cells, slot_cells, verb_cells, petition_cells, ShowsAccept, ShowsSlotState, ShowsObject, ShowsProp, ShowsSlot, ShowsVerb, ShowsPetition, ShowsOrNone, IfBoth, HeadColumns, ObjectColumns, PropColumns, SlotColumns, VerbColumns, PetitionColumns, PrintsOver, PrintsObject, PrintsProp, PrintsSlot, PrintsVerb, PrintsPetition}
 use Rattle.std.specs.Option.{option_map}
 use Rattle.std.specs.declared.alloc.Global.{Global}
 use Rattle.sqlite.specs.declared.types.Value.{Value as Cell}
@@ -11,7 +11,7 @@ use Rattle.moo_rows.specs.declared.row.VerbId.{VerbId}
 use Rattle.moo_rows.specs.declared.row.VerbRow.{VerbRow}
 use Rattle.moo_rows.specs.declared.row.PetitionId.{PetitionId}
 use Rattle.moo_rows.specs.Bits.{bits_number, verb_bits_of}
-use Rattle.moo_world.specs.Prepositions.{prep_text, place_text}
+use Rattle.moo_world.specs.Prepositions.{prep_text, object_spec_text}
 use Rattle.moo_tables.specs.declared.object.ObjectCells.{ObjectCells}
 use Rattle.moo_tables.specs.declared.prop.PropCells.{PropCells}
 use Rattle.moo_tables.specs.declared.verb.VerbCells.{VerbCells}
@@ -63,7 +63,7 @@ object_columns n a b v w stay = record {
   accept = stay;
 }
 
-pub lays_object : (base : Option ObjRow) (n : ObjNo) (c : ObjectCells) (row : ObjRow) (old : Option Row) → PrintsObject base c row → ShowsOrNone (ShowsObject n) old base → ShowsOrNone (ShowsObject n) (object_cells n c old) (Some row) × IfBoth ObjectColumns base (Some row) old (object_cells n c old)
+pub lays_object : (base : Option ObjRow) (n : ObjNo) (c : ObjectCells) (row : ObjRow) (old : Option Row) → PrintsObject base c row → ShowsOrNone (ShowsObject present n) old base → ShowsOrNone (ShowsObject present n) (object_cells n c old) (Some row) × IfBoth ObjectColumns base (Some row) old (object_cells n c old)
 lays_object base n c row old p shown = lays_over (object_row n) 11 (λ r. r.accept) ShowsAccept ObjectColumns (λ x v. refl) (object_columns n) (object_row n c.row) row (λ v. ap (λ r. object_row n r v) p.row_is) base old c.accept p.accept shown
 
 -- ---- properties
@@ -74,13 +74,13 @@ shown_prop id row = Number (pos id.0) ∷ Number row.definer.0 ∷ Text row.name
 prop_columns : (id : PropId) (a b : PropRow) → PropColumns a b (shown_prop id a) (shown_prop id b)
 prop_columns id a b = record { id = refl; definer = λ e. ap (λ (o : ObjNo). Number o.0) (sym e); name = λ e. ap Text (sym e) }
 
-pub lays_prop : (base : Option PropRow) (id : PropId) (c : PropCells) (row : PropRow) (old : Option Row) → PrintsProp base c row → ShowsOrNone (ShowsProp id) old base → ShowsOrNone (ShowsProp id) (prop_cells id c old) (Some row) × IfBoth PropColumns base (Some row) old (prop_cells id c old)
+pub lays_prop : (base : Option PropRow) (id : PropId) (c : PropCells) (row : PropRow) (old : Option Row) → PrintsProp base c row → ShowsOrNone (ShowsProp present id) old base → ShowsOrNone (ShowsProp present id) (prop_cells id c old) (Some row) × IfBoth PropColumns base (Some row) old (prop_cells id c old)
 lays_prop base id c row old p shown = go base old shown
   where
     is : Number (pos id.0) ∷ Number c.definer.0 ∷ Text c.name.items ∷ [] ≡ shown_prop id row
     is = ap (λ (o : ObjNo). Number (pos id.0) ∷ Number o.0 ∷ Text c.name.items ∷ []) p.definer ∙ ap (λ t. Number (pos id.0) ∷ Number row.definer.0 ∷ Text t ∷ []) p.name
 
-    go : (base : Option PropRow) (old : Option Row) → ShowsOrNone (ShowsProp id) old base → ShowsOrNone (ShowsProp id) (prop_cells id c old) (Some row) × IfBoth PropColumns base (Some row) old (prop_cells id c old)
+    go : (base : Option PropRow) (old : Option Row) → ShowsOrNone (ShowsProp present id) old base → ShowsOrNone (ShowsProp present id) (prop_cells id c old) (Some row) × IfBoth PropColumns base (Some row) old (prop_cells id c old)
     go None old shown = (is, tt)
     go (Some b) None shown = absurd shown
     go (Some b) (Some r) shown = (is, subst₂ (λ x y. PropColumns b row x y) (sym shown) (sym is) (prop_columns id b row))
@@ -96,25 +96,25 @@ slot_columns key a b v w stay = record { object = refl; prop = refl; owner = λ 
 abbrev SlotShowing : ObjNo × PropId → Row → SlotRow → Type 0
 SlotShowing key cells x = (text : List ℕ) × ShowsSlotState text x.state × (cells ≡ shown_slot key x (Text text))
 
-slot_to : (key : ObjNo × PropId) (cells : Row) (x : SlotRow) → ShowsSlot Second key cells x → SlotShowing key cells x
+slot_to : (key : ObjNo × PropId) (cells : Row) (x : SlotRow) → ShowsSlot present key cells x → SlotShowing key cells x
 slot_to key cells x it = (it.1, it.3, it.4 ∙ ap (λ b. Number key.0.0 ∷ Number (pos key.1.0) ∷ Number x.owner.0 ∷ b ∷ Text it.1 ∷ []) it.2)
 
-slot_from : (key : ObjNo × PropId) (cells : Row) (x : SlotRow) → SlotShowing key cells x → ShowsSlot Second key cells x
+slot_from : (key : ObjNo × PropId) (cells : Row) (x : SlotRow) → SlotShowing key cells x → ShowsSlot present key cells x
 slot_from key cells x it = (Number (bits_number x.bits), it.0, refl, it.1, it.2)
 
-all_to : (key : ObjNo × PropId) (old : Option Row) (base : Option SlotRow) → ShowsOrNone (ShowsSlot Second key) old base → ShowsOrNone (SlotShowing key) old base
+all_to : (key : ObjNo × PropId) (old : Option Row) (base : Option SlotRow) → ShowsOrNone (ShowsSlot present key) old base → ShowsOrNone (SlotShowing key) old base
 all_to key None None shown = tt
 all_to key (Some r) (Some b) shown = slot_to key r b shown
 all_to key (Some r) None shown = absurd shown
 all_to key None (Some b) shown = absurd shown
 
-all_from : (key : ObjNo × PropId) (old : Option Row) (base : Option SlotRow) → ShowsOrNone (SlotShowing key) old base → ShowsOrNone (ShowsSlot Second key) old base
+all_from : (key : ObjNo × PropId) (old : Option Row) (base : Option SlotRow) → ShowsOrNone (SlotShowing key) old base → ShowsOrNone (ShowsSlot present key) old base
 all_from key None None shown = tt
 all_from key (Some r) (Some b) shown = slot_from key r b shown
 all_from key (Some r) None shown = absurd shown
 all_from key None (Some b) shown = absurd shown
 
-pub lays_slot : (base : Option SlotRow) (key : ObjNo × PropId) (c : SlotCells) (row : SlotRow) (old : Option Row) → PrintsSlot base c row → ShowsOrNone (ShowsSlot Second key) old base → ShowsOrNone (ShowsSlot Second key) (slot_cells key c old) (Some row) × IfBoth SlotColumns base (Some row) old (slot_cells key c old)
+pub lays_slot : (base : Option SlotRow) (key : ObjNo × PropId) (c : SlotCells) (row : SlotRow) (old : Option Row) → PrintsSlot base c row → ShowsOrNone (ShowsSlot present key) old base → ShowsOrNone (ShowsSlot present key) (slot_cells key c old) (Some row) × IfBoth SlotColumns base (Some row) old (slot_cells key c old)
 lays_slot base key c row old p shown =
     let fits : (v : Cell) → slot_row key c v ≡ shown_slot key row v = λ v. ap (λ (o : ObjNo). Number key.0.0 ∷ Number (pos key.1.0) ∷ Number o.0 ∷ Number c.bits ∷ v ∷ []) p.owner ∙ ap (λ bits. Number key.0.0 ∷ Number (pos key.1.0) ∷ Number row.owner.0 ∷ Number bits ∷ v ∷ []) p.bits in
     let it = lays_over (shown_slot key) 4 (λ r. r.state) ShowsSlotState SlotColumns (λ x v. refl) (slot_columns key) (slot_row key c) row fits base old c.value p.value (all_to key old base shown) in
@@ -123,7 +123,7 @@ lays_slot base key c row old p shown =
 -- ---- verbs
 
 abbrev shown_verb : ObjNo × VerbId → VerbRow → Cell → Row
-shown_verb key row bits = Number key.0.0 ∷ Number (pos key.1.0) ∷ Text row.names ∷ Number row.owner.0 ∷ bits ∷ Text (place_text row.args.dobj) ∷ Text (prep_text row.args.prep) ∷ Text (place_text row.args.iobj) ∷ []
+shown_verb key row bits = Number key.0.0 ∷ Number (pos key.1.0) ∷ Text row.names ∷ Number row.owner.0 ∷ bits ∷ Text (object_spec_text row.args.dobj) ∷ Text (prep_text row.args.prep) ∷ Text (object_spec_text row.args.iobj) ∷ []
 
 verb_columns : (key : ObjNo × VerbId) (a b : VerbRow) (v w : Cell) → (a.bits ≡ b.bits → w ≡ v) → VerbColumns a b (shown_verb key a v) (shown_verb key b w)
 verb_columns key a b v w stay = record {
@@ -132,12 +132,12 @@ verb_columns key a b v w stay = record {
   names = λ e. ap Text (sym e);
   owner = λ e. ap (λ (o : ObjNo). Number o.0) (sym e);
   bits = stay;
-  dobj = λ e. ap (λ place. Text (place_text place)) (sym e);
+  dobj = λ e. ap (λ place. Text (object_spec_text place)) (sym e);
   prep = λ e. ap (λ prep. Text (prep_text prep)) (sym e);
-  iobj = λ e. ap (λ place. Text (place_text place)) (sym e);
+  iobj = λ e. ap (λ place. Text (object_spec_text place)) (sym e);
 }
 
-pub lays_verb : (base : Option VerbRow) (key : ObjNo × VerbId) (c : VerbCells) (row : VerbRow) (old : Option Row) → PrintsVerb base c row → ShowsOrNone (ShowsVerb key) old base → ShowsOrNone (ShowsVerb key) (verb_cells key c old) (Some row) × IfBoth VerbColumns base (Some row) old (verb_cells key c old)
+pub lays_verb : (base : Option VerbRow) (key : ObjNo × VerbId) (c : VerbCells) (row : VerbRow) (old : Option Row) → PrintsVerb base c row → ShowsOrNone (ShowsVerb present key) old base → ShowsOrNone (ShowsVerb present key) (verb_cells key c old) (Some row) × IfBoth VerbColumns base (Some row) old (verb_cells key c old)
 lays_verb base key c row old p shown =
     let fits : (v : Cell) → verb_row key c v ≡ shown_verb key row v = λ v. rw (p.names, p.owner, p.dobj, p.prep, p.iobj) refl in
     lays_over (shown_verb key) 4 (λ r. r.bits) (λ text bits. verb_bits_of text ≡ Some bits) VerbColumns (λ x v. refl) (verb_columns key) (verb_row key c) row fits base old c.bits p.bits shown
@@ -150,13 +150,13 @@ shown_petition id row calls = Number (pos id.0) ∷ Number row.who.0 ∷ calls �
 petition_columns : (id : PetitionId) (a b : PetitionRow) (v w : Cell) → (a.calls ≡ b.calls → w ≡ v) → PetitionColumns a b (shown_petition id a v) (shown_petition id b w)
 petition_columns id a b v w stay = record { id = refl; who = λ e. ap (λ (o : ObjNo). Number o.0) (sym e); calls = stay }
 
-pub lays_petition : (base : Option PetitionRow) (id : PetitionId) (c : PetitionCells) (row : PetitionRow) (old : Option Row) → PrintsPetition base c row → ShowsOrNone (ShowsPetition id) old base → ShowsOrNone (ShowsPetition id) (petition_cells id c old) (Some row) × IfBoth PetitionColumns base (Some row) old (petition_cells id c old)
+pub lays_petition : (base : Option PetitionRow) (id : PetitionId) (c : PetitionCells) (row : PetitionRow) (old : Option Row) → PrintsPetition base c row → ShowsOrNone (ShowsPetition present id) old base → ShowsOrNone (ShowsPetition present id) (petition_cells id c old) (Some row) × IfBoth PetitionColumns base (Some row) old (petition_cells id c old)
 lays_petition base id c row old p shown =
     lays_over (shown_petition id) 2 (λ r. r.calls) (λ text calls. Spells (a_list calls) text) PetitionColumns (λ x v. refl) (petition_columns id) (petition_row id c) row (λ v. ap (λ (o : ObjNo). Number (pos id.0) ∷ Number o.0 ∷ v ∷ []) p.who) base old c.calls p.calls shown
 
 -- ---- the head
 
-pub head_columns : (a b : Head) → HeadColumns a b (head_cells Second a) (head_cells Second b)
+pub head_columns : (a b : Head) → HeadColumns a b (head_cells present a) (head_cells present b)
 head_columns a b = record { id = refl; version = refl; seq = λ e. ap (λ n. Number (pos n)) (sym e); top = λ e. ap Number (sym e); next_prop = λ e. ap (λ n. Number (pos n)) (sym e); next_verb = λ e. ap (λ n. Number (pos n)) (sym e) }
 
 -- ---- a row that stays keeps all its columns

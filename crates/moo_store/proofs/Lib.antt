@@ -22,5 +22,6 @@ pub mod Numbered
 pub mod Asking
 pub mod AdoptLemmas
 pub mod Migrated
+pub mod Current
 pub mod HeadlineLemmas
 pub mod CheckLemmas

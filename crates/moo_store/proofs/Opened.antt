@@ -1,5 +1,5 @@
 -- The tables of a whole world.
-use Rattle.moo_store.proofs.Words.{◌≡◌, Option, None, Ordering, refl, sym, subst, FinMap, empty, get, get-empty, Maps, no_maps, object_cmp, prop_cmp, slot_cmp, verb_cmp, petition_cmp, ObjRow, SlotRow, PetitionRow, IsGood, state_of, Second, no_schema, tables_with, Rests, Leaves, HasNoTables, no_tables, CellChanges, IsChanges, AreChanges, ShowsObject, ShowsProp, ShowsSlot, ShowsVerb, ShowsPetition, ShowsOrNone, ShowsMaps, ShowsRows, Prints, all_of, all_changes, KeepsRows, LeavesState}
+use Rattle.moo_store.proofs.Words.{◌≡◌, Option, None, Ordering, refl, sym, subst, FinMap, empty, get, get-empty, Maps, no_maps, object_cmp, prop_cmp, slot_cmp, verb_cmp, petition_cmp, ObjRow, SlotRow, PetitionRow, IsGood, state_of, present, no_schema, tables_with, Rests, Leaves, HasNoTables, no_tables, CellChanges, IsChanges, AreChanges, ShowsObject, ShowsProp, ShowsSlot, ShowsVerb, ShowsPetition, ShowsOrNone, ShowsMaps, ShowsRows, Prints, all_of, all_changes, KeepsRows, LeavesState}
 use Rattle.sqlite.specs.State.{State as Database, Survives}
 use Rattle.moo_rows.specs.declared.row.PropRow.{PropRow}
 use Rattle.moo_rows.specs.declared.row.VerbRow.{VerbRow}
@@ -11,14 +11,14 @@ use Rattle.moo_store.proofs.Shown.{shows-written}
 -- no tables show no rows
 shows_nothing : ShowsMaps no_tables no_maps
 shows_nothing = record {
-  objects = λ n. let P : Option ObjRow → Type 0 = λ r. ShowsOrNone (ShowsObject n) None r in subst P (sym (get-empty object_cmp n)) tt;
-  props = λ id. let P : Option PropRow → Type 0 = λ r. ShowsOrNone (ShowsProp id) None r in subst P (sym (get-empty prop_cmp id)) tt;
+  objects = λ n. let P : Option ObjRow → Type 0 = λ r. ShowsOrNone (ShowsObject present n) None r in subst P (sym (get-empty object_cmp n)) tt;
+  props = λ id. let P : Option PropRow → Type 0 = λ r. ShowsOrNone (ShowsProp present id) None r in subst P (sym (get-empty prop_cmp id)) tt;
   no_prop = λ n. refl;
-  slots = λ key. let P : Option SlotRow → Type 0 = λ r. ShowsOrNone (ShowsSlot Second key) None r in subst P (sym (get-empty slot_cmp key)) tt;
+  slots = λ key. let P : Option SlotRow → Type 0 = λ r. ShowsOrNone (ShowsSlot present key) None r in subst P (sym (get-empty slot_cmp key)) tt;
   no_slot = λ x n. refl;
-  verbs = λ key. let P : Option VerbRow → Type 0 = λ r. ShowsOrNone (ShowsVerb key) None r in subst P (sym (get-empty verb_cmp key)) tt;
+  verbs = λ key. let P : Option VerbRow → Type 0 = λ r. ShowsOrNone (ShowsVerb present key) None r in subst P (sym (get-empty verb_cmp key)) tt;
   no_verb = λ x n. refl;
-  petitions = λ id. let P : Option PetitionRow → Type 0 = λ r. ShowsOrNone (ShowsPetition id) None r in subst P (sym (get-empty petition_cmp id)) tt;
+  petitions = λ id. let P : Option PetitionRow → Type 0 = λ r. ShowsOrNone (ShowsPetition present id) None r in subst P (sym (get-empty petition_cmp id)) tt;
   no_petition = λ n. refl;
 }
 

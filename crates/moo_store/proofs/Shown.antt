@@ -1,5 +1,6 @@
--- The tables, after changes are written, show the new rows; and so do tables of the first version that are taken over.
-use Rattle.moo_store.proofs.Words.{◌≡◌, ◌≢◌, ◌==◌, ℕ, ℤ, pos, negsuc, Bool, true, false, cond, List, Option, None, Some, refl, sym, ap, ◌∙◌, subst, subst₂, ◌&&◌, eq_by_cmp, get, Row, ObjNo, Head, PropId, Maps, object_cmp, prop_cmp, slot_cmp, verb_cmp, petition_cmp, Version, First, Second, Tables, same_number, same_numbers, numbered_with, head_cells, object_cells, prop_cells, slot_cells, verb_cells, petition_cells, petition_head_cells, counter_with, tables_with, migrated, IsCurrent, CellChanges, SlotCells, AreChanges, ShowsObject, ShowsProp, ShowsSlot, ShowsVerb, ShowsPetition, ShowsOrNone, ShowsCounter, ShowsMaps, ShowsRows, IfBoth, HeadColumns, ObjectColumns, PropColumns, SlotColumns, VerbColumns, PetitionColumns, PrintEach, PrintsObject, PrintsProp, PrintsSlot, PrintsVerb, PrintsPetition, Prints, new_number, all_of, KeepsCells}
+-- The tables, after changes are written, show the new rows; and so do tables of an earlier version that are migrated.
+use Rattle.moo_store.proofs.Words.{◌≡◌, ◌≢◌, ◌==◌, ℕ, ℤ, pos, negsuc, Bool, true, false, cond, List, Option, None, Some, refl, sym, ap, ◌∙◌, subst, subst₂, ◌&&◌, eq_by_cmp, get, Row, ObjNo, Head, PropId, Maps, object_cmp, prop_cmp, slot_cmp, verb_cmp, petition_cmp, Version, present, Tables, same_number, same_numbers, numbered_with, head_cells, object_cells, prop_cells, slot_cells, verb_cells, petition_cells, petition_head_cells, counter_with, tables_with, migrated, IsCurrent, CellChanges, SlotCells, AreChanges, ShowsObject, ShowsProp, ShowsSlot, ShowsVerb, ShowsPetition, ShowsOrNone, ShowsCounter, ShowsMaps, ShowsRows, IfBoth, HeadColumns, ObjectColumns, PropColumns, SlotColumns, VerbColumns, PetitionColumns, PrintEach, PrintsObject, PrintsProp, PrintsSlot, PrintsVerb, PrintsPetition, Prints, new_number, all_of, KeepsCells, IsEarlier}
+use Rattle.moo_tables.proofs.InsideLemmas.{only_first}
 use Rattle.std.specs.Bool.{Decides}
 use Rattle.std.proofs.lemmas.Bool.{and_parts}
 use Rattle.std.proofs.lemmas.Bool.Decides.{Decides-int_eq, Decides-eqb}
@@ -84,14 +85,14 @@ not_one : (n : ℤ) → n ≢ pos 1 → same_number n (pos 1) ≡ false
 not_one n h = decided_false _ _ (same_number-Decides n (pos 1)) h
 
 -- the row of the counter alone is put
-counts_written : (version : Version) (next : ℕ) (table : ℤ → Option Row) → version ≡ Second → ((n : ℤ) → n ≢ pos 1 → table n ≡ None) → ShowsCounter version (numbered_with (pos 1) (Some (petition_head_cells next)) table) next
+counts_written : (version : Version) (next : ℕ) (table : ℤ → Option Row) → version ≡ present → ((n : ℤ) → n ≢ pos 1 → table n ≡ None) → ShowsCounter version (numbered_with (pos 1) (Some (petition_head_cells next)) table) next
 counts_written version next table current alone = subst (λ v. ShowsCounter v (numbered_with (pos 1) (Some (petition_head_cells next)) table) next) (sym current) (
   ap (λ b. cond b (Some (petition_head_cells next)) (table (pos 1))) ((same_number-Decides (pos 1) (pos 1)).1 refl),
   λ n h. ap (λ b. cond b (Some (petition_head_cells next)) (table n)) (not_one n h) ∙ alone n h,
 )
 
 -- in tables of the present version the counter has no other row
-counts_alone : (version : Version) (next : ℕ) (table : ℤ → Option Row) → version ≡ Second → ShowsCounter version table next → (n : ℤ) → n ≢ pos 1 → table n ≡ None
+counts_alone : (version : Version) (next : ℕ) (table : ℤ → Option Row) → version ≡ present → ShowsCounter version table next → (n : ℤ) → n ≢ pos 1 → table n ≡ None
 counts_alone version next table current shows = (subst (λ v. ShowsCounter v table next) current shows).1
 
 -- what the counter has before a change: no other row, and the last number that was written if there is one
@@ -100,7 +101,7 @@ CountsBefore None version table = (n : ℤ) → n ≢ pos 1 → table n ≡ None
 CountsBefore (Some last) version table = ShowsCounter version table last
 
 -- the next number is put, or it is there already
-counts_next : (last : Option ℕ) (next : ℕ) (version : Version) (table : ℤ → Option Row) → version ≡ Second → CountsBefore last version table → ShowsCounter version (counter_with (new_number last next) table) next
+counts_next : (last : Option ℕ) (next : ℕ) (version : Version) (table : ℤ → Option Row) → version ≡ present → CountsBefore last version table → ShowsCounter version (counter_with (new_number last next) table) next
 counts_next None next version table current alone = counts_written version next table current alone
 counts_next (Some last) next version table current shows = go (last == next) refl
   where
@@ -110,45 +111,45 @@ counts_next (Some last) next version table current shows = go (last == next) ref
 
 -- the tables' cells after changes that are printed, table by table
 abbrev ObjectsLaid : CellChanges → Maps → Maps → Tables → Type 0
-ObjectsLaid cells base new t = (n : ObjNo) → ShowsOrNone (ShowsObject n) ((tables_with cells t).object n.0) (get new.objects n) × IfBoth ObjectColumns (get base.objects n) (get new.objects n) (t.object n.0) ((tables_with cells t).object n.0)
+ObjectsLaid cells base new t = (n : ObjNo) → ShowsOrNone (ShowsObject present n) ((tables_with cells t).object n.0) (get new.objects n) × IfBoth ObjectColumns (get base.objects n) (get new.objects n) (t.object n.0) ((tables_with cells t).object n.0)
 
 abbrev PropsLaid : CellChanges → Maps → Maps → Tables → Type 0
-PropsLaid cells base new t = (id : PropId) → ShowsOrNone (ShowsProp id) ((tables_with cells t).prop (pos id.0)) (get new.props id) × IfBoth PropColumns (get base.props id) (get new.props id) (t.prop (pos id.0)) ((tables_with cells t).prop (pos id.0))
+PropsLaid cells base new t = (id : PropId) → ShowsOrNone (ShowsProp present id) ((tables_with cells t).prop (pos id.0)) (get new.props id) × IfBoth PropColumns (get base.props id) (get new.props id) (t.prop (pos id.0)) ((tables_with cells t).prop (pos id.0))
 
 abbrev SlotsLaid : CellChanges → Maps → Maps → Tables → Type 0
-SlotsLaid cells base new t = (key : ObjNo × PropId) → ShowsOrNone (ShowsSlot Second key) ((tables_with cells t).slot (key.0.0, pos key.1.0)) (get new.slots key) × IfBoth SlotColumns (get base.slots key) (get new.slots key) (t.slot (key.0.0, pos key.1.0)) ((tables_with cells t).slot (key.0.0, pos key.1.0))
+SlotsLaid cells base new t = (key : ObjNo × PropId) → ShowsOrNone (ShowsSlot present key) ((tables_with cells t).slot (key.0.0, pos key.1.0)) (get new.slots key) × IfBoth SlotColumns (get base.slots key) (get new.slots key) (t.slot (key.0.0, pos key.1.0)) ((tables_with cells t).slot (key.0.0, pos key.1.0))
 
 abbrev VerbsLaid : CellChanges → Maps → Maps → Tables → Type 0
-VerbsLaid cells base new t = (key : ObjNo × VerbId) → ShowsOrNone (ShowsVerb key) ((tables_with cells t).verb (key.0.0, pos key.1.0)) (get new.verbs key) × IfBoth VerbColumns (get base.verbs key) (get new.verbs key) (t.verb (key.0.0, pos key.1.0)) ((tables_with cells t).verb (key.0.0, pos key.1.0))
+VerbsLaid cells base new t = (key : ObjNo × VerbId) → ShowsOrNone (ShowsVerb present key) ((tables_with cells t).verb (key.0.0, pos key.1.0)) (get new.verbs key) × IfBoth VerbColumns (get base.verbs key) (get new.verbs key) (t.verb (key.0.0, pos key.1.0)) ((tables_with cells t).verb (key.0.0, pos key.1.0))
 
 abbrev PetitionsLaid : CellChanges → Maps → Maps → Tables → Type 0
-PetitionsLaid cells base new t = (id : PetitionId) → ShowsOrNone (ShowsPetition id) ((tables_with cells t).petition (pos id.0)) (get new.petitions id) × IfBoth PetitionColumns (get base.petitions id) (get new.petitions id) (t.petition (pos id.0)) ((tables_with cells t).petition (pos id.0))
+PetitionsLaid cells base new t = (id : PetitionId) → ShowsOrNone (ShowsPetition present id) ((tables_with cells t).petition (pos id.0)) (get new.petitions id) × IfBoth PetitionColumns (get base.petitions id) (get new.petitions id) (t.petition (pos id.0)) ((tables_with cells t).petition (pos id.0))
 
 module _ (last : Option ℕ) (cells : CellChanges) (changes : Changes) (base new : Maps) (t : Tables) (p : Prints last base cells changes) (c : AreChanges base new changes) (current : IsCurrent t) (shows : ShowsMaps t base) where
   objects_laid : ObjectsLaid cells base new t
-  objects_laid = written object_cmp object_exact same_number (λ n. n.0) number_alike object_cells ShowsObject ObjectColumns PrintsObject (get base.objects) object_stays (λ n. lays_object (get base.objects n) n) cells.objects.items changes.objects (get new.objects) t.object p.objects c.objects shows.objects
+  objects_laid = written object_cmp object_exact same_number (λ n. n.0) number_alike object_cells (ShowsObject present) ObjectColumns PrintsObject (get base.objects) object_stays (λ n. lays_object (get base.objects n) n) cells.objects.items changes.objects (get new.objects) t.object p.objects c.objects shows.objects
 
   props_laid : PropsLaid cells base new t
-  props_laid = written prop_cmp prop_exact same_number (λ id. pos id.0) id_alike prop_cells ShowsProp PropColumns PrintsProp (get base.props) prop_stays (λ id. lays_prop (get base.props id) id) cells.props.items changes.props (get new.props) t.prop p.props c.props shows.props
+  props_laid = written prop_cmp prop_exact same_number (λ id. pos id.0) id_alike prop_cells (ShowsProp present) PropColumns PrintsProp (get base.props) prop_stays (λ id. lays_prop (get base.props id) id) cells.props.items changes.props (get new.props) t.prop p.props c.props shows.props
 
   slots_laid : SlotsLaid cells base new t
   slots_laid =
       let shown = λ (key : ObjNo × PropId). subst (λ v. ShowsOrNone (ShowsSlot v key) (t.slot (key.0.0, pos key.1.0)) (get base.slots key)) current (shows.slots key) in
-      written slot_cmp slot_exact same_numbers (λ k. (k.0.0, pos k.1.0)) slot_alike slot_cells (ShowsSlot Second) SlotColumns PrintsSlot (get base.slots) slot_stays (λ key. lays_slot (get base.slots key) key) cells.slots.items changes.slots (get new.slots) t.slot p.slots c.slots shown
+      written slot_cmp slot_exact same_numbers (λ k. (k.0.0, pos k.1.0)) slot_alike slot_cells (ShowsSlot present) SlotColumns PrintsSlot (get base.slots) slot_stays (λ key. lays_slot (get base.slots key) key) cells.slots.items changes.slots (get new.slots) t.slot p.slots c.slots shown
 
   verbs_laid : VerbsLaid cells base new t
-  verbs_laid = written verb_cmp verb_exact same_numbers (λ k. (k.0.0, pos k.1.0)) verb_alike verb_cells ShowsVerb VerbColumns PrintsVerb (get base.verbs) verb_stays (λ key. lays_verb (get base.verbs key) key) cells.verbs.items changes.verbs (get new.verbs) t.verb p.verbs c.verbs shows.verbs
+  verbs_laid = written verb_cmp verb_exact same_numbers (λ k. (k.0.0, pos k.1.0)) verb_alike verb_cells (ShowsVerb present) VerbColumns PrintsVerb (get base.verbs) verb_stays (λ key. lays_verb (get base.verbs key) key) cells.verbs.items changes.verbs (get new.verbs) t.verb p.verbs c.verbs shows.verbs
 
   petitions_laid : PetitionsLaid cells base new t
-  petitions_laid = written petition_cmp petition_exact same_number (λ id. pos id.0) petition_alike petition_cells ShowsPetition PetitionColumns PrintsPetition (get base.petitions) petition_stays (λ id. lays_petition (get base.petitions id) id) cells.petitions.items changes.petitions (get new.petitions) t.petition p.petitions c.petitions shows.petitions
+  petitions_laid = written petition_cmp petition_exact same_number (λ id. pos id.0) petition_alike petition_cells (ShowsPetition present) PetitionColumns PrintsPetition (get base.petitions) petition_stays (λ id. lays_petition (get base.petitions id) id) cells.petitions.items changes.petitions (get new.petitions) t.petition p.petitions c.petitions shows.petitions
 
-  head_written : (tables_with cells t).head (pos 1) ≡ Some (head_cells Second new.head)
-  head_written = ap (λ b. cond b (Some (head_cells Second cells.head)) (t.head (pos 1))) ((same_number-Decides (pos 1) (pos 1)).1 refl) ∙ ap (λ h. Some (head_cells Second h)) (p.head ∙ c.head)
+  head_written : (tables_with cells t).head (pos 1) ≡ Some (head_cells present new.head)
+  head_written = ap (λ b. cond b (Some (head_cells present cells.head)) (t.head (pos 1))) ((same_number-Decides (pos 1) (pos 1)).1 refl) ∙ ap (λ h. Some (head_cells present h)) (p.head ∙ c.head)
 
   pub shows-written : ((n : ℤ) → n ≢ pos 1 → t.head n ≡ None) → CountsBefore last t.version t.petition_head → ShowsRows (tables_with cells t) new
   shows-written alone counts = record {
     head = head_written ∙ ap (λ v. Some (head_cells v new.head)) (sym current);
-    no_head = λ n h. ap (λ b. cond b (Some (head_cells Second cells.head)) (t.head n)) (not_one n h) ∙ alone n h;
+    no_head = λ n h. ap (λ b. cond b (Some (head_cells present cells.head)) (t.head n)) (not_one n h) ∙ alone n h;
     counter = subst (λ n. ShowsCounter t.version (counter_with n t.petition_head) new.head.next_petition) (sym (p.next_petition ∙ ap (λ (h : Head). new_number last h.next_petition) c.head)) (counts_next last new.head.next_petition t.version t.petition_head current counts);
     maps = record {
       objects = λ n. (objects_laid n).0;
@@ -164,7 +165,7 @@ module _ (last : Option ℕ) (cells : CellChanges) (changes : Changes) (base new
   }
 
 -- the head's cells before and after
-head_laid : (a b : Head) (old new : Option Row) → old ≡ Some (head_cells Second a) → new ≡ Some (head_cells Second b) → IfBoth HeadColumns (Some a) (Some b) old new
+head_laid : (a b : Head) (old new : Option Row) → old ≡ Some (head_cells present a) → new ≡ Some (head_cells present b) → IfBoth HeadColumns (Some a) (Some b) old new
 head_laid a b old new was is = subst₂ (λ x y. IfBoth HeadColumns (Some a) (Some b) x y) (sym was) (sym is) (head_columns a b)
 
 -- no number is put if it is the last one that was written
@@ -194,26 +195,26 @@ keeps-written cells changes base new t p c current shown =
       petition_columns = λ id. (petitions_laid last cells changes base new t p c current shown.maps id).1;
     }
 
--- in tables of the first version no petition was made yet
-first_count : (version : Version) (next : ℕ) (table : ℤ → Option Row) → version ≡ First → ShowsCounter version table next → next ≡ 1
-first_count version next table first shows = subst (λ v. ShowsCounter v table next) first shows
+-- in tables of an earlier version no petition was made yet
+first_count : (version : Version) (next : ℕ) (table : ℤ → Option Row) → IsEarlier version → ShowsCounter version table next → next ≡ 1
+first_count version next table earlier shows = subst (λ v. ShowsCounter v table next) (only_first version earlier) shows
 
--- Tables that show rows, taken over with their head and all their slots printed anew, show the same rows.
-pub shows-migrated : (m : Maps) (slots : List ((ObjNo × PropId) × Option SlotCells)) (t : Tables) → PrintEach (λ key. PrintsSlot None) slots (all_of m.slots) → t.version ≡ First → ((n : ℤ) → t.petition n ≡ None) → ShowsRows t m → ShowsRows (migrated m.head slots t) m
-shows-migrated m slots t printed first none shown = record {
-  head = ap (λ b. cond b (Some (head_cells Second m.head)) (t.head (pos 1))) ((same_number-Decides (pos 1) (pos 1)).1 refl);
-  no_head = λ n h. ap (λ b. cond b (Some (head_cells Second m.head)) (t.head n)) (not_one n h) ∙ shown.no_head n h;
-  counter = subst (λ next. ShowsCounter Second (numbered_with (pos 1) (Some (petition_head_cells 1)) (λ _. None)) next) (sym (first_count t.version m.head.next_petition t.petition_head first shown.counter))
-      (counts_written Second 1 (λ _. None) refl (λ n h. refl));
+-- Tables that show rows, migrated with their head and all their slots printed anew, show the same rows.
+pub shows-migrated : (m : Maps) (slots : List ((ObjNo × PropId) × Option SlotCells)) (t : Tables) → PrintEach (λ key. PrintsSlot None) slots (all_of m.slots) → IsEarlier t.version → ((n : ℤ) → t.petition n ≡ None) → ShowsRows t m → ShowsRows (migrated m.head slots t) m
+shows-migrated m slots t printed earlier none shown = record {
+  head = ap (λ b. cond b (Some (head_cells present m.head)) (t.head (pos 1))) ((same_number-Decides (pos 1) (pos 1)).1 refl);
+  no_head = λ n h. ap (λ b. cond b (Some (head_cells present m.head)) (t.head n)) (not_one n h) ∙ shown.no_head n h;
+  counter = subst (λ next. ShowsCounter present (numbered_with (pos 1) (Some (petition_head_cells 1)) (λ _. None)) next) (sym (first_count t.version m.head.next_petition t.petition_head earlier shown.counter))
+      (counts_written present 1 (λ _. None) refl (λ n h. refl));
   maps = record {
     objects = shown.maps.objects;
     props = shown.maps.props;
     no_prop = shown.maps.no_prop;
-    slots = λ key. (written slot_cmp slot_exact same_numbers (λ k. (k.0.0, pos k.1.0)) slot_alike slot_cells (ShowsSlot Second) SlotColumns PrintsSlot (λ _. None) slot_stays (λ key. lays_slot None key) slots (all_of m.slots) (get m.slots) (λ _. None) printed (all_changed slot_cmp m.slots) (λ k. tt) key).0;
+    slots = λ key. (written slot_cmp slot_exact same_numbers (λ k. (k.0.0, pos k.1.0)) slot_alike slot_cells (ShowsSlot present) SlotColumns PrintsSlot (λ _. None) slot_stays (λ key. lays_slot None key) slots (all_of m.slots) (get m.slots) (λ _. None) printed (all_changed slot_cmp m.slots) (λ k. tt) key).0;
     no_slot = λ x n. elsewhere slot_cmp slot_exact same_numbers (λ k. (k.0.0, pos k.1.0)) slot_alike slot_cells slots (λ _. None) (x, negsuc n) (λ k. no_pair x n k.0.0 k.1.0);
     verbs = shown.maps.verbs;
     no_verb = shown.maps.no_verb;
-    petitions = λ id. subst (λ c. ShowsOrNone (ShowsPetition id) c (get m.petitions id)) (none (pos id.0)) (shown.maps.petitions id);
+    petitions = λ id. subst (λ c. ShowsOrNone (ShowsPetition present id) c (get m.petitions id)) (none (pos id.0)) (shown.maps.petitions id);
     no_petition = λ n. refl;
   };
 }

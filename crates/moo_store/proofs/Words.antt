@@ -29,13 +29,14 @@ pub use Rattle.moo_store.specs.World.{CrashLeaves, IsAt, Left, LeftOrNext, Match
 pub use Rattle.moo_store.specs.declared.fault.StoreFault.{StoreFault}
 pub use Rattle.moo_store.specs.declared.fault.StoreFault.TheVariants.{Closed, Damaged, NewerVersion, OutOfMemory, Store}
 pub use Rattle.moo_tables.proofs.InsideLemmas.{clean_before, stays}
-pub use Rattle.moo_tables.specs.Cells.{cells_after, counter_with, head_cells, migrated, object_cells, petition_cells, petition_head_cells, prop_cells, slot_cells, tables_with, verb_cells}
+pub use Rattle.moo_tables.specs.Cells.{cells_after, counter_with, head_cells, object_cells, petition_cells, petition_head_cells, prop_cells, slot_cells, tables_with, verb_cells}
 pub use Rattle.moo_tables.specs.Inside.{FailsToRead, HasNoTables, HasTables, Holds, IsCurrent, Leaves, MayOpenAs, ReadsTables, Rests, RestsAt, no_tables}
-pub use Rattle.moo_tables.specs.Tables.{Tables, first_schema, no_schema, numbered_with, same_number, same_numbers, schema_of, second_schema, tables_in, with_cells}
+pub use Rattle.moo_tables.specs.Migrated.{migrated}
+pub use Rattle.moo_tables.specs.Tables.{Tables, no_schema, numbered_with, present_schema, same_number, same_numbers, schema_of, tables_in, with_cells}
+pub use Rattle.moo_tables.specs.Version.{IsEarlier, present}
 pub use Rattle.moo_tables.specs.declared.cells.CellChanges.{CellChanges}
 pub use Rattle.moo_tables.specs.declared.slot.SlotCells.{SlotCells}
 pub use Rattle.moo_tables.specs.declared.version.Version.{Version}
-pub use Rattle.moo_tables.specs.declared.version.Version.TheVariants.{First, Second}
 pub use Rattle.moo_text.specs.Items.{items}
 pub use Rattle.moo_text.specs.Side.{EndsAt, IsOver, Side, feed_room, feed_side, untouched}
 pub use Rattle.moo_text.specs.declared.fault.TextFault.{TextFault}

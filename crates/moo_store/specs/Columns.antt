@@ -62,7 +62,7 @@ pub record PetitionColumns (a b : PetitionRow) (old new : Row) : Type 0 where
   pub who : KeepsCell a.who b.who 1 old new
   pub calls : KeepsCell a.calls b.calls 2 old new
 
--- this holds from a row to a row, each with its cells; where one of them isn't there, nothing is said
+-- this holds from a row to a row, each with its cells; if one of them isn't there, nothing is said
 abbrev pub IfBoth : {X : Type 0} → (X → X → Row → Row → Type 0) → Option X → Option X → Option Row → Option Row → Type 0
 IfBoth keeps (Some a) (Some b) (Some old) (Some new) = keeps a b old new
 IfBoth keeps a b old new = ⊤

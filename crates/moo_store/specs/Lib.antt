@@ -1,6 +1,7 @@
 pub mod Columns
 pub mod Printed
 pub mod States
+pub mod Current
 pub mod Kept
 pub mod Answered
 pub mod Stand

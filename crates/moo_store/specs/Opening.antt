@@ -9,8 +9,10 @@ use Rattle.sqlite.specs.Tree.{Trees}
 use Rattle.moo_rows.specs.Maps.{Maps}
 use Rattle.moo_world.specs.Judge.{State}
 use Rattle.moo_world.specs.Rows.{IsGood}
-use Rattle.moo_tables.specs.Tables.{Tables, first_schema}
+use Rattle.moo_tables.specs.Tables.{Tables, schema_of}
 use Rattle.moo_tables.specs.Inside.{Rests}
+use Rattle.moo_tables.specs.Version.{IsEarlier}
+use Rattle.moo_tables.specs.declared.version.Version.{Version}
 use Rattle.moo_cells.specs.Shows.{ShowsRows}
 use Rattle.moo_cells.specs.Damage.{Damage, IsNewer}
 use Rattle.moo_store.specs.States.{LeavesRows, ShowsState, LeavesState}
@@ -43,11 +45,11 @@ not_ours = Store (SqliteFailure NotADatabase)
 abbrev pub TakesOver : Maps → Database → Trees → Type 0
 TakesOver rows store trees = (tables : Tables) → Rests store tables → ShowsRows tables rows → LeavesRows trees rows
 
--- what opening may commit: in place of tables of the first version others that show what those showed; and it commits only if the
+-- what opening may commit: in place of tables of an earlier version others that show what those showed; and it commits only if the
 -- tables that are there show the rows of a world
 abbrev pub Adopts : Database → Trees → Type 0
 Adopts conn trees =
-    (conn.now.schema ≡ first_schema) × ((s : State) → ShowsState conn s → LeavesState trees s)
+    (version : Version) × IsEarlier version × (conn.now.schema ≡ schema_of version) × ((s : State) → ShowsState conn s → LeavesState trees s)
     × ((tables : Tables) → Rests conn tables → (rows : Maps) × IsGood rows × ShowsRows tables rows × LeavesRows trees rows)
 
 module _ {S : Type 0} (g : Ghosts S) where

@@ -20,9 +20,9 @@ use Rattle.moo_cells.specs.Shows.{ShowsAccept, ShowsSlotState, ShowsOrNone}
 use Rattle.moo_rows.specs.Bits.{bits_number, verb_bits_of}
 use Rattle.moo_value.specs.Literal.{Spells}
 use Rattle.moo_value.specs.declared.value.Value.TheVariants.{List as a_list}
-use Rattle.moo_world.specs.Prepositions.{prep_text, place_text}
+use Rattle.moo_world.specs.Prepositions.{prep_text, object_spec_text}
 
--- A column of which a value has several spellings: a text of the new value if it changes, or none if the cell stays.
+-- A column of which a value has several spellings: a text of the new value if it changes, or None if the cell stays.
 abbrev pub PrintsOver : {V : Type 0} → (List ℕ → V → Type 0) → Option V → V → Option (Vec ℕ Global) → Type 0
 PrintsOver shows old new (Some text) = shows text.items new × (old ≢ Some new)
 PrintsOver shows old new None = old ≡ Some new
@@ -45,9 +45,9 @@ pub record PrintsVerb (old : Option VerbRow) (cells : VerbCells) (row : VerbRow)
   pub names : cells.names.items ≡ row.names
   pub owner : cells.owner ≡ row.owner
   pub bits : PrintsOver (λ text bits. verb_bits_of text ≡ Some bits) (option_map (λ r. r.bits) old) row.bits cells.bits
-  pub dobj : cells.dobj.items ≡ place_text row.args.dobj
+  pub dobj : cells.dobj.items ≡ object_spec_text row.args.dobj
   pub prep : cells.prep.items ≡ prep_text row.args.prep
-  pub iobj : cells.iobj.items ≡ place_text row.args.iobj
+  pub iobj : cells.iobj.items ≡ object_spec_text row.args.iobj
 
 pub record PrintsPetition (old : Option PetitionRow) (cells : PetitionCells) (row : PetitionRow) : Type 0 where
   pub who : cells.who ≡ row.who

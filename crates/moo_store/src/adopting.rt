@@ -1,16 +1,17 @@
 //! Opening the world that a store holds.
 
-ghost use Rattle.std.specs.Prelude.{◌≡◌, ◌≢◌, ◌⊎◌, IfOk, IfErr, OnErr, IsErrAnd, IsTrue, false, true};
+ghost use Rattle.std.specs.Prelude.{◌≡◌, ◌≢◌, ◌⊎◌, IfOk, IfErr, OnErr, IsErrAnd, IsTrue, false};
 ghost use Rattle.sqlite.specs.State.{HasCleanDisk, Survives};
 ghost use Rattle.sqlite.specs.Held.{state};
 ghost use Rattle.moo_rows.specs.Maps.{Maps};
 ghost use Rattle.moo_world.specs.Rows.{IsGood};
 ghost use Rattle.moo_world.specs.Judge.{State, state_of};
-ghost use Rattle.moo_tables.specs.Tables.{Tables, schema_of, second_schema};
+ghost use Rattle.moo_tables.specs.Tables.{Tables, present_schema, schema_of};
 ghost use Rattle.moo_tables.specs.Inside.{Rests, RestsAt, HasTables};
 ghost use Rattle.moo_tables.specs.declared.version.Version.{Version};
 ghost use Rattle.moo_cells.specs.Shows.{ShowsRows};
 ghost use Rattle.moo_store.specs.States.{KeepsRows, ShowsState};
+ghost use Rattle.moo_store.specs.Current.{RestsCurrent};
 ghost use Rattle.moo_store.specs.Opening.{Says, IsOfStore, Adopts, OpensState, RefusesState, OpensShown, not_ours};
 ghost use Rattle.moo_store.specs.World.{store_of, StandsFor, Left};
 
@@ -22,7 +23,7 @@ use moo_flat::Flat;
 use sqlite::{Alter, Connection};
 use std::alloc::Global;
 
-/// The rows that the tables of a connection show. Tables of the first version are migrated to the second, once they are found
+/// The rows that the tables of a connection show. Tables of an earlier version are migrated to the present one, once they are found
 /// whole.
 fn open_rows<S: Alter>(alloc: Global, conn: &mut Connection<S>) -> Result<Flat, StoreFault>
     requires outside { (state S.Store conn.old).in_transaction ≡ false }
@@ -31,6 +32,7 @@ fn open_rows<S: Alter>(alloc: Global, conn: &mut Connection<S>) -> Result<Flat, 
     ensures shown { HasCleanDisk (state S.Store conn.new) → IfOk result (λ rows. (tables : Tables) → Rests (state S.Store conn.old) tables → ShowsRows tables rows.maps) }
     ensures one { HasCleanDisk (state S.Store conn.new) → IfOk result (λ rows. (tables : Tables) (m : Maps) → Rests (state S.Store conn.old) tables → ShowsRows tables m → IsGood m → rows.maps ≡ m) }
     ensures keeps { HasCleanDisk (state S.Store conn.new) → IfOk result (λ rows. (tables : Tables) → Rests (state S.Store conn.old) tables → KeepsRows (state S.Store conn.new) rows.maps) }
+    ensures rests { HasCleanDisk (state S.Store conn.new) → IfOk result (λ rows. (tables : Tables) → Rests (state S.Store conn.old) tables → RestsCurrent (state S.Store conn.new) tables rows.maps) }
     ensures fault { HasCleanDisk (state S.Store conn.new) → IfErr result (λ fault. (tables : Tables) → Rests (state S.Store conn.old) tables → Says tables fault) }
     ensures whole { HasCleanDisk (state S.Store conn.new) → IfErr result (λ fault. (tables : Tables) (m : Maps) → Rests (state S.Store conn.old) tables → ShowsRows tables m → IsGood m → IsOfStore fault) }
     ensures other { ((version : Version) → (state S.Store conn.old).now.schema ≢ schema_of version) → IsErrAnd result (λ fault. IsOfStore fault × (conn.new ≡ conn.old)) }
@@ -50,7 +52,7 @@ fn open_rows<S: Alter>(alloc: Global, conn: &mut Connection<S>) -> Result<Flat, 
 
 /// Opens the world that the tables of a connection show.
 ///
-/// Tables of the first version are migrated to the second, in one transaction, once the whole world was read and found sound.
+/// Tables of an earlier version are migrated to the present one, in one transaction, once the whole world was read and found sound.
 /// They show the same world then. Nothing else is written.
 ///
 /// The connection has to be in no transaction (`is_autocommit`), and comes back at each refusal, with its tables as they were
@@ -62,7 +64,7 @@ pub fn adopt<S: Alter + Drop>(
     mut conn: Connection<S>,
 ) -> Result<World<S>, (StoreFault, Connection<S>)>
     requires outside { (state S.Store conn).in_transaction ≡ false }
-    // Tables of either version that show a world and a number give a World that stands for these, unless the store fails or memory runs out.
+    // Tables of any version that show a world and a number give a World that stands for these, unless the store fails or memory runs out.
     ensures stands { OpensState S.Store (state S.Store conn) result }
     // Whatever is opened, its rows are good, and what is said of rows alone is said of them.
     ensures rows { IfOk result (λ world. IsGood world.rows.maps × StandsFor S.Store false world (state_of world.rows.maps)) }
@@ -71,8 +73,10 @@ pub fn adopt<S: Alter + Drop>(
     // Nothing else is opened, and a damage that is answered is that of the tables.
     ensures shown { OpensShown S.Store (state S.Store conn) result }
     ensures fault { IfErr result (λ e. HasCleanDisk (state S.Store e.1) → (tables : Tables) → Rests (state S.Store conn) tables → Says tables e.0) }
-    // What is opened has the tables of the second version.
-    ensures current { IfOk result (λ world. HasCleanDisk (store_of S.Store world) → (tables : Tables) → Rests (state S.Store conn) tables → HasTables second_schema (store_of S.Store world)) }
+    // What is opened has the tables of the present version.
+    ensures current { IfOk result (λ world. HasCleanDisk (store_of S.Store world) → (tables : Tables) → Rests (state S.Store conn) tables → HasTables present_schema (store_of S.Store world)) }
+    // They are the tables that were there, each cell, if these were of that version already; else those that they were migrated to.
+    ensures rests { IfOk result (λ world. HasCleanDisk (store_of S.Store world) → (tables : Tables) → Rests (state S.Store conn) tables → RestsCurrent (store_of S.Store world) tables world.rows.maps) }
     // Other tables than ours are a fault of the store, and the connection comes back as it is; so it does if memory runs out.
     ensures other { ((version : Version) → (state S.Store conn).now.schema ≢ schema_of version) → IsErrAnd result (λ e. IsOfStore e.0 × (e.1 ≡ conn)) }
     // Of tables of ours it never says that they aren't.
@@ -80,7 +84,7 @@ pub fn adopt<S: Alter + Drop>(
     // A refusal leaves the database as it was.
     ensures outside_refused { IfErr result (λ e. (state S.Store e.1).in_transaction ≡ false) }
     ensures undone { IfErr result (λ e. (e.1 ≡ conn) ⊎ (HasCleanDisk (state S.Store e.1) → IsTrue (state S.Store e.1).is_open → RestsAt (state S.Store e.1) (state S.Store conn).now)) }
-    // A crash leaves what it could leave before, or in place of tables of the first version those that they were migrated to.
+    // A crash leaves what it could leave before, or in place of tables of an earlier version those that they were migrated to.
     ensures crash { IfOk result (λ world. Survives (state S.Store conn) (store_of S.Store world) (Adopts (state S.Store conn))) }
     ensures crash_refused { IfErr result (λ e. Survives (state S.Store conn) (state S.Store e.1) (Adopts (state S.Store conn))) }
     // So if a crash left one state before, it still leaves that state.

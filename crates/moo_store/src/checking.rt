@@ -80,7 +80,7 @@ fn check_rows<S: Alter>(
         Ok(()) => {}
         Err(fault) => return Err(fault),
     }
-    match read_lists(alloc, conn, Version::Second) {
+    match read_lists(alloc, conn, Version::PRESENT) {
         Ok(lists) => compare_lists(alloc, lists, own),
         Err(fault) => Err(fault),
     }

@@ -69,7 +69,7 @@ fn has_accept(row: Option<&ObjRow>, accept: &Option<ObjList>) -> bool
     }
 }
 
-/// The literal of an accept list, or none if the list stays.
+/// The literal of an accept list, or None if the list stays.
 pub(crate) fn accept_over(
     alloc: Global,
     old: Option<&ObjRow>,
@@ -93,7 +93,7 @@ fn has_state(row: Option<&SlotRow>, state: &SlotState) -> bool
     }
 }
 
-/// The cell of what a slot holds, or none if that stays.
+/// The cell of what a slot holds, or None if that stays.
 pub(crate) fn state_over(
     alloc: Global,
     old: Option<&SlotRow>,
@@ -117,7 +117,7 @@ fn has_bits(row: Option<&VerbRow>, bits: &VerbBits) -> bool
     }
 }
 
-/// The letters of a verb's bits, or none if these stay.
+/// The letters of a verb's bits, or None if these stay.
 pub(crate) fn bits_over(
     alloc: Global,
     old: Option<&VerbRow>,
@@ -141,7 +141,7 @@ fn has_calls(row: Option<&PetitionRow>, calls: &ValueList) -> bool
     }
 }
 
-/// The literal of a petition's calls, or none if these stay.
+/// The literal of a petition's calls, or None if these stay.
 pub(crate) fn calls_over(
     alloc: Global,
     old: Option<&PetitionRow>,

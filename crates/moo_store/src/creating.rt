@@ -30,6 +30,8 @@ pub fn create_in<S: Alter + Drop>(
 ) -> Result<World<S>, (StoreFault, Connection<S>)>
     requires outside { (state S.Store conn).in_transaction ≡ false }
     ensures stands { IfOk result (λ world. StandsFor S.Store true world (state_of opening_maps)) }
+    // It has the very rows of the opening world, with their numbers.
+    ensures rows { IfOk result (λ world. world.rows.maps ≡ opening_maps) }
     // A database that has tables is refused, and comes back as it is; so it does if memory runs out.
     ensures refused { (state S.Store conn).now.schema ≢ no_schema → IsErrAnd result (λ e. (e.0 ≡ StoreFault.Store (Error.SqliteFailure ErrorCode.NameTaken)) × (e.1 ≡ conn)) }
     ensures fault { IfErr result (λ e. ((e.0 ≡ StoreFault.OutOfMemory) × (e.1 ≡ conn)) ⊎ ((error : _) × (e.0 ≡ StoreFault.Store error))) }

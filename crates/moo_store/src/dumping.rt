@@ -6,7 +6,7 @@ ghost use Rattle.moo_dump.specs.Dump.{dump};
 ghost use Rattle.moo_store.specs.World.{StandsFor};
 
 use crate::world::World;
-use moo_dump::{DumpFault as RowsFault, dump};
+use moo_dump::{RowsDumpFault, dump};
 use sqlite::Alter;
 use std::io::Write;
 
@@ -37,8 +37,8 @@ impl<S: Alter + Drop> World<S> {
         }
         match dump(self.alloc, &self.rows, output) {
             Ok(()) => Ok(()),
-            Err(RowsFault::Write) => Err(DumpFault::Write),
-            Err(RowsFault::OutOfMemory) => Err(DumpFault::OutOfMemory),
+            Err(RowsDumpFault::Write) => Err(DumpFault::Write),
+            Err(RowsDumpFault::OutOfMemory) => Err(DumpFault::OutOfMemory),
         }
     }
 }

@@ -44,6 +44,8 @@ pub fn load_in<S: Alter + Drop>(
     requires good { IsGood rows.maps }
     requires limit { rows.maps.head.seq < 2 ^ 63 }
     ensures stands { IfOk result (λ world. StandsFor S.Store true world (state_of rows.maps)) }
+    // It has the very rows that were given, with their numbers.
+    ensures rows { IfOk result (λ world. world.rows.maps ≡ rows.maps) }
     // A database that has tables is refused, and comes back as it is; so it does if memory runs out.
     ensures refused { (state S.Store conn).now.schema ≢ no_schema → IsErrAnd result (λ e. (e.0 ≡ StoreFault.Store (Error.SqliteFailure ErrorCode.NameTaken)) × (e.1 ≡ conn)) }
     ensures fault { IfErr result (λ e. ((e.0 ≡ StoreFault.OutOfMemory) × (e.1 ≡ conn)) ⊎ ((error : _) × (e.0 ≡ StoreFault.Store error))) }

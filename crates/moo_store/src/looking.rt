@@ -11,7 +11,7 @@ use moo_value::ObjNo;
 use sqlite::Alter;
 
 impl<S: Alter + Drop> World<S> {
-    /// The fields of an object, its children and its contents; none if no object has the number. Nothing changes.
+    /// The fields of an object, its children and its contents, or None if no object has the number. Nothing changes.
     ///
     /// OutOfMemory if memory runs out. Closed if the World had failed.
     pub fn object(&self, x: ObjNo) -> Result<Option<Look>, StoreFault>

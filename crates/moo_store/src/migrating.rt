@@ -1,24 +1,39 @@
-//! Tables of the first version, migrated to the second.
+//! Tables of an earlier version, migrated to the present one.
 
-ghost use Rattle.std.specs.Prelude.{◌≡◌, ◌≢◌, ◌⊎◌, ◌<◌, ◌^◌, IfErr, IsTrue, OnOk, OnErr, false};
+ghost use Rattle.std.specs.Prelude.{◌≡◌, ◌≢◌, ◌⊎◌, ◌<◌, ◌^◌, None, IfOk, IfErr, IsTrue, OnOk, OnErr, false};
 ghost use Rattle.sqlite.specs.State.{HasCleanDisk, Survives};
 ghost use Rattle.sqlite.specs.Held.{state};
-ghost use Rattle.moo_tables.specs.Tables.{Tables, schema_of, first_schema};
+ghost use Rattle.moo_tables.specs.Tables.{Tables, schema_of};
 ghost use Rattle.moo_tables.specs.Inside.{Rests, RestsAt, HasTables};
+ghost use Rattle.moo_tables.specs.Version.{IsEarlier};
+ghost use Rattle.moo_tables.specs.declared.version.Version.{Version};
 ghost use Rattle.moo_cells.specs.Shows.{ShowsRows};
 ghost use Rattle.moo_store.specs.States.{KeepsRows};
+ghost use Rattle.moo_store.specs.Current.{RestsCurrent};
 ghost use Rattle.moo_store.specs.Opening.{IsOfStore, TakesOver, not_ours};
+ghost use Rattle.moo_store.specs.Printed.{PrintEach, PrintsSlot, all_of};
 
 use crate::fault::StoreFault;
-use crate::printing::print_slots;
+use crate::printing::print_left;
 use crate::reading::failure_of;
 use moo_flat::Flat;
-use moo_rows::Rows;
-use moo_tables::{Version, migrate};
+use moo_rows::{PropId, Rows, each_slot};
+use moo_tables::{SlotCells, Version, migrate};
+use moo_value::ObjNo;
 use sqlite::{Alter, Connection};
-use std::alloc::Global;
+use std::alloc::{AllocError, Global};
 
-/// Migrates tables of the first version, which show these rows, to the second in one transaction.
+/// The cells of all slots, in the order of their keys. The only error is out of memory.
+fn print_slots(
+    alloc: Global,
+    rows: &Flat,
+) -> Result<Vec<((ObjNo, PropId), Option<SlotCells>)>, AllocError>
+    ensures { IfOk result (λ cells. PrintEach (λ key. PrintsSlot None) cells.items (all_of rows.now.maps.slots)) }
+{
+    print_left(alloc, each_slot(rows))
+}
+
+/// Migrates tables of an earlier version, which show these rows, to the present one in one transaction.
 ///
 /// OutOfMemory: nothing was done. Store: the store failed; if the connection is still open, the tables are those before.
 fn migrate_rows<S: Alter>(
@@ -31,9 +46,10 @@ fn migrate_rows<S: Alter>(
     ensures outside { (state S.Store conn.new).in_transaction ≡ false }
     ensures fault { IfErr result IsOfStore }
     ensures own { IfErr result (λ fault. fault ≢ not_ours) }
-    ensures keeps { HasCleanDisk (state S.Store conn.new) → OnOk result ((tables : Tables) → Rests (state S.Store conn.old) tables → tables.version ≡ Version.First → ShowsRows tables rows.now.maps → KeepsRows (state S.Store conn.new) rows.now.maps) }
+    ensures keeps { HasCleanDisk (state S.Store conn.new) → OnOk result ((tables : Tables) → Rests (state S.Store conn.old) tables → IsEarlier tables.version → ShowsRows tables rows.now.maps → KeepsRows (state S.Store conn.new) rows.now.maps) }
+    ensures rests { HasCleanDisk (state S.Store conn.new) → OnOk result ((tables : Tables) → Rests (state S.Store conn.old) tables → IsEarlier tables.version → ShowsRows tables rows.now.maps → RestsCurrent (state S.Store conn.new) tables rows.now.maps) }
     ensures undone { OnErr result ((conn.new ≡ conn.old) ⊎ (HasCleanDisk (state S.Store conn.new) → IsTrue (state S.Store conn.new).is_open → RestsAt (state S.Store conn.new) (state S.Store conn.old).committed)) }
-    ensures crash { (HasCleanDisk (state S.Store conn.old) → HasTables first_schema (state S.Store conn.old)) → Survives (state S.Store conn.old) (state S.Store conn.new) (TakesOver rows.now.maps (state S.Store conn.old)) }
+    ensures crash { (version : Version) → IsEarlier version → (HasCleanDisk (state S.Store conn.old) → HasTables (schema_of version) (state S.Store conn.old)) → Survives (state S.Store conn.old) (state S.Store conn.new) (TakesOver rows.now.maps (state S.Store conn.old)) }
 {
     let Ok(slots) = print_slots(alloc, rows) else {
         return Err(StoreFault::OutOfMemory);
@@ -57,11 +73,12 @@ pub(crate) fn make_current<S: Alter>(
     ensures fault { IfErr result IsOfStore }
     ensures own { IfErr result (λ fault. fault ≢ not_ours) }
     ensures keeps { HasCleanDisk (state S.Store conn.new) → OnOk result ((tables : Tables) → Rests (state S.Store conn.old) tables → tables.version ≡ version → ShowsRows tables rows.now.maps → KeepsRows (state S.Store conn.new) rows.now.maps) }
+    ensures rests { HasCleanDisk (state S.Store conn.new) → OnOk result ((tables : Tables) → Rests (state S.Store conn.old) tables → tables.version ≡ version → ShowsRows tables rows.now.maps → RestsCurrent (state S.Store conn.new) tables rows.now.maps) }
     ensures undone { OnErr result ((conn.new ≡ conn.old) ⊎ (HasCleanDisk (state S.Store conn.new) → IsTrue (state S.Store conn.new).is_open → RestsAt (state S.Store conn.new) (state S.Store conn.old).committed)) }
-    ensures crash { (HasCleanDisk (state S.Store conn.old) → HasTables (schema_of version) (state S.Store conn.old)) → Survives (state S.Store conn.old) (state S.Store conn.new) (λ trees. (version ≡ Version.First) × TakesOver rows.now.maps (state S.Store conn.old) trees) }
+    ensures crash { (HasCleanDisk (state S.Store conn.old) → HasTables (schema_of version) (state S.Store conn.old)) → Survives (state S.Store conn.old) (state S.Store conn.new) (λ trees. IsEarlier version × TakesOver rows.now.maps (state S.Store conn.old) trees) }
 {
-    match version {
-        Version::First => migrate_rows(alloc, conn, rows),
-        Version::Second => Ok(()),
+    if version.is_present() {
+        return Ok(());
     }
+    migrate_rows(alloc, conn, rows)
 }

@@ -4,7 +4,7 @@ ghost use Rattle.std.specs.Prelude.{◌≡◌, List, Option, Some, None, IfOk, o
 ghost use Rattle.std.specs.Iterator.{YieldsFirstBy, IsFinite};
 ghost use Rattle.moo_cells.specs.Shows.{ShowsOrNone};
 ghost use Rattle.moo_rows.specs.Maps.{Maps, no_maps};
-ghost use Rattle.moo_store.specs.Printed.{PrintEach, PrintsSlot, Prints, new_number, as_changes, all_of, all_changes};
+ghost use Rattle.moo_store.specs.Printed.{PrintEach, Prints, new_number, as_changes, all_changes};
 
 use crate::columns::{accept_over, bits_over, calls_over, state_over, text_cell};
 use moo_draft::{ChangeList, Changes};
@@ -15,7 +15,7 @@ use moo_rows::{
 };
 use moo_tables::{CellChanges, ObjectCells, PetitionCells, PropCells, SlotCells, VerbCells};
 use moo_value::ObjNo;
-use moo_verbs::{print_place, print_prep};
+use moo_verbs::{print_object_spec, print_prep};
 use std::alloc::{AllocError, Global};
 
 /// A row that is printed as cells.
@@ -112,9 +112,9 @@ impl Print<(ObjNo, VerbId), VerbCells> for VerbRow {
     fn cells(&self, alloc: Global, old: Option<&VerbRow>) -> Result<VerbCells, AllocError> {
         let names = text_cell(alloc, &self.names)?;
         let bits = bits_over(alloc, old, self)?;
-        let dobj = print_place(self.args.dobj).as_bytes().to_vec(alloc)?;
+        let dobj = print_object_spec(self.args.dobj).as_bytes().to_vec(alloc)?;
         let prep = print_prep(self.args.prep).as_bytes().to_vec(alloc)?;
-        let iobj = print_place(self.args.iobj).as_bytes().to_vec(alloc)?;
+        let iobj = print_object_spec(self.args.iobj).as_bytes().to_vec(alloc)?;
         Ok(VerbCells {
             names,
             owner: self.owner,
@@ -184,7 +184,7 @@ fn new_cells<'a, K, C, V: Print<K, C>>(alloc: Global, row: &'a V) -> Result<C, A
 }
 
 /// The cells of rows that come one after another, each with its key. The only error is out of memory.
-fn print_left<
+pub(crate) fn print_left<
     'a,
     K: Copy + Drop,
     C: Drop,
@@ -202,16 +202,6 @@ fn print_left<
     Ok(cells)
 }
 
-/// The cells of all slots, in the order of their keys. The only error is out of memory.
-pub(crate) fn print_slots(
-    alloc: Global,
-    rows: &Flat,
-) -> Result<Vec<((ObjNo, PropId), Option<SlotCells>)>, AllocError>
-    ensures { IfOk result (λ cells. PrintEach (λ key. PrintsSlot None) cells.items (all_of rows.now.maps.slots)) }
-{
-    print_left(alloc, each_slot(rows))
-}
-
 /// The cells of all rows, as changes from no rows. The only error is out of memory.
 pub(crate) fn print_all(alloc: Global, rows: &Flat) -> Result<CellChanges, AllocError>
     ensures { IfOk result (λ cells. Prints None no_maps cells (all_changes rows.now.maps)) }
@@ -219,7 +209,7 @@ pub(crate) fn print_all(alloc: Global, rows: &Flat) -> Result<CellChanges, Alloc
     let head = rows.head();
     let objects = print_left(alloc, each_object(rows))?;
     let props = print_left(alloc, each_prop(rows))?;
-    let slots = print_slots(alloc, rows)?;
+    let slots = print_left(alloc, each_slot(rows))?;
     let verbs = print_left(alloc, each_verb(rows))?;
     let petitions = print_left(alloc, each_petition(rows))?;
     Ok(CellChanges {

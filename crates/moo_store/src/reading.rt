@@ -5,7 +5,7 @@ ghost use Rattle.sqlite.specs.State.{HasCleanDisk};
 ghost use Rattle.sqlite.specs.Held.{state};
 ghost use Rattle.moo_rows.specs.Maps.{Maps};
 ghost use Rattle.moo_world.specs.Rows.{IsGood};
-ghost use Rattle.moo_tables.specs.Tables.{Tables, schema_of, second_schema};
+ghost use Rattle.moo_tables.specs.Tables.{Tables, present_schema, schema_of};
 ghost use Rattle.moo_tables.specs.Inside.{Rests, HasTables, ReadsTables, FailsToRead};
 ghost use Rattle.moo_tables.specs.Listing.{tables_of};
 ghost use Rattle.moo_tables.specs.declared.version.Version.{Version};
@@ -94,12 +94,12 @@ pub(crate) fn test_tables<S: Alter>(
 
 /// Tests that the tables are ours, and of the present version; a fault if they aren't, or if memory runs out.
 pub(crate) fn test_current<S: Alter>(alloc: Global, conn: &Connection<S>) -> Result<(), StoreFault>
-    ensures ours { OnOk result (HasTables second_schema (state S.Store conn.now)) }
+    ensures ours { OnOk result (HasTables present_schema (state S.Store conn.now)) }
     ensures fault { IfErr result IsOfStore }
 {
     match test_tables(alloc, conn) {
-        Ok(Version::Second) => Ok(()),
-        Ok(Version::First) => Err(StoreFault::Store(Error::SqliteFailure(ErrorCode::NotADatabase))),
+        Ok(version) if version.is_present() => Ok(()),
+        Ok(_) => Err(StoreFault::Store(Error::SqliteFailure(ErrorCode::NotADatabase))),
         Err(fault) => Err(fault),
     }
 }

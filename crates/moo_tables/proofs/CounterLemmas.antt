@@ -1,5 +1,5 @@
 -- What the statement on petition_head does.
-use Rattle.moo_tables.proofs.Words.{◌≡◌, ◌⊎◌, inl, inr, ℕ, ℤ, pos, List, [], ◌∷◌, ◌++◌, drop, codes, option_map, length, Some, None, Bool, true, false, ◌&&◌, Result, Ok, Err, OnOk, IsTrue, refl, arith, ap, subst, ◌∙◌, list_all, and_parts, Int, Error, Row, column, with_rowid, cast_row, Chosen, Trees, rowid, has_rowid, put_row, holds, shown, Updates, Does, InsertOr, Values, Abort, Column, Enforced, IsDatabase, IsSound, has_computed, differ, Program, Datatype, NotNull, Has, all_has, is_int, understood, everything, State, Executes, mode_of, statement_of, runs_as, AreConflicts, conflicts, petition_head_cells, with_counter, Tables, second_schema, petition_head_table, cells_at, petition_head_places, numbered_in, numbered_with, same_number, put_counter_text, AreKeyed, Sees, Changes, RanStatement, KeepsSlot, HasCauseIn}
+use Rattle.moo_tables.proofs.Words.{◌≡◌, ◌⊎◌, inl, inr, ℕ, ℤ, pos, List, [], ◌∷◌, ◌++◌, drop, codes, option_map, length, Some, None, Bool, true, false, ◌&&◌, Result, Ok, Err, OnOk, IsTrue, refl, arith, ap, subst, ◌∙◌, list_all, and_parts, Int, Error, Row, column, with_rowid, cast_row, Chosen, Trees, rowid, has_rowid, put_row, holds, shown, Updates, Does, InsertOr, Values, Abort, Column, Enforced, IsDatabase, IsSound, has_computed, differ, Program, Datatype, NotNull, Has, all_has, is_int, understood, everything, State, Executes, mode_of, statement_of, runs_as, AreConflicts, conflicts, petition_head_cells, with_counter, Tables, present_schema, petition_head_table, cells_at, petition_head_places, numbered_in, numbered_with, same_number, put_counter_text, AreKeyed, Sees, Changes, RanStatement, KeepsSlot, HasCauseIn}
 use Rattle.sqlite_schema.specs.declared.command.Command.{Command}
 use Rattle.moo_tables.proofs.TextLemmas.{put_counter_is, put_counter_plain, number_terms, number_overwrite, counter_filter, writes_where}
 use Rattle.moo_tables.proofs.RefusalLemmas.{IsAllowed, Upserting, each, halted, concluded, clear_one, update_stops, upsert_stops}
@@ -34,12 +34,12 @@ kept next = number.kept _ 10 _ number_of cells has_numbers tt next
 -- ---- the row of the table, where it is put, written over, or left as it is
 
 -- it has a whole number
-has_number : (db : Trees) → IsSound second_schema db → (r : Row) → Has (db 10) r → IsTrue (is_int (column r 2))
+has_number : (db : Trees) → IsSound present_schema db → (r : Row) → Has (db 10) r → IsTrue (is_int (column r 2))
 has_number db sound r in_it =
     one_int r (codes "id") (codes "next_petition") [] (and_parts _ (has_computed petition_head_table r) (all_has _ (db 10) r (sound.obeys.rules Datatype).1.1.1.1.1.1.1.0 in_it)).0
     (all_has _ (db 10) r (sound.obeys.rules NotNull).1.1.1.1.1.1.1.0 in_it)
 
-module _ (next : ℕ) (db after : Trees) (keyed : AreKeyed (db 10)) (sound : IsSound second_schema db) where
+module _ (next : ℕ) (db after : Trees) (keyed : AreKeyed (db 10)) (sound : IsSound present_schema db) where
   abbrev rows : List Row
   rows = db 10
 
@@ -53,13 +53,13 @@ module _ (next : ℕ) (db after : Trees) (keyed : AreKeyed (db 10)) (sound : IsS
   abbrev WasSo : Type 0
   WasSo = (after 10 ≡ rows) × OthersStay 10 db after × (numbered_in petition_head_places rows (pos 1) ≡ Some (petition_head_cells next))
 
-  meets_it : (r : Row) → Has rows r → conflicts (Some (0 ∷ [])) second_schema.indexes petition_head_table (stored next) r ≡ has_rowid (pos 1) r
+  meets_it : (r : Row) → Has rows r → conflicts (Some (0 ∷ [])) present_schema.indexes petition_head_table (stored next) r ≡ has_rowid (pos 1) r
   meets_it r in_it = number.meets _ 10 _ number_of cells has_numbers tt next r
 
   tested : (r : Row) → list_all (holds (given ∷ r ∷ [])) counter_filter ≡ (differ (column r 2) (Int (pos next)) && has_rowid (pos 1) r)
   tested r = ap (λ b. differ (column r 2) (Int (pos next)) && b) (picks_given 2 given (pos 1) refl r)
 
-  module _ (x : Row) (more : List Row) (met : AreConflicts (Some (0 ∷ [])) second_schema.indexes petition_head_table rows (stored next) (x ∷ more)) where
+  module _ (x : Row) (more : List Row) (met : AreConflicts (Some (0 ∷ [])) present_schema.indexes petition_head_table rows (stored next) (x ∷ more)) where
     found : Found has_rowid (pos 1) rows keyed x
     found = number_found petition_head_table (pos 1) db after keyed refl (petition_head_cells next) (stored next) counter_filter (number_overwrite petition_head_table) meets_it (kept next) x more met
 
@@ -67,7 +67,7 @@ module _ (next : ℕ) (db after : Trees) (keyed : AreKeyed (db 10)) (sound : IsS
     only : (r : Row) → Has rows r → has_rowid (pos 1) r ≡ true → r ≡ found.row
     only r in_it here = number_one (pos 1) rows keyed r found.row in_it found.in_it here found.here
 
-    module _ (it : WritesOver second_schema petition_head_table db (petition_head_cells next) q (stored next) x after) where
+    module _ (it : WritesOver present_schema petition_head_table db (petition_head_cells next) q (stored next) x after) where
       over : differ (column found.row 2) (Int (pos next)) ≡ true → StandsAlone (pos 1) (stored next) 10 db after keyed
       over other =
           number_over petition_head_table (pos 1) db after keyed refl (petition_head_cells next) (stored next) counter_filter (number_overwrite petition_head_table) meets_it (kept next) x more met it
@@ -93,8 +93,8 @@ module _ (next : ℕ) (db after : Trees) (keyed : AreKeyed (db 10)) (sound : IsS
       over_or_left true other = inl (over other)
       over_or_left false same = inr (left same)
 
-  settles : (found : List Row) → AreConflicts (Some (0 ∷ [])) second_schema.indexes petition_head_table rows (stored next) found
-      → Settles second_schema petition_head_table db (petition_head_cells next) q (stored next) found after → StandsAlone (pos 1) (stored next) 10 db after keyed ⊎ WasSo
+  settles : (found : List Row) → AreConflicts (Some (0 ∷ [])) present_schema.indexes petition_head_table rows (stored next) found
+      → Settles present_schema petition_head_table db (petition_head_cells next) q (stored next) found after → StandsAlone (pos 1) (stored next) 10 db after keyed ⊎ WasSo
   settles [] met it = inl (number_anew petition_head_table (pos 1) db after keyed refl (petition_head_cells next) (stored next) counter_filter (number_overwrite petition_head_table) meets_it (kept next) met it)
   settles (x ∷ more) met it = over_or_left x more met it (differ (column (found x more met).row 2) (Int (pos next))) refl
 
@@ -113,14 +113,14 @@ puts old new next count tables seen h inside =
     let source = stored next in
     let old_rows = old.now.trees 10 in
     let keyed = counter_seen seen in
-    let w = runs_as put_counter_text (petition_head_cells next) old new second_schema has _ put_counter_is put_counter_plain count h in
-    let it = upserts second_schema moo_quiet 7 _ _ _ _ _ _ _ refl old new has (statement_of put_counter_text (understood second_schema put_counter_text)) (petition_head_cells next) count (0 ∷ []) (writes_where 10 counter_filter (number_overwrite petition_head_table)) (number_terms petition_head_table) 3 source refl w in
+    let w = runs_as put_counter_text (petition_head_cells next) old new present_schema has _ put_counter_is put_counter_plain count h in
+    let it = upserts present_schema moo_quiet 7 _ _ _ _ _ _ _ refl old new has (statement_of put_counter_text (understood present_schema put_counter_text)) (petition_head_cells next) count (0 ∷ []) (writes_where 10 counter_filter (number_overwrite petition_head_table)) (number_terms petition_head_table) 3 source refl w in
     let whole : with_rowid Chosen old_rows (cast_row petition_head_table source) ≡ source = ap (with_rowid Chosen old_rows) (kept next) in
-    let met = subst (λ r. AreConflicts (Some (0 ∷ [])) second_schema.indexes petition_head_table old_rows r it.found) whole it.conflicts in
-    let ends = subst (λ r. Settles second_schema petition_head_table old.now.trees (petition_head_cells next) (writes_where 10 counter_filter (number_overwrite petition_head_table)) r it.found new.now.trees) whole it.settles in
+    let met = subst (λ r. AreConflicts (Some (0 ∷ [])) present_schema.indexes petition_head_table old_rows r it.found) whole it.conflicts in
+    let ends = subst (λ r. Settles present_schema petition_head_table old.now.trees (petition_head_cells next) (writes_where 10 counter_filter (number_overwrite petition_head_table)) r it.found new.now.trees) whole it.settles in
     by it.schema_is w.sound w.shown.is_open (settles next old.now.trees new.now.trees keyed (sound_seen seen) it.found met ends)
   where
-    by : new.now.schema ≡ second_schema → IsDatabase new.now → IsTrue new.is_open
+    by : new.now.schema ≡ present_schema → IsDatabase new.now → IsTrue new.is_open
         → StandsAlone (pos 1) (stored next) 10 old.now.trees new.now.trees (counter_seen seen) ⊎ WasSo next old.now.trees new.now.trees (counter_seen seen) (sound_seen seen) → Sees new (with_counter next tables) × KeepsSlot old.now new.now
     by schema_is sound is_open (inl put) =
         let source = stored next in
@@ -170,7 +170,7 @@ module _ (s : State) (tables : Tables) (seen : Sees s tables) (next : ℕ) (e : 
   abbrev name : List ℕ
   name = petition_head_table.name
 
-  refused : (text : List ℕ) → Does s.step_limit (mode_of s) params (record { schema = second_schema; trees = db }) text None put_command (Err (Some e)) → IsAllowed s.step_limit e
+  refused : (text : List ℕ) → Does s.step_limit (mode_of s) params (record { schema = present_schema; trees = db }) text None put_command (Err (Some e)) → IsAllowed s.step_limit e
   refused text h = elim (halted h) [
     | inl wrote ↦ upsert_stops name 10 columns (Some 0) (0 ∷ []) [] [] db s.step_limit params e (0 ∷ []) counter_filter (number_overwrite petition_head_table) (number_terms petition_head_table) 3 (stored next) (stored next)
         refl refl (ap (with_rowid Chosen (db 10)) (kept next)) (passes.fit db tt next) upserting wrote
@@ -185,16 +185,16 @@ module _ (s : State) (tables : Tables) (seen : Sees s tables) (next : ℕ) (e : 
             update_stops name 10 columns (Some 0) (0 ∷ []) [] [] db s.step_limit params e stored_given counter_filter (number_overwrite petition_head_table) refl
             (stop.over_clear name 10 columns number_of cells has_numbers passes 7 refl s tables seen (counter_seen seen) tt next stored_given counter_filter (number_overwrite petition_head_table) (λ r. differ (column r 2) (Int (pos next)))
             (λ r. ap (λ b. differ (column r 2) (Int (pos next)) && b) (picks_given 2 stored_given (pos 1) refl r)) (λ r. refl) (number.kept_over _ 10 _ number_of cells has_numbers tt next))
-            (subst (λ v. Updates (record { limit = s.step_limit; keys = Enforced; schema = second_schema; table = petition_head_table; params = params }) (writes_where 10 counter_filter (number_overwrite petition_head_table)) (params ++ v ∷ shown petition_head_table (stored next)) db (Err (Some e)))
+            (subst (λ v. Updates (record { limit = s.step_limit; keys = Enforced; schema = present_schema; table = petition_head_table; params = params }) (writes_where 10 counter_filter (number_overwrite petition_head_table)) (params ++ v ∷ shown petition_head_table (stored next)) db (Err (Some e)))
             (stop.named_there name 10 columns number_of cells has_numbers passes 7 refl s tables seen (counter_seen seen) e tt next there more met) h);
       }
 
-put_one : IsOne (length put_counter_text) 2 (understood second_schema put_counter_text)
+put_one : IsOne (length put_counter_text) 2 (understood present_schema put_counter_text)
 unfolding understood everything
 put_one = (omega arith, refl)
 
 pub put_fails : (old new : State) (next : ℕ) (r : Result ℕ Error) → Ran put_counter_text (petition_head_cells next) old new r → HasCauseIn old new r
 put_fails old new next (Ok count) ran = λ clean tables seen. tt
 put_fails old new next (Err e) ran = λ clean tables seen.
-    stops put_counter_text (petition_head_cells next) old new second_schema (schema_seen seen) _ put_counter_is put_counter_plain put_one refl refl e
-    (λ text does. refused old tables seen next e text (at_schema old.step_limit (mode_of old) (petition_head_cells next) old.now second_schema text put_command e (schema_seen seen) does)) (ran clean seen.inside)
+    stops put_counter_text (petition_head_cells next) old new present_schema (schema_seen seen) _ put_counter_is put_counter_plain put_one refl refl e
+    (λ text does. refused old tables seen next e text (at_schema old.step_limit (mode_of old) (petition_head_cells next) old.now present_schema text put_command e (schema_seen seen) does)) (ran clean seen.inside)

@@ -1,8 +1,8 @@
--- What the statements do that make the second layout of the first.
-use Rattle.moo_tables.proofs.Words.{◌≡◌, ℕ, List, [], ◌∷◌, Ok, Err, Result, OnOk, refl, sym, ap, subst, ◌∙◌, Schema, Database, Error, State, HasCleanDisk, First, Tables, schema_of, first_schema, slot2_schema, petition_schema, second_schema, slot2_table, petition_table, petition_head_table, numbered_in, paired_in, head_places, object_places, prop_places, slot_places, verb_places, petition_places, petition_head_places, with_counter, AreKeyed, Holds, Sees, StaysInside, Changes, RanStatement, IsGrown, grown, no_tables, no_first_tables, KeepsSlot, create_text}
+-- What the statements do that make the tables of the present version of those of an earlier one.
+use Rattle.moo_tables.proofs.Words.{◌≡◌, ℕ, List, [], ◌∷◌, Ok, Err, Result, OnOk, refl, sym, ap, subst, ◌∙◌, Schema, Database, Error, State, HasCleanDisk, First, Tables, schema_of, first_schema, slot2_schema, petition_schema, second_schema, slot2_table, petition_table, petition_head_table, numbered_in, paired_in, head_places, object_places, prop_places, slot_places, verb_places, petition_places, petition_head_places, with_counter, AreKeyed, Holds, Sees, StaysInside, Changes, RanStatement, IsGrown, grown, no_tables, KeepsSlot, create_text, IsEarlier, IsUnderWay, no_rows, present_schema}
 use Rattle.moo_tables.proofs.TextLemmas.{create_slot2_is, create_petition_is, create_petition_head_is}
 use Rattle.moo_tables.proofs.CreateLemmas.{runs_making}
-use Rattle.moo_tables.proofs.InsideLemmas.{of_version, clean_before}
+use Rattle.moo_tables.proofs.InsideLemmas.{of_version, clean_before, only_first}
 use Rattle.moo_tables.proofs.SeenLemmas.{same_tables}
 
 pub makes_slot2 : (old new : State) (r : Result ℕ Error) → RanStatement (create_text slot2_table) [] old new r → OnOk r (HasCleanDisk new → (base : Database) → IsGrown base first_schema [] old.now → IsGrown base slot2_schema (7 ∷ []) new.now)
@@ -30,27 +30,38 @@ makes_petition old new (Ok count) ran = λ clean base was.
     }
 
 pub makes_petition_head : (old new : State) (r : Result ℕ Error) → RanStatement (create_text petition_head_table) [] old new r
-    → OnOk r (HasCleanDisk new → (base : Database) → IsGrown base petition_schema (7 ∷ 9 ∷ []) old.now → (tables : Tables) → Holds base tables → tables.version ≡ First → Sees new (grown tables) × KeepsSlot base new.now)
+    → OnOk r (HasCleanDisk new → (base : Database) → IsGrown base petition_schema (7 ∷ 9 ∷ []) old.now → IsGrown base second_schema (7 ∷ 9 ∷ 10 ∷ []) new.now × IsUnderWay new)
 makes_petition_head old new (Err e) ran = tt
-makes_petition_head old new (Ok count) ran = λ clean base was tables holds first.
+makes_petition_head old new (Ok count) ran = λ clean base was.
     let it = runs_making petition_schema second_schema petition_head_table create_petition_head_is refl old new count was.schema_is (ran clean).1 in
     let same = it.made.others in
-    let kept = was.same in
-    let held = of_version First base tables first holds in
-    let head = same.0 ∙ kept.0 in
-    let object = same.1.0 ∙ kept.1.0 in
-    let prop = same.1.1.0 ∙ kept.1.1.0 in
-    let verb = same.1.1.1.1.0 ∙ kept.1.1.1.1.0 in
-    let slot = same.1.1.1.1.1.0 ∙ was.empty.0 in
-    let petition = same.1.1.1.1.1.1.0 ∙ was.empty.1.0 in
-    let counter = it.made.empty in (
+    let kept = was.same in (
       record {
-        is_open = it.is_open;
-        inside = (ran clean).0;
+        schema_is = it.made.schema_is;
+        same = (same.0 ∙ kept.0, (same.1.0 ∙ kept.1.0, (same.1.1.0 ∙ kept.1.1.0, (same.1.1.1.0 ∙ kept.1.1.1.0, (same.1.1.1.1.0 ∙ kept.1.1.1.1.0, tt)))));
+        empty = (same.1.1.1.1.1.0 ∙ was.empty.0, (same.1.1.1.1.1.1.0 ∙ was.empty.1.0, (it.made.empty, tt)));
+      },
+      record { is_open = it.is_open; inside = (ran clean).0; sound = it.sound },
+    )
+
+-- what they have made are the tables of the present version
+sees_grown : (base : Database) (new : State) (tables : Tables) → IsGrown base present_schema (7 ∷ 9 ∷ 10 ∷ []) new.now → IsUnderWay new → Holds base tables → tables.version ≡ First → Sees new (grown tables) × KeepsSlot base new.now
+sees_grown base new tables is way holds first =
+    let held = of_version First base tables first holds in
+    let head = is.same.0 in
+    let object = is.same.1.0 in
+    let prop = is.same.1.1.0 in
+    let verb = is.same.1.1.1.1.0 in
+    let slot = is.empty.0 in
+    let petition = is.empty.1.0 in
+    let counter = is.empty.1.1.0 in (
+      record {
+        is_open = way.is_open;
+        inside = way.inside;
         current = refl;
         holds = record {
-          sound = it.sound;
-          schema = it.made.schema_is;
+          sound = way.sound;
+          schema = is.schema_is;
           rows = same_tables refl (ap (numbered_in head_places) head ∙ ap (λ (t : Tables). t.head) held.rows) (ap (numbered_in object_places) object ∙ ap (λ (t : Tables). t.object) held.rows) (ap (numbered_in prop_places) prop ∙ ap (λ (t : Tables). t.prop) held.rows)
               (ap (paired_in slot_places) slot) (ap (paired_in verb_places) verb ∙ ap (λ (t : Tables). t.verb) held.rows) (ap (numbered_in petition_places) petition) (ap (numbered_in petition_head_places) counter);
           heads = subst AreKeyed (sym head) held.heads;
@@ -62,7 +73,7 @@ makes_petition_head old new (Ok count) ran = λ clean base was tables holds firs
           petition_heads = subst AreKeyed (sym counter) (tt, tt);
         };
       },
-      same.1.1.1.0 ∙ kept.1.1.1.0,
+      is.same.1.1.1.0,
     )
 
 -- ---- the statements one after another
@@ -70,31 +81,32 @@ makes_petition_head old new (Ok count) ran = λ clean base was tables holds firs
 abbrev Grows : Schema → List ℕ → Schema → List ℕ → State → State → Type 0
 Grows before made after more old new = HasCleanDisk new → (base : Database) → IsGrown base before made old.now → IsGrown base after more new.now
 
--- the tables of the first layout are there in the second, and those that it adds are empty
+-- the tables of the first version are there in the present one, and those that it adds are empty
 abbrev Grown : State → State → Type 0
 Grown old new = HasCleanDisk new → (tables : Tables) → Holds old.now tables → tables.version ≡ First → Sees new (grown tables) × KeepsSlot old.now new.now
 
 -- and the first petition has its number
 abbrev pub Becomes : State → State → Type 0
-Becomes old new = HasCleanDisk new → (tables : Tables) → Holds old.now tables → tables.version ≡ First → Sees new (with_counter 1 (grown tables)) × KeepsSlot old.now new.now
+Becomes old new = HasCleanDisk new → (tables : Tables) → Holds old.now tables → IsEarlier tables.version → Sees new (with_counter 1 (grown tables)) × KeepsSlot old.now new.now
 
 pub three_made : (a b d z : State) (r : Result ℕ Error) → StaysInside b d → StaysInside d z → Grows first_schema [] slot2_schema (7 ∷ []) a b → Grows slot2_schema (7 ∷ []) petition_schema (7 ∷ 9 ∷ []) b d
-    → OnOk r (HasCleanDisk z → (base : Database) → IsGrown base petition_schema (7 ∷ 9 ∷ []) d.now → (tables : Tables) → Holds base tables → tables.version ≡ First → Sees z (grown tables) × KeepsSlot base z.now)
+    → OnOk r (HasCleanDisk z → (base : Database) → IsGrown base petition_schema (7 ∷ 9 ∷ []) d.now → IsGrown base second_schema (7 ∷ 9 ∷ 10 ∷ []) z.now × IsUnderWay z)
     → OnOk r (Grown a z)
 three_made a b d z (Err e) quiet-two quiet-three one two three = tt
 three_made a b d z (Ok count) quiet-two quiet-three one two three = λ clean tables holds first.
     let late = clean_before d z _ quiet-three.survives clean in
     let early = clean_before b d _ quiet-two.survives late in
     let begun : IsGrown a.now first_schema [] a.now = record { schema_is = holds.schema ∙ ap schema_of first; same = (refl, (refl, (refl, (refl, (refl, tt))))); empty = tt } in
-    three clean a.now (two late a.now (one early a.now begun)) tables holds first
+    let all = three clean a.now (two late a.now (one early a.now begun)) in
+    sees_grown a.now z tables all.0 all.1 holds first
 
 pub becomes_then : (a b z : State) (r : Result ℕ Error) → StaysInside b z → Grown a b → OnOk r (Changes (with_counter 1) b z) → OnOk r (Becomes a z)
 becomes_then a b z (Err e) quiet one two = tt
-becomes_then a b z (Ok count) quiet one two = λ clean tables holds first.
-    let was = one (clean_before b z _ quiet.survives clean) tables holds first in
+becomes_then a b z (Ok count) quiet one two = λ clean tables holds earlier.
+    let was = one (clean_before b z _ quiet.survives clean) tables holds (only_first tables.version earlier) in
     let is = two clean (grown tables) was.0 in
     (is.0, is.1 ∙ was.1)
 
-pub all_made : (a b z : State) (P : Type 0) (r : Result ℕ Error) → StaysInside b z → (HasCleanDisk b → P → Holds b.now no_first_tables) → OnOk r (Grown b z) → OnOk r (HasCleanDisk z → P → Sees z no_tables)
+pub all_made : (a b z : State) (P : Type 0) (r : Result ℕ Error) → StaysInside b z → (HasCleanDisk b → P → Holds b.now (no_rows First)) → OnOk r (Grown b z) → OnOk r (HasCleanDisk z → P → Sees z no_tables)
 all_made a b z P (Err e) quiet one two = tt
-all_made a b z P (Ok count) quiet one two = λ clean p. (two clean no_first_tables (one (clean_before b z _ quiet.survives clean) p) refl).0
+all_made a b z P (Ok count) quiet one two = λ clean p. (two clean (no_rows First) (one (clean_before b z _ quiet.survives clean) p) refl).0

@@ -1,5 +1,5 @@
 -- What an update does by a number that leaves one cell of a row as it is, whichever the table is.
-use Rattle.moo_tables.proofs.Words.{◌≡◌, ◌+◌, ℕ, ℤ, List, [], ◌∷◌, map, drop, option_map, slice_get, Option, Some, None, true, ◌⊎◌, inl, inr, Result, Ok, Err, OnOk, IfOk, IsTrue, refl, sym, ap, subst, ◌∙◌, arith, list_all, IsPermutation, Value, Null, Int, Text, Error, Row, column, holds, eval_all, cast_all, cast_row, Table, Trees, rowid, has_rowid, put_row, overlay, understood, State, Executes, statement_of, runs_as, Has, Column, Tables, second_schema, numbered, number_places, cells_at, numbered_in, numbered_with, same_number, keep_text, AreKeyed, Sees, Changes, RanStatement, KeepsSlot, WritesOver}
+use Rattle.moo_tables.proofs.Words.{◌≡◌, ◌+◌, ℕ, ℤ, List, [], ◌∷◌, map, drop, option_map, slice_get, Option, Some, None, true, ◌⊎◌, inl, inr, Result, Ok, Err, OnOk, IfOk, IsTrue, refl, sym, ap, subst, ◌∙◌, arith, list_all, IsPermutation, Value, Null, Int, Text, Error, Row, column, holds, eval_all, cast_all, cast_row, Table, Trees, rowid, has_rowid, put_row, overlay, understood, State, Executes, statement_of, runs_as, Has, Column, Tables, present_schema, numbered, number_places, cells_at, numbered_in, numbered_with, same_number, keep_text, AreKeyed, Sees, Changes, RanStatement, KeepsSlot, WritesOver}
 use Rattle.moo_tables.proofs.TextLemmas.{KeepsByNumber, number_keep, writes_where, by_number}
 use Rattle.moo_tables.proofs.CastLemmas.{fit, kept_all}
 use Rattle.moo_tables.proofs.StepLemmas.{cast_int, updates}
@@ -48,7 +48,7 @@ module _ {K C : Type 0} (name : List ℕ) (tree : ℕ) (columns : List Column) (
       ∙ ap (λ v. cast_row t (v ∷ Null ∷ drop 1 (row key c (Text text)))) named ∙ kept key c text
 
   -- the table stands at this place of the schema, and a change of its tree changes this one of the tables
-  module _ (at : ℕ) (is : slice_get second_schema.tables at ≡ Some (numbered name tree columns)) (keeps : KeepsByNumber at place (numbered name tree columns)) (With : ℤ → Option Row → Tables → Tables) (of : Tables → ℤ → Option Row) (keyed_seen : (s : State) (tables : Tables) → Sees s tables → AreKeyed (s.now.trees tree))
+  module _ (at : ℕ) (is : slice_get present_schema.tables at ≡ Some (numbered name tree columns)) (keeps : KeepsByNumber at place (numbered name tree columns)) (With : ℤ → Option Row → Tables → Tables) (of : Tables → ℤ → Option Row) (keyed_seen : (s : State) (tables : Tables) → Sees s tables → AreKeyed (s.now.trees tree))
       (texts_seen : (s : State) (tables : Tables) → Sees s tables → (r : Row) → Has (s.now.trees tree) r → HasText r (place + 1)) (rows_seen : (s : State) (tables : Tables) → Sees s tables → numbered_in places (s.now.trees tree) ≡ of tables)
       (sees : (old new : State) (tables : Tables) (key : ℤ) (shown : Option Row) (rows : List Row) → Sees old tables → SetsTree old new tree rows → AreKeyed rows
       → ((k : ℤ) → numbered_in places rows k ≡ numbered_with key shown (numbered_in places (old.now.trees tree)) k) → Sees new (With key shown tables) × KeepsSlot old.now new.now) where
@@ -69,8 +69,8 @@ module _ {K C : Type 0} (name : List ℕ) (tree : ℕ) (columns : List Column) (
         let one = number_one n old_rows keyed in
         let project = number_keep place t in
         let held : numbered_in places old_rows n ≡ of tables n = ap (λ f. f n) (rows_seen old tables seen) in
-        let w = runs_as (keep_text place t) params old new second_schema has _ keeps.command keeps.plain count h in
-        let it = updates second_schema moo_quiet at _ _ _ _ _ _ _ is old new has (statement_of (keep_text place t) (understood second_schema (keep_text place t))) params count (writes_where tree by_number project) w in
+        let w = runs_as (keep_text place t) params old new present_schema has _ keeps.command keeps.plain count h in
+        let it = updates present_schema moo_quiet at _ _ _ _ _ _ _ is old new has (statement_of (keep_text place t) (understood present_schema (keep_text place t))) params count (writes_where tree by_number project) w in
         let shown = subst (λ rs. IsPermutation (map (λ r. eval_all project (params ∷ r ∷ [])) (chosen by_number params rs)) it.answer) (it_has.stored old.now.trees) (shows_all tree by_number project [] (overlay old.now.trees []) params it.answer (it.answers.answer Null)) in
         let sets : (rows : List Row) → new.now.trees tree ≡ rows → SetsTree old new tree rows = λ rows is_so. record { schema_is = it.edited.schema_is; sound = w.sound; is_open = w.shown.is_open; inside = inside; rows_are = is_so; others = it.edited.applies.others } in
         elim (over_or_left has_rowid n old_rows keyed one t by_number project params it.answer (λ r in_it. finds key c r) (λ r. refl) shown) [

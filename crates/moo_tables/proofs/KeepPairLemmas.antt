@@ -1,5 +1,5 @@
 -- What an update does by two columns that leaves one cell of a row as it is, whichever the table is.
-use Rattle.moo_tables.proofs.Words.{◌≡◌, ◌+◌, ℕ, ℤ, List, [], ◌∷◌, map, drop, option_map, slice_get, Option, Some, None, true, ◌⊎◌, inl, inr, Result, Ok, Err, OnOk, IfOk, IsTrue, refl, sym, ap, subst, ◌∙◌, arith, list_all, and_parts, IsPermutation, Value, Null, Int, Text, Error, Row, column, holds, eval_all, cast_all, cast_row, Table, Trees, rowid, put_row, overlay, understood, State, Executes, statement_of, runs_as, Has, Column, Tables, second_schema, paired, pair_places, has_pair, cells_at, paired_in, paired_with, same_numbers, keep_text, AreKeyed, Sees, Changes, RanStatement, KeepsSlot, WritesOver}
+use Rattle.moo_tables.proofs.Words.{◌≡◌, ◌+◌, ℕ, ℤ, List, [], ◌∷◌, map, drop, option_map, slice_get, Option, Some, None, true, ◌⊎◌, inl, inr, Result, Ok, Err, OnOk, IfOk, IsTrue, refl, sym, ap, subst, ◌∙◌, arith, list_all, and_parts, IsPermutation, Value, Null, Int, Text, Error, Row, column, holds, eval_all, cast_all, cast_row, Table, Trees, rowid, put_row, overlay, understood, State, Executes, statement_of, runs_as, Has, Column, Tables, present_schema, paired, pair_places, has_pair, cells_at, paired_in, paired_with, same_numbers, keep_text, AreKeyed, Sees, Changes, RanStatement, KeepsSlot, WritesOver}
 use Rattle.moo_tables.proofs.TextLemmas.{KeepsByPair, pair_keep, writes_where, by_pair}
 use Rattle.moo_tables.proofs.CastLemmas.{fit, kept_all}
 use Rattle.moo_tables.proofs.StepLemmas.{cast_int, updates}
@@ -51,7 +51,7 @@ module _ {K C : Type 0} (name : List ℕ) (tree : ℕ) (columns : List Column) (
       ∙ ap (λ vs. Int id ∷ vs) (sym (it_has.begins key c (Text text)))
 
   -- the table stands at this place of the schema, and a change of its tree changes this one of the tables
-  module _ (at : ℕ) (is : slice_get second_schema.tables at ≡ Some (paired name tree columns)) (keeps : KeepsByPair at place (paired name tree columns)) (With : ℤ × ℤ → Option Row → Tables → Tables) (of : Tables → ℤ × ℤ → Option Row) (keyed_seen : (s : State) (tables : Tables) → Sees s tables → AreKeyed (s.now.trees tree)) (pairs_seen : (s : State) (tables : Tables) → Sees s tables → ArePairs (s.now.trees tree))
+  module _ (at : ℕ) (is : slice_get present_schema.tables at ≡ Some (paired name tree columns)) (keeps : KeepsByPair at place (paired name tree columns)) (With : ℤ × ℤ → Option Row → Tables → Tables) (of : Tables → ℤ × ℤ → Option Row) (keyed_seen : (s : State) (tables : Tables) → Sees s tables → AreKeyed (s.now.trees tree)) (pairs_seen : (s : State) (tables : Tables) → Sees s tables → ArePairs (s.now.trees tree))
       (texts_seen : (s : State) (tables : Tables) → Sees s tables → (r : Row) → Has (s.now.trees tree) r → HasText r (place + 1)) (rows_seen : (s : State) (tables : Tables) → Sees s tables → paired_in places (s.now.trees tree) ≡ of tables)
       (sees : (old new : State) (tables : Tables) (key : ℤ × ℤ) (shown : Option Row) (rows : List Row) → Sees old tables → SetsTree old new tree rows → AreKeyed rows
       → ((k : ℤ × ℤ) → paired_in places rows k ≡ paired_with key shown (paired_in places (old.now.trees tree)) k) → Sees new (With key shown tables) × KeepsSlot old.now new.now) where
@@ -73,8 +73,8 @@ module _ {K C : Type 0} (name : List ℕ) (tree : ℕ) (columns : List Column) (
         let one = pairs.one two in
         let project = pair_keep place t in
         let held : paired_in places old_rows two ≡ of tables two = ap (λ f. f two) (rows_seen old tables seen) in
-        let w = runs_as (keep_text place t) params old new second_schema has _ keeps.command keeps.plain count h in
-        let it = updates second_schema moo_quiet at _ _ _ _ _ _ _ is old new has (statement_of (keep_text place t) (understood second_schema (keep_text place t))) params count (writes_where tree by_pair project) w in
+        let w = runs_as (keep_text place t) params old new present_schema has _ keeps.command keeps.plain count h in
+        let it = updates present_schema moo_quiet at _ _ _ _ _ _ _ is old new has (statement_of (keep_text place t) (understood present_schema (keep_text place t))) params count (writes_where tree by_pair project) w in
         let shown = subst (λ rs. IsPermutation (map (λ r. eval_all project (params ∷ r ∷ [])) (chosen by_pair params rs)) it.answer) (it_has.stored old.now.trees) (shows_all tree by_pair project [] (overlay old.now.trees []) params it.answer (it.answers.answer Null)) in
         let sets : (rows : List Row) → new.now.trees tree ≡ rows → SetsTree old new tree rows = λ rows is_so. record { schema_is = it.edited.schema_is; sound = w.sound; is_open = w.shown.is_open; inside = inside; rows_are = is_so; others = it.edited.applies.others } in
         elim (over_or_left has_pair two old_rows keyed one t by_pair project params it.answer (λ r in_it. finds key c r) (λ r. refl) shown) [

@@ -1,8 +1,8 @@
 -- What the migration does.
-use Rattle.moo_tables.proofs.Words.{◌≡◌, ℕ, List, [], ◌∷◌, filter, not, true, false, Option, Ok, Err, Result, OnOk, IsTrue, refl, sym, subst, ◌∙◌, Null, Error, Row, col, overlay, understood, State, HasCleanDisk, Shows, KeepsCounts, statement_of, runs_as, ObjNo, PropId, SlotCells, First, Tables, second_schema, slot_tree, with_each, with_head_cells, with_slot_cells, migrated, AreKeyed, Holds, Sees, Rests, HasTables, StaysInside, Changes, RanStatement, HasNoSlot}
+use Rattle.moo_tables.proofs.Words.{◌≡◌, ℕ, List, [], ◌∷◌, filter, not, true, false, Option, Ok, Err, Result, OnOk, IsTrue, refl, sym, subst, ◌∙◌, Null, Error, Row, col, overlay, understood, State, HasCleanDisk, Shows, KeepsCounts, statement_of, runs_as, ObjNo, PropId, SlotCells, Tables, present_schema, slot_tree, with_each, with_head_cells, with_slot_cells, migrated, AreKeyed, Holds, Sees, Rests, HasTables, StaysInside, Changes, RanStatement, HasNoSlot, IsEarlier}
 use Rattle.moo_rows.specs.declared.row.Head.{Head}
 use Rattle.moo_tables.proofs.TextLemmas.{empty_slots_text, empty_slots_is, empty_slots_plain, rowids_where}
-use Rattle.moo_tables.proofs.InsideLemmas.{clean_before, commits}
+use Rattle.moo_tables.proofs.InsideLemmas.{clean_before, commits, only_first}
 use Rattle.moo_tables.proofs.ChangeLemmas.{slots_in_turn}
 use Rattle.moo_tables.proofs.GrowLemmas.{Becomes}
 use Rattle.moo_tables.proofs.QueryLemmas.{shows_all}
@@ -17,8 +17,8 @@ empties_beside old new (Err e) ran = tt
 empties_beside old new (Ok count) ran = λ clean tables seen.
     let it = ran clean in
     let has = schema_seen seen in
-    let w = runs_as empty_slots_text [] old new second_schema has _ empty_slots_is empty_slots_plain count it.1 in
-    let step = deletes second_schema moo_quiet 3 _ _ _ _ _ _ _ refl old new has (statement_of empty_slots_text (understood second_schema empty_slots_text)) [] count (rowids_where 3 []) w in
+    let w = runs_as empty_slots_text [] old new present_schema has _ empty_slots_is empty_slots_plain count it.1 in
+    let step = deletes present_schema moo_quiet 3 _ _ _ _ _ _ _ refl old new has (statement_of empty_slots_text (understood present_schema empty_slots_text)) [] count (rowids_where 3 []) w in
     let sets : SetsTree old new 3 (new.now.trees 3) = record { schema_is = step.2.schema_is; sound = w.sound; is_open = w.shown.is_open; inside = it.0; rows_are = refl; others = step.2.applies.others } in
     sees_same sets tables seen (λ e. cc) (λ e. cc) (λ e. cc) (λ e. cc) (λ e. cc) (λ e. cc) (λ e. cc)
 
@@ -26,13 +26,13 @@ none_left : (rows : List Row) → filter (λ r. not true) rows ≡ []
 none_left [] = refl
 none_left (r ∷ rows) = none_left rows
 
-pub empties : (old new : State) (r : Result ℕ Error) → RanStatement empty_slots_text [] old new r → OnOk r (HasCleanDisk new → HasTables second_schema old → AreKeyed (old.now.trees 3) → new.now.trees 3 ≡ [])
+pub empties : (old new : State) (r : Result ℕ Error) → RanStatement empty_slots_text [] old new r → OnOk r (HasCleanDisk new → HasTables present_schema old → AreKeyed (old.now.trees 3) → new.now.trees 3 ≡ [])
 empties old new (Err e) ran = tt
 empties old new (Ok count) ran = λ clean has keyed.
     let it = ran clean in
     let rows = old.now.trees 3 in
-    let w = runs_as empty_slots_text [] old new second_schema has _ empty_slots_is empty_slots_plain count it.1 in
-    let step = deletes second_schema moo_quiet 3 _ _ _ _ _ _ _ refl old new has (statement_of empty_slots_text (understood second_schema empty_slots_text)) [] count (rowids_where 3 []) w in
+    let w = runs_as empty_slots_text [] old new present_schema has _ empty_slots_is empty_slots_plain count it.1 in
+    let step = deletes present_schema moo_quiet 3 _ _ _ _ _ _ _ refl old new has (statement_of empty_slots_text (understood present_schema empty_slots_text)) [] count (rowids_where 3 []) w in
     let shown = shows_all 3 [] (col 1 0 ∷ []) [] (overlay old.now.trees []) [] step.0 (step.1.answer Null) in
     step.2.applies.rows ∙ went_out (λ (key : Unit {0}) r. true) tt rows keyed [] [] [] step.0 shown (λ r. refl) ∙ none_left rows
 
@@ -44,28 +44,28 @@ goes_on old new text params (Ok count) ran clean = (ran clean).0
 
 pub all_migrated : (a b d e z : State) (head : Head) (slots : List ((ObjNo × PropId) × Option SlotCells)) (r : Result ℕ Error) → StaysInside b d → StaysInside d e → StaysInside e z
     → Becomes a b → Changes (with_head_cells head) b d → Changes (with_each with_slot_cells slots) d e → OnOk r (HasCleanDisk z → (tables : Tables) → Sees e tables → Sees z tables)
-    → OnOk r (HasCleanDisk z → HasTables second_schema e → AreKeyed (e.now.trees 3) → HasNoSlot z.now)
-    → OnOk r (HasCleanDisk z → (tables : Tables) → Holds a.now tables → tables.version ≡ First → Sees z (migrated head slots tables) × HasNoSlot z.now)
+    → OnOk r (HasCleanDisk z → HasTables present_schema e → AreKeyed (e.now.trees 3) → HasNoSlot z.now)
+    → OnOk r (HasCleanDisk z → (tables : Tables) → Holds a.now tables → IsEarlier tables.version → Sees z (migrated head slots tables) × HasNoSlot z.now)
 all_migrated a b d e z head slots (Err error) quiet-two quiet-three quiet-four one two three four five = tt
-all_migrated a b d e z head slots (Ok count) quiet-two quiet-three quiet-four one two three four five = λ clean tables holds first.
+all_migrated a b d e z head slots (Ok count) quiet-two quiet-three quiet-four one two three four five = λ clean tables holds earlier.
     let late = clean_before e z _ quiet-four.survives clean in
     let mid = clean_before d e _ quiet-three.survives late in
     let early = clean_before b d _ quiet-two.survives mid in
-    let first_step = one early tables holds first in
+    let first_step = one early tables holds earlier in
     let second_step = two mid _ first_step.0 in
     let third_step = slots_in_turn slots d e three late _ second_step.0 in
     let same = third_step.1 ∙ second_step.1 ∙ first_step.1 in
-    let keyed = subst AreKeyed (sym same) (subst (λ v. AreKeyed (a.now.trees (slot_tree v))) first holds.slots) in
+    let keyed = subst AreKeyed (sym same) (subst (λ v. AreKeyed (a.now.trees (slot_tree v))) (only_first tables.version earlier) holds.slots) in
     (four clean _ third_step.0, five clean (schema_seen third_step.0) keyed)
 
 -- ---- the whole transaction
 
 pub rests_then : (old last end : State) (next : Tables → Tables) (r : Result (Unit {0}) Error) → OnOk r (IsTrue last.in_transaction × Shows last end last.now last.now false × KeepsCounts last end × (end.marks ≡ []))
-    → ((tables : Tables) → Holds old.now tables → tables.version ≡ First → Sees last (next tables)) → OnOk r ((tables : Tables) → Rests old tables → tables.version ≡ First → Rests end (next tables))
+    → ((tables : Tables) → Holds old.now tables → IsEarlier tables.version → Sees last (next tables)) → OnOk r ((tables : Tables) → Rests old tables → IsEarlier tables.version → Rests end (next tables))
 rests_then old last end next (Err e) ok seen = tt
-rests_then old last end next (Ok _) ok seen = λ tables was first. commits last end (next tables) ok.1 (seen tables was.holds first)
+rests_then old last end next (Ok _) ok seen = λ tables was earlier. commits last end (next tables) ok.1 (seen tables was.holds earlier)
 
 pub empty_then : (old last end : State) (r : Result (Unit {0}) Error) → OnOk r (IsTrue last.in_transaction × Shows last end last.now last.now false × KeepsCounts last end × (end.marks ≡ []))
-    → ((tables : Tables) → Holds old.now tables → tables.version ≡ First → HasNoSlot last.now) → OnOk r ((tables : Tables) → Rests old tables → tables.version ≡ First → HasNoSlot end.now)
+    → ((tables : Tables) → Holds old.now tables → IsEarlier tables.version → HasNoSlot last.now) → OnOk r ((tables : Tables) → Rests old tables → IsEarlier tables.version → HasNoSlot end.now)
 empty_then old last end (Err e) ok none = tt
-empty_then old last end (Ok _) ok none = λ tables was first. subst (λ db. HasNoSlot db) (sym ok.1.now_is) (none tables was.holds first)
+empty_then old last end (Ok _) ok none = λ tables was earlier. subst (λ db. HasNoSlot db) (sym ok.1.now_is) (none tables was.holds earlier)

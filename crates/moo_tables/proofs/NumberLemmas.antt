@@ -1,5 +1,5 @@
 -- What the statements do that write a table with a number as its key, whichever it is.
-use Rattle.moo_tables.proofs.Words.{◌≡◌, ◌+◌, ◌/◌, ℕ, ℤ, List, [], ◌∷◌, ◌++◌, drop, map, length, slice_get, Option, Some, None, true, false, ◌&&◌, ◌||◌, ◌⊎◌, inl, inr, Bool, Result, Ok, Err, OnOk, IfOk, IsTrue, refl, sym, ap, subst, ◌∙◌, arith, list_all, IsPermutation, Null, Int, Error, Row, column, binary, is_true, col, holds, eval_all, Binary, Compare, Eq, with_rowid, cast_all, cast_row, Chosen, shown, Table, Trees, rowid, has_rowid, put_row, overlay, value_rows, understood, State, Executes, statement_of, runs_as, AreConflicts, conflicts, agree, Column, first_key, plain, Tables, second_schema, numbered, number_places, cells_at, numbered_in, numbered_with, same_number, update_text, put_text, remove_text, AreKeyed, Sees, Changes, RanStatement, KeepsSlot, WritesOver}
+use Rattle.moo_tables.proofs.Words.{◌≡◌, ◌+◌, ◌/◌, ℕ, ℤ, List, [], ◌∷◌, ◌++◌, drop, map, length, slice_get, Option, Some, None, true, false, ◌&&◌, ◌||◌, ◌⊎◌, inl, inr, Bool, Result, Ok, Err, OnOk, IfOk, IsTrue, refl, sym, ap, subst, ◌∙◌, arith, list_all, IsPermutation, Null, Int, Error, Row, column, binary, is_true, col, holds, eval_all, Binary, Compare, Eq, with_rowid, cast_all, cast_row, Chosen, shown, Table, Trees, rowid, has_rowid, put_row, overlay, value_rows, understood, State, Executes, statement_of, runs_as, AreConflicts, conflicts, agree, Column, first_key, plain, Tables, present_schema, numbered, number_places, cells_at, numbered_in, numbered_with, same_number, update_text, put_text, remove_text, AreKeyed, Sees, Changes, RanStatement, KeepsSlot, WritesOver}
 use Rattle.moo_tables.proofs.TextLemmas.{WritesByNumber, number_terms, number_overwrite, writes_where, written_over, by_number, rowids_where}
 use Rattle.moo_tables.proofs.CastLemmas.{fit, kept_all}
 use Rattle.moo_tables.proofs.StepLemmas.{cast_int, updates, deletes}
@@ -29,7 +29,7 @@ pub record HasNumbers {K C : Type 0} (t : Table) (number : K → ℤ) (cells : K
       → eval_all (number_overwrite t) ((cells key row ++ Int (number key) ∷ shown t (stored_at (number key) (cells key row))) ∷ r ∷ []) ≡ rowid r ∷ rowid r ∷ Null ∷ drop 1 (cells key row)
   pub updated : (key : K) (row : C) (r : Row) → eval_all (number_overwrite t) (cells key row ∷ r ∷ []) ≡ rowid r ∷ rowid r ∷ Null ∷ drop 1 (cells key row)
   -- under no index can a row conflict
-  pub conflicting : (new r : Row) → conflicts (Some (0 ∷ [])) second_schema.indexes t new r ≡ (agree plain (0 ∷ []) r (0 ∷ []) new || false)
+  pub conflicting : (new r : Row) → conflicts (Some (0 ∷ [])) present_schema.indexes t new r ≡ (agree plain (0 ∷ []) r (0 ∷ []) new || false)
 
 same_or_not : (b : Bool) → ((b && true) || false) ≡ b
 same_or_not true = refl
@@ -65,11 +65,11 @@ module _ {K C : Type 0} (name : List ℕ) (tree : ℕ) (columns : List Column) (
   pub finds : (key : K) (row : C) (r : Row) → list_all (holds (cells key row ∷ r ∷ [])) by_number ≡ has_rowid (number key) r
   finds key row r = ap (λ vs. list_all (holds (vs ∷ r ∷ [])) by_number) (it_has.begins key row) ∙ picks_number (number key) (drop 1 (cells key row)) r
 
-  pub meets : (key : K) (row : C) (r : Row) → conflicts (Some (0 ∷ [])) second_schema.indexes t (stored key row) r ≡ has_rowid (number key) r
+  pub meets : (key : K) (row : C) (r : Row) → conflicts (Some (0 ∷ [])) present_schema.indexes t (stored key row) r ≡ has_rowid (number key) r
   meets key row r = it_has.conflicting (stored key row) r ∙ numbers_agree (number key) (Null ∷ drop 1 (cells key row)) r
 
   -- the table stands at this place of the schema, and a change of its tree changes this one of the tables
-  module _ (at : ℕ) (is : slice_get second_schema.tables at ≡ Some (numbered name tree columns)) (writes : WritesByNumber at (numbered name tree columns)) (With : ℤ → Option Row → Tables → Tables) (keyed_seen : (s : State) (tables : Tables) → Sees s tables → AreKeyed (s.now.trees tree))
+  module _ (at : ℕ) (is : slice_get present_schema.tables at ≡ Some (numbered name tree columns)) (writes : WritesByNumber at (numbered name tree columns)) (With : ℤ → Option Row → Tables → Tables) (keyed_seen : (s : State) (tables : Tables) → Sees s tables → AreKeyed (s.now.trees tree))
       (sees : (old new : State) (tables : Tables) (key : ℤ) (shown : Option Row) (rows : List Row) → Sees old tables → SetsTree old new tree rows → AreKeyed rows
       → ((k : ℤ) → numbered_in places rows k ≡ numbered_with key shown (numbered_in places (old.now.trees tree)) k) → Sees new (With key shown tables) × KeepsSlot old.now new.now) where
     puts : (old new : State) (key : K) (row : C) (count : ℕ) (tables : Tables) → Sees old tables → Executes (put_text t) (cells key row) old new (Ok count) → IsTrue new.in_transaction → Sees new (With (number key) (Some (cells key row)) tables) × KeepsSlot old.now new.now
@@ -81,11 +81,11 @@ module _ {K C : Type 0} (name : List ℕ) (tree : ℕ) (columns : List Column) (
         let old_rows = old.now.trees tree in
         let keyed = keyed_seen old tables seen in
         let update = written_over tree (length columns) (number_overwrite t) in
-        let w = runs_as (put_text t) params old new second_schema has _ writes.put writes.put_plain count h in
-        let it = upserts second_schema moo_quiet at _ _ _ _ _ _ _ is old new has (statement_of (put_text t) (understood second_schema (put_text t))) params count (0 ∷ []) update (number_terms t) (length columns + 1) source (it_has.alone key row) w in
+        let w = runs_as (put_text t) params old new present_schema has _ writes.put writes.put_plain count h in
+        let it = upserts present_schema moo_quiet at _ _ _ _ _ _ _ is old new has (statement_of (put_text t) (understood present_schema (put_text t))) params count (0 ∷ []) update (number_terms t) (length columns + 1) source (it_has.alone key row) w in
         let whole : with_rowid Chosen old_rows (cast_row t source) ≡ source = ap (with_rowid Chosen old_rows) (kept key row) in
-        let met = subst (λ r. AreConflicts (Some (0 ∷ [])) second_schema.indexes t old_rows r it.found) whole it.conflicts in
-        let ends = subst (λ r. Settles second_schema t old.now.trees params update r it.found new.now.trees) whole it.settles in
+        let met = subst (λ r. AreConflicts (Some (0 ∷ [])) present_schema.indexes t old_rows r it.found) whole it.conflicts in
+        let ends = subst (λ r. Settles present_schema t old.now.trees params update r it.found new.now.trees) whole it.settles in
         let put = number_settles t n old.now.trees new.now.trees keyed (it_has.stored old.now.trees) params source (length columns) (number_overwrite t) (λ r in_it. meets key row r) (kept key row) (it_has.there key row) (λ r. refl) (kept_over key row) it.found met ends in
         sees old new tables n (Some params) (put_row source (rest has_rowid n old_rows keyed)) seen
         (record { schema_is = it.schema_is; sound = w.sound; is_open = w.shown.is_open; inside = inside; rows_are = put.0; others = put.1 })
@@ -106,8 +106,8 @@ module _ {K C : Type 0} (name : List ℕ) (tree : ℕ) (columns : List Column) (
         let old_rows = old.now.trees tree in
         let keyed = keyed_seen old tables seen in
         let project = number_overwrite t in
-        let w = runs_as (update_text t) params old new second_schema has _ writes.update writes.update_plain count h in
-        let it = updates second_schema moo_quiet at _ _ _ _ _ _ _ is old new has (statement_of (update_text t) (understood second_schema (update_text t))) params count (writes_where tree by_number project) w in
+        let w = runs_as (update_text t) params old new present_schema has _ writes.update writes.update_plain count h in
+        let it = updates present_schema moo_quiet at _ _ _ _ _ _ _ is old new has (statement_of (update_text t) (understood present_schema (update_text t))) params count (writes_where tree by_number project) w in
         let shown = subst (λ rs. IsPermutation (map (λ r. eval_all project (params ∷ r ∷ [])) (chosen by_number params rs)) it.answer) (it_has.stored old.now.trees) (shows_all tree by_number project [] (overlay old.now.trees []) params it.answer (it.answers.answer Null)) in
         let sets : (rows : List Row) → new.now.trees tree ≡ rows → SetsTree old new tree rows = λ rows is_so. record { schema_is = it.edited.schema_is; sound = w.sound; is_open = w.shown.is_open; inside = inside; rows_are = is_so; others = it.edited.applies.others } in
         elim (over_or_left has_rowid n old_rows keyed (number_one n old_rows keyed) t by_number project params it.answer (λ r in_it. finds key row r) (λ r. refl) shown) [
@@ -132,8 +132,8 @@ module _ {K C : Type 0} (name : List ℕ) (tree : ℕ) (columns : List Column) (
         let params : Row = Int n ∷ [] in
         let old_rows = old.now.trees tree in
         let keyed = keyed_seen old tables seen in
-        let w = runs_as (remove_text t) params old new second_schema has _ writes.remove writes.remove_plain count h in
-        let it = deletes second_schema moo_quiet at _ _ _ _ _ _ _ is old new has (statement_of (remove_text t) (understood second_schema (remove_text t))) params count (rowids_where tree by_number) w in
+        let w = runs_as (remove_text t) params old new present_schema has _ writes.remove writes.remove_plain count h in
+        let it = deletes present_schema moo_quiet at _ _ _ _ _ _ _ is old new has (statement_of (remove_text t) (understood present_schema (remove_text t))) params count (rowids_where tree by_number) w in
         let shown = subst (λ rows. IsPermutation (map (λ r. rowid r ∷ []) (chosen by_number params rows)) it.0) (it_has.stored old.now.trees) (shows_all tree by_number (col 1 0 ∷ []) [] (overlay old.now.trees []) params it.0 (it.1.answer Null)) in
         let left = it.2.applies.rows ∙ went_out has_rowid n old_rows keyed by_number params [] it.0 shown (picks_number n []) in
         sees old new tables n None (rest has_rowid n old_rows keyed) seen

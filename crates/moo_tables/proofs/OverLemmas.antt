@@ -1,5 +1,5 @@
 -- The rows of one tree, after an upsert: the row stands in place of the one that has its key, or is put where none has it.
-use Rattle.moo_tables.proofs.Words.{◌≡◌, ◌≢◌, ℕ, ℤ, List, [], ◌∷◌, ◌++◌, filter, map, drop, Some, Bool, true, false, ◌&&◌, not, IsTrue, true≢false, refl, sym, ap, subst, ◌∙◌, inl, inr, arith, list_all, is_eq, Less, Equal, IsPermutation, length_permutation, not-true, and_parts, tied_itself, tied_back, Row, column, value_cmp, Null, Int, binary, is_true, Term, holds, eval_all, Binary, Compare, Eq, Trees, rowid, has_rowid, put_row, IsTable, shown, overlay, Program, IsNoIndex, id_in, without_all, put_all, next_rowid, cast_row, Given, Table, one_permutation, ids_of, AreConflicts, conflicts, is_int, Has, all_has, has_filtered, value_cmp_total, second_schema, has_pair, AreKeyed}
+use Rattle.moo_tables.proofs.Words.{◌≡◌, ◌≢◌, ℕ, ℤ, List, [], ◌∷◌, ◌++◌, filter, map, drop, Some, Bool, true, false, ◌&&◌, not, IsTrue, true≢false, refl, sym, ap, subst, ◌∙◌, inl, inr, arith, list_all, is_eq, Less, Equal, IsPermutation, length_permutation, not-true, and_parts, tied_itself, tied_back, Row, column, value_cmp, Null, Int, binary, is_true, Term, holds, eval_all, Binary, Compare, Eq, Trees, rowid, has_rowid, put_row, IsTable, shown, overlay, Program, IsNoIndex, id_in, without_all, put_all, next_rowid, cast_row, Given, Table, one_permutation, ids_of, AreConflicts, conflicts, is_int, Has, all_has, has_filtered, value_cmp_total, present_schema, has_pair, AreKeyed}
 use Rattle.sqlite.specs.Edit.{numbered}
 use Rattle.moo_tables.proofs.TextLemmas.{by_given, writes_where, written_over}
 use Rattle.moo_tables.proofs.QueryLemmas.{chosen, shows_all}
@@ -56,16 +56,16 @@ module _ {K : Type 0} (has : K → Row → Bool) (key : K) (rows : List Row) (ke
     pub numbered : rowid row ≡ Int number
     pub is : there ≡ Int number ∷ []
 
-  pub found_first : (target : List ℕ) (table : Table) (new there : Row) (more : List Row) → AreConflicts (Some target) second_schema.indexes table rows new (there ∷ more)
-      → ((r : Row) → Has rows r → conflicts (Some target) second_schema.indexes table new r ≡ has key r) → Found there
+  pub found_first : (target : List ℕ) (table : Table) (new there : Row) (more : List Row) → AreConflicts (Some target) present_schema.indexes table rows new (there ∷ more)
+      → ((r : Row) → Has rows r → conflicts (Some target) present_schema.indexes table new r ≡ has key r) → Found there
   found_first target table new there more met meets =
       let s = met.sound there (inl refl) in
       let value = int_value (rowid s.0) (all_has (λ r. IsTrue (is_int (rowid r))) rows s.0 keyed.1 s.1) in
       record { row = s.0; in_it = s.1; here = sym (meets s.0 s.1) ∙ s.2; number = id_in (rowid s.0); numbered = value; is = s.3 ∙ ap (λ v. v ∷ []) value }
 
   -- where no row has the key, the others are all
-  pub all_others : (target : List ℕ) (table : Table) (new : Row) → AreConflicts (Some target) second_schema.indexes table rows new []
-      → ((r : Row) → Has rows r → conflicts (Some target) second_schema.indexes table new r ≡ has key r) → rows ≡ rest has key rows keyed
+  pub all_others : (target : List ℕ) (table : Table) (new : Row) → AreConflicts (Some target) present_schema.indexes table rows new []
+      → ((r : Row) → Has rows r → conflicts (Some target) present_schema.indexes table new r ≡ has key r) → rows ≡ rest has key rows keyed
   all_others target table new met meets =
       removed (has key) rows [] keyed (λ x in_it. absurd in_it) (λ r in_it passes. met.complete r in_it (meets r in_it ∙ passes))
 
@@ -108,14 +108,14 @@ module _ {K : Type 0} (has : K → Row → Bool) (key : K) (rows : List Row) (ke
 
 -- the trees of the other tables are as they were
 abbrev pub OthersStay : ℕ → Trees → Trees → Type 0
-OthersStay tree db next = (t : ℕ) → t ≢ tree → IsNoIndex second_schema t → next t ≡ db t
+OthersStay tree db next = (t : ℕ) → t ≢ tree → IsNoIndex present_schema t → next t ≡ db t
 
 -- the row stands in its table
 abbrev pub StandsAlone : ℤ → Row → (tree : ℕ) → (db next : Trees) → AreKeyed (db tree) → Type 0
 StandsAlone n row tree db next keyed = (next tree ≡ put_row row (rest has_rowid n (db tree) keyed)) × OthersStay tree db next
 
 module _ (table : Table) (n : ℤ) (db next : Trees) (keyed : AreKeyed (db table.tree)) (stored : overlay db [] table.tree ≡ db table.tree) (params source : Row) (tests project : List Term)
-    (meets : (r : Row) → Has (db table.tree) r → conflicts (Some (0 ∷ [])) second_schema.indexes table source r ≡ has_rowid n r) (kept : cast_row table source ≡ source) where
+    (meets : (r : Row) → Has (db table.tree) r → conflicts (Some (0 ∷ [])) present_schema.indexes table source r ≡ has_rowid n r) (kept : cast_row table source ≡ source) where
   abbrev rows : List Row
   rows = db table.tree
 
@@ -126,11 +126,11 @@ module _ (table : Table) (n : ℤ) (db next : Trees) (keyed : AreKeyed (db table
   q = writes_where table.tree tests project
 
   -- no row has the number
-  pub number_anew : AreConflicts (Some (0 ∷ [])) second_schema.indexes table rows source [] → PutsIt second_schema table db params q source next → StandsAlone n source table.tree db next keyed
+  pub number_anew : AreConflicts (Some (0 ∷ [])) present_schema.indexes table rows source [] → PutsIt present_schema table db params q source next → StandsAlone n source table.tree db next keyed
   number_anew met it =
       (it.rows ∙ ap (λ r. put_row r rows) kept ∙ ap (put_row source) (all_others has_rowid n rows keyed (0 ∷ []) table source met meets), it.others)
 
-  module _ (x : Row) (more : List Row) (met : AreConflicts (Some (0 ∷ [])) second_schema.indexes table rows source (x ∷ more)) where
+  module _ (x : Row) (more : List Row) (met : AreConflicts (Some (0 ∷ [])) present_schema.indexes table rows source (x ∷ more)) where
     -- the row that has it
     pub number_found : Found has_rowid n rows keyed x
     number_found = found_first has_rowid n rows keyed (0 ∷ []) table source x more met meets
@@ -138,9 +138,9 @@ module _ (table : Table) (n : ℤ) (db next : Trees) (keyed : AreKeyed (db table
     pub number_same : number_found.number ≡ n
     number_same = ties_one (rowid number_found.row) number_found.number n (itself has_rowid n rows keyed (number_one n rows keyed) x number_found) number_found.here
 
-    module _ (it : WritesOver second_schema table db params q source x next) where
-      at_number : WritesOver second_schema table db params q source (Int n ∷ []) next
-      at_number = subst (λ t. WritesOver second_schema table db params q source t next) (number_found.is ∙ ap (λ m. Int m ∷ []) number_same) it
+    module _ (it : WritesOver present_schema table db params q source x next) where
+      at_number : WritesOver present_schema table db params q source (Int n ∷ []) next
+      at_number = subst (λ t. WritesOver present_schema table db params q source t next) (number_found.is ∙ ap (λ m. Int m ∷ []) number_same) it
 
       shows : IsPermutation (map (λ r. eval_all project (given ∷ r ∷ [])) (chosen tests given rows)) at_number.answer
       shows =
@@ -168,10 +168,10 @@ module _ (table : Table) (n : ℤ) (db next : Trees) (keyed : AreKeyed (db table
 
 -- where its number is all that it is found by
 module _ (table : Table) (n : ℤ) (db next : Trees) (keyed : AreKeyed (db table.tree)) (stored : overlay db [] table.tree ≡ db table.tree) (params source : Row) (base : ℕ) (project : List Term)
-    (meets : (r : Row) → Has (db table.tree) r → conflicts (Some (0 ∷ [])) second_schema.indexes table source r ≡ has_rowid n r) (kept : cast_row table source ≡ source)
+    (meets : (r : Row) → Has (db table.tree) r → conflicts (Some (0 ∷ [])) present_schema.indexes table source r ≡ has_rowid n r) (kept : cast_row table source ≡ source)
     (there : column (params ++ Int n ∷ shown table source) base ≡ Int n) (names : (r : Row) → rowid (eval_all project ((params ++ Int n ∷ shown table source) ∷ r ∷ [])) ≡ rowid r)
     (over : (r : Row) → rowid r ≡ Int n → cast_row table (drop 1 (eval_all project ((params ++ Int n ∷ shown table source) ∷ r ∷ []))) ≡ source) where
-  pub number_settles : (found : List Row) → AreConflicts (Some (0 ∷ [])) second_schema.indexes table (db table.tree) source found → Settles second_schema table db params (written_over table.tree base project) source found next
+  pub number_settles : (found : List Row) → AreConflicts (Some (0 ∷ [])) present_schema.indexes table (db table.tree) source found → Settles present_schema table db params (written_over table.tree base project) source found next
       → StandsAlone n source table.tree db next keyed
   number_settles [] met it = number_anew table n db next keyed stored params source (by_given base) project meets kept met it
   number_settles (x ∷ more) met it =
@@ -186,7 +186,7 @@ pub record StandsAt (pair : ℤ × ℤ) (rows : List Row) (keyed : AreKeyed rows
   pub free : (r : Row) → Has (rest has_pair pair rows keyed) r → value_cmp (rowid r) (Int number) ≡ Equal → ⊥
 
 module _ (table : Table) (pair : ℤ × ℤ) (db next : Trees) (keyed : AreKeyed (db table.tree)) (pairs : ArePairs (db table.tree)) (stored : overlay db [] table.tree ≡ db table.tree) (cells : Row) (base : ℕ) (project : List Term)
-    (meets : (r : Row) → Has (db table.tree) r → conflicts (Some (1 ∷ 2 ∷ [])) second_schema.indexes table (Int (next_rowid (db table.tree)) ∷ cells) r ≡ has_pair pair r) (kept : (id : ℤ) → cast_row table (Int id ∷ cells) ≡ Int id ∷ cells)
+    (meets : (r : Row) → Has (db table.tree) r → conflicts (Some (1 ∷ 2 ∷ [])) present_schema.indexes table (Int (next_rowid (db table.tree)) ∷ cells) r ≡ has_pair pair r) (kept : (id : ℤ) → cast_row table (Int id ∷ cells) ≡ Int id ∷ cells)
     (there : (id : ℤ) → column (cells ++ Int id ∷ shown table (Int (next_rowid (db table.tree)) ∷ cells)) base ≡ Int id)
     (names : (id : ℤ) (r : Row) → rowid (eval_all project ((cells ++ Int id ∷ shown table (Int (next_rowid (db table.tree)) ∷ cells)) ∷ r ∷ [])) ≡ rowid r)
     (over : (id : ℤ) (r : Row) → rowid r ≡ Int id → column r 1 ≡ Int pair.0 → column r 2 ≡ Int pair.1 → drop 1 (eval_all project ((cells ++ Int id ∷ shown table (Int (next_rowid (db table.tree)) ∷ cells)) ∷ r ∷ [])) ≡ Int id ∷ cells) where
@@ -196,8 +196,8 @@ module _ (table : Table) (pair : ℤ × ℤ) (db next : Trees) (keyed : AreKeyed
   abbrev source : Row
   source = Int (next_rowid old_rows) ∷ cells
 
-  pub pair_settles : (found : List Row) → AreConflicts (Some (1 ∷ 2 ∷ [])) second_schema.indexes table old_rows source found → Settles second_schema table db cells (written_over table.tree base project) source found next
-      → StandsAt pair old_rows keyed cells (next table.tree) × ((t : ℕ) → t ≢ table.tree → IsNoIndex second_schema t → next t ≡ db t)
+  pub pair_settles : (found : List Row) → AreConflicts (Some (1 ∷ 2 ∷ [])) present_schema.indexes table old_rows source found → Settles present_schema table db cells (written_over table.tree base project) source found next
+      → StandsAt pair old_rows keyed cells (next table.tree) × ((t : ℕ) → t ≢ table.tree → IsNoIndex present_schema t → next t ≡ db t)
   pair_settles [] met it = (
     record {
       number = next_rowid old_rows;
@@ -210,7 +210,7 @@ module _ (table : Table) (pair : ℤ × ℤ) (db next : Trees) (keyed : AreKeyed
       let f = found_first has_pair pair old_rows keyed (1 ∷ 2 ∷ []) table source x more met meets in
       let one = pairs.one pair in
       let given = cells ++ Int f.number ∷ shown table source in
-      let here = subst (λ t. WritesOver second_schema table db cells (written_over table.tree base project) source t next) f.is it in
+      let here = subst (λ t. WritesOver present_schema table db cells (written_over table.tree base project) source t next) f.is it in
       let shows = subst (λ rs. IsPermutation (map (λ r. eval_all project (given ∷ r ∷ [])) (chosen (by_given base) given rs)) here.answer) stored (shows_all table.tree (by_given base) project [] (overlay db []) given here.answer (here.answers.answer Null)) in
       let answer = answers_one has_pair pair old_rows keyed one x f (by_given base) project given here.answer (λ r in_it. picks_given base given f.number (there f.number) r) shows in
       let written = takes_place has_pair pair old_rows keyed one x f table (eval_all project (given ∷ f.row ∷ [])) here.answer (next table.tree) answer (names f.number f.row ∙ f.numbered) here.applies.rows in

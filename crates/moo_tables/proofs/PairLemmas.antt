@@ -1,5 +1,5 @@
 -- What the statements do that write a table with two columns as its key, whichever it is.
-use Rattle.moo_tables.proofs.Words.{◌≡◌, ◌+◌, ◌/◌, ℕ, ℤ, List, [], ◌∷◌, ◌++◌, drop, map, length, slice_get, Option, Some, None, true, false, ◌&&◌, ◌||◌, ◌⊎◌, inl, inr, Bool, Result, Ok, Err, OnOk, IfOk, IsTrue, refl, sym, ap, subst, ◌∙◌, arith, list_all, and_parts, IsPermutation, Null, Int, Error, Row, column, binary, is_true, col, holds, eval_all, Binary, Compare, Eq, with_rowid, next_rowid, cast_all, cast_row, Chosen, shown, Table, Trees, rowid, put_row, overlay, value_rows, understood, State, Executes, statement_of, runs_as, AreConflicts, conflicts, agree, Column, first_key, plain, Tables, second_schema, paired, pair_places, has_pair, cells_at, paired_in, paired_with, same_numbers, update_text, put_text, remove_text, AreKeyed, Sees, Changes, RanStatement, KeepsSlot, WritesOver}
+use Rattle.moo_tables.proofs.Words.{◌≡◌, ◌+◌, ◌/◌, ℕ, ℤ, List, [], ◌∷◌, ◌++◌, drop, map, length, slice_get, Option, Some, None, true, false, ◌&&◌, ◌||◌, ◌⊎◌, inl, inr, Bool, Result, Ok, Err, OnOk, IfOk, IsTrue, refl, sym, ap, subst, ◌∙◌, arith, list_all, and_parts, IsPermutation, Null, Int, Error, Row, column, binary, is_true, col, holds, eval_all, Binary, Compare, Eq, with_rowid, next_rowid, cast_all, cast_row, Chosen, shown, Table, Trees, rowid, put_row, overlay, value_rows, understood, State, Executes, statement_of, runs_as, AreConflicts, conflicts, agree, Column, first_key, plain, Tables, present_schema, paired, pair_places, has_pair, cells_at, paired_in, paired_with, same_numbers, update_text, put_text, remove_text, AreKeyed, Sees, Changes, RanStatement, KeepsSlot, WritesOver}
 use Rattle.moo_tables.proofs.TextLemmas.{WritesByPair, pair_terms, pair_overwrite, writes_where, written_over, by_pair, rowids_where}
 use Rattle.moo_tables.proofs.CastLemmas.{fit, kept_all}
 use Rattle.moo_tables.proofs.StepLemmas.{cast_null, cast_int, updates, deletes}
@@ -26,7 +26,7 @@ pub record HasPairs {K C : Type 0} (t : Table) (pair : K → ℤ × ℤ) (cells 
   pub over : (next id : ℤ) (key : K) (row : C) (r : Row) → eval_all (pair_overwrite t) ((cells key row ++ Int id ∷ shown t (Int next ∷ cells key row)) ∷ r ∷ []) ≡ rowid r ∷ rowid r ∷ column r 1 ∷ column r 2 ∷ drop 2 (cells key row)
   pub updated : (key : K) (row : C) (r : Row) → eval_all (pair_overwrite t) (cells key row ∷ r ∷ []) ≡ rowid r ∷ rowid r ∷ column r 1 ∷ column r 2 ∷ drop 2 (cells key row)
   -- under these two columns no other key is looked at
-  pub conflicting : (new r : Row) → conflicts (Some (1 ∷ 2 ∷ [])) second_schema.indexes t new r ≡ (agree plain (1 ∷ 2 ∷ []) r (1 ∷ 2 ∷ []) new || false)
+  pub conflicting : (new r : Row) → conflicts (Some (1 ∷ 2 ∷ [])) present_schema.indexes t new r ≡ (agree plain (1 ∷ 2 ∷ []) r (1 ∷ 2 ∷ []) new || false)
 
 same_or_not : (a b : Bool) → ((a && (b && true)) || false) ≡ (a && b)
 same_or_not true true = refl
@@ -53,7 +53,7 @@ module _ {K C : Type 0} (name : List ℕ) (tree : ℕ) (columns : List Column) (
   pub fresh : (rows : List Row) (key : K) (row : C) → with_rowid Chosen rows (cast_row t (Null ∷ cells key row)) ≡ Int (next_rowid rows) ∷ cells key row
   fresh rows key row = ap (λ v. with_rowid Chosen rows (v ∷ cast_all columns (cells key row))) cast_null ∙ ap (λ vs. Int (next_rowid rows) ∷ vs) (kept_all columns (cells key row) (it_has.fitting key row))
 
-  pub meets : (id : ℤ) (key : K) (row : C) (r : Row) → conflicts (Some (1 ∷ 2 ∷ [])) second_schema.indexes t (Int id ∷ cells key row) r ≡ has_pair (pair key) r
+  pub meets : (id : ℤ) (key : K) (row : C) (r : Row) → conflicts (Some (1 ∷ 2 ∷ [])) present_schema.indexes t (Int id ∷ cells key row) r ≡ has_pair (pair key) r
   meets id key row r =
       it_has.conflicting (Int id ∷ cells key row) r ∙ ap (λ vs. agree plain (1 ∷ 2 ∷ []) r (1 ∷ 2 ∷ []) (Int id ∷ vs) || false) (it_has.begins key row)
       ∙ pairs_agree id (pair key).0 (pair key).1 (drop 2 (cells key row)) r
@@ -81,7 +81,7 @@ module _ {K C : Type 0} (name : List ℕ) (tree : ℕ) (columns : List Column) (
   has_its_pair id key row = ap (λ vs. has_pair (pair key) (Int id ∷ vs)) (it_has.begins key row) ∙ pair_has (pair key) (drop 2 (cells key row)) id
 
   -- the table stands at this place of the schema, and a change of its tree changes this one of the tables
-  module _ (at : ℕ) (is : slice_get second_schema.tables at ≡ Some (paired name tree columns)) (writes : WritesByPair at (paired name tree columns)) (With : ℤ × ℤ → Option Row → Tables → Tables) (keyed_seen : (s : State) (tables : Tables) → Sees s tables → AreKeyed (s.now.trees tree)) (pairs_seen : (s : State) (tables : Tables) → Sees s tables → ArePairs (s.now.trees tree))
+  module _ (at : ℕ) (is : slice_get present_schema.tables at ≡ Some (paired name tree columns)) (writes : WritesByPair at (paired name tree columns)) (With : ℤ × ℤ → Option Row → Tables → Tables) (keyed_seen : (s : State) (tables : Tables) → Sees s tables → AreKeyed (s.now.trees tree)) (pairs_seen : (s : State) (tables : Tables) → Sees s tables → ArePairs (s.now.trees tree))
       (sees : (old new : State) (tables : Tables) (key : ℤ × ℤ) (shown : Option Row) (rows : List Row) → Sees old tables → SetsTree old new tree rows → AreKeyed rows
       → ((k : ℤ × ℤ) → paired_in places rows k ≡ paired_with key shown (paired_in places (old.now.trees tree)) k) → Sees new (With key shown tables) × KeepsSlot old.now new.now) where
     puts : (old new : State) (key : K) (row : C) (count : ℕ) (tables : Tables) → Sees old tables → Executes (put_text t) (cells key row) old new (Ok count) → IsTrue new.in_transaction → Sees new (With (pair key) (Some (cells key row)) tables) × KeepsSlot old.now new.now
@@ -93,11 +93,11 @@ module _ {K C : Type 0} (name : List ℕ) (tree : ℕ) (columns : List Column) (
         let next = next_rowid old_rows in
         let keyed = keyed_seen old tables seen in
         let update = written_over tree (length columns) (pair_overwrite t) in
-        let w = runs_as (put_text t) params old new second_schema has _ writes.put writes.put_plain count h in
-        let it = upserts second_schema moo_quiet at _ _ _ _ _ _ _ is old new has (statement_of (put_text t) (understood second_schema (put_text t))) params count (1 ∷ 2 ∷ []) update (pair_terms t) (length columns + 1) (Null ∷ params) (it_has.alone key row) w in
+        let w = runs_as (put_text t) params old new present_schema has _ writes.put writes.put_plain count h in
+        let it = upserts present_schema moo_quiet at _ _ _ _ _ _ _ is old new has (statement_of (put_text t) (understood present_schema (put_text t))) params count (1 ∷ 2 ∷ []) update (pair_terms t) (length columns + 1) (Null ∷ params) (it_has.alone key row) w in
         let whole = fresh old_rows key row in
-        let met = subst (λ r. AreConflicts (Some (1 ∷ 2 ∷ [])) second_schema.indexes t old_rows r it.found) whole it.conflicts in
-        let ends = subst (λ r. Settles second_schema t old.now.trees params update r it.found new.now.trees) whole it.settles in
+        let met = subst (λ r. AreConflicts (Some (1 ∷ 2 ∷ [])) present_schema.indexes t old_rows r it.found) whole it.conflicts in
+        let ends = subst (λ r. Settles present_schema t old.now.trees params update r it.found new.now.trees) whole it.settles in
         let put = pair_settles t two old.now.trees new.now.trees keyed (pairs_seen old tables seen) (it_has.stored old.now.trees) params (length columns) (pair_overwrite t) (λ r in_it. meets next key row r) (λ id. kept id key row) (λ id. it_has.there next id key row) (λ id r. refl) (over next key row) it.found met ends in
         let number = put.0.number in
         sees old new tables two (Some params) (put_row (Int number ∷ params) (rest has_pair two old_rows keyed)) seen
@@ -120,8 +120,8 @@ module _ {K C : Type 0} (name : List ℕ) (tree : ℕ) (columns : List Column) (
         let pairs = pairs_seen old tables seen in
         let one = pairs.one two in
         let project = pair_overwrite t in
-        let w = runs_as (update_text t) params old new second_schema has _ writes.update writes.update_plain count h in
-        let it = updates second_schema moo_quiet at _ _ _ _ _ _ _ is old new has (statement_of (update_text t) (understood second_schema (update_text t))) params count (writes_where tree by_pair project) w in
+        let w = runs_as (update_text t) params old new present_schema has _ writes.update writes.update_plain count h in
+        let it = updates present_schema moo_quiet at _ _ _ _ _ _ _ is old new has (statement_of (update_text t) (understood present_schema (update_text t))) params count (writes_where tree by_pair project) w in
         let shown = subst (λ rs. IsPermutation (map (λ r. eval_all project (params ∷ r ∷ [])) (chosen by_pair params rs)) it.answer) (it_has.stored old.now.trees) (shows_all tree by_pair project [] (overlay old.now.trees []) params it.answer (it.answers.answer Null)) in
         let sets : (rows : List Row) → new.now.trees tree ≡ rows → SetsTree old new tree rows = λ rows is_so. record { schema_is = it.edited.schema_is; sound = w.sound; is_open = w.shown.is_open; inside = inside; rows_are = is_so; others = it.edited.applies.others } in
         elim (over_or_left has_pair two old_rows keyed one t by_pair project params it.answer (λ r in_it. finds key row r) (λ r. refl) shown) [
@@ -148,8 +148,8 @@ module _ {K C : Type 0} (name : List ℕ) (tree : ℕ) (columns : List Column) (
         let params : Row = Int two.0 ∷ Int two.1 ∷ [] in
         let old_rows = old.now.trees tree in
         let keyed = keyed_seen old tables seen in
-        let w = runs_as (remove_text t) params old new second_schema has _ writes.remove writes.remove_plain count h in
-        let it = deletes second_schema moo_quiet at _ _ _ _ _ _ _ is old new has (statement_of (remove_text t) (understood second_schema (remove_text t))) params count (rowids_where tree by_pair) w in
+        let w = runs_as (remove_text t) params old new present_schema has _ writes.remove writes.remove_plain count h in
+        let it = deletes present_schema moo_quiet at _ _ _ _ _ _ _ is old new has (statement_of (remove_text t) (understood present_schema (remove_text t))) params count (rowids_where tree by_pair) w in
         let shown = subst (λ rows. IsPermutation (map (λ r. rowid r ∷ []) (chosen by_pair params rows)) it.0) (it_has.stored old.now.trees) (shows_all tree by_pair (col 1 0 ∷ []) [] (overlay old.now.trees []) params it.0 (it.1.answer Null)) in
         let left = it.2.applies.rows ∙ went_out has_pair two old_rows keyed by_pair params [] it.0 shown (picks_pair two []) in
         sees old new tables two None (rest has_pair two old_rows keyed) seen

@@ -1,5 +1,5 @@
 -- What the queries of the tables answer.
-use Rattle.moo_tables.proofs.Words.{◌≡◌, ◌⊎◌, ◌&&◌, None, ℕ, ℤ, List, [], ◌∷◌, map, drop, codes, option_map, true, false, not, Vec, inl, inr, Result, Ok, Err, IfOk, OnOk, OnErr, IsTrue, refl, sym, ap, subst, ◌∙◌, is_eq, ordering_then, IsPermutation, Global, Contains-permutation, IsPermutation-sym, and_parts, not-true, Null, Error, Row, column, value_cmp, Term, eval_all, Query, Output, output, output_cmp, overlay, Schema, Table, Trees, Column, AllByRecursion, Database, understood, State, HasCleanDisk, Shown, ShowsRows, Survives, CommitsShowing, IsUnchanged, IsRolledBack, timed, IsPlain, reads_as, never_commits, survives_weaker, survives_then, IsAscending, is_int, then-Equal, output_cmp_total, Datatype, NotNull, Unique, clashes, are_typed, are_present, has_computed, plain, IsSound, Has, all_has, all_from, has_contained, contains_had, ascending-map, ascending_from_map, ascending_weaker, all_map, Version, First, Second, Tables, required, schema_of, slot_tree, head_table, object_table, prop_table, petition_table, petition_head_table, slot_table, slot2_table, verb_table, has_pair, cells_at, found_in, numbered_in, paired_in, head_places, object_places, prop_places, slot_places, verb_places, petition_places, petition_head_places, second_schema, in_second, select_text, AreKeyed, Holds, Rests, HasTables, ReadsTables, FailsToRead, ListsNumbers, ListsPairs, IsRowBelow, has_key_pair}
+use Rattle.moo_tables.proofs.Words.{◌≡◌, ◌⊎◌, ◌&&◌, None, ℕ, ℤ, List, [], ◌∷◌, map, drop, codes, option_map, true, false, not, Vec, inl, inr, Result, Ok, Err, IfOk, OnOk, OnErr, IsTrue, refl, sym, ap, subst, ◌∙◌, is_eq, ordering_then, IsPermutation, Global, Contains-permutation, IsPermutation-sym, and_parts, not-true, Null, Error, Row, column, value_cmp, Term, eval_all, Query, Output, output, output_cmp, overlay, Schema, Table, Trees, Column, AllByRecursion, Database, understood, State, HasCleanDisk, Shown, ShowsRows, Survives, CommitsShowing, IsUnchanged, IsRolledBack, timed, IsPlain, reads_as, never_commits, survives_weaker, survives_then, IsAscending, is_int, then-Equal, output_cmp_total, Datatype, NotNull, Unique, clashes, are_typed, are_present, has_computed, plain, IsSound, Has, all_has, all_from, has_contained, contains_had, ascending-map, ascending_from_map, ascending_weaker, all_map, Version, First, Second, Tables, required, schema_of, slot_tree, head_table, object_table, prop_table, petition_table, petition_head_table, slot_table, slot2_table, verb_table, has_pair, cells_at, found_in, numbered_in, paired_in, head_places, object_places, prop_places, slot_places, verb_places, petition_places, petition_head_places, select_text, AreKeyed, Holds, Rests, HasTables, ReadsTables, FailsToRead, ListsNumbers, ListsPairs, IsRowBelow, has_key_pair, has_petitions, petition_rows, if◌then◌else◌}
 use Rattle.std.proofs.Common.{Ordering, Less, Equal}
 use Rattle.std.specs.Cmp.{on_total}
 use Rattle.sqlite_schema.specs.declared.schema.Kind.TheVariants.{Integer}
@@ -243,21 +243,24 @@ verb_lists old new rows tables holds h =
     let pairs = verb_pairs tables.version old.now.trees (sound_in old.now tables holds) holds.verbs in
     subst (ListsPairs rows) (ap (λ (t : Tables). t.verb) holds.rows) (pairs_listed (schema_of tables.version) (select_text verb_table) 5 (pair_columns verb_table) _ (drop 2 verb_places) old new rows holds.schema holds.verbs refl h (select_verb tables.version) (λ r. refl) pairs)
 
-pub petition_lists : (old new : State) (rows : List Row) (tables : Tables) → Holds old.now tables → Shown (select_text petition_table) [] old new rows → tables.version ≡ Second → ListsNumbers rows tables.petition
-petition_lists old new rows tables holds h is =
+pub petition_lists : (old new : State) (rows : List Row) (tables : Tables) → Holds old.now tables → Shown (select_text petition_table) [] old new rows → IsTrue (has_petitions tables.version) → ListsNumbers rows tables.petition
+petition_lists old new rows tables holds h has =
     let stored = old.now.trees 9 in
-    subst (ListsNumbers rows) (ap (λ v. numbered_in petition_places (in_second v stored)) (sym is) ∙ ap (λ (t : Tables). t.petition) holds.rows)
-    (numbers_listed second_schema (select_text petition_table) 9 (number_columns petition_table) _ (drop 1 petition_places) old new rows (holds.schema ∙ ap schema_of is) (subst (λ v. AreKeyed (in_second v stored)) is holds.petitions) refl h select_petition (λ r. refl))
+    let all : petition_rows tables.version stored ≡ stored = ap (λ b. if b then stored else []) has in
+    subst (ListsNumbers rows) (ap (numbered_in petition_places) (sym all) ∙ ap (λ (t : Tables). t.petition) holds.rows)
+    (numbers_listed (schema_of tables.version) (select_text petition_table) 9 (number_columns petition_table) _ (drop 1 petition_places) old new rows holds.schema (subst AreKeyed all holds.petitions) refl h (select_petition tables.version has) (λ r. refl))
 
-pub counter_lists : (old new : State) (rows : List Row) (tables : Tables) → Holds old.now tables → Shown (select_text petition_head_table) [] old new rows → tables.version ≡ Second → ListsNumbers rows tables.petition_head
-counter_lists old new rows tables holds h is =
+pub counter_lists : (old new : State) (rows : List Row) (tables : Tables) → Holds old.now tables → Shown (select_text petition_head_table) [] old new rows → IsTrue (has_petitions tables.version) → ListsNumbers rows tables.petition_head
+counter_lists old new rows tables holds h has =
     let stored = old.now.trees 10 in
-    subst (ListsNumbers rows) (ap (λ v. numbered_in petition_head_places (in_second v stored)) (sym is) ∙ ap (λ (t : Tables). t.petition_head) holds.rows)
-    (numbers_listed second_schema (select_text petition_head_table) 10 (number_columns petition_head_table) _ (drop 1 petition_head_places) old new rows (holds.schema ∙ ap schema_of is) (subst (λ v. AreKeyed (in_second v stored)) is holds.petition_heads) refl h select_counter (λ r. refl))
+    let all : petition_rows tables.version stored ≡ stored = ap (λ b. if b then stored else []) has in
+    subst (ListsNumbers rows) (ap (numbered_in petition_head_places) (sym all) ∙ ap (λ (t : Tables). t.petition_head) holds.rows)
+    (numbers_listed (schema_of tables.version) (select_text petition_head_table) 10 (number_columns petition_head_table) _ (drop 1 petition_head_places) old new rows holds.schema (subst AreKeyed all holds.petition_heads) refl h (select_counter tables.version has) (λ r. refl))
 
--- the first version has no petition, and no number for the next
-pub none_listed : (db : Database) (tables : Tables) → Holds db tables → tables.version ≡ First → ListsNumbers [] tables.petition × ListsNumbers [] tables.petition_head
-none_listed db tables holds is = (
-  record { keyed = (tt, tt); found = λ n i. (ap (λ v. numbered_in petition_places (in_second v (db.trees 9))) (sym is) ∙ ap (λ (t : Tables). t.petition) holds.rows) i n },
-  record { keyed = (tt, tt); found = λ n i. (ap (λ v. numbered_in petition_head_places (in_second v (db.trees 10))) (sym is) ∙ ap (λ (t : Tables). t.petition_head) holds.rows) i n },
-)
+-- a version without petitions has no number for the next either
+pub none_listed : (db : Database) (tables : Tables) → Holds db tables → has_petitions tables.version ≡ false → ListsNumbers [] tables.petition × ListsNumbers [] tables.petition_head
+none_listed db tables holds without =
+    let none = λ (rows : List Row). ap (λ b. if b then rows else []) without in (
+      record { keyed = (tt, tt); found = λ n i. (ap (numbered_in petition_places) (sym (none (db.trees 9))) ∙ ap (λ (t : Tables). t.petition) holds.rows) i n },
+      record { keyed = (tt, tt); found = λ n i. (ap (numbered_in petition_head_places) (sym (none (db.trees 10))) ∙ ap (λ (t : Tables). t.petition_head) holds.rows) i n },
+    )

@@ -1,5 +1,5 @@
 -- Why SQL refuses a write of our tables: it can, for its steps or for its rows' numbers, but not for its text, its types or its keys.
-use Rattle.moo_tables.proofs.Words.{◌≡◌, ◌⊎◌, inl, inr, ℕ, zero, suc, ℤ, List, [], ◌∷◌, ◌++◌, length, drop, Bool, true, false, true≢false, ◌||◌, not, Option, Some, None, Err, Result, IsSome, refl, sym, ap, subst, ◌∙◌, arith, length-append, ◌/◌, ◌&&◌, nat_lt, AllByRecursion, list_all, Error, Row, Table, Trees, put_row, rowid, with_tree, Edit, edit_of, with_rowid, without_all, cast_row, Given, Chosen, Answers, RefusesQuery, value_rows, edit_error, Concludes, Task, Written, Edited, Updates, Deletes, InsertsOr, Tries, TriesEach, Judged, Upserts, Meets, Clears, Puts, shown, count_of, nothing, inner, end, Term, overlay, Enforced, Datatype, NotNull, Check, PrimaryKey, Unique, ForeignKey, Refers, Keeps, passes, AreConflicts, ids_of, is_int, Column, Abort, Upsert, Values, Order, IsRefused, is_taken, taken_by, left_by, edited, are_fresh, have_rowids, is_referred, no_fold_overflows, accepts_program, accepts_terms, second_schema, table_of}
+use Rattle.moo_tables.proofs.Words.{◌≡◌, ◌⊎◌, inl, inr, ℕ, zero, suc, ℤ, List, [], ◌∷◌, ◌++◌, length, drop, Bool, true, false, true≢false, ◌||◌, not, Option, Some, None, Err, Result, IsSome, refl, sym, ap, subst, ◌∙◌, arith, length-append, ◌/◌, ◌&&◌, nat_lt, AllByRecursion, list_all, Error, Row, Table, Trees, put_row, rowid, with_tree, Edit, edit_of, with_rowid, without_all, cast_row, Given, Chosen, Answers, RefusesQuery, value_rows, edit_error, Concludes, Task, Written, Edited, Updates, Deletes, InsertsOr, Tries, TriesEach, Judged, Upserts, Meets, Clears, Puts, shown, count_of, nothing, inner, end, Term, overlay, Enforced, Datatype, NotNull, Check, PrimaryKey, Unique, ForeignKey, Refers, Keeps, passes, AreConflicts, ids_of, is_int, Column, Abort, Upsert, Values, Order, IsRefused, is_taken, taken_by, left_by, edited, are_fresh, have_rowids, is_referred, no_fold_overflows, accepts_program, accepts_terms, present_schema, table_of}
 use Rattle.sqlite.specs.declared.error.Error.TheVariants.{SqliteFailure}
 use Rattle.sqlite.specs.declared.error.ErrorCode.TheVariants as code
 use Rattle.sqlite.specs.declared.run.Mode.{Mode}
@@ -25,7 +25,7 @@ pub each : (rows : List Row) → AllByRecursion (λ row. true ≡ true) rows
 each [] = tt
 each (r ∷ rows) = (refl, each rows)
 
-refer_all : (db : Trees) → Refers All second_schema db
+refer_all : (db : Trees) → Refers All present_schema db
 refer_all db = (each (db 0), (each (db 1), (each (db 2), (each (db 3), (each (db 5), (each (db 7), (each (db 9), (each (db 10), tt))))))))
 
 abbrev pub mode : Mode
@@ -33,7 +33,7 @@ mode = record { keys = Enforced; in_doubt = false; may_wait = false }
 
 module _ (limit : Option ℕ) (table : Table) (params : Row) where
   abbrev pub task : Task
-  task = record { limit = limit; keys = Enforced; schema = second_schema; table = table; params = params }
+  task = record { limit = limit; keys = Enforced; schema = present_schema; table = table; params = params }
 
   pub concluded : (w : Written) (e : Error) → Concludes task mode None w (Err (Some e)) → ⊥
   concluded w e h = elim (halted h) [
@@ -43,8 +43,8 @@ module _ (limit : Option ℕ) (table : Table) (params : Row) where
 
 -- ---- a query
 
-pub queried : (limit : Option ℕ) (db : Trees) (params : Row) (tree : ℕ) (filter project : List Term) (e : Error) → accepts_program second_schema [] (plain_query tree filter project []) params ≡ true
-    → RefusesQuery limit (record { schema = second_schema; trees = db }) (writes_where tree filter project) params e → (e ≡ SqliteFailure code.OperationInterrupted) × IsSome limit
+pub queried : (limit : Option ℕ) (db : Trees) (params : Row) (tree : ℕ) (filter project : List Term) (e : Error) → accepts_program present_schema [] (plain_query tree filter project []) params ≡ true
+    → RefusesQuery limit (record { schema = present_schema; trees = db }) (writes_where tree filter project) params e → (e ≡ SqliteFailure code.OperationInterrupted) × IsSome limit
 queried limit db params tree filter project e accepted (inl h) = absurd (true≢false (sym accepted ∙ h.1))
 queried limit db params tree filter project e accepted (inr (inl h)) =
     absurd (elim h.1 [ inl grouped ↦ grouped | inr folded ↦ no_fold_overflows (overlay db []) (inner tree end) (params ∷ []) refl folded ])
@@ -53,18 +53,18 @@ queried limit db params tree filter project e accepted (inr (inr h)) = h
 -- ---- an edit
 
 pub record IsClear (db : Trees) (edit : Edit) : Type 0 where
-  pub typed : list_all (passes Datatype second_schema db edit.table) edit.news ≡ true
-  pub present : list_all (passes NotNull second_schema db edit.table) edit.news ≡ true
-  pub checked : list_all (passes Check second_schema db edit.table) edit.news ≡ true
+  pub typed : list_all (passes Datatype present_schema db edit.table) edit.news ≡ true
+  pub present : list_all (passes NotNull present_schema db edit.table) edit.news ≡ true
+  pub checked : list_all (passes Check present_schema db edit.table) edit.news ≡ true
   pub fresh : are_fresh (left_by db edit) edit.news ≡ true
   pub keyed : have_rowids edit.news ≡ true
-  pub referred : is_referred second_schema Enforced edit ≡ true
-  pub unique : Keeps Unique second_schema (with_tree db edit.table.tree (edited db edit))
+  pub referred : is_referred present_schema Enforced edit ≡ true
+  pub unique : Keeps Unique present_schema (with_tree db edit.table.tree (edited db edit))
 
 both : {b : Bool} → b ≡ true → b ≡ false → ⊥
 both p q = true≢false (sym p ∙ q)
 
-not_refused : (db : Trees) (edit : Edit) → IsClear db edit → (why : Refusal) → IsRefused second_schema Enforced db edit why → edit_error why ≡ SqliteFailure code.NoRowid
+not_refused : (db : Trees) (edit : Edit) → IsClear db edit → (why : Refusal) → IsRefused present_schema Enforced db edit why → edit_error why ≡ SqliteFailure code.NoRowid
 not_refused db edit clear (Violates Datatype) h = absurd (both clear.typed h)
 not_refused db edit clear (Violates NotNull) h = absurd (both clear.present h)
 not_refused db edit clear (Violates Check) h = absurd (both clear.checked h)
@@ -76,16 +76,16 @@ not_refused db edit clear NoRowid h = refl
 not_refused db edit clear BadReference h = absurd (both clear.referred h)
 not_refused db edit clear TooDeep h = absurd h
 
-settled : (db : Trees) (n : ℕ) (why : Refusal) → Leads second_schema Enforced n db [] (Err (Some why)) → ⊥
+settled : (db : Trees) (n : ℕ) (why : Refusal) → Leads present_schema Enforced n db [] (Err (Some why)) → ⊥
 settled db zero why h = let e = h.1 in cc
 settled db (suc n) why h = omega (arith, ap length h.2, length-append h.0 (h.1 ∷ []))
 
-refused_by : (db : Trees) (edit : Edit) (why : Refusal) → works second_schema Enforced 0 edit.table.tree (taken_by db edit) edit.news ≡ [] → Writes second_schema Enforced db edit (Err (Some why)) → IsRefused second_schema Enforced db edit why
-refused_by db edit why none (inl h) = let same : h.0 ≡ why = (let e = h.2 in cc) in subst (IsRefused second_schema Enforced db edit) same h.1
+refused_by : (db : Trees) (edit : Edit) (why : Refusal) → works present_schema Enforced 0 edit.table.tree (taken_by db edit) edit.news ≡ [] → Writes present_schema Enforced db edit (Err (Some why)) → IsRefused present_schema Enforced db edit why
+refused_by db edit why none (inl h) = let same : h.0 ≡ why = (let e = h.2 in cc) in subst (IsRefused present_schema Enforced db edit) same h.1
 refused_by db edit why none (inr (inl h)) = absurd (let e = h.3 in cc)
 refused_by db edit why none (inr (inr h)) = absurd (settled h.0 h.2.0 why (rw none at h.2.1))
 
-pub edited_clear : (db : Trees) (edit : Edit) (e : Error) → IsClear db edit → Edited second_schema Enforced db edit (Err (Some e)) → e ≡ SqliteFailure code.NoRowid
+pub edited_clear : (db : Trees) (edit : Edit) (e : Error) → IsClear db edit → Edited present_schema Enforced db edit (Err (Some e)) → e ≡ SqliteFailure code.NoRowid
 edited_clear db edit e clear (None, wrote, is) = absurd (let x = is in cc)
 edited_clear db edit e clear (Some why, wrote, is) = (let same : e ≡ edit_error why = (let x = is in cc) in same ∙ not_refused db edit clear why (refused_by db edit why refl wrote))
 
@@ -105,7 +105,7 @@ module _ (name : List ℕ) (tree : ℕ) (columns : List Column) (key : Option �
   t = table_of name tree columns key primary uniques orders
 
   -- rows go, and none comes
-  pub clear_none : (gone : List ℤ) (from : ℕ) → Keeps Unique second_schema (with_tree db tree (without_all (db tree) gone)) → IsClear db (edit_of db t gone Given from [])
+  pub clear_none : (gone : List ℤ) (from : ℕ) → Keeps Unique present_schema (with_tree db tree (without_all (db tree) gone)) → IsClear db (edit_of db t gone Given from [])
   clear_none gone from unique = record { typed = refl; present = refl; checked = refl; fresh = refl; keyed = refl; referred = fits false (nat_lt 0 (length gone)); unique = unique }
 
   -- one row comes, which passes what is asked of each row, and whose number is free
@@ -115,7 +115,7 @@ module _ (name : List ℕ) (tree : ℕ) (columns : List Column) (key : Option �
     pub keyed : is_int (rowid row) ≡ true
 
   pub clear_one : (gone : List ℤ) (from : ℕ) (source row : Row) → cast_row t (drop from source) ≡ row → IsFit row → is_taken (without_all (db tree) gone) row ≡ false
-      → Keeps Unique second_schema (with_tree db tree (put_row row (without_all (db tree) gone))) → IsClear db (edit_of db t gone Given from (source ∷ []))
+      → Keeps Unique present_schema (with_tree db tree (put_row row (without_all (db tree) gone))) → IsClear db (edit_of db t gone Given from (source ∷ []))
   clear_one gone from source row is fit free unique = record {
     typed = subst (λ r. (is_typed t r && true) ≡ true) (sym is) (alone _ fit.typed);
     present = subst (λ r. (is_present t r && true) ≡ true) (sym is) (alone _ fit.present);
@@ -123,7 +123,7 @@ module _ (name : List ℕ) (tree : ℕ) (columns : List Column) (key : Option �
     fresh = subst (λ r. (not (is_taken (without_all (db tree) gone) r) && true) ≡ true) (sym is) (rw free refl);
     keyed = subst (λ r. (is_int (rowid r) && true) ≡ true) (sym is) (alone _ fit.keyed);
     referred = fits true (nat_lt 0 (length gone));
-    unique = subst (λ r. Keeps Unique second_schema (with_tree db tree (put_row r (without_all (db tree) gone)))) (sym is) unique;
+    unique = subst (λ r. Keeps Unique present_schema (with_tree db tree (put_row r (without_all (db tree) gone)))) (sym is) unique;
   }
 
   module _ (limit : Option ℕ) (params : Row) (e : Error) where
@@ -131,8 +131,8 @@ module _ (name : List ℕ) (tree : ℕ) (columns : List Column) (key : Option �
     mine = task limit t params
 
     -- what an update's query answers is clear, so all that is left is its steps, and the numbers
-    pub update_stops : (given : Row) (filter project : List Term) → accepts_program second_schema [] (plain_query tree filter project []) given ≡ true
-        → ((answer : List Row) → Answers (record { schema = second_schema; trees = db }) (writes_where tree filter project) given answer → IsClear db (edit_of db t (ids_of answer) Given 1 answer))
+    pub update_stops : (given : Row) (filter project : List Term) → accepts_program present_schema [] (plain_query tree filter project []) given ≡ true
+        → ((answer : List Row) → Answers (record { schema = present_schema; trees = db }) (writes_where tree filter project) given answer → IsClear db (edit_of db t (ids_of answer) Given 1 answer))
         → Updates mine (writes_where tree filter project) given db (Err (Some e)) → IsAllowed limit e
     update_stops given filter project accepted clear h = elim (halted h) [
       | inl asked ↦ inl (queried limit db given tree filter project e accepted asked)
@@ -142,8 +142,8 @@ module _ (name : List ℕ) (tree : ℕ) (columns : List Column) (key : Option �
       ]
     ]
 
-    pub delete_stops : (filter project : List Term) → accepts_program second_schema [] (plain_query tree filter project []) params ≡ true
-        → ((answer : List Row) → Answers (record { schema = second_schema; trees = db }) (writes_where tree filter project) params answer → IsClear db (edit_of db t (ids_of answer) Given 0 []))
+    pub delete_stops : (filter project : List Term) → accepts_program present_schema [] (plain_query tree filter project []) params ≡ true
+        → ((answer : List Row) → Answers (record { schema = present_schema; trees = db }) (writes_where tree filter project) params answer → IsClear db (edit_of db t (ids_of answer) Given 0 []))
         → Deletes mine (writes_where tree filter project) db (Err (Some e)) → IsAllowed limit e
     delete_stops filter project accepted clear h = elim (halted h) [
       | inl asked ↦ inl (queried limit db params tree filter project e accepted asked)
@@ -169,10 +169,10 @@ module _ (name : List ℕ) (tree : ℕ) (columns : List Column) (key : Option �
 
       -- what an upsert meets: the row is put, or another is written over
       pub record Upserting (row : Row) : Type 0 where
-        pub puts : AreConflicts (Some target) second_schema.indexes t (db tree) row [] → IsClear db (edit_of db t [] Given 0 (row ∷ []))
-        pub overs : (there : Row) (more : List Row) → AreConflicts (Some target) second_schema.indexes t (db tree) row (there ∷ more) → Updates mine (writes_where tree filter project) (params ++ rowid there ∷ shown t row) db (Err (Some e)) → IsAllowed limit e
+        pub puts : AreConflicts (Some target) present_schema.indexes t (db tree) row [] → IsClear db (edit_of db t [] Given 0 (row ∷ []))
+        pub overs : (there : Row) (more : List Row) → AreConflicts (Some target) present_schema.indexes t (db tree) row (there ∷ more) → Updates mine (writes_where tree filter project) (params ++ rowid there ∷ shown t row) db (Err (Some e)) → IsAllowed limit e
 
-      met_stops : (row : Row) (found : List Row) → Upserting row → AreConflicts (Some target) second_schema.indexes t (db tree) row found → Meets mine (Upserts mine Abort row db []) row db clause found (Err (Some e)) → IsAllowed limit e
+      met_stops : (row : Row) (found : List Row) → Upserting row → AreConflicts (Some target) present_schema.indexes t (db tree) row found → Meets mine (Upserts mine Abort row db []) row db clause found (Err (Some e)) → IsAllowed limit e
       met_stops row [] ups met h = clears_stop row h.0 (ups.puts met) h.2
       met_stops row (there ∷ more) ups met h = ups.overs there more met h
 

@@ -1,5 +1,5 @@
 -- What the texts that read a table mean.
-use Rattle.moo_tables.proofs.Words.{◌≡◌, ℕ, List, map, false, refl, Select, Schema, Table, understood, reads_listing, Term, col, IsPlain, command_of, everything, Program, Version, First, Second, first_schema, second_schema, schema_of, slot_tree, number_places, pair_places, head_table, object_table, prop_table, slot_table, slot2_table, verb_table, petition_table, petition_head_table, select_text, names}
+use Rattle.moo_tables.proofs.Words.{◌≡◌, ℕ, List, map, false, refl, Select, Schema, Table, understood, reads_listing, Term, col, IsPlain, command_of, everything, Program, Version, First, Second, first_schema, second_schema, schema_of, slot_tree, number_places, pair_places, head_table, object_table, prop_table, slot_table, slot2_table, verb_table, petition_table, petition_head_table, select_text, names, IsTrue, has_petitions, has_lettered_bits, sym, true≢false, if◌then◌else◌}
 use Rattle.moo_tables.proofs.TextLemmas.{in_order, number_order, pair_order}
 
 -- the text is this query of the schema, and reads no list of tables
@@ -74,8 +74,7 @@ select_verb Second = verb_second
 -- ---- the slots, each version's from its own table
 
 abbrev pub slots_table : Version → Table
-slots_table First = slot_table
-slots_table Second = slot2_table
+slots_table version = if has_lettered_bits version then slot_table else slot2_table
 
 slot_first : SelectsByPair first_schema slot_table
 unfolding understood everything
@@ -89,12 +88,20 @@ pub select_slot : (version : Version) → IsSelect (schema_of version) (select_t
 select_slot First = slot_first
 select_slot Second = slot_second
 
--- ---- petition and petition_head, which the second version alone has
+-- ---- petition and petition_head, which a version with petitions has
 
-pub select_petition : SelectsByNumber second_schema petition_table
+petition_second : SelectsByNumber second_schema petition_table
 unfolding understood everything
-select_petition = record { command = refl; plain = (refl, refl); unlisted = refl }
+petition_second = record { command = refl; plain = (refl, refl); unlisted = refl }
 
-pub select_counter : SelectsByNumber second_schema petition_head_table
+pub select_petition : (version : Version) → IsTrue (has_petitions version) → SelectsByNumber (schema_of version) petition_table
+select_petition First has = absurd (true≢false (sym has))
+select_petition Second has = petition_second
+
+counter_second : SelectsByNumber second_schema petition_head_table
 unfolding understood everything
-select_counter = record { command = refl; plain = (refl, refl); unlisted = refl }
+counter_second = record { command = refl; plain = (refl, refl); unlisted = refl }
+
+pub select_counter : (version : Version) → IsTrue (has_petitions version) → SelectsByNumber (schema_of version) petition_head_table
+select_counter First has = absurd (true≢false (sym has))
+select_counter Second has = counter_second

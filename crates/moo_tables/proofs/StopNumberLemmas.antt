@@ -1,5 +1,5 @@
 -- Why a statement fails that writes a table with a number as its key, whichever it is.
-use Rattle.moo_tables.proofs.Words.{◌≡◌, ◌⊎◌, inl, inr, ℕ, ◌+◌, ℤ, List, [], ◌∷◌, ◌++◌, filter, map, drop, length, slice_get, Bool, true, false, true≢false, ◌&&◌, not, Some, None, Ok, Err, Result, IsTrue, refl, sym, ap, subst, ◌∙◌, list_any, list_all, IsPermutation, Error, Value, Null, Int, Text, is_eq, and_parts, and_from, tied_itself, value_cmp_total, Row, value_cmp, Term, col, holds, eval_all, Table, Trees, rowid, has_rowid, with_tree, edit_of, with_rowid, without_all, id_in, cast_row, Given, Chosen, Updates, shown, overlay, Does, Answers, InsertOr, Update, Delete, Values, Abort, Enforced, understood, State, mode_of, Unique, Column, Keeps, is_taken, AreConflicts, Has, ids_of, some_has, some_from, all_has, has_filtered, is_int, one_permutation, accepts_program, accepts_terms, HasCauseIn, Tables, second_schema, numbered, update_text, keep_text, put_text, remove_text, AreKeyed, Sees}
+use Rattle.moo_tables.proofs.Words.{◌≡◌, ◌⊎◌, inl, inr, ℕ, ◌+◌, ℤ, List, [], ◌∷◌, ◌++◌, filter, map, drop, length, slice_get, Bool, true, false, true≢false, ◌&&◌, not, Some, None, Ok, Err, Result, IsTrue, refl, sym, ap, subst, ◌∙◌, list_any, list_all, IsPermutation, Error, Value, Null, Int, Text, is_eq, and_parts, and_from, tied_itself, value_cmp_total, Row, value_cmp, Term, col, holds, eval_all, Table, Trees, rowid, has_rowid, with_tree, edit_of, with_rowid, without_all, id_in, cast_row, Given, Chosen, Updates, shown, overlay, Does, Answers, InsertOr, Update, Delete, Values, Abort, Enforced, understood, State, mode_of, Unique, Column, Keeps, is_taken, AreConflicts, Has, ids_of, some_has, some_from, all_has, has_filtered, is_int, one_permutation, accepts_program, accepts_terms, HasCauseIn, Tables, present_schema, numbered, update_text, keep_text, put_text, remove_text, AreKeyed, Sees}
 use Rattle.moo_tables.proofs.TextLemmas.{WritesByNumber, KeepsByNumber, plain_query, number_terms, number_overwrite, number_keep, written_over, writes_where, by_number, by_given}
 use Rattle.moo_tables.proofs.KeyLemmas.{is_false, both_ways, filter_same, int_value}
 use Rattle.moo_tables.proofs.QueryLemmas.{chosen, shows_all}
@@ -58,10 +58,10 @@ module _ {K : Type 0} (has : K → Row → Bool) (key : K) (rows : List Row) (ke
 pub record PassesNumbers {K C : Type 0} (name : List ℕ) (tree : ℕ) (columns : List Column) (number : K → ℤ) (cells : K → C → Row) : Type 0 where
   pub fit : (db : Trees) (key : K) (row : C) → IsFit name tree columns (Some 0) (0 ∷ []) [] [] db (stored_at (number key) (cells key row))
   pub puts : (key : K) (row : C) → accepts_terms (number_terms (numbered name tree columns)) (cells key row ++ []) ≡ true
-  pub overs : (key : K) (row : C) → accepts_program second_schema [] (plain_query tree (by_given (length columns)) (number_overwrite (numbered name tree columns)) []) (cells key row ++ Int (number key) ∷ shown (numbered name tree columns) (stored_at (number key) (cells key row))) ≡ true
-  pub updates : (key : K) (row : C) → accepts_program second_schema [] (plain_query tree by_number (number_overwrite (numbered name tree columns)) []) (cells key row) ≡ true
-  pub removes : (n : ℤ) → accepts_program second_schema [] (plain_query tree by_number (col 1 0 ∷ []) []) (Int n ∷ []) ≡ true
-  pub unique : (db : Trees) (rows : List Row) → Keeps Unique second_schema db → Keeps Unique second_schema (with_tree db tree rows)
+  pub overs : (key : K) (row : C) → accepts_program present_schema [] (plain_query tree (by_given (length columns)) (number_overwrite (numbered name tree columns)) []) (cells key row ++ Int (number key) ∷ shown (numbered name tree columns) (stored_at (number key) (cells key row))) ≡ true
+  pub updates : (key : K) (row : C) → accepts_program present_schema [] (plain_query tree by_number (number_overwrite (numbered name tree columns)) []) (cells key row) ≡ true
+  pub removes : (n : ℤ) → accepts_program present_schema [] (plain_query tree by_number (col 1 0 ∷ []) []) (Int n ∷ []) ≡ true
+  pub unique : (db : Trees) (rows : List Row) → Keeps Unique present_schema db → Keeps Unique present_schema (with_tree db tree rows)
 
 module _ {K C : Type 0} (name : List ℕ) (tree : ℕ) (columns : List Column) (number : K → ℤ) (cells : K → C → Row) (it_has : HasNumbers (numbered name tree columns) number cells) (passes : PassesNumbers name tree columns number cells) where
   abbrev t : Table
@@ -70,17 +70,17 @@ module _ {K C : Type 0} (name : List ℕ) (tree : ℕ) (columns : List Column) (
   abbrev stored : K → C → Row
   stored key row = stored_at (number key) (cells key row)
 
-  module _ (at : ℕ) (is : slice_get second_schema.tables at ≡ Some (numbered name tree columns)) (s : State) (tables : Tables) (seen : Sees s tables) (keyed : AreKeyed (s.now.trees tree)) where
+  module _ (at : ℕ) (is : slice_get present_schema.tables at ≡ Some (numbered name tree columns)) (s : State) (tables : Tables) (seen : Sees s tables) (keyed : AreKeyed (s.now.trees tree)) where
     abbrev db : Trees
     db = s.now.trees
 
-    pub unique : (rows : List Row) → Keeps Unique second_schema (with_tree db tree rows)
+    pub unique : (rows : List Row) → Keeps Unique present_schema (with_tree db tree rows)
     unique rows = passes.unique db rows ((sound_seen seen).obeys.rules Unique)
 
     -- the row that has the number is written over
     pub over_clear : (key : K) (row : C) (given : Row) (tests project : List Term) (also : Row → Bool) → ((r : Row) → list_all (holds (given ∷ r ∷ [])) tests ≡ (also r && has_rowid (number key) r)) → ((r : Row) → rowid (eval_all project (given ∷ r ∷ [])) ≡ rowid r)
         → ((r : Row) → rowid r ≡ Int (number key) → cast_row t (drop 1 (eval_all project (given ∷ r ∷ []))) ≡ stored key row)
-        → (answer : List Row) → Answers (record { schema = second_schema; trees = db }) (writes_where tree tests project) given answer → IsClear db (edit_of db t (ids_of answer) Given 1 answer)
+        → (answer : List Row) → Answers (record { schema = present_schema; trees = db }) (writes_where tree tests project) given answer → IsClear db (edit_of db t (ids_of answer) Given 1 answer)
     over_clear key row given tests project also picks names over answer answers =
         let shown = subst (λ rs. IsPermutation (map (λ r. eval_all project (given ∷ r ∷ [])) (chosen tests given rs)) answer) (it_has.stored db) (shows_all tree tests project [] (overlay db []) given answer (answers.answer Null)) in
         elim (one_or_none has_rowid (number key) (db tree) keyed (number_one (number key) (db tree) keyed) tests project given answer also picks shown) [
@@ -96,8 +96,8 @@ module _ {K C : Type 0} (name : List ℕ) (tree : ℕ) (columns : List Column) (
 
     -- a row whose cell at a place stays: its values, and the row with the cell
     module _ {B : Type 0} (place : ℕ) (values : K → B → Row) (over : K → B → Value → Row) (keeps : KeepsNumbers (numbered name tree columns) place number values over) (whole : B → List ℕ → C) (same : (key : K) (b : B) (text : List ℕ) → cells key (whole b text) ≡ over key b (Text text))
-        (accepted : (key : K) (b : B) → accepts_program second_schema [] (plain_query tree by_number (number_keep place (numbered name tree columns)) []) (values key b) ≡ true) (texts : (r : Row) → Has (s.now.trees tree) r → HasText r (place + 1)) where
-      keep_clear : (key : K) (b : B) (answer : List Row) → Answers (record { schema = second_schema; trees = db }) (writes_where tree by_number (number_keep place t)) (values key b) answer → IsClear db (edit_of db t (ids_of answer) Given 1 answer)
+        (accepted : (key : K) (b : B) → accepts_program present_schema [] (plain_query tree by_number (number_keep place (numbered name tree columns)) []) (values key b) ≡ true) (texts : (r : Row) → Has (s.now.trees tree) r → HasText r (place + 1)) where
+      keep_clear : (key : K) (b : B) (answer : List Row) → Answers (record { schema = present_schema; trees = db }) (writes_where tree by_number (number_keep place t)) (values key b) answer → IsClear db (edit_of db t (ids_of answer) Given 1 answer)
       keep_clear key b answer answers =
           let given = values key b in
           let project = number_keep place t in
@@ -115,21 +115,21 @@ module _ {K C : Type 0} (name : List ℕ) (tree : ℕ) (columns : List Column) (
             | inr none ↦ subst (λ a. IsClear db (edit_of db t (ids_of a) Given 1 a)) (sym none) (clear_none name tree columns (Some 0) (0 ∷ []) [] [] db [] 1 (unique _))
           ]
 
-      stays : (e : Error) (key : K) (b : B) (text : List ℕ) → Does s.step_limit (mode_of s) (values key b) (record { schema = second_schema; trees = db }) text None (Update at (writes_where tree by_number (number_keep place t))) (Err (Some e)) → IsAllowed s.step_limit e
+      stays : (e : Error) (key : K) (b : B) (text : List ℕ) → Does s.step_limit (mode_of s) (values key b) (record { schema = present_schema; trees = db }) text None (Update at (writes_where tree by_number (number_keep place t))) (Err (Some e)) → IsAllowed s.step_limit e
       stays e key b text h = elim (halted (rw is at h)) [
         | inl wrote ↦ update_stops name tree columns (Some 0) (0 ∷ []) [] [] db s.step_limit (values key b) e (values key b) by_number (number_keep place t) (accepted key b) (keep_clear key b) wrote
         | inr done ↦ absurd (concluded s.step_limit t (values key b) done.0 e done.2)
       ]
 
     module _ (e : Error) where
-      updates : (key : K) (row : C) (text : List ℕ) → Does s.step_limit (mode_of s) (cells key row) (record { schema = second_schema; trees = db }) text None (Update at (writes_where tree by_number (number_overwrite t))) (Err (Some e)) → IsAllowed s.step_limit e
+      updates : (key : K) (row : C) (text : List ℕ) → Does s.step_limit (mode_of s) (cells key row) (record { schema = present_schema; trees = db }) text None (Update at (writes_where tree by_number (number_overwrite t))) (Err (Some e)) → IsAllowed s.step_limit e
       updates key row text h = elim (halted (rw is at h)) [
         | inl wrote ↦ update_stops name tree columns (Some 0) (0 ∷ []) [] [] db s.step_limit (cells key row) e (cells key row) by_number (number_overwrite t) (passes.updates key row)
             (over_clear key row (cells key row) by_number (number_overwrite t) (λ _. true) (numbers.finds name tree columns number cells it_has key row) (λ r. refl) (numbers.kept_updated name tree columns number cells it_has key row)) wrote
         | inr done ↦ absurd (concluded s.step_limit t (cells key row) done.0 e done.2)
       ]
 
-      removes : (n : ℤ) (text : List ℕ) → Does s.step_limit (mode_of s) (Int n ∷ []) (record { schema = second_schema; trees = db }) text None (Delete at (writes_where tree by_number (col 1 0 ∷ []))) (Err (Some e)) → IsAllowed s.step_limit e
+      removes : (n : ℤ) (text : List ℕ) → Does s.step_limit (mode_of s) (Int n ∷ []) (record { schema = present_schema; trees = db }) text None (Delete at (writes_where tree by_number (col 1 0 ∷ []))) (Err (Some e)) → IsAllowed s.step_limit e
       removes n text h = elim (halted (rw is at h)) [
         | inl wrote ↦ delete_stops name tree columns (Some 0) (0 ∷ []) [] [] db s.step_limit (Int n ∷ []) e by_number (col 1 0 ∷ []) (passes.removes n) (λ answer answers. clear_none name tree columns (Some 0) (0 ∷ []) [] [] db (ids_of answer) 0 (unique _)) wrote
         | inr done ↦ absurd (concluded s.step_limit t (Int n ∷ []) done.0 e done.2)
@@ -142,15 +142,15 @@ module _ {K C : Type 0} (name : List ℕ) (tree : ℕ) (columns : List Column) (
         abbrev given : Row
         given = cells key row ++ Int (number key) ∷ shown t source
 
-        pub free_if_none : AreConflicts (Some (0 ∷ [])) second_schema.indexes t (db tree) source [] → is_taken (db tree) source ≡ false
+        pub free_if_none : AreConflicts (Some (0 ∷ [])) present_schema.indexes t (db tree) source [] → is_taken (db tree) source ≡ false
         free_if_none met = is_false _ (λ any. let r = some_has (has_rowid (number key)) (db tree) any in met.complete r.0 r.1 (numbers.meets name tree columns number cells it_has key row r.0 ∙ r.2))
 
-        pub named_there : (there : Row) (more : List Row) → AreConflicts (Some (0 ∷ [])) second_schema.indexes t (db tree) source (there ∷ more) → rowid there ≡ Int (number key)
+        pub named_there : (there : Row) (more : List Row) → AreConflicts (Some (0 ∷ [])) present_schema.indexes t (db tree) source (there ∷ more) → rowid there ≡ Int (number key)
         named_there there more met =
             let r = met.sound there (inl refl) in
             ap rowid r.3 ∙ exactly (rowid r.0) (number key) (all_has (λ r. IsTrue (is_int (rowid r))) (db tree) r.0 keyed.1 r.1) (sym (numbers.meets name tree columns number cells it_has key row r.0) ∙ r.2)
 
-        puts : (text : List ℕ) → Does s.step_limit (mode_of s) (cells key row) (record { schema = second_schema; trees = db }) text None (InsertOr at Abort (Values (number_terms t) (length columns + 1)) (record { target = Some (0 ∷ []); update = Some (written_over tree (length columns) (number_overwrite t)) } ∷ [])) (Err (Some e)) → IsAllowed s.step_limit e
+        puts : (text : List ℕ) → Does s.step_limit (mode_of s) (cells key row) (record { schema = present_schema; trees = db }) text None (InsertOr at Abort (Values (number_terms t) (length columns + 1)) (record { target = Some (0 ∷ []); update = Some (written_over tree (length columns) (number_overwrite t)) } ∷ [])) (Err (Some e)) → IsAllowed s.step_limit e
         puts text h = elim (halted (rw is at h)) [
           | inl wrote ↦ upsert_stops name tree columns (Some 0) (0 ∷ []) [] [] db s.step_limit (cells key row) e (0 ∷ []) (by_given (length columns)) (number_overwrite t) (number_terms t) (length columns + 1) source source
               (passes.puts key row) (it_has.alone key row) (ap (with_rowid Chosen (db tree)) (numbers.kept name tree columns number cells it_has key row)) (passes.fit db key row) upserting wrote
@@ -163,34 +163,34 @@ module _ {K C : Type 0} (name : List ℕ) (tree : ℕ) (columns : List Column) (
               overs = λ there more met h.
                   update_stops name tree columns (Some 0) (0 ∷ []) [] [] db s.step_limit (cells key row) e given (by_given (length columns)) (number_overwrite t) (passes.overs key row)
                   (over_clear key row given (by_given (length columns)) (number_overwrite t) (λ _. true) (picks_given (length columns) given (number key) (it_has.there key row)) (λ r. refl) (numbers.kept_over name tree columns number cells it_has key row))
-                  (subst (λ v. Updates (record { limit = s.step_limit; keys = Enforced; schema = second_schema; table = t; params = cells key row }) (writes_where tree (by_given (length columns)) (number_overwrite t)) (cells key row ++ v ∷ shown t source) db (Err (Some e))) (named_there there more met) h);
+                  (subst (λ v. Updates (record { limit = s.step_limit; keys = Enforced; schema = present_schema; table = t; params = cells key row }) (writes_where tree (by_given (length columns)) (number_overwrite t)) (cells key row ++ v ∷ shown t source) db (Err (Some e))) (named_there there more met) h);
             }
 
-  module _ (at : ℕ) (is : slice_get second_schema.tables at ≡ Some (numbered name tree columns)) (writes : WritesByNumber at (numbered name tree columns)) (keyed_seen : (s : State) (tables : Tables) → Sees s tables → AreKeyed (s.now.trees tree)) where
-    pub update : (old new : State) (key : K) (row : C) → IsOne (length (update_text t)) (length (cells key row)) (understood second_schema (update_text t)) → (r : Result ℕ Error) → Ran (update_text t) (cells key row) old new r → HasCauseIn old new r
+  module _ (at : ℕ) (is : slice_get present_schema.tables at ≡ Some (numbered name tree columns)) (writes : WritesByNumber at (numbered name tree columns)) (keyed_seen : (s : State) (tables : Tables) → Sees s tables → AreKeyed (s.now.trees tree)) where
+    pub update : (old new : State) (key : K) (row : C) → IsOne (length (update_text t)) (length (cells key row)) (understood present_schema (update_text t)) → (r : Result ℕ Error) → Ran (update_text t) (cells key row) old new r → HasCauseIn old new r
     update old new key row one (Ok count) ran = λ clean tables seen. tt
     update old new key row one (Err e) ran = λ clean tables seen.
-        stops (update_text t) (cells key row) old new second_schema (schema_seen seen) _ writes.update writes.update_plain one refl refl e
-        (λ text does. updates at is old tables seen (keyed_seen old tables seen) e key row text (at_schema old.step_limit (mode_of old) (cells key row) old.now second_schema text (Update at (writes_where tree by_number (number_overwrite t))) e (schema_seen seen) does)) (ran clean seen.inside)
+        stops (update_text t) (cells key row) old new present_schema (schema_seen seen) _ writes.update writes.update_plain one refl refl e
+        (λ text does. updates at is old tables seen (keyed_seen old tables seen) e key row text (at_schema old.step_limit (mode_of old) (cells key row) old.now present_schema text (Update at (writes_where tree by_number (number_overwrite t))) e (schema_seen seen) does)) (ran clean seen.inside)
 
-    pub put : (old new : State) (key : K) (row : C) → IsOne (length (put_text t)) (length (cells key row)) (understood second_schema (put_text t)) → (r : Result ℕ Error) → Ran (put_text t) (cells key row) old new r → HasCauseIn old new r
+    pub put : (old new : State) (key : K) (row : C) → IsOne (length (put_text t)) (length (cells key row)) (understood present_schema (put_text t)) → (r : Result ℕ Error) → Ran (put_text t) (cells key row) old new r → HasCauseIn old new r
     put old new key row one (Ok count) ran = λ clean tables seen. tt
     put old new key row one (Err e) ran = λ clean tables seen.
-        stops (put_text t) (cells key row) old new second_schema (schema_seen seen) _ writes.put writes.put_plain one refl refl e
-        (λ text does. puts at is old tables seen (keyed_seen old tables seen) e key row text (at_schema old.step_limit (mode_of old) (cells key row) old.now second_schema text (InsertOr at Abort (Values (number_terms t) (length columns + 1)) (record { target = Some (0 ∷ []); update = Some (written_over tree (length columns) (number_overwrite t)) } ∷ [])) e (schema_seen seen) does)) (ran clean seen.inside)
+        stops (put_text t) (cells key row) old new present_schema (schema_seen seen) _ writes.put writes.put_plain one refl refl e
+        (λ text does. puts at is old tables seen (keyed_seen old tables seen) e key row text (at_schema old.step_limit (mode_of old) (cells key row) old.now present_schema text (InsertOr at Abort (Values (number_terms t) (length columns + 1)) (record { target = Some (0 ∷ []); update = Some (written_over tree (length columns) (number_overwrite t)) } ∷ [])) e (schema_seen seen) does)) (ran clean seen.inside)
 
-    pub remove : (old new : State) (n : ℤ) → IsOne (length (remove_text t)) 1 (understood second_schema (remove_text t)) → (r : Result ℕ Error) → Ran (remove_text t) (Int n ∷ []) old new r → HasCauseIn old new r
+    pub remove : (old new : State) (n : ℤ) → IsOne (length (remove_text t)) 1 (understood present_schema (remove_text t)) → (r : Result ℕ Error) → Ran (remove_text t) (Int n ∷ []) old new r → HasCauseIn old new r
     remove old new n one (Ok count) ran = λ clean tables seen. tt
     remove old new n one (Err e) ran = λ clean tables seen.
-        stops (remove_text t) (Int n ∷ []) old new second_schema (schema_seen seen) _ writes.remove writes.remove_plain one refl refl e
-        (λ text does. removes at is old tables seen (keyed_seen old tables seen) e n text (at_schema old.step_limit (mode_of old) (Int n ∷ []) old.now second_schema text (Delete at (writes_where tree by_number (col 1 0 ∷ []))) e (schema_seen seen) does)) (ran clean seen.inside)
+        stops (remove_text t) (Int n ∷ []) old new present_schema (schema_seen seen) _ writes.remove writes.remove_plain one refl refl e
+        (λ text does. removes at is old tables seen (keyed_seen old tables seen) e n text (at_schema old.step_limit (mode_of old) (Int n ∷ []) old.now present_schema text (Delete at (writes_where tree by_number (col 1 0 ∷ []))) e (schema_seen seen) does)) (ran clean seen.inside)
 
   module _ {B : Type 0} (place : ℕ) (values : K → B → Row) (over : K → B → Value → Row) (keeps : KeepsNumbers (numbered name tree columns) place number values over) (whole : B → List ℕ → C) (same : (key : K) (b : B) (text : List ℕ) → cells key (whole b text) ≡ over key b (Text text))
-      (accepted : (key : K) (b : B) → accepts_program second_schema [] (plain_query tree by_number (number_keep place (numbered name tree columns)) []) (values key b) ≡ true)
-      (at : ℕ) (is : slice_get second_schema.tables at ≡ Some (numbered name tree columns)) (writes : KeepsByNumber at place (numbered name tree columns)) (keyed_seen : (s : State) (tables : Tables) → Sees s tables → AreKeyed (s.now.trees tree))
+      (accepted : (key : K) (b : B) → accepts_program present_schema [] (plain_query tree by_number (number_keep place (numbered name tree columns)) []) (values key b) ≡ true)
+      (at : ℕ) (is : slice_get present_schema.tables at ≡ Some (numbered name tree columns)) (writes : KeepsByNumber at place (numbered name tree columns)) (keyed_seen : (s : State) (tables : Tables) → Sees s tables → AreKeyed (s.now.trees tree))
       (texts_seen : (s : State) (tables : Tables) → Sees s tables → (r : Row) → Has (s.now.trees tree) r → HasText r (place + 1)) where
-    pub keep : (old new : State) (key : K) (b : B) → IsOne (length (keep_text place t)) (length (values key b)) (understood second_schema (keep_text place t)) → (r : Result ℕ Error) → Ran (keep_text place t) (values key b) old new r → HasCauseIn old new r
+    pub keep : (old new : State) (key : K) (b : B) → IsOne (length (keep_text place t)) (length (values key b)) (understood present_schema (keep_text place t)) → (r : Result ℕ Error) → Ran (keep_text place t) (values key b) old new r → HasCauseIn old new r
     keep old new key b one (Ok count) ran = λ clean tables seen. tt
     keep old new key b one (Err e) ran = λ clean tables seen.
-        stops (keep_text place t) (values key b) old new second_schema (schema_seen seen) _ writes.command writes.plain one refl refl e
-        (λ text does. stays at is old tables seen (keyed_seen old tables seen) place values over keeps whole same accepted (texts_seen old tables seen) e key b text (at_schema old.step_limit (mode_of old) (values key b) old.now second_schema text (Update at (writes_where tree by_number (number_keep place t))) e (schema_seen seen) does)) (ran clean seen.inside)
+        stops (keep_text place t) (values key b) old new present_schema (schema_seen seen) _ writes.command writes.plain one refl refl e
+        (λ text does. stays at is old tables seen (keyed_seen old tables seen) place values over keeps whole same accepted (texts_seen old tables seen) e key b text (at_schema old.step_limit (mode_of old) (values key b) old.now present_schema text (Update at (writes_where tree by_number (number_keep place t))) e (schema_seen seen) does)) (ran clean seen.inside)

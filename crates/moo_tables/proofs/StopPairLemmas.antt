@@ -1,5 +1,5 @@
 -- Why a statement fails that writes a table with two columns as its key, whichever it is.
-use Rattle.moo_tables.proofs.Words.{◌≡◌, ◌⊎◌, inl, inr, ℕ, ◌+◌, ℤ, List, [], ◌∷◌, ◌++◌, map, drop, length, slice_get, true, true≢false, not, Some, None, Ok, Err, Result, IsTrue, refl, sym, ap, subst, ◌∙◌, IsPermutation, is_eq, and_parts, not-true, tied_itself, value_cmp_total, plain, Error, Value, Null, Int, Text, Row, column, value_cmp, col, eval_all, Table, Trees, rowid, has_rowid, put_row, without_rowid, with_tree, edit_of, without_all, id_in, next_rowid, cast_row, Given, Chosen, Updates, shown, overlay, Does, Answers, InsertOr, Update, Delete, Values, understood, State, mode_of, Abort, Enforced, Unique, Column, Keeps, AreConflicts, Has, ids_of, all_has, has_filtered, is_int, accepts_program, accepts_terms, HasCauseIn, Tables, second_schema, paired, has_pair, update_text, keep_text, put_text, remove_text, AreKeyed, Sees}
+use Rattle.moo_tables.proofs.Words.{◌≡◌, ◌⊎◌, inl, inr, ℕ, ◌+◌, ℤ, List, [], ◌∷◌, ◌++◌, map, drop, length, slice_get, true, true≢false, not, Some, None, Ok, Err, Result, IsTrue, refl, sym, ap, subst, ◌∙◌, IsPermutation, is_eq, and_parts, not-true, tied_itself, value_cmp_total, plain, Error, Value, Null, Int, Text, Row, column, value_cmp, col, eval_all, Table, Trees, rowid, has_rowid, put_row, without_rowid, with_tree, edit_of, without_all, id_in, next_rowid, cast_row, Given, Chosen, Updates, shown, overlay, Does, Answers, InsertOr, Update, Delete, Values, understood, State, mode_of, Abort, Enforced, Unique, Column, Keeps, AreConflicts, Has, ids_of, all_has, has_filtered, is_int, accepts_program, accepts_terms, HasCauseIn, Tables, present_schema, paired, has_pair, update_text, keep_text, put_text, remove_text, AreKeyed, Sees}
 use Rattle.sqlite_rules.proofs.PlaceLemmas.{next_is_free}
 use Rattle.moo_tables.proofs.TextLemmas.{WritesByPair, KeepsByPair, plain_query, pair_terms, pair_overwrite, pair_keep, written_over, writes_where, by_pair, by_given}
 use Rattle.moo_tables.proofs.KeyLemmas.{int_value}
@@ -27,35 +27,35 @@ left_of (id ∷ ids) rows r h = (has_filtered (λ r. not (has_rowid id r)) rows 
 pub record PassesPairs {K C : Type 0} (name : List ℕ) (tree : ℕ) (columns : List Column) (pair : K → ℤ × ℤ) (cells : K → C → Row) : Type 0 where
   pub fit : (db : Trees) (id : ℤ) (key : K) (row : C) → IsFit name tree columns None (1 ∷ 2 ∷ []) ((1 ∷ 2 ∷ []) ∷ []) (plain ∷ []) db (Int id ∷ cells key row)
   pub puts : (key : K) (row : C) → accepts_terms (pair_terms (paired name tree columns)) (cells key row ++ []) ≡ true
-  pub overs : (next id : ℤ) (key : K) (row : C) → accepts_program second_schema [] (plain_query tree (by_given (length columns)) (pair_overwrite (paired name tree columns)) []) (cells key row ++ Int id ∷ shown (paired name tree columns) (Int next ∷ cells key row)) ≡ true
-  pub updates : (key : K) (row : C) → accepts_program second_schema [] (plain_query tree by_pair (pair_overwrite (paired name tree columns)) []) (cells key row) ≡ true
-  pub removes : (two : ℤ × ℤ) → accepts_program second_schema [] (plain_query tree by_pair (col 1 0 ∷ []) []) (Int two.0 ∷ Int two.1 ∷ []) ≡ true
-  pub unique : (db : Trees) (rows : List Row) → Keeps Unique second_schema db → AreApart rows → Keeps Unique second_schema (with_tree db tree rows)
+  pub overs : (next id : ℤ) (key : K) (row : C) → accepts_program present_schema [] (plain_query tree (by_given (length columns)) (pair_overwrite (paired name tree columns)) []) (cells key row ++ Int id ∷ shown (paired name tree columns) (Int next ∷ cells key row)) ≡ true
+  pub updates : (key : K) (row : C) → accepts_program present_schema [] (plain_query tree by_pair (pair_overwrite (paired name tree columns)) []) (cells key row) ≡ true
+  pub removes : (two : ℤ × ℤ) → accepts_program present_schema [] (plain_query tree by_pair (col 1 0 ∷ []) []) (Int two.0 ∷ Int two.1 ∷ []) ≡ true
+  pub unique : (db : Trees) (rows : List Row) → Keeps Unique present_schema db → AreApart rows → Keeps Unique present_schema (with_tree db tree rows)
 
 module _ {K C : Type 0} (name : List ℕ) (tree : ℕ) (columns : List Column) (pair : K → ℤ × ℤ) (cells : K → C → Row) (it_has : HasPairs (paired name tree columns) pair cells) (passes : PassesPairs name tree columns pair cells) where
   abbrev t : Table
   t = paired name tree columns
 
-  module _ (at : ℕ) (is : slice_get second_schema.tables at ≡ Some (paired name tree columns)) (s : State) (tables : Tables) (seen : Sees s tables) (keyed : AreKeyed (s.now.trees tree)) (pairs : ArePairs (s.now.trees tree)) where
+  module _ (at : ℕ) (is : slice_get present_schema.tables at ≡ Some (paired name tree columns)) (s : State) (tables : Tables) (seen : Sees s tables) (keyed : AreKeyed (s.now.trees tree)) (pairs : ArePairs (s.now.trees tree)) where
     abbrev db : Trees
     db = s.now.trees
 
     abbrev rows : List Row
     rows = s.now.trees tree
 
-    was_unique : Keeps Unique second_schema db
+    was_unique : Keeps Unique present_schema db
     was_unique = (sound_seen seen).obeys.rules Unique
 
     row_numbered : (r : Row) → Has rows r → IsNumbered r
     row_numbered r in_it = (all_has (λ r. IsTrue (is_int (rowid r))) rows r keyed.1 in_it, pairs.ints r in_it)
 
-    left_unique : (ids : List ℤ) → Keeps Unique second_schema (with_tree db tree (without_all rows ids))
+    left_unique : (ids : List ℤ) → Keeps Unique present_schema (with_tree db tree (without_all rows ids))
     left_unique ids = passes.unique db (without_all rows ids) was_unique (are_apart (without_all rows ids) (λ r h. row_numbered r (left_of ids rows r h)) (λ key r s p q. pairs.one key r s (left_of ids rows r p) (left_of ids rows s q)))
 
     new_numbered : (id : ℤ) (key : K) (row : C) → IsNumbered (Int id ∷ cells key row)
     new_numbered id key row = (refl, (ap (λ vs. is_int (column (Int id ∷ vs) 1)) (it_has.begins key row), ap (λ vs. is_int (column (Int id ∷ vs) 2)) (it_has.begins key row)))
 
-    put_unique : (ids : List ℤ) (id : ℤ) (key : K) (row : C) → ((r : Row) → Has (without_all rows ids) r → has_pair (pair key) r ≡ true → ⊥) → Keeps Unique second_schema (with_tree db tree (put_row (Int id ∷ cells key row) (without_all rows ids)))
+    put_unique : (ids : List ℤ) (id : ℤ) (key : K) (row : C) → ((r : Row) → Has (without_all rows ids) r → has_pair (pair key) r ≡ true → ⊥) → Keeps Unique present_schema (with_tree db tree (put_row (Int id ∷ cells key row) (without_all rows ids)))
     put_unique ids id key row none =
         passes.unique db (put_row (Int id ∷ cells key row) (without_all rows ids)) was_unique
         (put_apart (without_all rows ids) (λ r h. row_numbered r (left_of ids rows r h)) (λ k r s p q. pairs.one k r s (left_of ids rows r p) (left_of ids rows s q)) (pair key) none
@@ -82,7 +82,7 @@ module _ {K C : Type 0} (name : List ℕ) (tree : ℕ) (columns : List Column) (
         let ties = and_parts _ _ here in
         (exactly (column r 1) two.0 ints.0 ties.0, exactly (column r 2) two.1 ints.1 ties.1)
 
-    update_clear : (key : K) (row : C) (answer : List Row) → Answers (record { schema = second_schema; trees = db }) (writes_where tree by_pair (pair_overwrite t)) (cells key row) answer → IsClear db (edit_of db t (ids_of answer) Given 1 answer)
+    update_clear : (key : K) (row : C) (answer : List Row) → Answers (record { schema = present_schema; trees = db }) (writes_where tree by_pair (pair_overwrite t)) (cells key row) answer → IsClear db (edit_of db t (ids_of answer) Given 1 answer)
     update_clear key row answer answers =
         let given = cells key row in
         let project = pair_overwrite t in
@@ -99,8 +99,8 @@ module _ {K C : Type 0} (name : List ℕ) (tree : ℕ) (columns : List Column) (
 
     -- a row whose cell at a place stays: its values, and the row with the cell
     module _ {B : Type 0} (place : ℕ) (values : K → B → Row) (over : K → B → Value → Row) (keeps : KeepsPairs (paired name tree columns) place pair values over) (whole : B → List ℕ → C) (same : (key : K) (b : B) (text : List ℕ) → cells key (whole b text) ≡ over key b (Text text))
-        (accepted : (key : K) (b : B) → accepts_program second_schema [] (plain_query tree by_pair (pair_keep place (paired name tree columns)) []) (values key b) ≡ true) (texts : (r : Row) → Has (s.now.trees tree) r → HasText r (place + 1)) where
-      keep_clear : (key : K) (b : B) (answer : List Row) → Answers (record { schema = second_schema; trees = db }) (writes_where tree by_pair (pair_keep place t)) (values key b) answer → IsClear db (edit_of db t (ids_of answer) Given 1 answer)
+        (accepted : (key : K) (b : B) → accepts_program present_schema [] (plain_query tree by_pair (pair_keep place (paired name tree columns)) []) (values key b) ≡ true) (texts : (r : Row) → Has (s.now.trees tree) r → HasText r (place + 1)) where
+      keep_clear : (key : K) (b : B) (answer : List Row) → Answers (record { schema = present_schema; trees = db }) (writes_where tree by_pair (pair_keep place t)) (values key b) answer → IsClear db (edit_of db t (ids_of answer) Given 1 answer)
       keep_clear key b answer answers =
           let given = values key b in
           let project = pair_keep place t in
@@ -117,20 +117,20 @@ module _ {K C : Type 0} (name : List ℕ) (tree : ℕ) (columns : List Column) (
             | inr none ↦ subst (λ a. IsClear db (edit_of db t (ids_of a) Given 1 a)) (sym none) none_clear
           ]
 
-      stays : (e : Error) (key : K) (b : B) (text : List ℕ) → Does s.step_limit (mode_of s) (values key b) (record { schema = second_schema; trees = db }) text None (Update at (writes_where tree by_pair (pair_keep place t))) (Err (Some e)) → IsAllowed s.step_limit e
+      stays : (e : Error) (key : K) (b : B) (text : List ℕ) → Does s.step_limit (mode_of s) (values key b) (record { schema = present_schema; trees = db }) text None (Update at (writes_where tree by_pair (pair_keep place t))) (Err (Some e)) → IsAllowed s.step_limit e
       stays e key b text h = elim (halted (rw is at h)) [
         | inl wrote ↦ update_stops name tree columns None (1 ∷ 2 ∷ []) ((1 ∷ 2 ∷ []) ∷ []) (plain ∷ []) db s.step_limit (values key b) e (values key b) by_pair (pair_keep place t) (accepted key b) (keep_clear key b) wrote
         | inr done ↦ absurd (concluded s.step_limit t (values key b) done.0 e done.2)
       ]
 
     module _ (e : Error) where
-      updates : (key : K) (row : C) (text : List ℕ) → Does s.step_limit (mode_of s) (cells key row) (record { schema = second_schema; trees = db }) text None (Update at (writes_where tree by_pair (pair_overwrite t))) (Err (Some e)) → IsAllowed s.step_limit e
+      updates : (key : K) (row : C) (text : List ℕ) → Does s.step_limit (mode_of s) (cells key row) (record { schema = present_schema; trees = db }) text None (Update at (writes_where tree by_pair (pair_overwrite t))) (Err (Some e)) → IsAllowed s.step_limit e
       updates key row text h = elim (halted (rw is at h)) [
         | inl wrote ↦ update_stops name tree columns None (1 ∷ 2 ∷ []) ((1 ∷ 2 ∷ []) ∷ []) (plain ∷ []) db s.step_limit (cells key row) e (cells key row) by_pair (pair_overwrite t) (passes.updates key row) (update_clear key row) wrote
         | inr done ↦ absurd (concluded s.step_limit t (cells key row) done.0 e done.2)
       ]
 
-      removes : (two : ℤ × ℤ) (text : List ℕ) → Does s.step_limit (mode_of s) (Int two.0 ∷ Int two.1 ∷ []) (record { schema = second_schema; trees = db }) text None (Delete at (writes_where tree by_pair (col 1 0 ∷ []))) (Err (Some e)) → IsAllowed s.step_limit e
+      removes : (two : ℤ × ℤ) (text : List ℕ) → Does s.step_limit (mode_of s) (Int two.0 ∷ Int two.1 ∷ []) (record { schema = present_schema; trees = db }) text None (Delete at (writes_where tree by_pair (col 1 0 ∷ []))) (Err (Some e)) → IsAllowed s.step_limit e
       removes two text h = elim (halted (rw is at h)) [
         | inl wrote ↦ delete_stops name tree columns None (1 ∷ 2 ∷ []) ((1 ∷ 2 ∷ []) ∷ []) (plain ∷ []) db s.step_limit (Int two.0 ∷ Int two.1 ∷ []) e by_pair (col 1 0 ∷ []) (passes.removes two) (λ answer answers. clear_none name tree columns None (1 ∷ 2 ∷ []) ((1 ∷ 2 ∷ []) ∷ []) (plain ∷ []) db (ids_of answer) 0 (left_unique (ids_of answer))) wrote
         | inr done ↦ absurd (concluded s.step_limit t (Int two.0 ∷ Int two.1 ∷ []) done.0 e done.2)
@@ -143,11 +143,11 @@ module _ {K C : Type 0} (name : List ℕ) (tree : ℕ) (columns : List Column) (
         abbrev source : Row
         source = Int next ∷ cells key row
 
-        no_pair : AreConflicts (Some (1 ∷ 2 ∷ [])) second_schema.indexes t rows source [] → (r : Row) → Has rows r → has_pair (pair key) r ≡ true → ⊥
+        no_pair : AreConflicts (Some (1 ∷ 2 ∷ [])) present_schema.indexes t rows source [] → (r : Row) → Has rows r → has_pair (pair key) r ≡ true → ⊥
         no_pair met r in_it here = met.complete r in_it (pairs_of.meets name tree columns pair cells it_has next key row r ∙ here)
 
-        over_stops : (there : Row) (more : List Row) → AreConflicts (Some (1 ∷ 2 ∷ [])) second_schema.indexes t rows source (there ∷ more)
-            → Updates (record { limit = s.step_limit; keys = Enforced; schema = second_schema; table = t; params = cells key row }) (writes_where tree (by_given (length columns)) (pair_overwrite t)) (cells key row ++ rowid there ∷ shown t source) db (Err (Some e)) → IsAllowed s.step_limit e
+        over_stops : (there : Row) (more : List Row) → AreConflicts (Some (1 ∷ 2 ∷ [])) present_schema.indexes t rows source (there ∷ more)
+            → Updates (record { limit = s.step_limit; keys = Enforced; schema = present_schema; table = t; params = cells key row }) (writes_where tree (by_given (length columns)) (pair_overwrite t)) (cells key row ++ rowid there ∷ shown t source) db (Err (Some e)) → IsAllowed s.step_limit e
         over_stops there more met h =
             let r = met.sound there (inl refl) in
             let id = id_in (rowid r.0) in
@@ -156,11 +156,11 @@ module _ {K C : Type 0} (name : List ℕ) (tree : ℕ) (columns : List Column) (
             let own : has_rowid id r.0 ≡ true = ap is_eq (ap (λ v. value_cmp v (Int id)) value ∙ tied_itself value_cmp_total (Int id)) in
             let given = cells key row ++ Int id ∷ shown t source in
             let project = pair_overwrite t in
-            let clear = λ (answer : List Row) (answers : Answers (record { schema = second_schema; trees = db }) (writes_where tree (by_given (length columns)) project) given answer).
+            let clear = λ (answer : List Row) (answers : Answers (record { schema = present_schema; trees = db }) (writes_where tree (by_given (length columns)) project) given answer).
             let shown = subst (λ rs. IsPermutation (map (λ r. eval_all project (given ∷ r ∷ [])) (chosen (by_given (length columns)) given rs)) answer) (it_has.stored db) (shows_all tree (by_given (length columns)) project [] (overlay db []) given answer (answers.answer Null)) in
             by_answer id r.0 r.1 here own value answer (one_or_none has_rowid id rows keyed (number_one id rows keyed) (by_given (length columns)) project given answer (λ _. true) (picks_given (length columns) given id (it_has.there next id key row)) shown) in
             update_stops name tree columns None (1 ∷ 2 ∷ []) ((1 ∷ 2 ∷ []) ∷ []) (plain ∷ []) db s.step_limit (cells key row) e given (by_given (length columns)) project (passes.overs next id key row) clear
-            (subst (λ v. Updates (record { limit = s.step_limit; keys = Enforced; schema = second_schema; table = t; params = cells key row }) (writes_where tree (by_given (length columns)) project) (cells key row ++ v ∷ shown t source) db (Err (Some e))) (ap rowid r.3 ∙ value) h)
+            (subst (λ v. Updates (record { limit = s.step_limit; keys = Enforced; schema = present_schema; table = t; params = cells key row }) (writes_where tree (by_given (length columns)) project) (cells key row ++ v ∷ shown t source) db (Err (Some e))) (ap rowid r.3 ∙ value) h)
           where
             by_answer : (id : ℤ) (r : Row) → Has rows r → has_pair (pair key) r ≡ true → has_rowid id r ≡ true → rowid r ≡ Int id → (answer : List Row)
                 → OneRow has_rowid id rows keyed (number_one id rows keyed) (by_given (length columns)) (pair_overwrite t) (cells key row ++ Int id ∷ shown t source) answer ⊎ (answer ≡ []) → IsClear db (edit_of db t (ids_of answer) Given 1 answer)
@@ -173,7 +173,7 @@ module _ {K C : Type 0} (name : List ℕ) (tree : ℕ) (columns : List Column) (
                 (one_clear key row id (eval_all (pair_overwrite t) ((cells key row ++ Int id ∷ shown t source) ∷ o.row ∷ [])) o.row o.in_it there named refl (pairs_of.over name tree columns pair cells it_has next key row id o.row named at_key.0 at_key.1))
             by_answer id r in_it here own value answer (inr none) = subst (λ a. IsClear db (edit_of db t (ids_of a) Given 1 a)) (sym none) none_clear
 
-        puts : (text : List ℕ) → Does s.step_limit (mode_of s) (cells key row) (record { schema = second_schema; trees = db }) text None (InsertOr at Abort (Values (pair_terms t) (length columns + 1)) (record { target = Some (1 ∷ 2 ∷ []); update = Some (written_over tree (length columns) (pair_overwrite t)) } ∷ [])) (Err (Some e)) → IsAllowed s.step_limit e
+        puts : (text : List ℕ) → Does s.step_limit (mode_of s) (cells key row) (record { schema = present_schema; trees = db }) text None (InsertOr at Abort (Values (pair_terms t) (length columns + 1)) (record { target = Some (1 ∷ 2 ∷ []); update = Some (written_over tree (length columns) (pair_overwrite t)) } ∷ [])) (Err (Some e)) → IsAllowed s.step_limit e
         puts text h = elim (halted (rw is at h)) [
           | inl wrote ↦ upsert_stops name tree columns None (1 ∷ 2 ∷ []) ((1 ∷ 2 ∷ []) ∷ []) (plain ∷ []) db s.step_limit (cells key row) e (1 ∷ 2 ∷ []) (by_given (length columns)) (pair_overwrite t) (pair_terms t) (length columns + 1) (Null ∷ cells key row) source
               (passes.puts key row) (it_has.alone key row) (pairs_of.fresh name tree columns pair cells it_has rows key row) (passes.fit db next key row) upserting wrote
@@ -188,31 +188,31 @@ module _ {K C : Type 0} (name : List ℕ) (tree : ℕ) (columns : List Column) (
               overs = over_stops;
             }
 
-  module _ (at : ℕ) (is : slice_get second_schema.tables at ≡ Some (paired name tree columns)) (writes : WritesByPair at (paired name tree columns)) (keyed_seen : (s : State) (tables : Tables) → Sees s tables → AreKeyed (s.now.trees tree)) (pairs_seen : (s : State) (tables : Tables) → Sees s tables → ArePairs (s.now.trees tree)) where
-    pub update : (old new : State) (key : K) (row : C) → IsOne (length (update_text t)) (length (cells key row)) (understood second_schema (update_text t)) → (r : Result ℕ Error) → Ran (update_text t) (cells key row) old new r → HasCauseIn old new r
+  module _ (at : ℕ) (is : slice_get present_schema.tables at ≡ Some (paired name tree columns)) (writes : WritesByPair at (paired name tree columns)) (keyed_seen : (s : State) (tables : Tables) → Sees s tables → AreKeyed (s.now.trees tree)) (pairs_seen : (s : State) (tables : Tables) → Sees s tables → ArePairs (s.now.trees tree)) where
+    pub update : (old new : State) (key : K) (row : C) → IsOne (length (update_text t)) (length (cells key row)) (understood present_schema (update_text t)) → (r : Result ℕ Error) → Ran (update_text t) (cells key row) old new r → HasCauseIn old new r
     update old new key row one (Ok count) ran = λ clean tables seen. tt
     update old new key row one (Err e) ran = λ clean tables seen.
-        stops (update_text t) (cells key row) old new second_schema (schema_seen seen) _ writes.update writes.update_plain one refl refl e
-        (λ text does. updates at is old tables seen (keyed_seen old tables seen) (pairs_seen old tables seen) e key row text (at_schema old.step_limit (mode_of old) (cells key row) old.now second_schema text (Update at (writes_where tree by_pair (pair_overwrite t))) e (schema_seen seen) does)) (ran clean seen.inside)
+        stops (update_text t) (cells key row) old new present_schema (schema_seen seen) _ writes.update writes.update_plain one refl refl e
+        (λ text does. updates at is old tables seen (keyed_seen old tables seen) (pairs_seen old tables seen) e key row text (at_schema old.step_limit (mode_of old) (cells key row) old.now present_schema text (Update at (writes_where tree by_pair (pair_overwrite t))) e (schema_seen seen) does)) (ran clean seen.inside)
 
-    pub put : (old new : State) (key : K) (row : C) → IsOne (length (put_text t)) (length (cells key row)) (understood second_schema (put_text t)) → (r : Result ℕ Error) → Ran (put_text t) (cells key row) old new r → HasCauseIn old new r
+    pub put : (old new : State) (key : K) (row : C) → IsOne (length (put_text t)) (length (cells key row)) (understood present_schema (put_text t)) → (r : Result ℕ Error) → Ran (put_text t) (cells key row) old new r → HasCauseIn old new r
     put old new key row one (Ok count) ran = λ clean tables seen. tt
     put old new key row one (Err e) ran = λ clean tables seen.
-        stops (put_text t) (cells key row) old new second_schema (schema_seen seen) _ writes.put writes.put_plain one refl refl e
-        (λ text does. puts at is old tables seen (keyed_seen old tables seen) (pairs_seen old tables seen) e key row text (at_schema old.step_limit (mode_of old) (cells key row) old.now second_schema text (InsertOr at Abort (Values (pair_terms t) (length columns + 1)) (record { target = Some (1 ∷ 2 ∷ []); update = Some (written_over tree (length columns) (pair_overwrite t)) } ∷ [])) e (schema_seen seen) does)) (ran clean seen.inside)
+        stops (put_text t) (cells key row) old new present_schema (schema_seen seen) _ writes.put writes.put_plain one refl refl e
+        (λ text does. puts at is old tables seen (keyed_seen old tables seen) (pairs_seen old tables seen) e key row text (at_schema old.step_limit (mode_of old) (cells key row) old.now present_schema text (InsertOr at Abort (Values (pair_terms t) (length columns + 1)) (record { target = Some (1 ∷ 2 ∷ []); update = Some (written_over tree (length columns) (pair_overwrite t)) } ∷ [])) e (schema_seen seen) does)) (ran clean seen.inside)
 
-    pub remove : (old new : State) (two : ℤ × ℤ) → IsOne (length (remove_text t)) 2 (understood second_schema (remove_text t)) → (r : Result ℕ Error) → Ran (remove_text t) (Int two.0 ∷ Int two.1 ∷ []) old new r → HasCauseIn old new r
+    pub remove : (old new : State) (two : ℤ × ℤ) → IsOne (length (remove_text t)) 2 (understood present_schema (remove_text t)) → (r : Result ℕ Error) → Ran (remove_text t) (Int two.0 ∷ Int two.1 ∷ []) old new r → HasCauseIn old new r
     remove old new two one (Ok count) ran = λ clean tables seen. tt
     remove old new two one (Err e) ran = λ clean tables seen.
-        stops (remove_text t) (Int two.0 ∷ Int two.1 ∷ []) old new second_schema (schema_seen seen) _ writes.remove writes.remove_plain one refl refl e
-        (λ text does. removes at is old tables seen (keyed_seen old tables seen) (pairs_seen old tables seen) e two text (at_schema old.step_limit (mode_of old) (Int two.0 ∷ Int two.1 ∷ []) old.now second_schema text (Delete at (writes_where tree by_pair (col 1 0 ∷ []))) e (schema_seen seen) does)) (ran clean seen.inside)
+        stops (remove_text t) (Int two.0 ∷ Int two.1 ∷ []) old new present_schema (schema_seen seen) _ writes.remove writes.remove_plain one refl refl e
+        (λ text does. removes at is old tables seen (keyed_seen old tables seen) (pairs_seen old tables seen) e two text (at_schema old.step_limit (mode_of old) (Int two.0 ∷ Int two.1 ∷ []) old.now present_schema text (Delete at (writes_where tree by_pair (col 1 0 ∷ []))) e (schema_seen seen) does)) (ran clean seen.inside)
 
   module _ {B : Type 0} (place : ℕ) (values : K → B → Row) (over : K → B → Value → Row) (keeps : KeepsPairs (paired name tree columns) place pair values over) (whole : B → List ℕ → C) (same : (key : K) (b : B) (text : List ℕ) → cells key (whole b text) ≡ over key b (Text text))
-      (accepted : (key : K) (b : B) → accepts_program second_schema [] (plain_query tree by_pair (pair_keep place (paired name tree columns)) []) (values key b) ≡ true)
-      (at : ℕ) (is : slice_get second_schema.tables at ≡ Some (paired name tree columns)) (writes : KeepsByPair at place (paired name tree columns)) (keyed_seen : (s : State) (tables : Tables) → Sees s tables → AreKeyed (s.now.trees tree)) (pairs_seen : (s : State) (tables : Tables) → Sees s tables → ArePairs (s.now.trees tree))
+      (accepted : (key : K) (b : B) → accepts_program present_schema [] (plain_query tree by_pair (pair_keep place (paired name tree columns)) []) (values key b) ≡ true)
+      (at : ℕ) (is : slice_get present_schema.tables at ≡ Some (paired name tree columns)) (writes : KeepsByPair at place (paired name tree columns)) (keyed_seen : (s : State) (tables : Tables) → Sees s tables → AreKeyed (s.now.trees tree)) (pairs_seen : (s : State) (tables : Tables) → Sees s tables → ArePairs (s.now.trees tree))
       (texts_seen : (s : State) (tables : Tables) → Sees s tables → (r : Row) → Has (s.now.trees tree) r → HasText r (place + 1)) where
-    pub keep : (old new : State) (key : K) (b : B) → IsOne (length (keep_text place t)) (length (values key b)) (understood second_schema (keep_text place t)) → (r : Result ℕ Error) → Ran (keep_text place t) (values key b) old new r → HasCauseIn old new r
+    pub keep : (old new : State) (key : K) (b : B) → IsOne (length (keep_text place t)) (length (values key b)) (understood present_schema (keep_text place t)) → (r : Result ℕ Error) → Ran (keep_text place t) (values key b) old new r → HasCauseIn old new r
     keep old new key b one (Ok count) ran = λ clean tables seen. tt
     keep old new key b one (Err e) ran = λ clean tables seen.
-        stops (keep_text place t) (values key b) old new second_schema (schema_seen seen) _ writes.command writes.plain one refl refl e
-        (λ text does. stays at is old tables seen (keyed_seen old tables seen) (pairs_seen old tables seen) place values over keeps whole same accepted (texts_seen old tables seen) e key b text (at_schema old.step_limit (mode_of old) (values key b) old.now second_schema text (Update at (writes_where tree by_pair (pair_keep place t))) e (schema_seen seen) does)) (ran clean seen.inside)
+        stops (keep_text place t) (values key b) old new present_schema (schema_seen seen) _ writes.command writes.plain one refl refl e
+        (λ text does. stays at is old tables seen (keyed_seen old tables seen) (pairs_seen old tables seen) place values over keeps whole same accepted (texts_seen old tables seen) e key b text (at_schema old.step_limit (mode_of old) (values key b) old.now present_schema text (Update at (writes_where tree by_pair (pair_keep place t))) e (schema_seen seen) does)) (ran clean seen.inside)

@@ -14,18 +14,22 @@ pub use Rattle.std.specs.declared.cmp.Ordering.{Ordering}
 pub use Rattle.std.specs.declared.cmp.Ordering.TheVariants.{Equal, Greater, Less}
 pub use Rattle.moo_rows.specs.declared.row.PropId.{PropId}
 pub use Rattle.moo_tables.specs.Cause.{HasCauseIn, StopsChange}
-pub use Rattle.moo_tables.specs.Cells.{KeepsOthers, cells_after, counter_with, head_cells, migrated, object_cells, petition_cells, petition_head_cells, prop_cells, slot_cells, tables_with, verb_cells, with_counter, with_each, with_head_cells, with_next_petition, with_object_cells, with_object_changes, with_petition_cells, with_petition_changes, with_prop_cells, with_prop_changes, with_slot_cells, with_slot_changes, with_verb_cells, with_verb_changes}
+pub use Rattle.moo_tables.specs.Cells.{KeepsOthers, cells_after, counter_with, head_cells, object_cells, petition_cells, petition_head_cells, prop_cells, slot_cells, tables_with, verb_cells, with_counter, with_each, with_head_cells, with_next_petition, with_object_cells, with_object_changes, with_petition_cells, with_petition_changes, with_prop_cells, with_prop_changes, with_slot_cells, with_slot_changes, with_verb_cells, with_verb_changes}
 pub use Rattle.moo_tables.specs.Columns.{all_but, cells_over}
-pub use Rattle.moo_tables.specs.Inside.{AreKeyed, Changes, FailsToRead, HasNoSlot, HasNoTables, HasTables, Holds, IsCurrent, IsGrown, IsMade, KeepsSlot, Leaves, RanStatement, ReadsTables, Rests, Sees, StaysInside, grown, no_first_tables, no_tables}
+pub use Rattle.moo_tables.specs.Inside.{AreKeyed, Changes, FailsToRead, HasNoTables, HasTables, Holds, IsCurrent, IsMade, KeepsSlot, Leaves, RanStatement, ReadsTables, Rests, Sees, StaysInside, no_rows, no_tables}
 pub use Rattle.moo_tables.specs.Listing.{AreListed, ArePaired, IsRowBelow, ListsNumbers, ListsPairs, ListsTables, has_key_pair, tables_of}
-pub use Rattle.moo_tables.specs.Object.{object_row}
+pub use Rattle.moo_tables.specs.Head.{put_counter_text}
+pub use Rattle.moo_tables.specs.Migrated.{HasNoSlot, IsGrown, IsUnderWay, grown, migrated}
+pub use Rattle.moo_tables.specs.Object.{keep_object_text, object_row, put_object_text, remove_object_text, update_object_text}
 pub use Rattle.moo_tables.specs.Over.{WritesOver}
-pub use Rattle.moo_tables.specs.Petition.{petition_row}
+pub use Rattle.moo_tables.specs.Petition.{keep_petition_text, petition_row, put_petition_text, remove_petition_text, update_petition_text}
+pub use Rattle.moo_tables.specs.Prop.{put_prop_text, remove_prop_text, update_prop_text}
 pub use Rattle.moo_tables.specs.Rising.{has_two_numbers, is_above, pair_cmp, pair_of_ints}
-pub use Rattle.moo_tables.specs.Slot.{slot_row}
-pub use Rattle.moo_tables.specs.Tables.{Tables, cells_at, first_schema, found_in, has_pair, head_places, head_schema, head_table, in_second, no_schema, number_places, numbered, numbered_in, numbered_over, numbered_with, object_places, object_schema, object_table, pair_places, paired, paired_in, paired_over, paired_with, petition_head_places, petition_head_table, petition_places, petition_schema, petition_table, prop_places, prop_schema, prop_table, required, same_number, same_numbers, schema_of, second_schema, slot2_schema, slot2_table, slot_places, slot_schema, slot_table, slot_tree, table_of, tables_in, verb_places, verb_table, with_cells}
-pub use Rattle.moo_tables.specs.Texts.{create_text, keep_object_text, keep_petition_text, keep_slot_text, keep_text, keep_verb_text, names, put_counter_text, put_object_text, put_petition_text, put_prop_text, put_slot_text, put_text, put_verb_text, remove_object_text, remove_petition_text, remove_prop_text, remove_slot_text, remove_text, remove_verb_text, select_text, update_object_text, update_petition_text, update_prop_text, update_slot_text, update_text, update_verb_text}
-pub use Rattle.moo_tables.specs.Verb.{verb_row}
+pub use Rattle.moo_tables.specs.Slot.{keep_slot_text, put_slot_text, remove_slot_text, slot_row, update_slot_text}
+pub use Rattle.moo_tables.specs.Tables.{Tables, cells_at, first_schema, found_in, has_pair, head_places, head_schema, head_table, no_schema, number_places, numbered, numbered_in, numbered_over, numbered_with, object_places, object_schema, object_table, pair_places, paired, paired_in, paired_over, paired_with, petition_head_places, petition_head_table, petition_places, petition_rows, petition_schema, petition_table, present_schema, prop_places, prop_schema, prop_table, required, same_number, same_numbers, schema_of, second_schema, slot2_schema, slot2_table, slot_places, slot_schema, slot_table, slot_tree, table_of, tables_in, verb_places, verb_table, with_cells}
+pub use Rattle.moo_tables.specs.Texts.{create_text, keep_text, names, put_text, remove_text, select_text, update_text}
+pub use Rattle.moo_tables.specs.Verb.{keep_verb_text, put_verb_text, remove_verb_text, update_verb_text, verb_row}
+pub use Rattle.moo_tables.specs.Version.{IsEarlier, has_lettered_bits, has_petitions, present}
 pub use Rattle.moo_tables.specs.declared.slot.SlotCells.{SlotCells}
 pub use Rattle.moo_tables.specs.declared.version.Version.{Version}
 pub use Rattle.moo_tables.specs.declared.version.Version.TheVariants.{First, Second}

@@ -1,5 +1,5 @@
 -- The tables of one row, `head` and `petition_head`: their columns, and the cells of that row.
-use Rattle.std.specs.Prelude.{[], ◌∷◌, codes, pos, ℕ}
+use Rattle.std.specs.Prelude.{[], ◌∷◌, ◌++◌, codes, pos, List, ℕ}
 use Rattle.sqlite.specs.Order.{Row}
 use Rattle.sqlite.specs.Table.{Table}
 use Rattle.sqlite.specs.declared.types.Value.TheVariants.{Int}
@@ -7,6 +7,7 @@ use Rattle.moo_rows.specs.declared.row.Head.{Head}
 use Rattle.moo_tables.specs.declared.version.Version.{Version}
 use Rattle.moo_tables.specs.Version.{version_number}
 use Rattle.moo_tables.specs.Columns.{numbered, number}
+use Rattle.moo_tables.specs.Texts.{put_text}
 
 abbrev pub head_table : Table
 head_table = numbered (codes "head") 0 (number (codes "id") ∷ number (codes "version") ∷ number (codes "seq") ∷ number (codes "top") ∷ number (codes "next_prop") ∷ number (codes "next_verb") ∷ [])
@@ -20,3 +21,7 @@ petition_head_table = numbered (codes "petition_head") 10 (number (codes "id") �
 -- with the number of the next petition
 abbrev pub petition_head_cells : ℕ → Row
 petition_head_cells next = Int (pos 1) ∷ Int (pos next) ∷ []
+
+-- if the number is the same already, nothing is written
+abbrev pub put_counter_text : List ℕ
+put_counter_text = put_text petition_head_table ++ codes " WHERE next_petition <> ?2"

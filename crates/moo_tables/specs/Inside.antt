@@ -1,37 +1,21 @@
 -- What the calls of one transaction leave of a connection, and what a whole one leaves.
-use Rattle.std.specs.Prelude.{◌≡◌, ◌⊎◌, ℕ, false, IsTrue, List, [], ◌∷◌, None, Result, IfOk}
+use Rattle.std.specs.Prelude.{◌≡◌, ◌⊎◌, ℕ, false, IsTrue, List, [], None, Result, IfOk}
 use Rattle.std.specs.List.{AllByRecursion}
 use Rattle.sqlite.specs.Schema.{Schema}
 use Rattle.sqlite.specs.Order.{Row}
 use Rattle.sqlite.specs.Tree.{Trees}
-use Rattle.sqlite_trees.specs.View.{IsShaped}
-use Rattle.sqlite_trees.specs.declared.store.Shape.TheVariants.{Table}
 use Rattle.sqlite.specs.Effect.{Database, IsDatabase}
 use Rattle.sqlite.specs.declared.error.Error.{Error}
 use Rattle.sqlite.specs.State.{State, HasCleanDisk, Executes, IsUnchanged, IsRolledBack, KeepsCommit, Survives, Opens}
-use Rattle.moo_tables.specs.declared.version.Version.TheVariants.{First, Second}
-use Rattle.moo_tables.specs.Tables.{Tables, tables_in, no_schema, schema_of, slot_tree, in_second}
-
--- the rows rise by their numbers, which are whole
-abbrev pub AreKeyed : List Row → Type 0
-AreKeyed = IsShaped Table
+use Rattle.moo_tables.specs.declared.version.Version.{Version}
+use Rattle.moo_tables.specs.declared.version.Version.TheVariants.{First}
+use Rattle.moo_tables.specs.Version.{present}
+use Rattle.moo_tables.specs.Tables.{Tables, no_schema, schema_of, slot_tree}
+pub use Rattle.moo_tables.specs.Tables.{AreKeyed, Holds}
 
 -- the tables are of the version that is written
 abbrev pub IsCurrent : Tables → Type 0
-IsCurrent tables = tables.version ≡ Second
-
--- a sound database of exactly these tables, with these rows
-pub record Holds (db : Database) (tables : Tables) : Type 0 where
-  pub sound : IsDatabase db
-  pub schema : db.schema ≡ schema_of tables.version
-  pub rows : tables_in tables.version db.trees ≡ tables
-  pub heads : AreKeyed (db.trees 0)
-  pub objects : AreKeyed (db.trees 1)
-  pub props : AreKeyed (db.trees 2)
-  pub slots : AreKeyed (db.trees (slot_tree tables.version))
-  pub verbs : AreKeyed (db.trees 5)
-  pub petitions : AreKeyed (in_second tables.version (db.trees 9))
-  pub petition_heads : AreKeyed (in_second tables.version (db.trees 10))
+IsCurrent tables = tables.version ≡ present
 
 -- a transaction is open, and sees these tables
 pub record Sees (s : State) (tables : Tables) : Type 0 where
@@ -52,13 +36,9 @@ pub record StaysInside (old new : State) : Type 0 where
   pub kept : HasCleanDisk new → KeepsCommit old new
   pub survives : Survives old new (λ _. ⊥)
 
--- the table `slot` of the first layout, which the second has and doesn't read, has the rows that it had
+-- the table `slot` of the first version, which later ones have and don't read, has the rows that it had
 abbrev pub KeepsSlot : Database → Database → Type 0
 KeepsSlot old new = new.trees (slot_tree First) ≡ old.trees (slot_tree First)
-
--- and now it has none
-abbrev pub HasNoSlot : Database → Type 0
-HasNoSlot db = db.trees (slot_tree First) ≡ []
 
 -- the transaction goes on, with its tables changed so, and the table that isn't read stays
 abbrev pub Changes : (Tables → Tables) → State → State → Type 0
@@ -88,9 +68,13 @@ pub record FailsToRead (schema : Schema) (old new : State) : Type 0 where
 abbrev pub Leaves : Trees → Tables → Type 0
 Leaves trees tables = Holds (record { schema = schema_of tables.version; trees = trees }) tables
 
--- tables without rows
+-- the tables of a version, without rows
+abbrev pub no_rows : Version → Tables
+no_rows version = record { version = version; head = λ _. None; object = λ _. None; prop = λ _. None; slot = λ _. None; verb = λ _. None; petition = λ _. None; petition_head = λ _. None }
+
+-- those that are written, without rows
 abbrev pub no_tables : Tables
-no_tables = record { version = Second; head = λ _. None; object = λ _. None; prop = λ _. None; slot = λ _. None; verb = λ _. None; petition = λ _. None; petition_head = λ _. None }
+no_tables = no_rows present
 
 -- the connection is in no transaction, and its database is this one, committed
 pub record RestsAt (s : State) (db : Database) : Type 0 where
@@ -109,20 +93,6 @@ pub record MayOpenAs (crashed s : State) : Type 0 where
 pub record IsMade (schema : Schema) (trees : List ℕ) (db : Database) : Type 0 where
   pub schema_is : db.schema ≡ schema
   pub empty : AllByRecursion (λ tree. db.trees tree ≡ []) trees
-
--- the five tables of the first layout, without rows
-abbrev pub no_first_tables : Tables
-no_first_tables = record no_tables { version = First }
-
--- On the way from the first layout to the second: the trees of the first are those of the base, and these have been made since, empty.
-pub record IsGrown (base : Database) (schema : Schema) (made : List ℕ) (db : Database) : Type 0 where
-  pub schema_is : db.schema ≡ schema
-  pub same : AllByRecursion (λ tree. db.trees tree ≡ base.trees tree) (0 ∷ 1 ∷ 2 ∷ 3 ∷ 5 ∷ [])
-  pub empty : AllByRecursion (λ tree. db.trees tree ≡ []) made
-
--- the same tables in the second layout, in which there is no slot yet, no petition and no number for the next
-abbrev pub grown : Tables → Tables
-grown tables = record tables { version = Second; slot = λ _. None; petition = λ _. None; petition_head = λ _. None }
 
 -- a database without tables
 abbrev pub HasNoTables : Database → Type 0

@@ -8,6 +8,7 @@ use Rattle.moo_value.specs.declared.value.ObjNo.{ObjNo}
 use Rattle.moo_rows.specs.declared.row.ObjRow.{ObjRow}
 use Rattle.moo_tables.specs.declared.object.ObjectCells.{ObjectCells}
 use Rattle.moo_tables.specs.Columns.{numbered, number, text, flag_cell, cells_over}
+use Rattle.moo_tables.specs.Texts.{keep_text, put_text, remove_text, update_text}
 
 abbrev pub object_table : Table
 object_table = numbered (codes "object") 1
@@ -26,3 +27,16 @@ object_row_cells n row accept = object_row n row (Text accept)
 -- a row over the one that is there, if one is
 abbrev pub object_cells : ObjNo → ObjectCells → Option Row → Option Row
 object_cells n cells old = cells_over (object_row n cells.row) 11 cells.accept old
+
+-- the texts that write its rows
+abbrev pub update_object_text : List ℕ
+update_object_text = update_text object_table
+
+abbrev pub keep_object_text : List ℕ
+keep_object_text = keep_text 11 object_table
+
+abbrev pub put_object_text : List ℕ
+put_object_text = put_text object_table
+
+abbrev pub remove_object_text : List ℕ
+remove_object_text = remove_text object_table

@@ -1,5 +1,5 @@
 -- The table `petition`: its columns, and the cells of a row.
-use Rattle.std.specs.Prelude.{[], ◌∷◌, codes, pos, Option}
+use Rattle.std.specs.Prelude.{[], ◌∷◌, codes, List, ℕ, pos, Option}
 use Rattle.sqlite.specs.Order.{Row}
 use Rattle.sqlite.specs.Table.{Table}
 use Rattle.sqlite.specs.declared.types.Value.{Value}
@@ -7,6 +7,7 @@ use Rattle.sqlite.specs.declared.types.Value.TheVariants.{Int}
 use Rattle.moo_rows.specs.declared.row.PetitionId.{PetitionId}
 use Rattle.moo_tables.specs.declared.petition.PetitionCells.{PetitionCells}
 use Rattle.moo_tables.specs.Columns.{numbered, number, text, cells_over}
+use Rattle.moo_tables.specs.Texts.{keep_text, put_text, remove_text, update_text}
 
 abbrev pub petition_table : Table
 petition_table = numbered (codes "petition") 9 (number (codes "id") ∷ number (codes "who") ∷ text (codes "calls") ∷ [])
@@ -17,3 +18,16 @@ petition_row id row calls = Int (pos id.0) ∷ Int row.who.0 ∷ calls ∷ []
 -- a row over the one that is there, if one is
 abbrev pub petition_cells : PetitionId → PetitionCells → Option Row → Option Row
 petition_cells id row old = cells_over (petition_row id row) 2 row.calls old
+
+-- the texts that write its rows
+abbrev pub update_petition_text : List ℕ
+update_petition_text = update_text petition_table
+
+abbrev pub keep_petition_text : List ℕ
+keep_petition_text = keep_text 2 petition_table
+
+abbrev pub put_petition_text : List ℕ
+put_petition_text = put_text petition_table
+
+abbrev pub remove_petition_text : List ℕ
+remove_petition_text = remove_text petition_table

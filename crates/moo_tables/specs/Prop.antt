@@ -1,11 +1,12 @@
 -- The table `prop`: its columns, and the cells of a row.
-use Rattle.std.specs.Prelude.{[], ◌∷◌, codes, pos, Option, Some}
+use Rattle.std.specs.Prelude.{[], ◌∷◌, codes, List, ℕ, pos, Option, Some}
 use Rattle.sqlite.specs.Order.{Row}
 use Rattle.sqlite.specs.Table.{Table}
 use Rattle.sqlite.specs.declared.types.Value.TheVariants.{Int, Text}
 use Rattle.moo_rows.specs.declared.row.PropId.{PropId}
 use Rattle.moo_tables.specs.declared.prop.PropCells.{PropCells}
 use Rattle.moo_tables.specs.Columns.{numbered, number, text}
+use Rattle.moo_tables.specs.Texts.{put_text, remove_text, update_text}
 
 abbrev pub prop_table : Table
 prop_table = numbered (codes "prop") 2 (number (codes "id") ∷ number (codes "definer") ∷ text (codes "name") ∷ [])
@@ -16,3 +17,13 @@ prop_row id row = Int (pos id.0) ∷ Int row.definer.0 ∷ Text row.name.items �
 -- a row over the one that is there, if one is
 abbrev pub prop_cells : PropId → PropCells → Option Row → Option Row
 prop_cells id row old = Some (prop_row id row)
+
+-- the texts that write its rows
+abbrev pub update_prop_text : List ℕ
+update_prop_text = update_text prop_table
+
+abbrev pub put_prop_text : List ℕ
+put_prop_text = put_text prop_table
+
+abbrev pub remove_prop_text : List ℕ
+remove_prop_text = remove_text prop_table

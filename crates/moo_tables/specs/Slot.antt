@@ -1,5 +1,5 @@
--- The tables of the slots, `slot` in the first layout and `slot2` in the second: their columns, and the cells of a row of the second.
-use Rattle.std.specs.Prelude.{[], ◌∷◌, codes, pos, Option}
+-- The tables of the slots, `slot` in the first version and `slot2` after it: their columns, and the cells of a row of `slot2`.
+use Rattle.std.specs.Prelude.{[], ◌∷◌, codes, List, ℕ, pos, Option}
 use Rattle.sqlite.specs.Order.{Row}
 use Rattle.sqlite.specs.Table.{Table}
 use Rattle.sqlite.specs.declared.types.Value.{Value}
@@ -8,6 +8,7 @@ use Rattle.moo_value.specs.declared.value.ObjNo.{ObjNo}
 use Rattle.moo_rows.specs.declared.row.PropId.{PropId}
 use Rattle.moo_tables.specs.declared.slot.SlotCells.{SlotCells}
 use Rattle.moo_tables.specs.Columns.{paired, number, text, cells_over}
+use Rattle.moo_tables.specs.Texts.{keep_text, put_text, remove_text, update_text}
 
 abbrev pub slot_table : Table
 slot_table = paired (codes "slot") 3 (number (codes "object") ∷ number (codes "prop") ∷ number (codes "owner") ∷ text (codes "bits") ∷ text (codes "value") ∷ [])
@@ -21,3 +22,16 @@ slot_row key row value = Int key.0.0 ∷ Int (pos key.1.0) ∷ Int row.owner.0 �
 -- a row over the one that is there, if one is
 abbrev pub slot_cells : ObjNo × PropId → SlotCells → Option Row → Option Row
 slot_cells key row old = cells_over (slot_row key row) 4 row.value old
+
+-- the texts that write the rows of `slot2`
+abbrev pub update_slot_text : List ℕ
+update_slot_text = update_text slot2_table
+
+abbrev pub keep_slot_text : List ℕ
+keep_slot_text = keep_text 4 slot2_table
+
+abbrev pub put_slot_text : List ℕ
+put_slot_text = put_text slot2_table
+
+abbrev pub remove_slot_text : List ℕ
+remove_slot_text = remove_text slot2_table

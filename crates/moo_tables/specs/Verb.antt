@@ -1,5 +1,5 @@
 -- The table `verb`: its columns, and the cells of a row.
-use Rattle.std.specs.Prelude.{[], ◌∷◌, codes, pos, Option}
+use Rattle.std.specs.Prelude.{[], ◌∷◌, codes, List, ℕ, pos, Option}
 use Rattle.sqlite.specs.Order.{Row}
 use Rattle.sqlite.specs.Table.{Table}
 use Rattle.sqlite.specs.declared.types.Value.{Value}
@@ -8,6 +8,7 @@ use Rattle.moo_value.specs.declared.value.ObjNo.{ObjNo}
 use Rattle.moo_rows.specs.declared.row.VerbId.{VerbId}
 use Rattle.moo_tables.specs.declared.verb.VerbCells.{VerbCells}
 use Rattle.moo_tables.specs.Columns.{paired, number, text, cells_over}
+use Rattle.moo_tables.specs.Texts.{keep_text, put_text, remove_text, update_text}
 
 abbrev pub verb_table : Table
 verb_table = paired (codes "verb") 5
@@ -20,3 +21,16 @@ verb_row key row bits =
 -- a row over the one that is there, if one is
 abbrev pub verb_cells : ObjNo × VerbId → VerbCells → Option Row → Option Row
 verb_cells key row old = cells_over (verb_row key row) 4 row.bits old
+
+-- the texts that write its rows
+abbrev pub update_verb_text : List ℕ
+update_verb_text = update_text verb_table
+
+abbrev pub keep_verb_text : List ℕ
+keep_verb_text = keep_text 4 verb_table
+
+abbrev pub put_verb_text : List ℕ
+put_verb_text = put_text verb_table
+
+abbrev pub remove_verb_text : List ℕ
+remove_verb_text = remove_text verb_table

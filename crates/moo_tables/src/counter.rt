@@ -7,10 +7,12 @@ ghost use Rattle.sqlite.specs.Values.{bound};
 ghost use Rattle.moo_tables.specs.Cells.{with_counter, with_next_petition};
 ghost use Rattle.moo_tables.specs.Cause.{HasCauseIn};
 ghost use Rattle.moo_tables.specs.Head.{petition_head_table, petition_head_cells};
-ghost use Rattle.moo_tables.specs.Inside.{StaysInside, Changes, Holds, Sees, Rests, ReadsTables, FailsToRead, IsGrown, KeepsSlot, grown};
+ghost use Rattle.moo_tables.specs.Inside.{StaysInside, Changes, Rests, ReadsTables, FailsToRead};
 ghost use Rattle.moo_tables.specs.Listing.{ListsNumbers};
-ghost use Rattle.moo_tables.specs.Tables.{petition_schema, second_schema};
-ghost use Rattle.moo_tables.specs.declared.version.Version.TheVariants.{First, Second};
+ghost use Rattle.moo_tables.specs.Migrated.{IsGrown, IsUnderWay};
+ghost use Rattle.moo_tables.specs.Tables.{petition_schema, second_schema, schema_of};
+ghost use Rattle.moo_tables.specs.Version.{has_petitions};
+ghost use Rattle.moo_tables.specs.declared.version.Version.{Version};
 
 use crate::columns::is_number;
 use crate::query::all_rows;
@@ -20,11 +22,11 @@ use sqlite_schema::schema::Column;
 use sqlite_value::value::ValueRef;
 use std::alloc::Global;
 
-/// Makes the table `petition_head`, the last.
+/// Makes the table `petition_head`, the last of the second version.
 pub(crate) fn create_petition_head<S: Alter>(tx: &mut Transaction<'_, S>) -> Result<usize, Error>
     ensures same_reference { tx.new.conn.ghost_name ≡ tx.old.conn.ghost_name }
     ensures inside { StaysInside (state S.Store tx.old.conn.now) (state S.Store tx.new.conn.now) }
-    ensures made { OnOk result (HasCleanDisk (state S.Store tx.new.conn.now) → (base : _) → IsGrown base petition_schema (7 ∷ 9 ∷ []) (state S.Store tx.old.conn.now).now → (tables : _) → Holds base tables → tables.version ≡ First → Sees (state S.Store tx.new.conn.now) (grown tables) × KeepsSlot base (state S.Store tx.new.conn.now).now) }
+    ensures made { OnOk result (HasCleanDisk (state S.Store tx.new.conn.now) → (base : _) → IsGrown base petition_schema (7 ∷ 9 ∷ []) (state S.Store tx.old.conn.now).now → IsGrown base second_schema (7 ∷ 9 ∷ 10 ∷ []) (state S.Store tx.new.conn.now).now × IsUnderWay (state S.Store tx.new.conn.now)) }
 {
     run(
         tx,
@@ -69,15 +71,15 @@ pub(crate) fn put_next_petition<S: Alter>(
     }
 }
 
-/// The row of `petition_head`. The first version has no such table.
+/// The row of `petition_head`. The version has to have petitions.
 pub(crate) fn counter_cells_of<S: Alter>(
     alloc: Global,
     conn: &mut Connection<S>,
 ) -> Result<Vec<Row>, Error>
     ensures outside { (state S.Store conn.old).in_transaction ≡ false → (state S.Store conn.new).in_transaction ≡ false }
-    ensures read { OnOk result (ReadsTables second_schema (state S.Store conn.old) (state S.Store conn.new)) }
-    ensures listed { HasCleanDisk (state S.Store conn.new) → IfOk result (λ rows. (tables : _) → Rests (state S.Store conn.old) tables → tables.version ≡ Second → ListsNumbers rows.items tables.petition_head) }
-    ensures failed { OnErr result (FailsToRead second_schema (state S.Store conn.old) (state S.Store conn.new)) }
+    ensures read { (version : Version) → IsTrue (has_petitions version) → OnOk result (ReadsTables (schema_of version) (state S.Store conn.old) (state S.Store conn.new)) }
+    ensures listed { HasCleanDisk (state S.Store conn.new) → IfOk result (λ rows. (tables : _) → Rests (state S.Store conn.old) tables → IsTrue (has_petitions tables.version) → ListsNumbers rows.items tables.petition_head) }
+    ensures failed { (version : Version) → IsTrue (has_petitions version) → OnErr result (FailsToRead (schema_of version) (state S.Store conn.old) (state S.Store conn.new)) }
 {
     all_rows(
         alloc,

@@ -1,35 +1,61 @@
-//! The tables of the first layout made those of the second.
+//! The tables of an earlier version made those of the present one.
 
 ghost use Rattle.std.specs.Prelude.{◌≡◌, ◌<◌, ◌^◌, IsTrue, OnOk, OnErr, [], false};
 ghost use Rattle.sqlite.specs.State.{HasCleanDisk, Survives};
 ghost use Rattle.sqlite.specs.Held.{state};
+ghost use Rattle.moo_tables.specs.Cells.{with_counter};
+ghost use Rattle.moo_tables.specs.Inside.{AreKeyed, StaysInside, Holds, Sees, KeepsSlot, Rests, RestsAt, HasTables, Leaves};
+ghost use Rattle.moo_tables.specs.Migrated.{HasNoSlot, grown, migrated};
+ghost use Rattle.moo_tables.specs.Tables.{present_schema, schema_of};
+ghost use Rattle.moo_tables.specs.Version.{IsEarlier};
+ghost use Rattle.moo_tables.specs.declared.version.Version.{Version};
 ghost use Rattle.moo_tables.specs.declared.version.Version.TheVariants.{First};
-ghost use Rattle.moo_tables.specs.Cells.{migrated};
-ghost use Rattle.moo_tables.specs.Inside.{AreKeyed, StaysInside, Holds, Sees, HasNoSlot, Rests, RestsAt, HasTables, Leaves};
-ghost use Rattle.moo_tables.specs.Tables.{first_schema, second_schema};
 
-use crate::adding::add_tables;
+use crate::counter::{create_petition_head, put_counter};
 use crate::head::put_head;
-use crate::slot::SlotCells;
+use crate::petition::create_petition;
+use crate::slot::{SlotCells, create_slot2};
 use crate::statement::run;
 use crate::writing::write_rows;
 use moo_rows::{Head, PropId};
 use moo_value::ObjNo;
 use sqlite::{Alter, Connection, Error, Transaction};
 
-/// Deletes every row of the table `slot`, which the second layout doesn't read.
+/// Makes the tables that the first version lacks, empty, and leaves the others as they are.
+pub(crate) fn create_added_tables<S: Alter>(tx: &mut Transaction<'_, S>) -> Result<usize, Error>
+    ensures same_reference { tx.new.conn.ghost_name ≡ tx.old.conn.ghost_name }
+    ensures inside { StaysInside (state S.Store tx.old.conn.now) (state S.Store tx.new.conn.now) }
+    ensures made { OnOk result (HasCleanDisk (state S.Store tx.new.conn.now) → (tables : _) → Holds (state S.Store tx.old.conn.now).now tables → tables.version ≡ First → Sees (state S.Store tx.new.conn.now) (grown tables) × KeepsSlot (state S.Store tx.old.conn.now).now (state S.Store tx.new.conn.now).now) }
+{
+    create_slot2(tx)?;
+    create_petition(tx)?;
+    create_petition_head(tx)
+}
+
+/// Makes the tables that an earlier version lacks, and puts the one row of `petition_head`: the first petition has the number 1.
+/// Writes no slot and no petition.
+fn add_tables<S: Alter>(tx: &mut Transaction<'_, S>) -> Result<usize, Error>
+    ensures same_reference { tx.new.conn.ghost_name ≡ tx.old.conn.ghost_name }
+    ensures inside { StaysInside (state S.Store tx.old.conn.now) (state S.Store tx.new.conn.now) }
+    ensures made { OnOk result (HasCleanDisk (state S.Store tx.new.conn.now) → (tables : _) → Holds (state S.Store tx.old.conn.now).now tables → IsEarlier tables.version → Sees (state S.Store tx.new.conn.now) (with_counter 1 (grown tables)) × KeepsSlot (state S.Store tx.old.conn.now).now (state S.Store tx.new.conn.now).now) }
+{
+    create_added_tables(tx)?;
+    put_counter(tx, 1)
+}
+
+/// Deletes every row of the table `slot`, which only the first version reads.
 fn empty_slot<S: Alter>(tx: &mut Transaction<'_, S>) -> Result<usize, Error>
     ensures same_reference { tx.new.conn.ghost_name ≡ tx.old.conn.ghost_name }
     ensures inside { StaysInside (state S.Store tx.old.conn.now) (state S.Store tx.new.conn.now) }
     ensures goes_on { HasCleanDisk (state S.Store tx.new.conn.now) → OnOk result (IsTrue (state S.Store tx.new.conn.now).in_transaction) }
     ensures same { OnOk result (HasCleanDisk (state S.Store tx.new.conn.now) → (tables : _) → Sees (state S.Store tx.old.conn.now) tables → Sees (state S.Store tx.new.conn.now) tables) }
-    ensures emptied { OnOk result (HasCleanDisk (state S.Store tx.new.conn.now) → HasTables second_schema (state S.Store tx.old.conn.now) → AreKeyed ((state S.Store tx.old.conn.now).now.trees 3) → HasNoSlot (state S.Store tx.new.conn.now).now) }
+    ensures emptied { OnOk result (HasCleanDisk (state S.Store tx.new.conn.now) → HasTables present_schema (state S.Store tx.old.conn.now) → AreKeyed ((state S.Store tx.old.conn.now).now.trees 3) → HasNoSlot (state S.Store tx.new.conn.now).now) }
 {
     run(tx, "DELETE FROM slot", &[])
 }
 
-/// Makes the tables of the second layout with this head and these slots, within a transaction.
-fn write_second<S: Alter>(
+/// Makes the tables of the present version with this head and these slots, within a transaction.
+fn write_migrated<S: Alter>(
     tx: &mut Transaction<'_, S>,
     head: &Head,
     slots: &[((ObjNo, PropId), Option<SlotCells>)],
@@ -38,7 +64,7 @@ fn write_second<S: Alter>(
     ensures same_reference { tx.new.conn.ghost_name ≡ tx.old.conn.ghost_name }
     ensures inside { StaysInside (state S.Store tx.old.conn.now) (state S.Store tx.new.conn.now) }
     ensures goes_on { HasCleanDisk (state S.Store tx.new.conn.now) → OnOk result (IsTrue (state S.Store tx.new.conn.now).in_transaction) }
-    ensures migrated { OnOk result (HasCleanDisk (state S.Store tx.new.conn.now) → (tables : _) → Holds (state S.Store tx.old.conn.now).now tables → tables.version ≡ First → Sees (state S.Store tx.new.conn.now) (migrated head.now slots.now tables) × HasNoSlot (state S.Store tx.new.conn.now).now) }
+    ensures migrated { OnOk result (HasCleanDisk (state S.Store tx.new.conn.now) → (tables : _) → Holds (state S.Store tx.old.conn.now).now tables → IsEarlier tables.version → Sees (state S.Store tx.new.conn.now) (migrated head.now slots.now tables) × HasNoSlot (state S.Store tx.new.conn.now).now) }
 {
     add_tables(tx)?;
     put_head(tx, head)?;
@@ -46,9 +72,9 @@ fn write_second<S: Alter>(
     empty_slot(tx)
 }
 
-/// Makes tables of the first layout those of the second, all or nothing.
+/// Makes tables of an earlier version those of the present one, all or nothing.
 ///
-/// The row of `head` is put anew, with the version 2. `slots` are the slots that the second layout has from then on: of a
+/// The row of `head` is put anew, with the number of the present version. `slots` are the slots that there are from then on: of a
 /// key that comes more than once the last counts. There is no petition, and the first will have the number 1. The table
 /// `slot` is emptied, and the rows of the other tables stay as they are. The number of the last batch, `head.seq`, has to
 /// be below 2^63, and the connection in no transaction. After a fault of the store the database is as it was, unless the
@@ -61,13 +87,13 @@ pub fn migrate<S: Alter>(
     requires limit { head.now.seq < 2 ^ 63 }
     requires outside { (state S.Store conn.old).in_transaction ≡ false }
     ensures outside { (state S.Store conn.new).in_transaction ≡ false }
-    ensures migrated { HasCleanDisk (state S.Store conn.new) → OnOk result ((tables : _) → Rests (state S.Store conn.old) tables → tables.version ≡ First → Rests (state S.Store conn.new) (migrated head.now slots.now tables)) }
-    ensures emptied { HasCleanDisk (state S.Store conn.new) → OnOk result ((tables : _) → Rests (state S.Store conn.old) tables → tables.version ≡ First → HasNoSlot (state S.Store conn.new).now) }
+    ensures migrated { HasCleanDisk (state S.Store conn.new) → OnOk result ((tables : _) → Rests (state S.Store conn.old) tables → IsEarlier tables.version → Rests (state S.Store conn.new) (migrated head.now slots.now tables)) }
+    ensures emptied { HasCleanDisk (state S.Store conn.new) → OnOk result ((tables : _) → Rests (state S.Store conn.old) tables → IsEarlier tables.version → HasNoSlot (state S.Store conn.new).now) }
     ensures restored { HasCleanDisk (state S.Store conn.new) → OnErr result (IsTrue (state S.Store conn.new).is_open → RestsAt (state S.Store conn.new) (state S.Store conn.old).committed) }
     ensures undone { HasCleanDisk (state S.Store conn.new) → OnErr result (IsTrue (state S.Store conn.new).is_open → (tables : _) → Rests (state S.Store conn.old) tables → Rests (state S.Store conn.new) tables) }
-    ensures crash { (HasCleanDisk (state S.Store conn.old) → HasTables first_schema (state S.Store conn.old)) → Survives (state S.Store conn.old) (state S.Store conn.new) (λ trees. (tables : _) → Rests (state S.Store conn.old) tables → Leaves trees (migrated head.now slots.now tables)) }
+    ensures crash { (version : Version) → IsEarlier version → (HasCleanDisk (state S.Store conn.old) → HasTables (schema_of version) (state S.Store conn.old)) → Survives (state S.Store conn.old) (state S.Store conn.new) (λ trees. (tables : _) → Rests (state S.Store conn.old) tables → Leaves trees (migrated head.now slots.now tables)) }
 {
     let mut tx = conn.transaction();
-    write_second(&mut tx, head, slots)?;
+    write_migrated(&mut tx, head, slots)?;
     tx.commit()
 }

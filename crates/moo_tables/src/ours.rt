@@ -1,4 +1,4 @@
-//! Which of the two layouts a database has.
+//! Which version of the tables a database has.
 
 ghost use Rattle.std.specs.Prelude.{◌≡◌, ◌≢◌, ◌↔◌, [], ◌∷◌, drop, IsTrue, IfOk, IfSome, IfNone};
 ghost use Rattle.sqlite_value.specs.Keys.{plain};
@@ -180,7 +180,7 @@ fn are_first_tables(alloc: Global, tables: &[Table]) -> Result<bool, AllocError>
     }
 }
 
-/// Whether they are the tables that the second layout adds.
+/// Whether they are the tables that the second version adds.
 fn are_added_tables(alloc: Global, tables: &[Table]) -> Result<bool, AllocError>
     ensures { IfOk result (λ are. IsTrue are ↔ tables.now ≡ drop 5 second_schema.tables) }
 {
@@ -247,9 +247,9 @@ fn is_second(alloc: Global, schema: &Schema) -> Result<bool, AllocError>
     Ok(tables && are_second_keys(schema.indexes.as_slice()) && schema.views.is_empty())
 }
 
-/// Which of the two layouts a database has.
+/// Which version of the tables a database has.
 ///
-/// It is one of them if it has exactly its tables, made in their order, the indexes of their keys, no other index and
+/// It has a version if it has exactly its tables, made in their order, the indexes of their keys, no other index and
 /// no view. Answers none of any other database and of no other, and `AllocError` if memory is refused.
 pub fn version_of(alloc: Global, schema: &Schema) -> Result<Option<Version>, AllocError>
     ensures ours { IfOk result (λ found. IfSome found (λ version. schema.now ≡ schema_of version)) }

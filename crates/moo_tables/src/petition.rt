@@ -9,11 +9,13 @@ ghost use Rattle.moo_tables.specs.Cause.{HasCauseIn};
 ghost use Rattle.moo_tables.specs.Cells.{with_petition_cells};
 ghost use Rattle.moo_tables.specs.Columns.{all_but};
 ghost use Rattle.moo_tables.specs.Over.{WritesOver};
-ghost use Rattle.moo_tables.specs.Inside.{StaysInside, Changes, Rests, ReadsTables, FailsToRead, IsGrown};
+ghost use Rattle.moo_tables.specs.Inside.{StaysInside, Changes, Rests, ReadsTables, FailsToRead};
 ghost use Rattle.moo_tables.specs.Listing.{ListsNumbers};
+ghost use Rattle.moo_tables.specs.Migrated.{IsGrown};
 ghost use Rattle.moo_tables.specs.Petition.{petition_row, petition_table};
-ghost use Rattle.moo_tables.specs.Tables.{slot2_schema, petition_schema, second_schema};
-ghost use Rattle.moo_tables.specs.declared.version.Version.TheVariants.{Second};
+ghost use Rattle.moo_tables.specs.Tables.{slot2_schema, petition_schema, schema_of};
+ghost use Rattle.moo_tables.specs.Version.{has_petitions};
+ghost use Rattle.moo_tables.specs.declared.version.Version.{Version};
 
 use crate::columns::{is_number, is_text};
 use crate::query::all_rows;
@@ -126,15 +128,15 @@ impl TableRow for PetitionCells {
     }
 }
 
-/// The rows of `petition`, in the order of their numbers. The first version has no such table.
+/// The rows of `petition`, in the order of their numbers. The version has to have petitions.
 pub(crate) fn petition_cells_of<S: Alter>(
     alloc: Global,
     conn: &mut Connection<S>,
 ) -> Result<Vec<Row>, Error>
     ensures outside { (state S.Store conn.old).in_transaction ≡ false → (state S.Store conn.new).in_transaction ≡ false }
-    ensures read { OnOk result (ReadsTables second_schema (state S.Store conn.old) (state S.Store conn.new)) }
-    ensures listed { HasCleanDisk (state S.Store conn.new) → IfOk result (λ rows. (tables : _) → Rests (state S.Store conn.old) tables → tables.version ≡ Second → ListsNumbers rows.items tables.petition) }
-    ensures failed { OnErr result (FailsToRead second_schema (state S.Store conn.old) (state S.Store conn.new)) }
+    ensures read { (version : Version) → IsTrue (has_petitions version) → OnOk result (ReadsTables (schema_of version) (state S.Store conn.old) (state S.Store conn.new)) }
+    ensures listed { HasCleanDisk (state S.Store conn.new) → IfOk result (λ rows. (tables : _) → Rests (state S.Store conn.old) tables → IsTrue (has_petitions tables.version) → ListsNumbers rows.items tables.petition) }
+    ensures failed { (version : Version) → IsTrue (has_petitions version) → OnErr result (FailsToRead (schema_of version) (state S.Store conn.old) (state S.Store conn.new)) }
 {
     all_rows(
         alloc,

@@ -28,13 +28,13 @@ pub struct CellLists {
     pub prop: Vec<Row>,
     pub slot: Vec<Row>,
     pub verb: Vec<Row>,
-    /// None in the first version.
+    /// None if the version has no petitions.
     pub petition: Vec<Row>,
-    /// The row with the number of the next petition, none in the first version.
+    /// The row with the number of the next petition, none if the version has no petitions.
     pub petition_head: Vec<Row>,
 }
 
-/// The rows of `petition` and of `petition_head`. In the first version both have none, and no query is made.
+/// The rows of `petition` and of `petition_head`. If the version has no petitions both have none, and no query is made.
 fn both_petition_cells_of<S: Alter>(
     alloc: Global,
     conn: &mut Connection<S>,
@@ -45,18 +45,16 @@ fn both_petition_cells_of<S: Alter>(
     ensures listed { HasCleanDisk (state S.Store conn.new) → IfOk result (λ lists. (tables : _) → Rests (state S.Store conn.old) tables → tables.version ≡ version → ListsNumbers lists.0.items tables.petition × ListsNumbers lists.1.items tables.petition_head) }
     ensures failed { OnErr result (FailsToRead (schema_of version) (state S.Store conn.old) (state S.Store conn.new)) }
 {
-    match version {
-        Version::First => Ok((Vec::new(alloc), Vec::new(alloc))),
-        Version::Second => {
-            let petition = petition_cells_of(alloc, conn)?;
-            let petition_head = counter_cells_of(alloc, conn)?;
-            Ok((petition, petition_head))
-        }
+    if !version.has_petitions() {
+        return Ok((Vec::new(alloc), Vec::new(alloc)));
     }
+    let petition = petition_cells_of(alloc, conn)?;
+    let petition_head = counter_cells_of(alloc, conn)?;
+    Ok((petition, petition_head))
 }
 
-/// Reads the rows of `head`, `object`, `prop` and `verb`, and of `slot` in the first version, or of `slot2`, `petition` and
-/// `petition_head` in the second.
+/// Reads the rows of `head`, `object`, `prop` and `verb`, those of the slots from the table that the version has them in, and
+/// those of `petition` and `petition_head` if it has petitions.
 ///
 /// The version has to be that of the database (`version_of`): of another one nothing is said. Nothing is written. After
 /// a fault of the store the tables are as they were, unless the fault shut the connection.

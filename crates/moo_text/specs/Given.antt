@@ -49,7 +49,7 @@ ReadsAlong f g old new = ReadsOn old new (λ before behind. Carries f g before b
 abbrev pub ReadsFirst : (List (List ℕ) → List Next) → Side → Side → Next → Type 0
 ReadsFirst f old new item = ReadsOn old new (λ before behind. TakesFirst f before behind item)
 
--- the next item is read, and End if there is none
+-- the next item is read, or `End` if there is no other
 abbrev pub ReadsNext : Side → Side → Next → Type 0
 ReadsNext old new item = ReadsOn old new (λ before behind. TakesNext before behind item)
 

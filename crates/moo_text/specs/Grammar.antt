@@ -1,4 +1,5 @@
 -- How the header of a batch and a call are spelled on a line.
+use Prim.Native.Char.{code}
 use Rattle.std.specs.Prelude.{◌≡◌, ℕ, ◌<◌, ◌≤◌, Bool, true, false, List, [], ◌∷◌, ◌++◌, length, Option, Some, None, IsTrue, codes}
 use Rattle.std.specs.List.{AllByRecursion}
 use Rattle.moo_value.specs.declared.value.Value.{Value}
@@ -40,7 +41,7 @@ pub record SpellsCallName (name : CallName) (b : List ℕ) : Type 0 where
 
 -- the bracket that closes a call, and the end of the line
 abbrev pub ClosesCall : List ℕ → Type 0
-ClosesCall b = (blanks : List ℕ) × AreBlanks blanks × (b ≡ 41 ∷ blanks)
+ClosesCall b = (blanks : List ℕ) × AreBlanks blanks × (b ≡ code ")" ∷ blanks)
 
 -- the arguments of a call after its bracket, to the end of the line; a comma comes before each but the first
 abbrev pub SpellsArguments : Bool → List Value → List ℕ → Type 0
@@ -54,7 +55,7 @@ pub record SpellsCall (call : Call) (line : List ℕ) : Type 0 where
   pub name : List ℕ
   pub between : List ℕ
   pub behind : List ℕ
-  pub whole : line ≡ before ++ (name ++ (between ++ 40 ∷ behind))
+  pub whole : line ≡ before ++ (name ++ (between ++ code "(" ∷ behind))
   pub blank_before : AreBlanks before
   pub is_name : SpellsCallName call.name name
   pub blank_between : AreBlanks between

@@ -1,4 +1,5 @@
 -- What one line of a batch text is, whatever it says.
+use Prim.Native.Char.{code}
 use Rattle.std.specs.Prelude.{ℕ, ◌==◌, ◌&&◌, Bool, false, not, nat_le, List, [], ◌∷◌, length, if◌then◌else◌}
 use Rattle.std.specs.List.{filter, slice_split}
 use Rattle.moo_value.specs.Literal.{is_blank}
@@ -16,7 +17,7 @@ abbrev pub is_blank_line : List ℕ → Bool
 is_blank_line line = is_short line && is_all_blank line
 
 abbrev pub is_end_word : List ℕ → Bool
-is_end_word (a ∷ b ∷ c ∷ rest) = (a == 101) && (b == 110) && (c == 100) && is_all_blank rest
+is_end_word (a ∷ b ∷ c ∷ rest) = (a == code "e") && (b == code "n") && (c == code "d") && is_all_blank rest
 is_end_word _ = false
 
 abbrev pub is_end_line : List ℕ → Bool

@@ -123,7 +123,7 @@ fn at_of(bytes: &[u8]) -> Option<Option<u64>>
     }
 }
 
-/// The header that a line is; none if it isn't a header.
+/// The header that a line is; `None` if it isn't a header.
 pub fn read_header(alloc: Global, line: &[u8]) -> Result<Option<Header>, AllocError>
     ensures { IfOk result (λ header. header ≡ header_of line.now) }
 {

@@ -8,7 +8,7 @@ ghost use Rattle.moo_text.specs.LineReading.{front_of};
 use moo_value::{LiteralFault, Value, read_literal};
 use std::alloc::{AllocError, Global};
 
-/// The value whose literal is in front, and what follows; none if no literal is there.
+/// The value whose literal is in front, and what follows; `None` if no literal is there.
 pub(crate) fn read_front(alloc: Global, bytes: &[u8]) -> Result<Option<(Value, &[u8])>, AllocError>
     ensures read { IfOk result (λ front. option_map (λ x. (x.0, x.1.now)) front ≡ front_of bytes.now) }
     ensures fits { IfOk result (λ front. IfSome front (λ x. fits x.0 ≡ true)) }

@@ -1,5 +1,5 @@
 -- A search for the objects under one, as far as it has come.
-use Rattle.moo_tree.proofs.Words.{◌≡◌, ℕ, zero, suc, ◌-◌, ◌<◌, ◌≤◌, ◌≢◌, Bool, true, false, cond, ◌||◌, Option, None, Some, List, [], ◌∷◌, ◌++◌, length, drop, Ordering, Less, Equal, Greater, refl, sym, ap, ◌∙◌, subst, arith, ◌⊎◌, inl, inr, is_some, if◌then◌else◌, slice_index_or, ◌+◌, option_map, eq_by_cmp, is_eq, tied_itself, FinMap, get, insert, get-insert, true≢false, or_right, or_cases, ObjNo, ObjRow, object_exact, Maps, object_cmp, object_total, same_object, is_among, same_object-Decides, children_of, objects_of, has_parent, look_ups, world_of, World, IsTree, is_object, parent_of, chain, climb, numbers_to, chain_of_none, chain_of_row, chain_of_no_row, is_object_seen, passes_seen, none_passes, IsFound}
+use Rattle.moo_tree.proofs.Words.{◌≡◌, ℕ, zero, suc, ◌-◌, ◌<◌, ◌≤◌, ◌≢◌, Bool, true, false, cond, ◌||◌, Option, None, Some, List, [], ◌∷◌, ◌++◌, length, drop, Ordering, Less, Equal, Greater, refl, sym, ap, ◌∙◌, subst, arith, ◌⊎◌, inl, inr, is_some, if◌then◌else◌, slice_index_or, ◌+◌, option_map, eq_by_cmp, is_eq, tied_itself, FinMap, get, insert, get-insert, true≢false, or_right, or_cases, ObjNo, ObjRow, object_exact, Maps, object_cmp, object_total, same_object, is_among, same_object-Decides, children_of, objects_of, is_parent_of, look_ups, world_of, World, IsTree, is_object, parent_of, chain, climb, numbers_to, chain_of_none, chain_of_row, chain_of_no_row, is_object_seen, passes_seen, none_passes, IsFound}
 use Rattle.std.proofs.lemmas.Option.{none-some}
 use Rattle.moo_world.proofs.Inheritance.Owed.{is_among-append}
 use Rattle.moo_world.proofs.Ancestry.Subtrees.{among_filter, object_listed}
@@ -30,14 +30,14 @@ module _ (t : Maps) (tree : IsTree (world_of t)) where
   -- the children, by their rows
   pub child_listed : (c y : ObjNo) (r : ObjRow) → get t.objects c ≡ Some r → r.parent ≡ y → is_among c (children_of w y) ≡ true
   child_listed c y r e p =
-      among_filter (has_parent w y) (objects_of w) c (object_listed w tree c (is_object_seen (look_ups t) c ∙ ap is_some e))
+      among_filter (is_parent_of w y) (objects_of w) c (object_listed w tree c (is_object_seen (look_ups t) c ∙ ap is_some e))
       (passes_seen (λ r. same_object y r.parent) (look_ups t) c r (sym e) ∙ (same_object-Decides y r.parent).1 (sym p))
 
   pub listed_child : (c y : ObjNo) → is_among c (children_of w y) ≡ true → (r : ObjRow) × (get t.objects c ≡ Some r) × (r.parent ≡ y)
   listed_child c y h = by (get t.objects c) refl
     where
-      passes : has_parent w y c ≡ true
-      passes = filter_passes (has_parent w y) (objects_of w) c h
+      passes : is_parent_of w y c ≡ true
+      passes = filter_passes (is_parent_of w y) (objects_of w) c h
 
       by : (o : Option ObjRow) → get t.objects c ≡ o → (r : ObjRow) × (get t.objects c ≡ Some r) × (r.parent ≡ y)
       by None e = absurd (true≢false (sym passes ∙ none_passes (λ r. same_object y r.parent) (look_ups t) c (sym e)))

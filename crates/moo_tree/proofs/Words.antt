@@ -22,9 +22,9 @@ pub use Rattle.moo_world.proofs.Ancestry.Chains.{Climbs-among, Climbs-split, Cli
 pub use Rattle.moo_world.proofs.Ancestry.Trees.{Chain-chain, chain_of_none, no_parent}
 pub use Rattle.moo_world.proofs.Shown.Seen.{chain_of_no_row, chain_of_row, is_object_seen, none_passes, passes_seen}
 pub use Rattle.moo_world.specs.Manual.{ancestors, common}
-pub use Rattle.moo_world.specs.ObjectLists.{children_of, contents_of, has_parent, objects_of, players_of, subtree_of}
+pub use Rattle.moo_world.specs.ObjectLists.{children_of, contents_of, is_parent_of, objects_of, players_of, subtree_of}
 pub use Rattle.moo_world.specs.Objects.{is_among, nothing, same_object, same_object-Decides, same_object-eq}
 pub use Rattle.moo_world.specs.Rows.{LookUps, look_ups, world_of, world_shown}
-pub use Rattle.moo_world.specs.World.{Chain, IsTree, World, climb, is_object, numbers_to, parent_of, places, row_passes}
+pub use Rattle.moo_world.specs.World.{Chain, IsTree, World, climb, is_object, numbers_to, parent_of, location_chain, row_passes}
 unfoldable pub use Rattle.moo_world.specs.World.{chain}
 pub use Rattle.moo_tree.specs.Under.{IsFound, owner_if_under, owners_under}

@@ -70,7 +70,7 @@ fn no_deeper<R: Rows>(rows: &R, x: ObjNo, other: ObjNo) -> ObjNo
     up_along(rows, x, beyond)
 }
 
-/// The first of new and its ancestors that is a proper ancestor of x, or `#-1` if there is none. No more steps are taken
+/// The first of new and its ancestors that is a proper ancestor of x, or `#-1` if there is no such object. No more steps are taken
 /// than a few times as many as the two stand deep. LambdaMOO Programmer's Manual, 'Fundamental Operations on Objects': `chparent`.
 pub fn common<R: Rows>(rows: &R, x: ObjNo, new: ObjNo) -> ObjNo
     requires { IsTree (world_of (R.held rows.now).maps) }

@@ -3,12 +3,12 @@
 
 mod ancestors;
 mod lists;
+mod locations;
 mod numbers;
-mod places;
 mod under;
 
 pub use ancestors::{chain, common, is_under};
 pub use lists::{children, contents, players};
+pub use locations::inside;
 pub use numbers::{is_nothing, nothing, valid};
-pub use places::inside;
 pub use under::{owners_under, subtree};

@@ -80,7 +80,7 @@ fn verb_taken<R: Rows>(
     if !rights::may_write_object(rows, programmer, x) {
         return Err(Fault::Moo(Code::Permission));
     }
-    if !rights::may_own(rows, programmer, verb.info.owner) {
+    if !rights::may_make_owner(rows, programmer, verb.info.owner) {
         return Err(Fault::Moo(Code::Permission));
     }
     if rows.head().next_verb == u32::MAX {

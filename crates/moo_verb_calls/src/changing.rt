@@ -79,7 +79,7 @@ pub fn set_verb_info<R: Rows>(
     if !rights::may_write_verb(rows, programmer, found.row) {
         return Err(Fault::Moo(Code::Permission));
     }
-    if !rights::may_own(rows, programmer, verb.info.owner) {
+    if !rights::may_make_owner(rows, programmer, verb.info.owner) {
         return Err(Fault::Moo(Code::Permission));
     }
     let names = verb.names.copy(alloc)?;

@@ -9,7 +9,7 @@ ghost use Rattle.moo_world.specs.Rows.{IsGood};
 ghost use Rattle.moo_world.specs.Answers.{list_of};
 ghost use Rattle.moo_world.specs.Outcomes.{Outcome, Failed};
 ghost use Rattle.moo_world.specs.World.{World};
-ghost use Rattle.moo_world.specs.Prepositions.{prep_text, place_text};
+ghost use Rattle.moo_world.specs.Prepositions.{prep_text, object_spec_text};
 ghost use Rattle.moo_world.specs.VerbCalls.{verbs, verb_info, verb_args};
 ghost use Rattle.moo_call_parts.specs.Outcomes.{world_in, Answers};
 ghost use Rattle.moo_verb_calls.specs.Checks.{reading_verb};
@@ -18,7 +18,7 @@ use moo_call_parts::{Fault, list_of, rights, text_list};
 use moo_rows::{ArgSpec, Rows, VerbRow};
 use moo_tree::valid;
 use moo_value::{Code, LiteralFault, MooStr, ObjNo, Value};
-use moo_verbs::{bits_letters, found_verb, print_place, print_prep};
+use moo_verbs::{bits_letters, found_verb, print_object_spec, print_prep};
 use moo_world::Desc;
 use std::alloc::{AllocError, Global};
 
@@ -110,11 +110,11 @@ pub fn verb_info<R: Rows>(
 /// `{dobj, prep, iobj}` of a verb. The only error is out of memory.
 fn args_of(alloc: Global, args: ArgSpec) -> Result<Value, AllocError>
     ensures { IfOk result (λ value. value
-        ≡ list_of (Str (place_text args.dobj) ∷ Str (prep_text args.prep) ∷ Str (place_text args.iobj) ∷ [])) }
+        ≡ list_of (Str (object_spec_text args.dobj) ∷ Str (prep_text args.prep) ∷ Str (object_spec_text args.iobj) ∷ [])) }
 {
-    let dobj = text(alloc, print_place(args.dobj))?;
+    let dobj = text(alloc, print_object_spec(args.dobj))?;
     let prep = text(alloc, print_prep(args.prep))?;
-    let iobj = text(alloc, print_place(args.iobj))?;
+    let iobj = text(alloc, print_object_spec(args.iobj))?;
     let values = vec![in alloc; dobj, prep, iobj]?;
     Ok(list_of(values))
 }

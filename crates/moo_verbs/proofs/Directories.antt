@@ -1,5 +1,5 @@
 -- What a verb put or removed in the rows does to the world that they show.
-use Rattle.moo_verbs.proofs.Words.{◌≡◌, ◌≢◌, ℕ, ◌<◌, ◌+◌, Bool, true, false, cond, Option, None, Some, List, [], ◌∷◌, ◌++◌, eqb, refl, sym, ap, ◌∙◌, add-one, arith, is_some, slice_get, if◌then◌else◌, option_map, remove, eq-eqb, ne_eqb, eqb-true, ObjNo, VerbId, VerbRow, Maps, verb_cmp, same_object, same_object-Decides, World, Record, LookUps, IsSound, look_ups, world_of, world_shown, record_of, verb_id, verb_added, verb_removed, verb_changed, verb_at, changed_at, verb_place}
+use Rattle.moo_verbs.proofs.Words.{◌≡◌, ◌≢◌, ℕ, ◌<◌, ◌+◌, Bool, true, false, cond, Option, None, Some, List, [], ◌∷◌, ◌++◌, eqb, refl, sym, ap, ◌∙◌, add-one, arith, is_some, slice_get, if◌then◌else◌, option_map, remove, eq-eqb, ne_eqb, eqb-true, ObjNo, VerbId, VerbRow, Maps, verb_cmp, same_object, same_object-Decides, WorldObject, LookUps, IsSound, look_ups, world_of, world_shown, object_shown, verb_id, verb_added, verb_removed, verb_changed, verb_at, changed_at, verb_place}
 use Rattle.std.specs.Ordering.{eq_by_cmp}
 use Rattle.std.specs.FinMap.{get, insert, remove as less, get-insert, get-remove}
 use Rattle.moo_rows.specs.declared.row.ObjRow.{ObjRow}
@@ -19,13 +19,13 @@ module _ (m : LookUps) (x : ObjNo) (verb : ObjNo → ℕ → Option VerbRow) (ne
   unfolding world_shown
   directory_shown others own = λ i. record (world_shown m) { object = λ y. at y (same_object x y) refl (m.object y) i; next_verb = next }
     where
-      at : (y : ObjNo) (b : Bool) → same_object x y ≡ b → (o : Option ObjRow) → option_map (record_of with_verb_rows y) o ≡ option_map (λ (r : Record). if b then record r { verbs = change r.verbs } else r) (option_map (record_of m y) o)
+      at : (y : ObjNo) (b : Bool) → same_object x y ≡ b → (o : Option ObjRow) → option_map (object_shown with_verb_rows y) o ≡ option_map (λ (r : WorldObject). if b then record r { verbs = change r.verbs } else r) (option_map (object_shown m y) o)
       at y b e None = refl
       at y true e (Some row) =
           let same : x ≡ y = (same_object-Decides x y).0 e in
           let verbs : below (verb y) next ≡ change (below (m.verb y) m.head.next_verb) = ap (λ z. below (verb z) next) (sym same) ∙ own ∙ ap (λ z. change (below (m.verb z) m.head.next_verb)) same in
-          λ i. Some (record (record_of m y row) { verbs = verbs i })
-      at y false e (Some row) = λ i. Some (record (record_of m y row) { verbs = others y e i })
+          λ i. Some (record (object_shown m y row) { verbs = verbs i })
+      at y false e (Some row) = λ i. Some (record (object_shown m y row) { verbs = others y e i })
 
 -- ---- what the look-ups answer
 

@@ -1,5 +1,5 @@
 -- The walk over the verbs of an object gives them by ascending number.
-use Rattle.moo_verbs.proofs.Words.{◌≡◌, ◌≢◌, ℕ, zero, suc, ◌<◌, ◌≤◌, Bool, true, false, cond, T, ◌&&◌, Option, None, Some, List, [], ◌∷◌, ◌++◌, Less, Equal, refl, sym, ap, ◌∙◌, subst, inl, inr, append-nil, arith, is_some, unwrap_or, nat_lt, option_map, cons_option, list_all, get, find, entries, get-entries, entries_sorted, is_sorted, cases_eq, cases_lt, false≢true, lt-ltb, le-ltb, ObjNo, VerbId, VerbRow, Maps, verb_cmp, verbs_of, verbs_of_left, IsSound, look_ups, world_of, world_shown, record_of, verb_id}
+use Rattle.moo_verbs.proofs.Words.{◌≡◌, ◌≢◌, ℕ, zero, suc, ◌<◌, ◌≤◌, Bool, true, false, cond, T, ◌&&◌, Option, None, Some, List, [], ◌∷◌, ◌++◌, Less, Equal, refl, sym, ap, ◌∙◌, subst, inl, inr, append-nil, arith, is_some, unwrap_or, nat_lt, option_map, cons_option, list_all, get, find, entries, get-entries, entries_sorted, is_sorted, cases_eq, cases_lt, false≢true, lt-ltb, le-ltb, ObjNo, VerbId, VerbRow, Maps, verb_cmp, verbs_of, verbs_of_left, IsSound, look_ups, world_of, world_shown, object_shown, verb_id}
 use Rattle.std.specs.Cmp.{tied_itself, nat_cmp_is}
 use Rattle.std.specs.Ordering.{eq_by_cmp, is_lt, int_eq, ordering_then, nat_cmp}
 use Rattle.std.specs.FinMap.Entries.{below_all, same_entries, is_sorted-where_key, find-where_key, find-append}
@@ -9,7 +9,7 @@ use Rattle.moo_rows.specs.Exact.{verb_exact}
 use Rattle.moo_rows.proofs.Orders.{object_total, verb_total}
 use Rattle.moo_rows.proofs.Walking.{first_of, second_of}
 use Rattle.moo_rows.proofs.OfObject.{verbs_of_left-all}
-use Rattle.moo_world.specs.World.{Record, directory_of as verbs_in}
+use Rattle.moo_world.specs.World.{WorldObject, directory_of as verbs_in}
 use Rattle.moo_world.proofs.Shown.MapLaws.{key-Decides}
 use Rattle.moo_verbs.proofs.Numbering.{below, made_below, step}
 
@@ -183,6 +183,6 @@ module _ (m : Maps) (x : ObjNo) where
             absent None e = e
             absent (Some v) e = absurd (false≢true (ap is_some (sym none) ∙ (sound.verbs x n (ap is_some e)).0))
 
-        by : (o : Option ObjRow) → get m.objects x ≡ o → unwrap_or (option_map (λ (r : Record). r.verbs) (option_map (record_of (look_ups m) x) o)) [] ≡ below row_at m.head.next_verb
+        by : (o : Option ObjRow) → get m.objects x ≡ o → unwrap_or (option_map (λ (r : WorldObject). r.verbs) (option_map (object_shown (look_ups m) x) o)) [] ≡ below row_at m.head.next_verb
         by None e = sym (empty e m.head.next_verb)
         by (Some row) e = refl

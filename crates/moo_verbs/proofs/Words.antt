@@ -20,6 +20,6 @@ pub use Rattle.moo_world.specs.Numbers.{props_stay}
 pub use Rattle.moo_world.specs.Objects.{Name, same_object, same_object-Decides, same_text-Decides}
 unfoldable pub use Rattle.moo_world.specs.Objects.{folded, same_text}
 pub use Rattle.moo_world.specs.Prepositions.{prep_text, set_text}
-pub use Rattle.moo_world.specs.Rows.{IsGood, IsSound, LookUps, look_ups, numbers_below, record_of, verb_id, world_of}
+pub use Rattle.moo_world.specs.Rows.{IsGood, IsSound, LookUps, look_ups, numbers_below, object_shown, verb_id, world_of}
 unfoldable pub use Rattle.moo_world.specs.Rows.{world_shown}
-pub use Rattle.moo_world.specs.World.{IsWellFormed, Record, World, directory_of, is_object, verb_fits}
+pub use Rattle.moo_world.specs.World.{IsWellFormed, WorldObject, World, directory_of, is_object, verb_fits}

@@ -12,7 +12,7 @@ use Rattle.moo_world.specs.VerbReading.{phrases, prep_of}
 abbrev pub PhrasesAreRead : Type 0
 PhrasesAreRead = (set : PrepositionSet) → map prep_of (phrases set) ≡ map (λ phrase. Some (Set set)) (phrases set)
 
--- the text before the star is there, and the rest of the word begins the text after it, or is anything where that is empty
+-- the text before the star is there, and the rest of the word begins the text after it, or is anything if that is empty
 abbrev pub MatchesStar : Name → Name → Name → Type 0
 MatchesStar front behind word =
     (rest : Name) × (folded word ≡ folded front ++ rest) × ((behind ≡ []) ⊎ ((tail : Name) × (folded behind ≡ rest ++ tail)))

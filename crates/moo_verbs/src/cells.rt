@@ -1,24 +1,24 @@
 //! The arguments of verbs as the cells of a table spell them: exactly as they are printed, and not as calls may give them.
 
-ghost use Rattle.std.specs.Prelude.{◌≡◌, List, Some, IfSome};
+ghost use Rattle.std.specs.Prelude.{◌≡◌, Some, IfSome};
 ghost use Rattle.std.specs.List.{find};
 ghost use Rattle.std.specs.Str.{bytes_eq};
-ghost use Rattle.moo_rows.specs.declared.row.Place.{Place};
+ghost use Rattle.moo_rows.specs.declared.row.ObjectSpec.{ObjectSpec};
 ghost use Rattle.moo_rows.specs.declared.row.Preposition.{Preposition};
-ghost use Rattle.moo_world.specs.Prepositions.{set_text, prep_text, place_text};
+ghost use Rattle.moo_world.specs.Prepositions.{set_text, prep_text, object_spec_text};
 
-use crate::prep::{print_place, set_text};
+use crate::prep::{print_object_spec, set_text};
 use crate::reading::ALL_SETS;
-use moo_rows::{Place, Preposition, PrepositionSet};
+use moo_rows::{ObjectSpec, Preposition, PrepositionSet};
 
 /// The place that the bytes spell in lower case: `this`, `any` or `none`; none for anything else. Takes no memory.
-pub fn read_place_cell(bytes: &[u8]) -> Option<Place>
-    ensures found { IfSome result (λ place. bytes.now ≡ place_text place) }
-    ensures only { (place : Place) → bytes.now ≡ place_text place → result ≡ Some place }
+pub fn read_place_cell(bytes: &[u8]) -> Option<ObjectSpec>
+    ensures found { IfSome result (λ place. bytes.now ≡ object_spec_text place) }
+    ensures only { (place : ObjectSpec) → bytes.now ≡ object_spec_text place → result ≡ Some place }
 {
-    [Place::This, Place::Any, Place::None]
+    [ObjectSpec::This, ObjectSpec::Any, ObjectSpec::None]
         .into_iter()
-        .find(|place| print_place(*place).as_bytes() == bytes)
+        .find(|place| print_object_spec(*place).as_bytes() == bytes)
 }
 
 /// The first of these sets whose phrases, with slashes between them, are the bytes.

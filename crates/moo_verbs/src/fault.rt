@@ -5,7 +5,7 @@
 pub enum VerbFault {
     /// The names are empty or all spaces.
     BadNames,
-    /// A letter of the rights is none of `r`, `w`, `x` and `d`.
+    /// A letter of the rights isn't `r`, `w`, `x` or `d`.
     BadBits,
     /// An argument isn't one that a verb may have.
     BadArgs,

@@ -89,7 +89,7 @@ pub fn verb<R: Rows>(rows: &R, x: ObjNo, id: VerbId) -> &VerbRow
 
 /// A verb of an object, with its number.
 #[derive(Clone, Copy)]
-pub struct Found<'a> {
+pub struct FoundVerb<'a> {
     pub id: VerbId,
     pub row: &'a VerbRow,
 }
@@ -97,7 +97,7 @@ pub struct Found<'a> {
 /// The verb of x that a descriptor names, as `find_verb` finds it, with its row.
 ///
 /// LambdaMOO Programmer's Manual, 'Operations on Verbs'.
-pub fn found_verb<'a, R: Rows>(rows: &'a R, x: ObjNo, desc: &Desc) -> Option<Found<'a>>
+pub fn found_verb<'a, R: Rows>(rows: &'a R, x: ObjNo, desc: &Desc) -> Option<FoundVerb<'a>>
     requires { IsSound (R.held rows.now).maps }
     ensures verb { option_map (λ f. (verb_place (R.held rows.now).maps x f.id, f.row.now)) result
         ≡ found_verb (world_of (R.held rows.now).maps) x desc.now }
@@ -105,7 +105,7 @@ pub fn found_verb<'a, R: Rows>(rows: &'a R, x: ObjNo, desc: &Desc) -> Option<Fou
 {
     match find_verb(rows, x, desc) {
         None => None,
-        Some(id) => Some(Found {
+        Some(id) => Some(FoundVerb {
             id,
             row: verb(rows, x, id),
         }),

@@ -15,5 +15,5 @@ pub use directory::{add, delete, list, set_args, set_info};
 pub use fault::VerbFault;
 pub use find::{find_verb, found_verb, verb};
 pub use matching::{matches, one_matches};
-pub use prep::{print_place, print_prep};
+pub use prep::{print_object_spec, print_prep};
 pub use reading::{bits_letters, check_names, read_args, read_bits, read_prep};

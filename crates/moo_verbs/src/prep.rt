@@ -2,10 +2,10 @@
 
 ghost use Rattle.std.specs.Prelude.{◌≡◌, Some};
 ghost use Rattle.moo_value.specs.Text.{IsText};
-ghost use Rattle.moo_world.specs.Prepositions.{set_text, prep_text, place_text};
-ghost use Rattle.moo_world.specs.VerbReading.{prep_of, place_of};
+ghost use Rattle.moo_world.specs.Prepositions.{set_text, prep_text, object_spec_text};
+ghost use Rattle.moo_world.specs.VerbReading.{prep_of, object_spec_of};
 
-use moo_rows::{Place, Preposition, PrepositionSet};
+use moo_rows::{ObjectSpec, Preposition, PrepositionSet};
 
 /// The phrases of a set, with slashes between them.
 pub(crate) fn set_text(set: PrepositionSet) -> &'static str
@@ -49,14 +49,14 @@ pub fn print_prep(prep: Preposition) -> &'static str
 ///
 /// LambdaMOO Programmer's Manual, 'Operations on Verbs': `verb_args`.
 #[tactic(auto, unfolding(moo_world::specs::Objects::same_text, moo_world::specs::Objects::folded))]
-pub fn print_place(place: Place) -> &'static str
-    ensures value { result.now ≡ place_text place }
+pub fn print_object_spec(place: ObjectSpec) -> &'static str
+    ensures value { result.now ≡ object_spec_text place }
     ensures text { IsText result.now }
-    ensures read_again { place_of result.now ≡ Some place }
+    ensures read_again { object_spec_of result.now ≡ Some place }
 {
     match place {
-        Place::This => "this",
-        Place::Any => "any",
-        Place::None => "none",
+        ObjectSpec::This => "this",
+        ObjectSpec::Any => "any",
+        ObjectSpec::None => "none",
     }
 }

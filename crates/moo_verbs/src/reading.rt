@@ -5,12 +5,12 @@ ghost use Rattle.moo_value.specs.Text.{IsText};
 ghost use Rattle.moo_rows.specs.Bits.{verb_bits_of, verb_letters_of};
 ghost use Rattle.moo_world.specs.World.{has_word};
 ghost use Rattle.std.specs.List.{before_first};
-ghost use Rattle.moo_world.specs.VerbReading.{is_slash, has_phrase, first_with, prep_of, place_of, args_of};
+ghost use Rattle.moo_world.specs.VerbReading.{is_slash, has_phrase, first_with, prep_of, object_spec_of, args_of};
 
 use crate::fault::VerbFault;
 use crate::matching::{first, same_name};
-use crate::prep::{print_place, set_text};
-use moo_rows::{ArgSpec, Place, Preposition, PrepositionSet, VerbBits};
+use crate::prep::{print_object_spec, set_text};
+use moo_rows::{ArgSpec, ObjectSpec, Preposition, PrepositionSet, VerbBits};
 use moo_value::MooStr;
 
 /// Whether some byte of the names isn't a space.
@@ -114,21 +114,21 @@ fn prep_named(text: &[u8]) -> Option<Preposition>
 }
 
 /// The place that a text names.
-fn place_named(text: &[u8]) -> Option<Place>
-    ensures { result ≡ place_of text.now }
+fn object_spec_named(text: &[u8]) -> Option<ObjectSpec>
+    ensures { result ≡ object_spec_of text.now }
 {
-    [Place::This, Place::Any, Place::None]
+    [ObjectSpec::This, ObjectSpec::Any, ObjectSpec::None]
         .into_iter()
-        .find(|place| same_name(text, print_place(*place).as_bytes()))
+        .find(|place| same_name(text, print_object_spec(*place).as_bytes()))
 }
 
 /// The arguments that three texts name.
 fn args_named(dobj: &[u8], prep: &[u8], iobj: &[u8]) -> Option<ArgSpec>
     ensures { result ≡ args_of dobj.now prep.now iobj.now }
 {
-    let dobj = place_named(dobj)?;
+    let dobj = object_spec_named(dobj)?;
     let prep = prep_named(prep)?;
-    let iobj = place_named(iobj)?;
+    let iobj = object_spec_named(iobj)?;
     Some(ArgSpec { dobj, prep, iobj })
 }
 

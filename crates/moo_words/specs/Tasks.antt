@@ -1,5 +1,5 @@
 -- The task that words name, by the matches of the program's command.
-use Rattle.std.specs.Prelude.{◌≡◌, ◌<◌, ◌≤◌, ◌⊎◌, ℕ, List, [], Some, codes, length}
+use Rattle.std.specs.Prelude.{◌≡◌, ◌<◌, ◌≤◌, ◌⊎◌, ℕ, List, [], Option, Some, None, codes, length, ⊤}
 use Rattle.std.specs.Str.Parse.{digits_value, without_leading_plus}
 use Rattle.clap.specs.Walk.{Row, Text, first_of, one_of}
 use Rattle.clap.specs.Simple.{subcommand_of}
@@ -7,7 +7,9 @@ use Rattle.clap.specs.Kinds.{Kinds, HasKind}
 use Rattle.clap.specs.Faults.{fault_of}
 use Rattle.moo_words.specs.Commands.{moo_app}
 use Rattle.moo_words.specs.declared.task.Task.{Task}
-use Rattle.moo_words.specs.declared.task.Task.TheVariants.{Init, Apply, Ask, Dump, Load, Check, Serve}
+use Rattle.moo_words.specs.declared.task.Service.{Service}
+use Rattle.moo_words.specs.declared.task.Action.{Action}
+use Rattle.moo_words.specs.declared.task.Action.TheVariants.{Init, Apply, Ask, Dump, Load, Check, Serve}
 use Rattle.moo_words.specs.declared.task.Usage.{Usage}
 use Rattle.moo_words.specs.declared.task.Usage.TheVariants.{Refused, Absent}
 
@@ -20,51 +22,68 @@ abbrev pub HasNumber : List Row → Text → ℕ → Type 0
 HasNumber rows id n =
     (text : Text) × (one_of id rows ≡ Some text) × (digits_value 10 (without_leading_plus text) ≡ n)
 
+-- what `serve` is told: a port, and a number of connections
+abbrev pub IsService : List Row → Service → Type 0
+IsService rows service =
+    HasNumber rows (codes "PORT") service.port × (1 ≤ service.port)
+    × HasNumber rows (codes "COUNT") service.count × (service.count ≤ 1000000)
+
+-- the command of an action
+abbrev pub command_of : Action → Text
+command_of Init = codes "init"
+command_of (Apply batches) = codes "apply"
+command_of (Ask batches) = codes "ask"
+command_of Dump = codes "dump"
+command_of (Load dump) = codes "load"
+command_of Check = codes "check"
+command_of (Serve service) = codes "serve"
+
+-- the arguments of its command, beside the file, are these
+abbrev pub HasArguments : List Row → Action → Type 0
+HasArguments rows Init = ⊤
+HasArguments rows (Apply batches) = HasText rows (codes "BATCHES") batches.now
+HasArguments rows (Ask batches) = HasText rows (codes "BATCHES") batches.now
+HasArguments rows Dump = ⊤
+HasArguments rows (Load dump) = HasText rows (codes "DUMP") dump.now
+HasArguments rows Check = ⊤
+HasArguments rows (Serve service) = IsService rows service
+
+-- the action is that of a command's name and matches
+abbrev pub IsAction : Text × List Row → Action → Type 0
+IsAction (name, rows) action = (name ≡ command_of action) × HasArguments rows action
+
 -- the task is that of a command's name and matches
 abbrev pub IsTask : Text × List Row → Task → Type 0
-IsTask (name, rows) (Init file) = (name ≡ codes "init") × HasText rows (codes "FILE") file.now
-IsTask (name, rows) (Apply file batches) =
-    (name ≡ codes "apply") × HasText rows (codes "FILE") file.now × HasText rows (codes "BATCHES") batches.now
-IsTask (name, rows) (Ask file batches) =
-    (name ≡ codes "ask") × HasText rows (codes "FILE") file.now × HasText rows (codes "BATCHES") batches.now
-IsTask (name, rows) (Dump file) = (name ≡ codes "dump") × HasText rows (codes "FILE") file.now
-IsTask (name, rows) (Load file dump) =
-    (name ≡ codes "load") × HasText rows (codes "FILE") file.now × HasText rows (codes "DUMP") dump.now
-IsTask (name, rows) (Check file) = (name ≡ codes "check") × HasText rows (codes "FILE") file.now
-IsTask (name, rows) (Serve file port count) =
-    (name ≡ codes "serve") × HasText rows (codes "FILE") file.now
-    × HasNumber rows (codes "PORT") port × (1 ≤ port)
-    × HasNumber rows (codes "COUNT") count × (count ≤ 1000000)
+IsTask (name, rows) task = HasText rows (codes "FILE") task.file.now × IsAction (name, rows) task.action
 
--- the batches of standard input on a new world
-abbrev pub IsDefault : Task → Type 0
-IsDefault (Init file) = ⊥
-IsDefault (Apply file batches) = (file.now ≡ codes ":memory:") × (batches.now ≡ codes "-")
-IsDefault (Ask file batches) = ⊥
-IsDefault (Dump file) = ⊥
-IsDefault (Load file dump) = ⊥
-IsDefault (Check file) = ⊥
-IsDefault (Serve file port count) = ⊥
+-- the word for the batches or the dump that an action reads
+abbrev pub text_word : Action → Option Text
+text_word (Apply batches) = Some batches.now
+text_word (Ask batches) = Some batches.now
+text_word (Load dump) = Some dump.now
+text_word action = None
 
--- What a task asks for: a command, its file, and its text (batches or a dump), port and count if the command has these.
+-- what it is told, if it is a service
+abbrev pub service_of : Action → Option Service
+service_of (Serve service) = Some service
+service_of action = None
+
+-- What a task asks for: a command, its file, and its text (batches or a dump) or what `serve` is told, if the command has these.
 pub record Request : Type 0 where
   pub command : Text
   pub file : Text
-  pub text : Text
-  pub port : ℕ
-  pub count : ℕ
+  pub text : Option Text
+  pub service : Option Service
 
 abbrev pub request_of : Task → Request
-request_of (Init file) = record { command = codes "init"; file = file.now; text = []; port = 0; count = 0 }
-request_of (Apply file batches) = record { command = codes "apply"; file = file.now; text = batches.now; port = 0; count = 0 }
-request_of (Ask file batches) = record { command = codes "ask"; file = file.now; text = batches.now; port = 0; count = 0 }
-request_of (Dump file) = record { command = codes "dump"; file = file.now; text = []; port = 0; count = 0 }
-request_of (Load file dump) = record { command = codes "load"; file = file.now; text = dump.now; port = 0; count = 0 }
-request_of (Check file) = record { command = codes "check"; file = file.now; text = []; port = 0; count = 0 }
-request_of (Serve file port count) = record { command = codes "serve"; file = file.now; text = []; port = port; count = count }
+request_of task = record { command = command_of task.action; file = task.file.now; text = text_word task.action; service = service_of task.action }
+
+-- the batches of standard input on a new world
+abbrev pub IsDefault : Task → Type 0
+IsDefault task = request_of task ≡ record { command = codes "apply"; file = codes ":memory:"; text = Some (codes "-"); service = None }
 
 -- what is wrong with the words, by clap's rules for the program: the kinds of error that they give, help and the version among these;
--- none if they are those of a command
+-- the list is empty if they are those of a command
 unfoldable pub mistakes : List Text → Kinds
 mistakes words = fault_of moo_app words
 
@@ -78,7 +97,7 @@ NamesTask words task =
 abbrev pub NamesAlone : List Text → Task → Type 0
 NamesAlone words task = (other : Task) → NamesTask words other → request_of other ≡ request_of task
 
--- The words name no task: they have a mistake of this kind, or memory ran out. Absent says that they have none.
+-- The words name no task: they have a mistake of this kind, or memory ran out. Absent says that they have no mistake.
 abbrev pub IsRefusal : List Text → Usage → Type 0
 IsRefusal words (Refused error) = HasKind (mistakes words) error
 IsRefusal words Absent = mistakes words ≡ []

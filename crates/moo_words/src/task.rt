@@ -2,51 +2,45 @@
 ghost use Rattle.std.specs.Prelude.{◌≡◌, ◌<◌, Some, map, IfOk, IfErr, IsErr, IfSome, codes, length};
 ghost use Rattle.clap.specs.Walk.{rows_of};
 ghost use Rattle.clap.specs.Matches.{found_of};
-ghost use Rattle.moo_words.specs.Tasks.{HasNumber, HasText, IsRefusal, IsTask, NamesTask, NamesAlone};
+ghost use Rattle.moo_words.specs.Tasks.{HasNumber, HasText, IsService, IsAction, IsTask, IsRefusal, NamesTask, NamesAlone};
 
 use crate::commands::moo_command;
 use clap::{ArgMatches, Error};
 use std::alloc::{AllocError, Global};
 
-/// What the program is to do.
-///
-/// `file` is the path of a database, or `:memory:` for a new world. `batches` is the path of a text of batches, and `dump` that of a
-/// dump; `-` is standard input.
+/// What the program is to do, and on which file: the path of a database, or `:memory:` for a new world.
 #[derive(Clone, Copy, Debug, PartialEq, Eq, Drop)]
-pub enum Task<'a> {
+pub struct Task<'a> {
+    pub file: &'a str,
+    pub action: Action<'a>,
+}
+
+/// What a command does with its file.
+///
+/// `batches` is the path of a text of batches, and `dump` that of a dump; `-` is standard input.
+#[derive(Clone, Copy, Debug, PartialEq, Eq, Drop)]
+pub enum Action<'a> {
     /// Make a new world.
-    Init {
-        file: &'a str,
-    },
+    Init,
     /// Run the batches of a text.
-    Apply {
-        file: &'a str,
-        batches: &'a str,
-    },
+    Apply { batches: &'a str },
     /// Say what the batches of a text would answer.
-    Ask {
-        file: &'a str,
-        batches: &'a str,
-    },
+    Ask { batches: &'a str },
     /// Print the whole world.
-    Dump {
-        file: &'a str,
-    },
+    Dump,
     /// Make the world of a dump.
-    Load {
-        file: &'a str,
-        dump: &'a str,
-    },
+    Load { dump: &'a str },
     /// Test that the file holds a whole world.
-    Check {
-        file: &'a str,
-    },
-    /// Answer requests on a port of 127.0.0.1, 1 to 65535, and end after so many connections, 0 to 1,000,000.
-    Serve {
-        file: &'a str,
-        port: u16,
-        count: u32,
-    },
+    Check,
+    /// Answer requests.
+    Serve(Service),
+}
+
+/// How `serve` answers: on this port of 127.0.0.1, 1 to 65535, and it ends after so many connections, 0 to 1,000,000.
+#[derive(Clone, Copy, Debug, PartialEq, Eq, Drop)]
+pub struct Service {
+    pub port: u16,
+    pub count: u32,
 }
 
 /// Why the words name no task.
@@ -73,52 +67,55 @@ fn number_of(matches: &ArgMatches<'_>, id: &str) -> Option<u32>
     matches.get_one::<u32>(id)
 }
 
-fn serve_task<'a>(matches: &ArgMatches<'a>) -> Option<Task<'a>>
-    ensures { IfSome result (IsTask (codes "serve", rows_of (found_of matches.now))) }
+// What `serve` is told.
+fn service_in(matches: &ArgMatches<'_>) -> Option<Service>
+    ensures { IfSome result (IsService (rows_of (found_of matches.now))) }
 {
-    let file = text_of(matches, "FILE")?;
     let port = number_of(matches, "PORT")?;
     let count = number_of(matches, "COUNT")?;
     if port == 0 || port > 65535 || count > 1_000_000 {
         return None;
     }
-    Some(Task::Serve {
-        file,
+    Some(Service {
         port: port as u16,
         count,
     })
+}
+
+// The action of a command's name and matches.
+fn action_in<'a>(name: &str, matches: &ArgMatches<'a>) -> Option<Action<'a>>
+    ensures { IfSome result (IsAction (name.now, rows_of (found_of matches.now))) }
+{
+    if name == "init" {
+        Some(Action::Init)
+    } else if name == "apply" {
+        let batches = text_of(matches, "BATCHES")?;
+        Some(Action::Apply { batches })
+    } else if name == "ask" {
+        let batches = text_of(matches, "BATCHES")?;
+        Some(Action::Ask { batches })
+    } else if name == "dump" {
+        Some(Action::Dump)
+    } else if name == "load" {
+        let dump = text_of(matches, "DUMP")?;
+        Some(Action::Load { dump })
+    } else if name == "check" {
+        Some(Action::Check)
+    } else if name == "serve" {
+        let service = service_in(matches)?;
+        Some(Action::Serve(service))
+    } else {
+        None
+    }
 }
 
 // The task of a command's name and matches.
 fn task_in<'a>(name: &str, matches: &ArgMatches<'a>) -> Option<Task<'a>>
     ensures { IfSome result (IsTask (name.now, rows_of (found_of matches.now))) }
 {
-    if name == "init" {
-        let file = text_of(matches, "FILE")?;
-        Some(Task::Init { file })
-    } else if name == "apply" {
-        let file = text_of(matches, "FILE")?;
-        let batches = text_of(matches, "BATCHES")?;
-        Some(Task::Apply { file, batches })
-    } else if name == "ask" {
-        let file = text_of(matches, "FILE")?;
-        let batches = text_of(matches, "BATCHES")?;
-        Some(Task::Ask { file, batches })
-    } else if name == "dump" {
-        let file = text_of(matches, "FILE")?;
-        Some(Task::Dump { file })
-    } else if name == "load" {
-        let file = text_of(matches, "FILE")?;
-        let dump = text_of(matches, "DUMP")?;
-        Some(Task::Load { file, dump })
-    } else if name == "check" {
-        let file = text_of(matches, "FILE")?;
-        Some(Task::Check { file })
-    } else if name == "serve" {
-        serve_task(matches)
-    } else {
-        None
-    }
+    let file = text_of(matches, "FILE")?;
+    let action = action_in(name, matches)?;
+    Some(Task { file, action })
 }
 
 /// The task that the words name, the first of which is the program's own name.
@@ -133,9 +130,9 @@ pub fn read_words<'a>(alloc: Global, words: &'a [&'a str]) -> Result<Task<'a>, U
     ensures more { IsErr result → 1 < length words.entry.now }
 {
     if words.len() <= 1 {
-        return Ok(Task::Apply {
+        return Ok(Task {
             file: ":memory:",
-            batches: "-",
+            action: Action::Apply { batches: "-" },
         });
     }
     let command = match moo_command(alloc) {

@@ -41,36 +41,36 @@ pub use Rattle.moo_rows.specs.declared.row.VerbRow.{VerbRow}
 pub use Rattle.moo_world.specs.Answers.{list_of, object_list, text_list}
 pub use Rattle.moo_world.specs.Arguments.{Info, all_within_limits, beside_object, both, desc_of, fits, in_range, info_in, is_integer, is_number, is_text, is_within_limits, new_property, new_property_info, new_verb, new_verb_args, new_verb_info, no_values, object_and_accept, object_and_desc, object_and_text, object_and_value, object_text_and_value, objects_among, one_object, parent_and_owner, texts_in, two_objects, verb_info_in}
 pub use Rattle.moo_world.specs.Calls.{chparent, create, move, named_call, recycle, set_accept, set_player_flag}
-unfoldable pub use Rattle.moo_world.specs.Calls.{step}
-pub use Rattle.moo_world.specs.Changes.{clashes, defined, info_set, renamed, undefined, with_slot_of}
-pub use Rattle.moo_world.specs.Creation.{born, created, next_object, owner_or_self, with_new_record}
+unfoldable pub use Rattle.moo_world.specs.Calls.{world_call}
+pub use Rattle.moo_world.specs.Changes.{clashes, property_added, info_set, property_renamed, property_removed, with_slot_of}
+pub use Rattle.moo_world.specs.Creation.{plain_object, created, next_object, owner_or_self, object_added}
 pub use Rattle.moo_world.specs.Directories.{changed_at, verb_added, with_verbs}
 pub use Rattle.moo_world.specs.Fields.{changed, field_changed, is_allowed_change, with_row}
 pub use Rattle.moo_world.specs.Judge.{Accepted, FailedAt, FullAt, NoRoom, Ran, Refused, Stale, Through, Verdict, after, after_one, is_accepted, is_due, is_for, last_seq, left_by, run_calls, taken, verdict_of, verdicts}
 unfoldable pub use Rattle.moo_world.specs.Judge.{judge}
 pub use Rattle.moo_world.specs.KeptForm.{CallsKeepForm, FitsIsTested, RequestsKeepForm, RunsKeepForm, TextIsTested, arguments_fit}
 pub use Rattle.moo_world.specs.Laws.{ManualWordingHolds, MayReparent, RecyclingKeepsForm, RecyclingTakesOwn, ReparentingKeepsForm}
-pub use Rattle.moo_world.specs.Manual.{ancestors, common, except, gained, kept_from, lost, manual_slot}
+pub use Rattle.moo_world.specs.Manual.{ancestors, common, except, gained, unless_defined_by, lost, manual_slot}
 pub use Rattle.moo_world.specs.Names.{call_name_of, is_grant, petition_call, spelled_is}
-pub use Rattle.moo_world.specs.ObjectLists.{children_of, has_parent, meets, objects_of, subtree_of}
-pub use Rattle.moo_world.specs.Objects.{Name, Pair, is_among, nothing, object_at, same_object-Decides, same_object-eq, same_pair-self, same_text-Decides}
-unfoldable pub use Rattle.moo_world.specs.Objects.{folded, same_object, same_pair, same_text}
+pub use Rattle.moo_world.specs.ObjectLists.{children_of, is_parent_of, shares_property_name, objects_of, subtree_of}
+pub use Rattle.moo_world.specs.Objects.{Name, Property, is_among, nothing, object_at, same_object-Decides, same_object-eq, same_property-self, same_text-Decides, number_limit}
+unfoldable pub use Rattle.moo_world.specs.Objects.{folded, same_object, same_property, same_text}
 pub use Rattle.moo_world.specs.OneByOne.{ChildrenMoveAscending, ChildrenMoveOneByOne, MayMoveOneByOne, emptied, manually_moved, moved_one_by_one, taken_out}
 pub use Rattle.moo_world.specs.Outcomes.{Done, Failed, Full, Outcome, check, found_or, given, with_next}
 pub use Rattle.moo_world.specs.Ownership.{CreateTakesOne, KeepsOwnership, NoWizardKeepsOwnership, PetitionsLeaveTheWorld, RecycleGivesOne, SameRights, name_after, name_by, name_changed, name_given}
 pub use Rattle.moo_world.specs.Petitions.{PetitionsStand, are_few, are_shallow, is_named, petition_fits}
-pub use Rattle.moo_world.specs.PropertyCalls.{add_property, by_field, change_of, clear_property, defines_name, delete_property, may_define, may_rename, may_set, names_object, renamed_to, set, set_built_in, set_property_info}
-pub use Rattle.moo_world.specs.Quota.{charged, has_quota_left, may_afford, quota_in, quota_moved, quota_name, quota_of, quota_returned, set_slot}
-pub use Rattle.moo_world.specs.Recycling.{recycled, released, without_record}
-pub use Rattle.moo_world.specs.Requests.{IsFormed, PetitionsStay, State, are_on_world, asked, call_in, held_call, held_step, held_steps, in_world, last_petition, one_integer, one_list, petition_at, petition_call_by, petition_id, state_of, without}
-unfoldable pub use Rattle.moo_world.specs.Requests.{request}
-pub use Rattle.moo_world.specs.Rights.{accept_along, accepts, controls, is_fertile, is_within, is_wizard, may_be_parent, may_own, may_read_object, may_read_slot, may_read_verb, may_write_object, may_write_slot, may_write_verb}
-pub use Rattle.moo_world.specs.Rows.{AreSound, IsGood, LookUps, less_slot, look_ups, name_on, numbers_below, prop_id, record_of, slot_on, slot_seen, verb_id, with_object_row, with_slot_row, world_of}
+pub use Rattle.moo_world.specs.PropertyCalls.{add_property, by_field, change_of, clear_property, defines_name, delete_property, may_define, may_rename, may_set, owner_is_object, renamed_to, set, set_built_in, set_property_info}
+pub use Rattle.moo_world.specs.Quota.{charged, has_quota_left, may_afford, quota_in, quota_changed, quota_name, quota_of, quota_returned, set_slot}
+pub use Rattle.moo_world.specs.Recycling.{recycled, released, object_removed}
+pub use Rattle.moo_world.specs.Requests.{IsFormed, PetitionsStay, State, are_on_world, asked, call_in, held_call, held_step, held_steps, in_world, one_integer, one_list, petition_at, petition_call_by, petition_id, state_of, without}
+unfoldable pub use Rattle.moo_world.specs.Requests.{batch_call}
+pub use Rattle.moo_world.specs.Rights.{accept_along, accepts, controls, is_fertile, is_within, is_wizard, may_be_parent, may_make_owner, may_read_object, may_read_slot, may_read_verb, may_write_object, may_write_slot, may_write_verb}
+pub use Rattle.moo_world.specs.Rows.{AreSound, IsGood, LookUps, less_slot, look_ups, name_on, numbers_below, prop_id, object_shown, slot_on, slot_seen, verb_id, with_object_row, with_slot_row, world_of}
 unfoldable pub use Rattle.moo_world.specs.Rows.{world_shown}
-pub use Rattle.moo_world.specs.TreeLaws.{Accepts, AcceptsIsTested, ChainIsFound, ChainSplits, HasList, NoneTwice, OneChain, OwesIsTested, PlacesAreFound, ReadsIsFound, UnderIsTested, WithinIsTested, anything, inherited, listed, own}
+pub use Rattle.moo_world.specs.TreeLaws.{Accepts, AcceptsIsTested, ChainIsFound, ChainSplits, HasList, NoneTwice, OneChain, HasPropertyIsTested, LocationsAreFound, ReadsIsFound, UnderIsTested, WithinIsTested, anything, inherited, listed, own}
 pub use Rattle.moo_world.specs.VerbReading.{args_of, prep_of}
-pub use Rattle.moo_world.specs.World.{Chain, Climbs, IsTree, IsUnder, IsWellFormed, KeepsLimits, NamesDiffer, Owes, Places, Reads, Rebuilt, Record, SameButSlots, Slot, World, above, accept_fits, climb, defined_by, directory_of, fresh, has_word, is_object, is_property_name, location_of, names_of, numbers_to, owed_by, owes, owner_of, pair_named, parent_of, read_along, read_in, read_of, rebuilt_slot, reparented, row_fits, row_of, row_passes, slot_fits, slot_for, slot_of, state_fits, verb_fits, with_parent, with_record, with_slots, without_slots}
-unfoldable pub use Rattle.moo_world.specs.World.{chain, places, rebuilt}
+pub use Rattle.moo_world.specs.World.{Chain, Climbs, IsTree, IsUnder, IsWellFormed, KeepsLimits, NamesDiffer, HasProperty, LocationChain, Reads, Rebuilt, WorldObject, SameButSlots, Slot, World, above, accept_fits, climb, defined_by, directory_of, fresh, has_word, is_object, is_property_name, location_of, property_names_of, numbers_to, defined_by_any, has_property, owner_of, property_named, parent_of, read_along, read_in, read_of, rebuilt_slot, reparented, row_fits, row_of, row_passes, slot_fits, slot_for, slot_of, state_fits, verb_fits, with_parent, object_changed, with_slots, without_slots}
+unfoldable pub use Rattle.moo_world.specs.World.{chain, location_chain, rebuilt}
 pub use Rattle.moo_world.specs.declared.built_in.BuiltIn.{BuiltIn}
 pub use Rattle.moo_world.specs.declared.call.Batch.{Batch}
 pub use Rattle.moo_world.specs.declared.call.Call.{Call}

@@ -6,13 +6,13 @@ use Rattle.moo_value.specs.declared.value.Value.TheVariants.{Int, Obj, Str, List
 use Rattle.moo_value.specs.Value.{gather}
 use Rattle.moo_world.specs.Objects.{Name}
 
--- what a changing call other than create answers
+-- what a call that changes something answers, except `create` and `petition`, which answer a number
 abbrev pub zero : Value
 zero = Int (pos 0)
 
 -- 1 for yes, 0 for no
 abbrev pub flag : Bool → Value
-flag b = Int (pos (if b then 1 else 0))
+flag is_true = Int (pos (if is_true then 1 else 0))
 
 abbrev pub list_of : List Value → Value
 list_of values = a_list (gather values)

@@ -1,5 +1,5 @@
--- What a call is given. A wrong number of arguments is E_ARGS, and a wrong type E_TYPE, which is also said of the length of a
--- list of an owner and rights and of what is in it.
+-- What a call is given. A wrong number of arguments is E_ARGS. A wrong type is E_TYPE. So is a list such as {owner, perms} with a wrong number
+-- of values, or one of a wrong type.
 use Rattle.std.specs.Prelude.{ℕ, nat_le, nat_lt, ℤ, pos, negsuc, Bool, true, ◌&&◌, List, [], ◌∷◌, length, Option, Some, None, Result, Ok, Err, ok_or, if◌then◌else◌}
 use Rattle.std.specs.List.{list_all}
 use Rattle.std.specs.Option.{option_map}
@@ -118,12 +118,12 @@ object_and_accept args = Err E_ARGS
 abbrev pub Info : Type 0
 Info = ObjNo × List ℕ
 
--- {owner, perms}
+-- {owner, perms}, as `add_property` takes them
 abbrev pub info_in : List Value → Option Info
 info_in (Obj owner ∷ Str perms ∷ []) = Some (owner, perms)
 info_in other = None
 
--- {owner, perms} or {owner, perms, new-name}
+-- {owner, perms} or {owner, perms, new-name}, as `set_property_info` takes them
 abbrev pub info_and_name_in : List Value → Option (Info × Option Name)
 info_and_name_in (Obj owner ∷ Str perms ∷ []) = Some ((owner, perms), None)
 info_and_name_in (Obj owner ∷ Str perms ∷ Str name ∷ []) = Some ((owner, perms), Some name)
@@ -150,18 +150,18 @@ new_property_info args = Err E_ARGS
 
 -- ---- verbs
 
--- a number or a word
+-- how a verb is named: by a number or a word
 abbrev pub desc_of : Value → Option Desc
 desc_of (Int number) = Some (Index number)
 desc_of (Str word) = Some (a_word word)
 desc_of other = None
 
--- {owner, perms, names}
+-- {owner, perms, names}, as `add_verb` and `set_verb_info` take them
 abbrev pub verb_info_in : List Value → Option (Info × Name)
 verb_info_in (Obj owner ∷ Str perms ∷ Str names ∷ []) = Some ((owner, perms), names)
 verb_info_in other = None
 
--- {dobj, prep, iobj}
+-- {dobj, prep, iobj}, as `add_verb` and `set_verb_args` take them
 abbrev pub texts_in : List Value → Option (Name × Name × Name)
 texts_in (Str dobj ∷ Str prep ∷ Str iobj ∷ []) = Some (dobj, prep, iobj)
 texts_in other = None
@@ -172,7 +172,7 @@ object_and_desc (Obj object ∷ descriptor ∷ []) = beside_object object (desc_
 object_and_desc (a ∷ b ∷ []) = Err E_TYPE
 object_and_desc args = Err E_ARGS
 
--- both, or none
+-- both, or `None`
 abbrev pub both : {A B : Type 0} → Option A → Option B → Option (A × B)
 both None second = None
 both (Some first) second = option_map (λ found. (first, found)) second

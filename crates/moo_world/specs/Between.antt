@@ -12,7 +12,7 @@ use Rattle.moo_world.specs.declared.call.Batch.{Batch}
 use Rattle.moo_world.specs.Numbers.{KeepsNumbers, NumbersStay}
 use Rattle.moo_world.specs.Names.{is_grant}
 use Rattle.moo_world.specs.Outcomes.{Done}
-use Rattle.moo_world.specs.Requests.{held_step, in_world, one_integer, petition_at, request, state_of, PetitionsStay}
+use Rattle.moo_world.specs.Requests.{held_step, in_world, one_integer, petition_at, batch_call, state_of, PetitionsStay}
 use Rattle.moo_world.specs.Rows.{IsGood, world_of}
 
 -- the calls that a petition holds lead from rows to rows: each is done, leaves good rows, and keeps numbers
@@ -35,7 +35,7 @@ CallKeepsNumbers false programmer args = KeepsNumbers
 abbrev pub CallsLead : ObjNo → List Call → Maps → Maps → Type 0
 CallsLead programmer [] old new = new ≡ old
 CallsLead programmer (call ∷ calls) old new =
-    (answer : Value) × (mid : Maps) × (request (state_of old) programmer call ≡ Done answer (state_of mid)) × IsGood mid × CallKeepsNumbers (is_grant call.name) programmer call.args old mid × CallsLead programmer calls mid new
+    (answer : Value) × (mid : Maps) × (batch_call (state_of old) programmer call ≡ Done answer (state_of mid)) × IsGood mid × CallKeepsNumbers (is_grant call.name) programmer call.args old mid × CallsLead programmer calls mid new
 
 -- the calls of the batch do, and the batch is counted
 abbrev pub BatchLeads : Batch → Maps → Maps → Type 0

@@ -1,8 +1,28 @@
--- What each call on objects comes to: its checks, in their order, and then its answer and the world that it leaves. At the end, each
--- call by its name, those on properties and on verbs too.
--- LambdaMOO Programmer's Manual, 'Fundamental Operations on Objects', 'Object Movement' and 'Operations on Player Objects' in the
--- part on built-in functions. E_RECMOVE for a parent that is the object itself or under it is LambdaMOO 1.8's. The order of the
--- checks and accept lists are this server's own.
+-- What each call on objects does: its checks, in their order, and then its answer and the world that it leaves. At the end, each call by its
+-- name, those on properties and on verbs too.
+-- From the LambdaMOO Programmer's Manual: 'Fundamental Operations on Objects', 'Object Movement' and 'Operations on Player Objects' in the
+-- part on built-in functions. E_RECMOVE for a parent that is the object itself or under it is LambdaMOO 1.8's. The manual doesn't give the
+-- order of the checks: it is that of the lines here. Accept lists are this server's own.
+--
+-- How to read a definition:
+--   `f : A → B → C`     a function of an A and a B that gives a C. `f a b` is its value. Of several lines for it the first that fits counts; a
+--                       plain name or `_` fits anything. `λ x. e` is the function that gives e for x.
+--   `Type 0`            a kind of thing, such as `Slot` or `Name`; or a statement, such as `Chain world object list`. A `Bool` is true or false
+--                       by computation. `abbrev`, `unfoldable` and `pub` matter to proofs and other files only.
+--   `record T`, `data T`  the fields of a T, or the forms that it may have. `record { a = x; .. }` has these fields, `record r { a = x }` is r
+--                       with x in its field a, and `r.a` is the field. `p.0` and `p.1` are the parts of a pair.
+--   `object.0`          the number of an object, `id.0` that of a petition; `record { 0 = n }` is the object number n.
+--   `ℕ`, `ℤ`            numbers from 0, and all integers: `pos n` is n, `negsuc n` is -1 - n. `suc n` is n + 1.
+--   `x ∷ xs`, `[]`, `++`  the list with x first and then xs, the empty list, one list after another. `map` changes each, `filter` keeps those
+--                       that pass, `find` gives the first that passes, `list_any` and `list_all` say whether one or all pass, `flat_map` joins
+--                       the lists of each, `filter_map` keeps what is found of each.
+--   `if c then a else b`, `cond c a b`  a if c is true, else b. `elim e [ P ↦ a | .. ]` is a if e has the form P, and so on.
+--   `a ≡ b`, `a ≢ b`, `¬ P`, `P ⊎ Q`  a is b, a isn't b, not P, P or Q. `A × B` is both of two statements, and the pairs of two kinds.
+--   `P → Q`, `P ↔ Q`    if P then Q; if and only if. `(x : A) → P` says P of each x of A, `(x : A) × P` of some x of A. `{x : A}` is left to be
+--                       found. `Decides t P`: the test t is true if P holds, else false.
+--   `do`                the lines are steps. `require c else E`: if c isn't true the call fails with E. `x ← found or_else E`: x is what was
+--                       found, or the call fails with E if it is `None`. `x ← given r`: x is what r holds, or the call fails with its error.
+--                       `x ← with_next n` and `require_room c`: if no number is left the outcome is `Full`. `Done a w` answers a and leaves w.
 use Rattle.std.specs.Prelude.{nat_le, not, ◌||◌, List, [], length, Option, None, Some, unwrap_or}
 use Rattle.std.specs.Option.{option_and_then}
 use Rattle.moo_value.specs.declared.value.ObjNo.{ObjNo}
@@ -14,8 +34,8 @@ use Rattle.moo_world.specs.Objects.{nothing, same_object, is_among}
 use Rattle.moo_world.specs.World.{World, is_object, row_of, row_passes, owner_of, parent_of, chain, reparented}
 use Rattle.moo_world.specs.Outcomes.{Outcome, Done, Failed, require◌else◌, ◌>>◌, given, with_next, ◌>>=◌}
 use Rattle.moo_world.specs.Answers.{zero, flag, object_list}
-use Rattle.moo_world.specs.ObjectLists.{children_of, players_of, meets}
-use Rattle.moo_world.specs.Rights.{is_wizard, controls, may_be_parent, may_own, accepts, is_within}
+use Rattle.moo_world.specs.ObjectLists.{children_of, players_of, shares_property_name}
+use Rattle.moo_world.specs.Rights.{is_wizard, controls, may_be_parent, may_make_owner, accepts, is_within}
 use Rattle.moo_world.specs.Quota.{may_afford, charged, quota_returned}
 use Rattle.moo_world.specs.Creation.{next_object, owner_or_self, created}
 use Rattle.moo_world.specs.Recycling.{recycled}
@@ -69,7 +89,7 @@ accept_list world object = do
 abbrev pub create : World → ObjNo → ObjNo → ObjNo → Outcome World
 create world programmer parent owner = do
   require may_be_parent world programmer parent else E_PERM
-  require may_own world programmer owner else E_PERM
+  require may_make_owner world programmer owner else E_PERM
   require is_object world owner || same_object nothing owner else E_INVARG
   require may_afford world owner else E_QUOTA
   object ← with_next (next_object world)
@@ -82,10 +102,10 @@ chparent world programmer object new_parent = do
   require controls world programmer object else E_PERM
   require may_be_parent world programmer new_parent else E_PERM
   require not (is_among object (chain world new_parent)) else E_RECMOVE
-  require not (meets world object new_parent) else E_INVARG
+  require not (shares_property_name world object new_parent) else E_INVARG
   Done zero (reparented world object new_parent)
 
--- the quota of the former owner is read when the object is gone
+-- The former owner's quota is read after the object is gone, so none is returned for an object that owned itself.
 abbrev pub recycle : World → ObjNo → ObjNo → Outcome World
 recycle world programmer object = do
   require is_object world object else E_INVARG
@@ -116,7 +136,7 @@ set_accept world programmer object list = do
 
 -- ---- each call by its name
 
--- each call by its name, with what it is given
+-- the call of this name: its arguments are read by their shape, E_ARGS for a wrong number of them and E_TYPE for a wrong type (Arguments)
 abbrev pub named_call : World → ObjNo → CallName → List Value → Outcome World
 named_call world programmer Valid args = given (one_object args) (valid world)
 named_call world programmer Parent args = given (one_object args) (parent world)
@@ -147,14 +167,15 @@ named_call world programmer DeleteVerb args = given (object_and_desc args) λ (o
 named_call world programmer SetVerbInfo args = given (new_verb_info args) λ (object, (descriptor, (info, names))). set_verb_info world programmer object descriptor info names
 named_call world programmer SetVerbArgs args = given (new_verb_args args) λ (object, (descriptor, verb_args)). set_verb_args world programmer object descriptor verb_args
 named_call world programmer SetAccept args = given (object_and_accept args) λ (object, list). set_accept world programmer object list
--- petitions are beside the world: `request` says what their calls answer, and asks for no step of theirs
+-- the calls of petitions need more than the world: `batch_call` says what they do, and never asks for them here
 named_call world programmer Petition args = Failed E_INVARG
 named_call world programmer Petitions args = Failed E_INVARG
 named_call world programmer Grant args = Failed E_INVARG
 named_call world programmer Decline args = Failed E_INVARG
 
--- the programmer has to be an object
-unfoldable pub step : World → ObjNo → Call → Outcome World
-step world programmer call = do
+-- A call on the world. The programmer has to be an object. Each call that a petition holds is made in this way, by the wizard who grants it. A
+-- call of a batch is `batch_call`, in Requests, which knows the calls of petitions too.
+unfoldable pub world_call : World → ObjNo → Call → Outcome World
+world_call world programmer call = do
   require is_object world programmer else E_PERM
   named_call world programmer call.name call.args

@@ -1,7 +1,7 @@
--- How a verb is named: by a number from 1 on, or by a word that one of its names matches. Both give its place in the
--- directory of the object, counted from 0.
--- LambdaMOO Programmer's Manual, 'Operations on Verbs'. That a word means the first such verb of the object itself is this
--- server's own.
+-- How a verb is named: by a number from 1 on, or by a word that one of its names matches. Both give its place among the verbs of the
+-- object, counted from 0.
+-- From the LambdaMOO Programmer's Manual: 'Operations on Verbs'. The manual doesn't say which verb a word means if several match: here, as in
+-- LambdaMOO 1.8, the first of the object itself. That 0 and a number below it are E_VERBNF is this server's own.
 use Rattle.std.specs.Prelude.{ℕ, zero, suc, ℤ, pos, negsuc, nat_lt, length, Option, None, Some, if◌then◌else◌}
 use Rattle.std.specs.Option.{option_map, option_and_then}
 use Rattle.std.specs.List.{position}
@@ -20,7 +20,7 @@ place_numbered (pos (suc place)) = Some place
 place_numbered (pos zero) = None
 place_numbered (negsuc number) = None
 
--- a place within the directory
+-- the place, if the object has a verb there
 abbrev pub place_within : World → ObjNo → ℕ → Option ℕ
 place_within world object place = if nat_lt place (length (directory_of world object)) then Some place else None
 

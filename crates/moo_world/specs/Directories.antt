@@ -7,14 +7,14 @@ use Rattle.moo_rows.specs.declared.row.ArgSpec.{ArgSpec}
 use Rattle.moo_rows.specs.declared.row.VerbBits.{VerbBits}
 use Rattle.moo_rows.specs.declared.row.VerbRow.{VerbRow}
 use Rattle.moo_world.specs.Objects.{Name}
-use Rattle.moo_world.specs.World.{World, with_record, directory_of}
+use Rattle.moo_world.specs.World.{World, object_changed, directory_of}
 
 abbrev pub verb_at : World → ObjNo → ℕ → Option VerbRow
 verb_at world object place = slice_get (directory_of world object) place
 
 -- the directory of an object changed
 abbrev pub with_verbs : World → ObjNo → (List VerbRow → List VerbRow) → World
-with_verbs world object change = with_record world object (λ entry. record entry { verbs = change entry.verbs })
+with_verbs world object change = object_changed world object (λ entry. record entry { verbs = change entry.verbs })
 
 -- one more, put last
 abbrev pub verb_added : World → ObjNo → VerbRow → World

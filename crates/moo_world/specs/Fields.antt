@@ -7,7 +7,7 @@ use Rattle.moo_world.specs.declared.change.Change.TheVariants.{Name, Owner, Loca
 use Rattle.moo_world.specs.Arguments.{is_number, is_text}
 use Rattle.moo_world.specs.Objects.{nothing, same_object}
 use Rattle.moo_world.specs.Rights.{is_within}
-use Rattle.moo_world.specs.World.{World, is_object, with_record, accept_fits}
+use Rattle.moo_world.specs.World.{World, is_object, object_changed, accept_fits}
 
 -- a row with one field changed
 abbrev pub changed : Change → ObjRow → ObjRow
@@ -24,13 +24,13 @@ changed (Accept list) row = record row { accept = list }
 
 -- the world with the row of an object changed
 abbrev pub with_row : World → ObjNo → (ObjRow → ObjRow) → World
-with_row world object change = with_record world object (λ entry. record entry { row = change entry.row })
+with_row world object change = object_changed world object (λ entry. record entry { row = change entry.row })
 
 abbrev pub field_changed : World → ObjNo → Change → World
 field_changed world object change = with_row world object (changed change)
 
--- the change leaves a well formed world: a place is an object outside the one that is moved, or nothing, a name is a text, and owners and what an
--- accept list names, at most 1,000 objects, are numbers of 32 bits
+-- The change leaves a well formed world: a location is #-1, or an object outside the one that is moved; a name is a text; owners, and the at
+-- most 1,000 objects of an accept list, have numbers of 32 bits.
 abbrev pub is_allowed_change : World → ObjNo → Change → Bool
 is_allowed_change world object (Name name) = is_text name
 is_allowed_change world object (Owner owner) = is_number owner

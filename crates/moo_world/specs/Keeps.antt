@@ -8,7 +8,7 @@ use Rattle.moo_world.specs.Numbers.{KeepsNumbers}
 
 -- what rows have beside the world that they show: how many batches were accepted, the petitions, and the number of the next one
 abbrev pub beside_world : Maps → ℕ × (ℕ × FinMap petition_cmp PetitionRow)
-beside_world m = (m.head.seq, (m.head.next_petition, m.petitions))
+beside_world rows = (rows.head.seq, (rows.head.next_petition, rows.petitions))
 
 -- the rows are good ones, what is beside the world is as it was, and what stays keeps its number
 pub record Keeps (old new : Held) : Type 0 where

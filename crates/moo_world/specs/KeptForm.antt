@@ -11,8 +11,8 @@ use Rattle.moo_world.specs.declared.call.Call.{Call}
 use Rattle.moo_world.specs.Arguments.{is_text, fits}
 use Rattle.moo_world.specs.Judge.{after}
 use Rattle.moo_world.specs.Outcomes.{Done}
-use Rattle.moo_world.specs.Requests.{State, IsFormed, request}
-use Rattle.moo_world.specs.Calls.{step}
+use Rattle.moo_world.specs.Requests.{State, IsFormed, batch_call}
+use Rattle.moo_world.specs.Calls.{world_call}
 use Rattle.moo_world.specs.World.{World, IsWellFormed}
 
 -- in each value that the call is given lists nest at most 32 deep, integers have 64 bits, the numbers of objects 32, and strings are texts
@@ -21,11 +21,11 @@ arguments_fit call = list_all fits call.args
 
 -- if a call is answered in a well formed world, the world that it leaves is well formed
 abbrev pub CallsKeepForm : Type 0
-CallsKeepForm = (world next : World) (programmer : ObjNo) (call : Call) (answer : Value) → IsWellFormed world → arguments_fit call ≡ true → step world programmer call ≡ Done answer next → IsWellFormed next
+CallsKeepForm = (world next : World) (programmer : ObjNo) (call : Call) (answer : Value) → IsWellFormed world → arguments_fit call ≡ true → world_call world programmer call ≡ Done answer next → IsWellFormed next
 
 -- and so are the world and the petitions that any call of a batch leaves, those of petitions among them
 abbrev pub RequestsKeepForm : Type 0
-RequestsKeepForm = (state next : State) (programmer : ObjNo) (call : Call) (answer : Value) → IsFormed state → arguments_fit call ≡ true → request state programmer call ≡ Done answer next → IsFormed next
+RequestsKeepForm = (state next : State) (programmer : ObjNo) (call : Call) (answer : Value) → IsFormed state → arguments_fit call ≡ true → batch_call state programmer call ≡ Done answer next → IsFormed next
 
 -- after any batches, accepted or not, a world and petitions that were well formed are well formed
 abbrev pub RunsKeepForm : Type 0

@@ -1,6 +1,6 @@
 -- Which words a verb's names match.
--- LambdaMOO Programmer's Manual, 'Verbs on Objects' in the chapter on the database. That names
--- compare without case, and that only the first star of a name counts and a later one stands for itself, are this server's own.
+-- LambdaMOO Programmer's Manual, 'Verbs on Objects' in the chapter on the database. Names compare without case, as in LambdaMOO 1.8. That
+-- only the first star of a name counts, and a later one stands for itself, is this server's own.
 use Rattle.std.specs.Prelude.{ℕ, ◌+◌, ◌==◌, ◌&&◌, ◌||◌, not, Bool, List, length, take, drop, Option, None, Some}
 use Prim.Native.Char.{code}
 use Rattle.std.specs.List.{filter, list_any, position, slice_split}
@@ -17,22 +17,24 @@ is_empty text = length text == 0
 
 -- the same but for the case of letters
 abbrev pub same_name : Name → Name → Bool
-same_name a b = same_text (folded a) (folded b)
+same_name first second = same_text (folded first) (folded second)
 
 -- the text begins with that front
 abbrev pub begins_with : Name → Name → Bool
 begins_with text front = same_name (take (length front) text) front
 
--- the front is there, and the rest of the word begins the text after the star, or is anything if that is empty
+-- the same of the parts before and after the star
 abbrev pub matches_around : Name → Name → Name → Bool
-matches_around front behind word =
-    begins_with word front && (is_empty behind || begins_with behind (drop (length front) word))
+matches_around front back word =
+    begins_with word front && (is_empty back || begins_with back (drop (length front) word))
 
 -- around the first star of a name, or without one the name alone
 abbrev pub matches_at : Option ℕ → Name → Name → Bool
 matches_at None name word = same_name name word
 matches_at (Some star) name word = matches_around (take star name) (drop (star + 1) name) word
 
+-- Without a star, the word is the name. With one, the word is the part before the star and any first letters of the part after it. If nothing
+-- is after the star, the word begins with the part before it.
 abbrev pub matches : Name → Name → Bool
 matches name word = matches_at (position is_star name) name word
 

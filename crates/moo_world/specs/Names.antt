@@ -58,10 +58,10 @@ all_names =
 abbrev pub call_name_of : List ℕ → Option CallName
 call_name_of bytes = find (λ name. same_text (folded bytes) (spelling name)) all_names
 
--- ---- a call is found by its name
+-- ---- proofs, which a reader can skip: a call is found by its name
 
 -- what is found passes
-pub find_passes : {X : Type 0} (p : X → Bool) (xs : List X) (x : X) → find p xs ≡ Some x → p x ≡ true
+pub find_passes : {A : Type 0} (test : A → Bool) (list : List A) (found : A) → find test list ≡ Some found → test found ≡ true
 find_passes p [] x e = absurd (none-some x e)
 find_passes p (y ∷ xs) x e = by (p y) refl e (find_passes p xs x)
   where
@@ -153,7 +153,7 @@ spelled_alike_is Decline = refl
 
 -- ---- petitions
 
--- which call of petitions a name is: none if it is a call on the world
+-- which call of petitions a name is: `None` if it is a call on the world
 abbrev pub petition_call : CallName → Option PetitionCall
 petition_call Petition = Some to_petition
 petition_call Petitions = Some to_list

@@ -12,9 +12,9 @@ use Rattle.moo_rows.specs.Maps.{Maps, prop_cmp, verb_cmp}
 use Rattle.moo_world.specs.Objects.{Name, same_object}
 use Rattle.moo_world.specs.Rows.{prop_id, verb_id}
 
--- the row of a property, unless x defines it
+-- the row of a property, unless the object defines it
 abbrev pub not_of : ObjNo → Option PropRow → Option PropRow
-not_of x row = option_and_then (λ (p : PropRow). if same_object p.definer x then None else Some p) row
+not_of object row = option_and_then (λ (property : PropRow). if same_object property.definer object then None else Some property) row
 
 -- the properties stay, or there is one more, of the next number; or one has another name, one is gone, or all of one object are
 pub data KeepsProps (next : ℕ) (old new : FinMap prop_cmp PropRow) : Type 0 where
@@ -22,15 +22,15 @@ pub data KeepsProps (next : ℕ) (old new : FinMap prop_cmp PropRow) : Type 0 wh
   prop_added : (row : PropRow) → new ≡ insert old (prop_id next) row → KeepsProps next old new
   prop_renamed : (id : PropId) (row : PropRow) (name : Name) → get old id ≡ Some row → new ≡ insert old id (record row { name = name }) → KeepsProps next old new
   prop_removed : (id : PropId) → new ≡ remove old id → KeepsProps next old new
-  props_dropped : (x : ObjNo) → ((id : PropId) → get new id ≡ not_of x (get old id)) → KeepsProps next old new
+  props_dropped : (object : ObjNo) → ((id : PropId) → get new id ≡ not_of object (get old id)) → KeepsProps next old new
 
 -- the verbs stay, or there is one more, of the next number; or one is changed, one is gone, or all of one object are
 pub data KeepsVerbs (next : ℕ) (old new : FinMap verb_cmp VerbRow) : Type 0 where
   verbs_stay : new ≡ old → KeepsVerbs next old new
-  verb_added : (x : ObjNo) (row : VerbRow) → new ≡ insert old (x, verb_id next) row → KeepsVerbs next old new
+  verb_added : (object : ObjNo) (row : VerbRow) → new ≡ insert old (object, verb_id next) row → KeepsVerbs next old new
   verb_changed : (key : ObjNo × VerbId) (row : VerbRow) → is_some (get old key) ≡ true → new ≡ insert old key row → KeepsVerbs next old new
   verb_removed : (key : ObjNo × VerbId) → new ≡ remove old key → KeepsVerbs next old new
-  verbs_dropped : (x : ObjNo) → ((key : ObjNo × VerbId) → get new key ≡ (if same_object x key.0 then None else get old key)) → KeepsVerbs next old new
+  verbs_dropped : (object : ObjNo) → ((key : ObjNo × VerbId) → get new key ≡ (if same_object object key.0 then None else get old key)) → KeepsVerbs next old new
 
 -- and no counter falls
 pub record KeepsNumbers (old new : Maps) : Type 0 where
@@ -47,6 +47,6 @@ IsSameButSlots old new = new ≡ record old { slots = new.slots }
 -- or a verb of its object, that was there before
 pub record NumbersStay (old new : Maps) : Type 0 where
   pub props : (id : PropId) (row : PropRow) → id.0 < old.head.next_prop → get new.props id ≡ Some row → (was : PropRow) × (get old.props id ≡ Some was) × (was.definer ≡ row.definer)
-  pub verbs : (x : ObjNo) (id : VerbId) → id.0 < old.head.next_verb → is_some (get new.verbs (x, id)) ≡ true → is_some (get old.verbs (x, id)) ≡ true
+  pub verbs : (object : ObjNo) (id : VerbId) → id.0 < old.head.next_verb → is_some (get new.verbs (object, id)) ≡ true → is_some (get old.verbs (object, id)) ≡ true
   pub next_prop : old.head.next_prop ≤ new.head.next_prop
   pub next_verb : old.head.next_verb ≤ new.head.next_verb

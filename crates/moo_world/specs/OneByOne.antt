@@ -4,10 +4,10 @@ use Rattle.std.specs.Prelude.{◌≡◌, List, [], ◌∷◌, ⊤, None, Some, i
 use Rattle.std.specs.Option.{option_map}
 use Rattle.moo_value.specs.declared.value.ObjNo.{ObjNo}
 use Rattle.moo_world.specs.Objects.{nothing, same_object, is_among}
-use Rattle.moo_world.specs.World.{World, Record, IsWellFormed, parent_of, with_slots, with_parent, reparented}
+use Rattle.moo_world.specs.World.{World, WorldObject, IsWellFormed, parent_of, with_slots, with_parent, reparented}
 use Rattle.moo_world.specs.Laws.{MayReparent}
 use Rattle.moo_world.specs.Manual.{manual_slot}
-use Rattle.moo_world.specs.ObjectLists.{has_parent, children_of}
+use Rattle.moo_world.specs.ObjectLists.{is_parent_of, children_of}
 use Rattle.moo_world.specs.Recycling.{recycled}
 
 -- the object under its new parent, and every object with the slots that it then has in the manual's wording
@@ -29,7 +29,7 @@ MayMoveOneByOne world [] parent = ⊤
 MayMoveOneByOne world (child ∷ rest) parent = MayReparent world child parent × MayMoveOneByOne (manually_moved world child parent) rest parent
 
 -- what is in the object is nowhere
-abbrev pub emptied : ObjNo → Record → Record
+abbrev pub emptied : ObjNo → WorldObject → WorldObject
 emptied object entry = record entry { row = record entry.row { location = if same_object object entry.row.location then nothing else entry.row.location } }
 
 -- the record of the object gone and its contents moved to nothing: no other parent and no slot changes
@@ -38,7 +38,7 @@ taken_out world object = record world { object = λ other. if same_object object
 
 -- a list that has the children of the object and nothing else, in any order
 abbrev pub AreChildren : World → ObjNo → List ObjNo → Type 0
-AreChildren world object children = (other : ObjNo) → is_among other children ≡ has_parent world object other
+AreChildren world object children = (other : ObjNo) → is_among other children ≡ is_parent_of world object other
 
 -- the children of the object may be moved to its parent one by one, and when it is then taken out, the world is the one that recycling it leaves
 abbrev pub MoveAsRecycled : World → ObjNo → ObjNo → List ObjNo → Type 0

@@ -1,11 +1,11 @@
--- What a call comes to. A call is its checks, in their order, and then its answer and what it leaves: the world, or, of any call of
--- a batch, the whole state.
+-- What a call comes to. A call is its checks, in their order, and then its answer and what it leaves: the world, or, if it may be any call
+-- of a batch, the whole state.
 use Rattle.std.specs.Prelude.{Bool, true, false, Option, Some, None, Result, Ok, Err}
 use Rattle.moo_value.specs.declared.value.Value.{Value}
 use Rattle.moo_value.specs.declared.value.ObjNo.{ObjNo}
 use Rattle.moo_value.specs.declared.code.Code.{Code}
 
--- an answer and what is left, an error, or no number for what is made
+-- an answer and what is left, an error, or no number left for what is made
 pub data Outcome (S : Type 0) : Type 0 where
   Done : Value → S → Outcome S
   Failed : Code → Outcome S

@@ -15,10 +15,10 @@ use Rattle.moo_world.specs.Quota.{quota_of}
 use Rattle.moo_world.specs.Recycling.{recycled}
 use Rattle.moo_world.specs.Rights.{is_wizard}
 use Rattle.moo_world.specs.Names.{petition_call}
-use Rattle.moo_world.specs.Requests.{State, request}
-use Rattle.moo_world.specs.Calls.{step}
+use Rattle.moo_world.specs.Requests.{State, batch_call}
+use Rattle.moo_world.specs.Calls.{world_call}
 
--- owner, player flag, programmer and wizard bits
+-- the object has the owner, the player flag, and the programmer and wizard bits that it had
 abbrev pub SameRights : World → World → ObjNo → Type 0
 SameRights world next object =
     (owner_of next object ≡ owner_of world object)
@@ -45,18 +45,18 @@ name_after world call other slot_name = elim call.name [ SetPropertyInfo ↦ nam
 
 -- no rights of an object that stays have changed and no owner of a slot that stays, by its new name; and what is made is the
 -- programmer's, with none of the bits
-pub record KeepsOwnership (world next : World) (programmer : ObjNo) (renamed : ObjNo → Name → Name) : Type 0 where
+pub record KeepsOwnership (world next : World) (programmer : ObjNo) (new_name_of : ObjNo → Name → Name) : Type 0 where
   pub rights : (object : ObjNo) → is_object world object ≡ true → is_object next object ≡ true → SameRights world next object
-  pub slots : (object : ObjNo) (name : Name) (slot slot_after : Slot) → slot_of world object name ≡ Some slot → slot_of next object (renamed object name) ≡ Some slot_after → slot.definer ≡ slot_after.definer → slot_after.owner ≡ slot.owner
+  pub slots : (object : ObjNo) (name : Name) (slot slot_after : Slot) → slot_of world object name ≡ Some slot → slot_of next object (new_name_of object name) ≡ Some slot_after → slot.definer ≡ slot_after.definer → slot_after.owner ≡ slot.owner
   pub made : (object : ObjNo) → is_object world object ≡ false → is_object next object ≡ true → (owner_of next object ≡ programmer) × (row_passes (λ row. row.player) next object ≡ false) × (row_passes (λ row. row.programmer) next object ≡ false) × (row_passes (λ row. row.wizard) next object ≡ false)
 
 -- a call of a programmer who isn't a wizard
 abbrev pub NoWizardKeepsOwnership : Type 0
-NoWizardKeepsOwnership = (world next : World) (programmer : ObjNo) (call : Call) (answer : Value) → IsWellFormed world → is_wizard world programmer ≡ false → step world programmer call ≡ Done answer next → KeepsOwnership world next programmer (name_after world call)
+NoWizardKeepsOwnership = (world next : World) (programmer : ObjNo) (call : Call) (answer : Value) → IsWellFormed world → is_wizard world programmer ≡ false → world_call world programmer call ≡ Done answer next → KeepsOwnership world next programmer (name_after world call)
 
 -- and the calls of petitions change no world, unless a wizard grants
 abbrev pub PetitionsLeaveTheWorld : Type 0
-PetitionsLeaveTheWorld = (state next : State) (programmer : ObjNo) (call : Call) (answer : Value) → is_wizard state.world programmer ≡ false → is_some (petition_call call.name) ≡ true → request state programmer call ≡ Done answer next → next.world ≡ state.world
+PetitionsLeaveTheWorld = (state next : State) (programmer : ObjNo) (call : Call) (answer : Value) → is_wizard state.world programmer ≡ false → is_some (petition_call call.name) ≡ true → batch_call state programmer call ≡ Done answer next → next.world ≡ state.world
 
 -- an accepted create lowers the quota of the intended owner by one, and makes one object, of that owner, and no other
 abbrev pub CreateTakesOne : Type 0

@@ -1,8 +1,8 @@
 -- The prepositions that a verb may ask for: fifteen sets of phrases that stand for one another.
 -- LambdaMOO Programmer's Manual, 'Verbs on Objects' in the chapter on the database.
 use Rattle.std.specs.Prelude.{ℕ, List, [], ◌∷◌, codes}
-use Rattle.moo_rows.specs.declared.row.Place.{Place}
-use Rattle.moo_rows.specs.declared.row.Place.TheVariants.{This, Any as any_object, None as no_object}
+use Rattle.moo_rows.specs.declared.row.ObjectSpec.{ObjectSpec}
+use Rattle.moo_rows.specs.declared.row.ObjectSpec.TheVariants.{This, Any as any_object, None as no_object}
 use Rattle.moo_rows.specs.declared.row.Preposition.{Preposition}
 use Rattle.moo_rows.specs.declared.row.Preposition.TheVariants.{None as no_preposition, Any as any_preposition, Set}
 use Rattle.moo_rows.specs.declared.row.PrepositionSet.{PrepositionSet}
@@ -34,7 +34,8 @@ prep_text no_preposition = codes "none"
 prep_text any_preposition = codes "any"
 prep_text (Set set) = set_text set
 
-abbrev pub place_text : Place → List ℕ
-place_text This = codes "this"
-place_text any_object = codes "any"
-place_text no_object = codes "none"
+-- how an object specifier is written
+abbrev pub object_spec_text : ObjectSpec → List ℕ
+object_spec_text This = codes "this"
+object_spec_text any_object = codes "any"
+object_spec_text no_object = codes "none"

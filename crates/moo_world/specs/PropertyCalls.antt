@@ -1,7 +1,9 @@
--- What each call on properties comes to.
--- LambdaMOO Programmer's Manual, 'Properties on Objects' in the chapter on the database, 'Getting and Setting the Values of
--- Properties', and 'Operations on Properties' in the part on built-in functions. That `get` and `set` read and write `object.name`,
--- that a bit takes the truth of any value, and the order of the checks, are this server's own.
+-- What each call on properties does: its checks, in their order, and then its answer and the world that it leaves. How to read a definition
+-- is explained at the head of Calls.
+-- From the LambdaMOO Programmer's Manual: 'Properties on Objects' in the chapter on the database, 'Getting and Setting the Values of
+-- Properties', and 'Operations on Properties' in the part on built-in functions. The manual doesn't give the order of the checks: it is that of
+-- the lines here. Three things are this server's own: that `get` and `set` are calls, for the expression `object.name` and the assignment to it;
+-- that a new owner has to be an object; and that the present name in another case isn't a new name.
 use Rattle.std.specs.Prelude.{Bool, true, false, not, ◌&&◌, ◌||◌, nat_lt, [], ◌∷◌, Option, Some, None, Result, Ok, Err, unwrap_or}
 use Rattle.std.specs.List.{list_any}
 use Rattle.moo_value.specs.declared.value.ObjNo.{ObjNo}
@@ -15,14 +17,14 @@ use Rattle.moo_world.specs.declared.built_in.BuiltIn.{BuiltIn}
 use Rattle.moo_world.specs.declared.built_in.BuiltIn.TheVariants.{Name as NameField, Owner, Location, Contents, Programmer, Wizard, R, W, F}
 use Rattle.moo_world.specs.declared.change.Change.{Change}
 use Rattle.moo_world.specs.declared.change.Change.TheVariants as to
-use Rattle.moo_world.specs.Objects.{Name, same_object, same_text, folded}
-use Rattle.moo_world.specs.World.{World, is_object, names_of, slot_of, read_of, is_property_name}
+use Rattle.moo_world.specs.Objects.{Name, same_object, same_text, folded, number_limit}
+use Rattle.moo_world.specs.World.{World, is_object, property_names_of, slot_of, read_of, is_property_name}
 use Rattle.moo_world.specs.Outcomes.{Outcome, Done, require_room, require◌else◌, ◌>>◌, given, ◌or_else◌, ◌>>=◌}
 use Rattle.moo_world.specs.Arguments.{Info}
 use Rattle.moo_world.specs.Answers.{zero, flag, list_of, text_list}
 use Rattle.moo_world.specs.BuiltIns.{built_in, field_of}
-use Rattle.moo_world.specs.Rights.{is_wizard, controls, may_name, may_own, may_read_object, may_write_object, may_read_slot, may_write_slot}
-use Rattle.moo_world.specs.Changes.{clashes, defined, undefined, renamed, value_set, cleared, info_set}
+use Rattle.moo_world.specs.Rights.{is_wizard, controls, may_set_name, may_make_owner, may_read_object, may_write_object, may_read_slot, may_write_slot}
+use Rattle.moo_world.specs.Changes.{clashes, property_added, property_removed, property_renamed, value_set, cleared, info_set}
 use Rattle.moo_world.specs.Fields.{field_changed}
 use Rattle.moo_world.specs.Codes.{Code, E_PERM, E_INVARG, E_PROPNF, E_INVIND, E_TYPE}
 
@@ -33,6 +35,7 @@ by_field (Some f) field other = field f
 
 -- ---- reading
 
+-- a property that isn't built in: what the object reads, or 0 if no slot up the chain is set, which no well formed world has
 abbrev pub get_property : World → ObjNo → ObjNo → Name → Outcome World
 get_property world programmer object name = do
   slot ← slot_of world object (folded name) or_else E_PROPNF
@@ -48,7 +51,7 @@ abbrev pub properties : World → ObjNo → ObjNo → Outcome World
 properties world programmer object = do
   require is_object world object else E_INVARG
   require may_read_object world programmer object else E_PERM
-  Done (text_list (names_of world object)) world
+  Done (text_list (property_names_of world object)) world
 
 abbrev pub property_info : World → ObjNo → ObjNo → Name → Outcome World
 property_info world programmer object name = do
@@ -70,7 +73,7 @@ is_clear_property world programmer object name = do
 
 -- ---- setting
 
--- the change that a value is for a field, or the error. What isn't a flag takes the truth of the value
+-- The change that a value makes to a field, or the error. A bit (programmer, wizard, r, w or f) takes the truth of the value.
 abbrev pub change_of : BuiltIn → Value → Result Change Code
 change_of Location value = Err E_PERM
 change_of Contents value = Err E_PERM
@@ -84,24 +87,24 @@ change_of R value = Ok (to.Readable (is_true value))
 change_of W value = Ok (to.Writable (is_true value))
 change_of F value = Ok (to.Fertile (is_true value))
 
--- r, w and f are set by the owner or a wizard, the others but the name by a wizard only
+-- r, w and f are set by the owner or a wizard, owner and the other bits by a wizard only, and the name as `may_set_name` says
 abbrev pub may_set : World → ObjNo → ObjNo → BuiltIn → Bool
-may_set world programmer object NameField = may_name world programmer object
+may_set world programmer object NameField = may_set_name world programmer object
 may_set world programmer object R = controls world programmer object
 may_set world programmer object W = controls world programmer object
 may_set world programmer object F = controls world programmer object
 may_set world programmer object field = is_wizard world programmer
 
--- a new owner is an object
-abbrev pub names_object : World → Change → Bool
-names_object world (to.Owner owner) = is_object world owner
-names_object world change = true
+-- a new owner has to be an object
+abbrev pub owner_is_object : World → Change → Bool
+owner_is_object world (to.Owner owner) = is_object world owner
+owner_is_object world change = true
 
 abbrev pub set_built_in : World → ObjNo → ObjNo → BuiltIn → Value → Outcome World
 set_built_in world programmer object field value = do
   change ← given (change_of field value)
   require may_set world programmer object field else E_PERM
-  require names_object world change else E_INVARG
+  require owner_is_object world change else E_INVARG
   Done zero (field_changed world object change)
 
 abbrev pub set_property : World → ObjNo → ObjNo → Name → Value → Outcome World
@@ -119,7 +122,7 @@ set world programmer object name value = do
 
 -- the object itself defines a property of the name
 abbrev pub defines_name : World → ObjNo → Name → Bool
-defines_name world object name = list_any (λ defined. same_text (folded defined) (folded name)) (names_of world object)
+defines_name world object name = list_any (λ defined_name. same_text (folded defined_name) (folded name)) (property_names_of world object)
 
 -- the name may be given to a new property of the object
 abbrev pub may_define : World → ObjNo → Name → Bool
@@ -131,26 +134,26 @@ add_property world programmer object name value (owner, perms) = do
   require is_object world owner else E_INVARG
   bits ← bits_of perms or_else E_INVARG
   require may_write_object world programmer object else E_PERM
-  require may_own world programmer owner else E_PERM
+  require may_make_owner world programmer owner else E_PERM
   require may_define world object name else E_INVARG
-  require_room (nat_lt world.next_prop 4294967295)
-  Done zero (defined world object name (record { definer = object; owner = owner; bits = bits; state = Set value }))
+  require_room (nat_lt world.next_prop number_limit)
+  Done zero (property_added world object name (record { definer = object; owner = owner; bits = bits; state = Set value }))
 
 abbrev pub delete_property : World → ObjNo → ObjNo → Name → Outcome World
 delete_property world programmer object name = do
   require is_object world object else E_INVARG
   require may_write_object world programmer object else E_PERM
   require defines_name world object name else E_PROPNF
-  Done zero (undefined world object name)
+  Done zero (property_removed world object name)
 
--- a property that the object itself defines may have a name that a new property of it might have
+-- no new name is given, or the object itself defines the property and might define one of the new name
 abbrev pub may_rename : World → ObjNo → Name → Option Name → Bool
 may_rename world object name None = true
 may_rename world object name (Some new_name) = defines_name world object name && may_define world object new_name
 
 abbrev pub renamed_to : World → ObjNo → Name → Option Name → World
 renamed_to world object name None = world
-renamed_to world object name (Some new_name) = renamed world object name new_name
+renamed_to world object name (Some new_name) = property_renamed world object name new_name
 
 abbrev pub set_property_info : World → ObjNo → ObjNo → Name → Info → Option Name → Outcome World
 set_property_info world programmer object name (owner, perms) new_name = do

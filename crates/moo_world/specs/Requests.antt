@@ -17,12 +17,12 @@ use Rattle.moo_world.specs.declared.name.PetitionCall.TheVariants.{Petition as t
 use Rattle.moo_world.specs.Answers.{zero, list_of}
 use Rattle.moo_world.specs.Arguments.{no_values}
 use Rattle.moo_world.specs.Names.{petition_call, call_name_of}
-use Rattle.moo_world.specs.Objects.{same_object}
+use Rattle.moo_world.specs.Objects.{same_object, number_limit}
 use Rattle.moo_world.specs.Outcomes.{Outcome, Done, Failed, Full, given, require◌else◌, require_room, ◌>>◌, ◌or_else◌, ◌>>=◌}
 use Rattle.moo_world.specs.Petitions.{is_named, are_few, are_shallow, PetitionsStand}
 use Rattle.moo_world.specs.Rights.{is_wizard}
 use Rattle.moo_world.specs.Rows.{world_of}
-use Rattle.moo_world.specs.Calls.{step, named_call}
+use Rattle.moo_world.specs.Calls.{world_call, named_call}
 use Rattle.moo_world.specs.World.{World, is_object, IsWellFormed}
 use Rattle.moo_world.specs.Codes.{Code, E_PERM, E_INVARG, E_TYPE, E_ARGS}
 
@@ -50,11 +50,13 @@ in_world state Full = Full
 
 -- ---- what the calls take
 
+-- a list: what `petition` takes
 abbrev pub one_list : List Value → Result Values Code
 one_list (a_list values ∷ []) = Ok values
 one_list (other ∷ []) = Err E_TYPE
 one_list args = Err E_ARGS
 
+-- an integer: what `grant` and `decline` take
 abbrev pub one_integer : List Value → Result ℤ Code
 one_integer (Int number ∷ []) = Ok number
 one_integer (other ∷ []) = Err E_TYPE
@@ -65,53 +67,51 @@ one_integer args = Err E_ARGS
 abbrev pub petition_id : ℕ → PetitionId
 petition_id number = record { 0 = number }
 
--- the petition of a number, if there is one
+-- the petition of a number, if there is one. `get`, `insert`, `remove` and `entries` are those of a map
 abbrev pub petition_at : State → ℤ → Option (PetitionId × PetitionRow)
 petition_at state (pos number) = option_map (λ row. (petition_id number, row)) (get state.petitions (petition_id number))
 petition_at state (negsuc number) = None
 
+-- the state without the petition
 abbrev pub without : PetitionId → State → State
 without id state = record state { petitions = remove state.petitions id }
 
 -- ---- the calls that a petition holds
 
--- the name of a call and what it is given, of a name that names a call, and none of those of petitions
+-- the call that a list is: its name, then its arguments. `None` if it names no call, or one of petitions
 abbrev pub call_in : List Value → Option Call
 call_in (Str name ∷ args) = option_and_then (λ call_name. if is_some (petition_call call_name) then None else Some (record { name = call_name; args = args })) (call_name_of name)
 call_in values = None
 
--- the call that a petition holds
+-- the same of a value, which has to be a list
 abbrev pub held_call : Value → Option Call
 held_call (a_list values) = call_in (spread values)
 held_call other = None
 
--- one of them, by the wizard who grants it. One that names no call is in no petition that a call has made
+-- One of them, made by the wizard who grants the petition. `petition` lets in calls on the world alone. E_INVARG comes only if another tool
+-- wrote something else into the file.
 abbrev pub held_step : World → ObjNo → Value → Outcome World
-held_step world programmer held = elim (held_call held) [ None ↦ Failed E_INVARG | Some call ↦ step world programmer call ]
+held_step world programmer held = elim (held_call held) [ None ↦ Failed E_INVARG | Some call ↦ world_call world programmer call ]
 
--- all of them, one after another, up to the first that isn't done
+-- all of them, one after another, up to the first that fails
 abbrev pub held_steps : World → ObjNo → List Value → Outcome World
 held_steps world programmer [] = Done zero world
 held_steps world programmer (held ∷ rest) = elim (held_step world programmer held) [ Done answer next ↦ held_steps next programmer rest | Failed code ↦ Failed code | Full ↦ Full ]
 
 -- ---- the calls of petitions
 
--- the greatest number that the next petition may have: at it none is left
-abbrev pub last_petition : ℕ
-last_petition = 4294967295
-
--- with one petition more
+-- the state with one petition more
 abbrev pub asked : State → ObjNo → Values → State
 asked state programmer calls = record state { petitions = insert state.petitions (petition_id state.next_petition) (record { who = programmer; calls = calls }); next_petition = state.next_petition + 1 }
 
--- each of the calls is one on the world
+-- each of them is a call on the world
 abbrev pub are_on_world : Values → Bool
 are_on_world calls = list_all (λ held. is_some (held_call held)) (spread calls)
 
 -- one petition more, if a number is left
-abbrev pub ask : State → ObjNo → Values → Outcome State
-ask state programmer calls = do
-  require_room (nat_lt state.next_petition last_petition)
+abbrev pub petition_filed : State → ObjNo → Values → Outcome State
+petition_filed state programmer calls = do
+  require_room (nat_lt state.next_petition number_limit)
   Done (Int (pos state.next_petition)) (asked state programmer calls)
 
 -- a petition may ask for calls on the world, each a list that begins with its name, few and not too deep
@@ -121,13 +121,13 @@ petition state programmer calls = do
   require are_few calls else E_INVARG
   require are_on_world calls else E_INVARG
   require are_shallow calls else E_INVARG
-  ask state programmer calls
+  petition_filed state programmer calls
 
 -- a petition as it is listed: {number, who, calls}
 abbrev pub listed : PetitionId × PetitionRow → Value
 listed (id, row) = list_of (Int (pos id.0) ∷ Obj row.who ∷ a_list row.calls ∷ [])
 
--- all of them for a wizard, else the programmer's own
+-- all of them for a wizard, else the programmer's own, in the order of their numbers
 abbrev pub petitions : State → ObjNo → Outcome State
 petitions state programmer = Done (list_of (map listed (filter (λ (id, row). is_wizard state.world programmer || same_object row.who programmer) (entries state.petitions)))) state
 
@@ -138,34 +138,36 @@ grant state programmer number = do
   (id, row) ← petition_at state number or_else E_INVARG
   in_world (without id state) (held_steps state.world programmer (spread row.calls))
 
+-- who made the petition, or a wizard, takes it away
 abbrev pub decline : State → ObjNo → ℤ → Outcome State
 decline state programmer number = do
   (id, row) ← petition_at state number or_else E_INVARG
   require same_object row.who programmer || is_wizard state.world programmer else E_PERM
   Done zero (without id state)
 
+-- a call of petitions, with what it is given
 abbrev pub petition_call_by : State → ObjNo → PetitionCall → List Value → Outcome State
 petition_call_by state programmer to_petition args = given (one_list args) (petition state programmer)
 petition_call_by state programmer to_list args = given (no_values args) (λ _. petitions state programmer)
 petition_call_by state programmer to_grant args = given (one_integer args) (grant state programmer)
 petition_call_by state programmer to_decline args = given (one_integer args) (decline state programmer)
 
--- a call by its name: one on the world leaves the petitions as they are
+-- the call of this name: a call on the world leaves the petitions as they are
 abbrev pub call_by_name : State → ObjNo → Call → Outcome State
 call_by_name state programmer call = elim (petition_call call.name) [
   | None ↦ in_world state (named_call state.world programmer call.name call.args)
   | Some of_petitions ↦ petition_call_by state programmer of_petitions call.args
 ]
 
--- any call: the programmer has to be an object
-unfoldable pub request : State → ObjNo → Call → Outcome State
-request state programmer call = do
+-- Any call of a batch. The programmer has to be an object.
+unfoldable pub batch_call : State → ObjNo → Call → Outcome State
+batch_call state programmer call = do
   require is_object state.world programmer else E_PERM
   call_by_name state programmer call
 
 -- ---- numbers of petitions
 
--- over any time, a number once given is not given again: under a number that was given there is the petition that was there
+-- A number is given once. If a petition is found later under a number that was given before, it is the one that was there.
 pub record PetitionsStay (old new : State) : Type 0 where
   pub same : (id : PetitionId) (row : PetitionRow) → id.0 < old.next_petition → get new.petitions id ≡ Some row → get old.petitions id ≡ Some row
   pub next : old.next_petition ≤ new.next_petition

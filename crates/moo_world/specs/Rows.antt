@@ -14,7 +14,7 @@ use Rattle.moo_rows.specs.declared.row.VerbId.{VerbId}
 use Rattle.moo_rows.specs.Maps.{Maps}
 use Rattle.moo_world.specs.Objects.{Name, same_object, same_text, folded}
 use Rattle.moo_world.specs.Petitions.{PetitionsStand}
-use Rattle.moo_world.specs.World.{World, Record, Slot, IsWellFormed}
+use Rattle.moo_world.specs.World.{World, WorldObject, Slot, IsWellFormed}
 
 pub record LookUps : Type 0 where
   pub head : Head
@@ -23,34 +23,36 @@ pub record LookUps : Type 0 where
   pub slot : ObjNo → ℕ → Option SlotRow
   pub verb : ObjNo → ℕ → Option VerbRow
 
--- the numbers below n, ascending
+-- the numbers below another, ascending
 abbrev pub numbers_below : ℕ → List ℕ
 numbers_below zero = []
-numbers_below (suc n) = numbers_below n ++ n ∷ []
+numbers_below (suc number) = numbers_below number ++ number ∷ []
 
--- the name of a property, if x defines it
+-- the name of a property, if the object defines it
 abbrev pub name_on : LookUps → ObjNo → ℕ → Option Name
-name_on rows x id = option_and_then (λ p. if same_object p.definer x then Some p.name else None) (rows.prop id)
+name_on rows object id = option_and_then (λ property. if same_object property.definer object then Some property.name else None) (rows.prop id)
 
+-- the slot that a row shows, of a property of this definer
 abbrev pub slot_seen : ObjNo → SlotRow → Slot
-slot_seen definer s = record { definer = definer; owner = s.owner; bits = s.bits; state = s.state }
+slot_seen definer slot = record { definer = definer; owner = slot.owner; bits = slot.bits; state = slot.state }
 
--- the slot on x of a property, if n is its folded name
+-- the slot on the object of a property, if this is its folded name
 abbrev pub slot_on : LookUps → ObjNo → Name → ℕ → Option Slot
-slot_on rows x n id = option_and_then (λ p. if same_text (folded p.name) n then option_map (slot_seen p.definer) (rows.slot x id) else None) (rows.prop id)
+slot_on rows object name id = option_and_then (λ property. if same_text (folded property.name) name then option_map (slot_seen property.definer) (rows.slot object id) else None) (rows.prop id)
 
--- definitions in ascending property number, verbs in ascending verb number
-abbrev pub record_of : LookUps → ObjNo → ObjRow → Record
-record_of rows x row = record {
+-- the object of a row: its definitions by ascending property number, its verbs by ascending verb number
+abbrev pub object_shown : LookUps → ObjNo → ObjRow → WorldObject
+object_shown rows object row = record {
   row = row;
-  defines = filter_map (name_on rows x) (numbers_below rows.head.next_prop);
-  slot = λ n. slice_get (filter_map (slot_on rows x n) (numbers_below rows.head.next_prop)) 0;
-  verbs = filter_map (rows.verb x) (numbers_below rows.head.next_verb);
+  defines = filter_map (name_on rows object) (numbers_below rows.head.next_prop);
+  slot = λ name. slice_get (filter_map (slot_on rows object name) (numbers_below rows.head.next_prop)) 0;
+  verbs = filter_map (rows.verb object) (numbers_below rows.head.next_verb);
 }
 
+-- the world that look-ups show
 unfoldable pub world_shown : LookUps → World
 world_shown rows = record {
-  object = λ x. option_map (record_of rows x) (rows.object x);
+  object = λ object. option_map (object_shown rows object) (rows.object object);
   top = rows.head.top;
   next_prop = rows.head.next_prop;
   next_verb = rows.head.next_verb;
@@ -59,49 +61,49 @@ world_shown rows = record {
 -- each number is below its counter, what a row names is there, and no object has two slots of one name
 pub record AreSound (rows : LookUps) : Type 0 where
   pub props_below : (id : ℕ) → is_some (rows.prop id) ≡ true → (0 < id) × (id < rows.head.next_prop)
-  pub definers : (id : ℕ) (p : PropRow) → rows.prop id ≡ Some p → is_some (rows.object p.definer) ≡ true
-  pub slots : (x : ObjNo) (id : ℕ) → is_some (rows.slot x id) ≡ true → (is_some (rows.object x) ≡ true) × (is_some (rows.prop id) ≡ true)
-  pub one_name : (x : ObjNo) (i j : ℕ) (p q : PropRow) → is_some (rows.slot x i) ≡ true → is_some (rows.slot x j) ≡ true → rows.prop i ≡ Some p → rows.prop j ≡ Some q → folded p.name ≡ folded q.name → i ≡ j
-  pub verbs : (x : ObjNo) (id : ℕ) → is_some (rows.verb x id) ≡ true → (is_some (rows.object x) ≡ true) × (0 < id) × (id < rows.head.next_verb)
+  pub definers : (id : ℕ) (property : PropRow) → rows.prop id ≡ Some property → is_some (rows.object property.definer) ≡ true
+  pub slots : (object : ObjNo) (id : ℕ) → is_some (rows.slot object id) ≡ true → (is_some (rows.object object) ≡ true) × (is_some (rows.prop id) ≡ true)
+  pub one_name : (object : ObjNo) (first second : ℕ) (p q : PropRow) → is_some (rows.slot object first) ≡ true → is_some (rows.slot object second) ≡ true → rows.prop first ≡ Some p → rows.prop second ≡ Some q → folded p.name ≡ folded q.name → first ≡ second
+  pub verbs : (object : ObjNo) (id : ℕ) → is_some (rows.verb object id) ≡ true → (is_some (rows.object object) ≡ true) × (0 < id) × (id < rows.head.next_verb)
 
 -- ---- maps
 
 abbrev pub prop_id : ℕ → PropId
-prop_id n = record { 0 = n }
+prop_id number = record { 0 = number }
 
 abbrev pub verb_id : ℕ → VerbId
-verb_id n = record { 0 = n }
+verb_id number = record { 0 = number }
 
 -- what the look-ups of maps answer
 abbrev pub look_ups : Maps → LookUps
-look_ups t = record {
-  head = t.head;
-  object = λ x. get t.objects x;
-  prop = λ id. get t.props (prop_id id);
-  slot = λ x id. get t.slots (x, prop_id id);
-  verb = λ x id. get t.verbs (x, verb_id id);
+look_ups rows = record {
+  head = rows.head;
+  object = λ object. get rows.objects object;
+  prop = λ id. get rows.props (prop_id id);
+  slot = λ object id. get rows.slots (object, prop_id id);
+  verb = λ object id. get rows.verbs (object, verb_id id);
 }
 
 -- the world that maps show
 abbrev pub world_of : Maps → World
-world_of t = world_shown (look_ups t)
+world_of rows = world_shown (look_ups rows)
 
 abbrev pub IsSound : Maps → Type 0
-IsSound t = AreSound (look_ups t)
+IsSound rows = AreSound (look_ups rows)
 
 -- sound rows of a well formed world, and petitions as they may be beside it
-pub record IsGood (m : Maps) : Type 0 where
-  pub sound : IsSound m
-  pub formed : IsWellFormed (world_of m)
-  pub petitions : PetitionsStand m.petitions m.head.next_petition
+pub record IsGood (rows : Maps) : Type 0 where
+  pub sound : IsSound rows
+  pub formed : IsWellFormed (world_of rows)
+  pub petitions : PetitionsStand rows.petitions rows.head.next_petition
 
 -- ---- rows with one row put or removed
 
 abbrev pub with_object_row : LookUps → ObjNo → ObjRow → LookUps
-with_object_row m x row = record m { object = λ y. if same_object x y then Some row else m.object y }
+with_object_row rows object row = record rows { object = λ other. if same_object object other then Some row else rows.object other }
 
 abbrev pub with_slot_row : LookUps → ObjNo → ℕ → SlotRow → LookUps
-with_slot_row m x id k = record m { slot = λ y j. if same_object x y && (id == j) then Some k else m.slot y j }
+with_slot_row rows object id row = record rows { slot = λ other other_id. if same_object object other && (id == other_id) then Some row else rows.slot other other_id }
 
 abbrev pub less_slot : LookUps → ObjNo → ℕ → LookUps
-less_slot m x id = record m { slot = λ y j. if same_object x y && (id == j) then None else m.slot y j }
+less_slot rows object id = record rows { slot = λ other other_id. if same_object object other && (id == other_id) then None else rows.slot other other_id }

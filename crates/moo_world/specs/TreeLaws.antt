@@ -3,8 +3,8 @@ use Rattle.std.specs.Prelude.{◌≡◌, ◌↔◌, true, false, List, ◌∷◌
 use Rattle.std.specs.Bool.{Decides}
 use Rattle.moo_value.specs.declared.value.ObjNo.{ObjNo}
 use Rattle.moo_value.specs.declared.value.Value.{Value}
-use Rattle.moo_world.specs.Objects.{Name, Pair, nothing, is_among}
-use Rattle.moo_world.specs.World.{World, Record, IsTree, Chain, Places, IsUnder, Owes, Rebuilt, Reads, SameButSlots, is_object, chain, places, owes, rebuilt, read_of}
+use Rattle.moo_world.specs.Objects.{Name, Property, nothing, is_among}
+use Rattle.moo_world.specs.World.{World, WorldObject, IsTree, Chain, LocationChain, IsUnder, HasProperty, Rebuilt, Reads, SameButSlots, is_object, chain, location_chain, has_property, rebuilt, read_of}
 use Rattle.moo_world.specs.Rights.{accepts, is_within}
 
 -- an object has one chain at most
@@ -31,29 +31,29 @@ RebuiltIsOne = (world first second : World) (parent : ObjNo) → IsTree world �
 abbrev pub ChainIsFound : Type 0
 ChainIsFound = (world : World) (object : ObjNo) (list : List ObjNo) → IsTree world → is_object world object ≡ true → (chain world object ≡ list) ↔ Chain world object list
 
-abbrev pub PlacesAreFound : Type 0
-PlacesAreFound = (world : World) (object : ObjNo) (list : List ObjNo) → IsTree world → is_object world object ≡ true → (places world object ≡ list) ↔ Places world object list
+abbrev pub LocationsAreFound : Type 0
+LocationsAreFound = (world : World) (object : ObjNo) (list : List ObjNo) → IsTree world → is_object world object ≡ true → (location_chain world object ≡ list) ↔ LocationChain world object list
 
 abbrev pub UnderIsTested : Type 0
 UnderIsTested = (world : World) (object ancestor : ObjNo) → IsTree world → is_object world object ≡ true → Decides (is_among ancestor (chain world object)) (IsUnder world object ancestor)
 
-abbrev pub OwesIsTested : Type 0
-OwesIsTested = (world : World) (object : ObjNo) (pair : Pair) → IsTree world → Decides (owes world object pair) (Owes world object pair)
+abbrev pub HasPropertyIsTested : Type 0
+HasPropertyIsTested = (world : World) (object : ObjNo) (property : Property) → IsTree world → Decides (has_property world object property) (HasProperty world object property)
 
 abbrev pub ReadsIsFound : Type 0
 ReadsIsFound = (world : World) (object : ObjNo) (name : Name) (value : Value) → IsTree world → (read_of world object name ≡ Some value) ↔ Reads world name object value
 
 -- the object is the container or is in it at any depth
 abbrev pub IsWithin : World → ObjNo → ObjNo → Type 0
-IsWithin world object container = (list : List ObjNo) × Places world object list × (is_among container list ≡ true)
+IsWithin world object container = (list : List ObjNo) × LocationChain world object list × (is_among container list ≡ true)
 
 abbrev pub WithinIsTested : Type 0
 WithinIsTested = (world : World) (object container : ObjNo) → IsTree world → is_object world object ≡ true → Decides (is_within world object container) (IsWithin world object container)
 
 -- the accept list that counts for an object: its own, or if it holds none its parent's
 pub data HasList (world : World) : ObjNo → List ObjNo → Type 0 where
-  own : {object : ObjNo} {entry : Record} {list : List ObjNo} → world.object object ≡ Some entry → entry.row.accept ≡ Some list → HasList world object list
-  inherited : {object : ObjNo} {entry : Record} {list : List ObjNo} → world.object object ≡ Some entry → entry.row.accept ≡ None → HasList world entry.row.parent list → HasList world object list
+  own : {object : ObjNo} {entry : WorldObject} {list : List ObjNo} → world.object object ≡ Some entry → entry.row.accept ≡ Some list → HasList world object list
+  inherited : {object : ObjNo} {entry : WorldObject} {list : List ObjNo} → world.object object ≡ Some entry → entry.row.accept ≡ None → HasList world entry.row.parent list → HasList world object list
 
 -- #-1 takes in anything, and an object what is on the list that counts, or has an ancestor there
 pub data Accepts (world : World) (object thing : ObjNo) : Type 0 where

@@ -1,18 +1,20 @@
--- What each call on verbs comes to.
--- LambdaMOO Programmer's Manual, 'Operations on Verbs' in the part on built-in functions. The order of the checks, and that
--- `add_verb` answers 0, are this server's own.
+-- What each call on verbs does: its checks, in their order, and then its answer and the world that it leaves. How to read a definition is
+-- explained at the head of Calls.
+-- From the LambdaMOO Programmer's Manual: 'Operations on Verbs' in the part on built-in functions. The manual doesn't give the order of the
+-- checks: it is that of the lines here. Two things are this server's own: that `add_verb` answers 0; and that by `set_verb_info` a programmer
+-- who may write a verb may become its owner, and, unless a wizard, can name no other owner.
 use Rattle.std.specs.Prelude.{nat_lt, [], ◌∷◌, map}
 use Rattle.moo_value.specs.declared.value.ObjNo.{ObjNo}
 use Rattle.moo_value.specs.declared.value.Value.TheVariants.{Obj, Str}
 use Rattle.moo_rows.specs.Bits.{verb_bits_of, verb_letters_of}
 use Rattle.moo_world.specs.declared.descriptor.Desc.{Desc}
-use Rattle.moo_world.specs.Objects.{Name}
+use Rattle.moo_world.specs.Objects.{Name, number_limit}
 use Rattle.moo_world.specs.World.{World, is_object, has_word, directory_of}
 use Rattle.moo_world.specs.Outcomes.{Outcome, Done, require_room, require◌else◌, ◌>>◌, ◌or_else◌, ◌>>=◌}
 use Rattle.moo_world.specs.Arguments.{Info}
 use Rattle.moo_world.specs.Answers.{zero, list_of, text_list}
-use Rattle.moo_world.specs.Rights.{may_own, may_read_object, may_write_object, may_read_verb, may_write_verb}
-use Rattle.moo_world.specs.Prepositions.{prep_text, place_text}
+use Rattle.moo_world.specs.Rights.{may_make_owner, may_read_object, may_write_object, may_read_verb, may_write_verb}
+use Rattle.moo_world.specs.Prepositions.{prep_text, object_spec_text}
 use Rattle.moo_world.specs.VerbReading.{args_of}
 use Rattle.moo_world.specs.Descriptors.{found_verb}
 use Rattle.moo_world.specs.Directories.{verb_added, verb_removed, verb_info_set, verb_args_set}
@@ -38,7 +40,7 @@ verb_args world programmer object descriptor = do
   require is_object world object else E_INVARG
   (place, verb) ← found_verb world object descriptor or_else E_VERBNF
   require may_read_verb world programmer verb else E_PERM
-  Done (list_of (Str (place_text verb.args.dobj) ∷ Str (prep_text verb.args.prep) ∷ Str (place_text verb.args.iobj) ∷ [])) world
+  Done (list_of (Str (object_spec_text verb.args.dobj) ∷ Str (prep_text verb.args.prep) ∷ Str (object_spec_text verb.args.iobj) ∷ [])) world
 
 -- ---- changing
 
@@ -50,8 +52,8 @@ add_verb world programmer object (owner, perms) names (dobj, prep, iobj) = do
   require has_word names else E_INVARG
   args ← args_of dobj prep iobj or_else E_INVARG
   require may_write_object world programmer object else E_PERM
-  require may_own world programmer owner else E_PERM
-  require_room (nat_lt world.next_verb 4294967295)
+  require may_make_owner world programmer owner else E_PERM
+  require_room (nat_lt world.next_verb number_limit)
   Done zero (verb_added world object (record { names = names; owner = owner; bits = bits; args = args }))
 
 abbrev pub delete_verb : World → ObjNo → ObjNo → Desc → Outcome World
@@ -69,7 +71,7 @@ set_verb_info world programmer object descriptor (owner, perms) names = do
   bits ← verb_bits_of perms or_else E_INVARG
   require has_word names else E_INVARG
   require may_write_verb world programmer verb else E_PERM
-  require may_own world programmer owner else E_PERM
+  require may_make_owner world programmer owner else E_PERM
   Done zero (verb_info_set world object place owner bits names)
 
 abbrev pub set_verb_args : World → ObjNo → ObjNo → Desc → Name × Name × Name → Outcome World

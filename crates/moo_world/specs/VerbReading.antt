@@ -1,28 +1,28 @@
--- What verbs are told about themselves: names, places and prepositions, as they are read.
--- LambdaMOO Programmer's Manual, 'Verbs on Objects' in the chapter on the database, and 'Operations on Verbs': `add_verb` and
--- `set_verb_args`. That words and phrases are read in any case, and that a preposition ends at its first slash, are this
--- server's own.
+-- How the object specifiers and the preposition of a verb are read.
+-- From the LambdaMOO Programmer's Manual: 'Verbs on Objects' in the chapter on the database, and 'Operations on Verbs', `add_verb` and
+-- `set_verb_args`. The manual doesn't say that words and phrases are read in any case, nor that a preposition ends at its first slash.
+use Prim.Native.Char.{code}
 use Rattle.std.specs.Prelude.{ℕ, ◌==◌, Bool, List, [], ◌∷◌, Option, Some, codes, if◌then◌else◌}
 use Rattle.std.specs.Option.{option_map, option_and_then}
 use Rattle.std.specs.List.{find, list_any, before_first, slice_split}
 use Rattle.moo_rows.specs.declared.row.ArgSpec.{ArgSpec}
-use Rattle.moo_rows.specs.declared.row.Place.{Place}
-use Rattle.moo_rows.specs.declared.row.Place.TheVariants.{This, Any as any_object, None as no_object}
+use Rattle.moo_rows.specs.declared.row.ObjectSpec.{ObjectSpec}
+use Rattle.moo_rows.specs.declared.row.ObjectSpec.TheVariants.{This, Any as any_object, None as no_object}
 use Rattle.moo_rows.specs.declared.row.Preposition.{Preposition}
 use Rattle.moo_rows.specs.declared.row.Preposition.TheVariants.{None as no_preposition, Any as any_preposition, Set}
 use Rattle.moo_rows.specs.declared.row.PrepositionSet.{PrepositionSet}
 use Rattle.moo_world.specs.Objects.{Name}
-use Rattle.moo_world.specs.Prepositions.{set_text, all_sets, place_text}
+use Rattle.moo_world.specs.Prepositions.{set_text, all_sets, object_spec_text}
 use Rattle.moo_world.specs.Matching.{same_name}
 
 abbrev pub is_slash : ℕ → Bool
-is_slash byte = byte == 47
+is_slash byte = byte == code "/"
 
 abbrev pub phrases : PrepositionSet → List Name
 phrases set = slice_split is_slash (set_text set)
 
 abbrev pub has_phrase : PrepositionSet → Name → Bool
-has_phrase set phrase = list_any (λ p. same_name p phrase) (phrases set)
+has_phrase set phrase = list_any (λ each. same_name each phrase) (phrases set)
 
 -- the first of these sets that has the phrase
 abbrev pub first_with : List PrepositionSet → Name → Option PrepositionSet
@@ -35,9 +35,9 @@ prep_of text =
     else (if same_name text (codes "any") then Some any_preposition
     else option_map Set (first_with all_sets (before_first is_slash text)))
 
-abbrev pub place_of : Name → Option Place
-place_of text = find (λ place. same_name text (place_text place)) (This ∷ any_object ∷ no_object ∷ [])
+abbrev pub object_spec_of : Name → Option ObjectSpec
+object_spec_of text = find (λ spec. same_name text (object_spec_text spec)) (This ∷ any_object ∷ no_object ∷ [])
 
 abbrev pub args_of : Name → Name → Name → Option ArgSpec
 args_of dobj prep iobj =
-    option_and_then (λ d. option_and_then (λ p. option_map (λ i. record { dobj = d; prep = p; iobj = i }) (place_of iobj)) (prep_of prep)) (place_of dobj)
+    option_and_then (λ d. option_and_then (λ p. option_map (λ i. record { dobj = d; prep = p; iobj = i }) (object_spec_of iobj)) (prep_of prep)) (object_spec_of dobj)

@@ -3,7 +3,7 @@
 ghost use Rattle.std.specs.Prelude.{◌≡◌};
 ghost use Rattle.std.specs.List.{find};
 ghost use Rattle.moo_world.specs.Objects.{same_text, folded};
-ghost use Rattle.moo_world.specs.BuiltIns.{field_name, all_fields, built_in};
+ghost use Rattle.moo_world.specs.BuiltIns.{field_name, built_in};
 
 use moo_value::MooStr;
 
@@ -59,7 +59,7 @@ impl BuiltIn {
         name.bytes().eq_ignore_ascii_case(self.name())
     }
 
-    /// The built-in property of a name, in any case; none if no property of that name is built in.
+    /// The built-in property of a name, in any case; `None` if no property of that name is built in.
     ///
     /// LambdaMOO Programmer's Manual, 'Properties on Objects' in the chapter on the database.
     pub fn of_name(name: &MooStr) -> Option<BuiltIn>

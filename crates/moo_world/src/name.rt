@@ -139,7 +139,7 @@ impl CallName {
         }
     }
 
-    /// Which call of petitions it is; none if it is a call on the world.
+    /// Which call of petitions it is; `None` if it is a call on the world.
     pub fn petition_call(self) -> Option<PetitionCall>
         ensures { result ≡ petition_call self }
     {
@@ -165,7 +165,7 @@ impl CallName {
         ALL.iter().copied().find(|name| name.is_spelled(bytes))
     }
 
-    /// The call that the bytes name, in any case; none if they name no call.
+    /// The call that the bytes name, in any case; `None` if they name no call.
     pub fn read(bytes: &[u8]) -> Option<CallName>
         ensures call_name_of { result ≡ call_name_of bytes.now }
         ensures one { (name : CallName) → (result ≡ Some name) ↔ (folded bytes.now ≡ spelling name) }

@@ -1,7 +1,8 @@
 //! Drafts over rows, beside rows that take the same steps.
 //!
-//! What makes a draft is over any rows if it can: over `Flat` its proof takes longer. What rows show by themselves, and what a
-//! draft shows of links and of petitions, the clauses say and the scenes of `tests/` run.
+//! What makes a draft is over any rows if it can, and each such function is called at `Flat` in one place: there a proof takes
+//! longer. What rows show by themselves, and what a draft shows of links and of petitions, the clauses say and the scenes of
+//! `tests/` run.
 
 ghost use Rattle.std.specs.Prelude.{◌<◌};
 
@@ -71,27 +72,27 @@ fn drafted<B: Rows>(alloc: Global, base: &B, met: &mut Keys) -> Result<Changes, 
     draft.into_changes()
 }
 
-/// Meets keys on rows under the changes of a draft over others.
-fn meet_behind_draft<B: Rows>(
-    alloc: Global,
-    base: &B,
-    rows: &mut Flat,
-    met: &mut Keys,
-) -> Result<(), AllocError> {
-    apply_changes(rows, drafted(alloc, base, &mut Vec::new(alloc))?)?;
-    meet_keys(rows, met)
+/// The keys that are met on rows.
+fn met_on(alloc: Global, rows: &mut Flat) -> Result<Keys, AllocError> {
+    let mut met = Vec::new(alloc);
+    meet_keys(rows, &mut met)?;
+    Ok(met)
+}
+
+/// The changes of a draft over rows on which keys are met.
+fn changes_over(alloc: Global, base: &Flat, met: &mut Keys) -> Result<Changes, AllocError> {
+    drafted(alloc, base, met)
 }
 
 /// Whether they are many, and those that are met on these rows.
 fn are_met(alloc: Global, rows: &mut Flat, keys: &Keys) -> Result<bool, AllocError> {
-    let mut met = Vec::new(alloc);
-    meet_keys(rows, &mut met)?;
+    let met = met_on(alloc, rows)?;
     Ok(met.len() > 300 && met.as_slice() == keys.as_slice())
 }
 
 fn step_on_draft(rt: &impl Abort, alloc: Global, rows: &mut Flat) -> Result<(), AllocError> {
     let mut met = Vec::new(alloc);
-    drafted(alloc, rows, &mut met)?;
+    changes_over(alloc, rows, &mut met)?;
     assert!(rt; are_met(alloc, rows, &met)?);
     Ok(())
 }
@@ -104,15 +105,14 @@ fn a_draft_steps_as_rows_do(rt: HostRuntime) -> Result<(), AllocError> {
 /// The keys that are met on a copy of rows under the changes of a draft.
 fn met_behind_draft(alloc: Global, base: &Flat) -> Result<Keys, AllocError> {
     let mut copy = base.copy(alloc)?;
-    let mut met = Vec::new(alloc);
-    meet_behind_draft(alloc, base, &mut copy, &mut met)?;
-    Ok(met)
+    apply_changes(&mut copy, changes_over(alloc, base, &mut Vec::new(alloc))?)?;
+    met_on(alloc, &mut copy)
 }
 
 /// The rows themselves have met the keys once too before they are compared.
 fn step_behind_draft(rt: &impl Abort, alloc: Global, rows: &mut Flat) -> Result<(), AllocError> {
     let met = met_behind_draft(alloc, rows)?;
-    meet_keys(rows, &mut Vec::new(alloc))?;
+    met_on(alloc, rows)?;
     assert!(rt; are_met(alloc, rows, &met)?);
     Ok(())
 }

@@ -7,14 +7,14 @@ use std::test::Fail;
 use test_visits::Fused;
 
 /// Which of the two files stops.
-#[derive(Clone, Copy, Debug, PartialEq, Eq, Drop)]
+#[derive(Clone, Copy, Drop)]
 pub(crate) enum Which {
     Log,
     Db,
 }
 
 /// What is left of a file after a stop.
-#[derive(Clone, Copy, Debug, PartialEq, Eq, Drop)]
+#[derive(Clone, Copy, Drop)]
 pub(crate) enum Loss {
     /// All that was not synced is lost, as if the machine had stopped.
     Unsynced,
@@ -29,18 +29,12 @@ pub(crate) struct Kept {
     pub(crate) db: Vec<u8>,
 }
 
-fn copied(alloc: Global, bytes: &[u8]) -> Result<Vec<u8>, Fail> {
-    let mut copy = Vec::new(alloc);
-    copy.extend_from_slice(bytes)?;
-    Ok(copy)
-}
-
 /// The bytes of files that nothing is asked of any more.
 pub(crate) fn bytes_of(alloc: Global, files: &Files<Fused>) -> Result<Kept, Fail> {
-    let log = copied(alloc, files.log.inner().bytes())?;
+    let log = files.log.inner().bytes().to_vec(alloc)?;
     Ok(Kept {
         log,
-        db: copied(alloc, files.db.inner().bytes())?,
+        db: files.db.inner().bytes().to_vec(alloc)?,
     })
 }
 

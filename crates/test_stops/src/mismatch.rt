@@ -1,6 +1,7 @@
 //! A World whose tables show other rows than its own.
 //!
-//! Nobody makes one by the calls of a World: the rows are read off the tables of one, and put over those of another.
+//! Nobody makes one by the calls of a World: the rows are read off the tables of one, and put over those of another. What does
+//! so is over any store, and called once at the store in memory: each call at one store is proved anew.
 
 ghost use Rattle.std.specs.Prelude.{IfOk};
 ghost use Rattle.moo_world.specs.Rows.{IsGood};
@@ -10,61 +11,90 @@ use moo_flat::Flat;
 use moo_store::{World, apply_text, create_in};
 use moo_tables::{Version, are_listed, read_tables};
 use moo_text::NoNotes;
-use sqlite::{Connection, MemStore};
+use sqlite::{Alter, Connection};
 use std::alloc::Global;
-use std::process::Abort;
 use std::test::Fail;
 
 const NO_BATCH: &str = "";
 
-/// The tables of a new world in memory that has run one batch of this call, or none.
-fn tables_after(alloc: Global, call: &str) -> Result<Connection<MemStore>, Fail> {
-    let conn = Connection::open_in_memory(alloc)?;
-    let mut world = match create_in(alloc, conn) {
-        Ok(world) => world,
-        Err((fault, _conn)) => return Err(Fail::from(fault)),
-    };
-    if !call.is_empty() {
-        let text = format!(in alloc; "batch as #3\n{call}\nend\n")?;
-        let mut written = Vec::new(alloc);
-        apply_text(
-            alloc,
-            text.as_bytes(),
-            &mut written,
-            &mut world,
-            &mut NoNotes,
-        )?;
+/// Runs one batch of this call, or nothing if the call is empty.
+fn run_call<S: Alter + Drop>(alloc: Global, world: &mut World<S>, call: &str) -> Result<(), Fail> {
+    if call.is_empty() {
+        return Ok(());
     }
-    Ok(world.into_connection())
+    let text = format!(in alloc; "batch as #3\n{call}\nend\n")?;
+    let mut written = Vec::new(alloc);
+    apply_text(alloc, text.as_bytes(), &mut written, world, &mut NoNotes)?;
+    Ok(())
+}
+
+/// The tables of a new world that has run one batch of this call, or none.
+fn tables_after<S: Alter + Drop>(
+    alloc: Global,
+    conn: Connection<S>,
+    call: &str,
+) -> Result<Connection<S>, Fail> {
+    if !conn.is_autocommit() {
+        return Err(Fail::from("the tables are in a transaction"));
+    }
+    match create_in(alloc, conn) {
+        Ok(mut world) => {
+            run_call(alloc, &mut world, call)?;
+            Ok(world.into_connection())
+        }
+        Err((fault, _conn)) => Err(Fail::from(fault)),
+    }
 }
 
 /// The rows that tables show.
-fn rows_of(alloc: Global, mut conn: Connection<MemStore>) -> Result<Flat, Fail>
+fn rows_of<S: Alter + Drop>(alloc: Global, mut conn: Connection<S>) -> Result<Flat, Fail>
     ensures { IfOk result (λ rows. IsGood rows.maps) }
 {
-    let lists = read_tables(alloc, &mut conn, Version::Second)?;
+    let lists = read_tables(alloc, &mut conn, Version::PRESENT)?;
     if !are_listed(&lists) {
         return Err(Fail::from("the rows of a table aren't in the order of their keys"));
     }
     Ok(read_cells(alloc, lists)?)
 }
 
-/// A World of the rows after one call, over the tables after another.
-fn mixed(alloc: Global, own: &str, tables: &str) -> Result<World<MemStore>, Fail> {
-    let rows = rows_of(alloc, tables_after(alloc, own)?)?;
-    let conn = tables_after(alloc, tables)?;
-    if !conn.is_autocommit() {
+/// A World of the rows of some tables, over others.
+fn mixed<S: Alter + Drop>(
+    alloc: Global,
+    own: Connection<S>,
+    tables: Connection<S>,
+) -> Result<World<S>, Fail> {
+    let rows = rows_of(alloc, own)?;
+    if !tables.is_autocommit() {
         return Err(Fail::from("the tables are in a transaction"));
     }
-    Ok(World::over(alloc, conn, rows))
+    Ok(World::over(alloc, tables, rows))
 }
 
 /// What a check says.
-fn line(alloc: Global, world: &mut World<MemStore>) -> Result<String, Fail> {
+fn line<S: Alter + Drop>(alloc: Global, world: &mut World<S>) -> Result<String, Fail> {
     Ok(match world.check() {
         Ok(count) => format!(in alloc; "{count} objects")?,
         Err(fault) => format!(in alloc; "{fault}")?,
     })
+}
+
+/// What two checks say, one after the other, of a World of the rows after one call, over the tables after another.
+fn checked<S: Alter + Drop>(
+    alloc: Global,
+    (first, second): (Connection<S>, Connection<S>),
+    (own, tables): (&str, &str),
+) -> Result<(String, String), Fail> {
+    let own = tables_after(alloc, first, own)?;
+    let tables = tables_after(alloc, second, tables)?;
+    let mut world = mixed(alloc, own, tables)?;
+    let once = line(alloc, &mut world)?;
+    Ok((once, line(alloc, &mut world)?))
+}
+
+/// The same, over two stores in memory.
+fn checked_in_memory(alloc: Global, calls: (&str, &str)) -> Result<(String, String), Fail> {
+    let first = Connection::open_in_memory(alloc)?;
+    checked(alloc, (first, Connection::open_in_memory(alloc)?), calls)
 }
 
 /// The calls after a World's own rows and after its tables, and what a check of it says, and the next one.
@@ -105,23 +135,12 @@ static CHECKED: [(&str, &str, &str, &str); 7] = [
 
 const CLOSED: &str = "the world has failed";
 
-fn check_twice(
-    rt: &impl Abort,
-    alloc: Global,
-    world: &mut World<MemStore>,
-    wanted: [&str; 2],
-) -> Result<(), Fail> {
-    let [first, second] = wanted;
-    assert!(rt; line(alloc, world)?.as_str() == first, "{first}");
-    assert!(rt; line(alloc, world)?.as_str() == second, "{first}");
-    Ok(())
-}
-
 #[test]
 fn a_check_tells_the_first_row_that_differs(rt: HostRuntime) -> Result<(), Fail> {
     for (own, tables, first, second) in &CHECKED {
-        let mut world = mixed(rt.alloc(), own, tables)?;
-        check_twice(&rt, rt.alloc(), &mut world, [first, second])?;
+        let (once, again) = checked_in_memory(rt.alloc(), (own, tables))?;
+        assert!(rt; once.as_str() == *first, "{first}");
+        assert!(rt; again.as_str() == *second, "{first}");
     }
     Ok(())
 }

@@ -87,7 +87,7 @@ pub(crate) fn making<'a>(alloc: Global) -> Result<Run<'a>, Fail> {
 }
 
 /// What a stop left.
-#[derive(Clone, Copy, Debug, PartialEq, Eq, Drop)]
+#[derive(Clone, Copy, Drop)]
 enum Found {
     /// The world before the run.
     Old,
@@ -98,7 +98,7 @@ enum Found {
 }
 
 /// What one round came to.
-#[derive(Clone, Copy, Debug, PartialEq, Eq, Drop)]
+#[derive(Clone, Copy, Drop)]
 struct Round {
     is_done: bool,
     found: Found,
@@ -153,7 +153,7 @@ fn one_round(
 }
 
 /// How many stops there are, and what they left.
-#[derive(Clone, Copy, Debug, PartialEq, Eq, Drop)]
+#[derive(Clone, Copy, Debug, Drop)]
 pub(crate) struct Counts {
     pub(crate) old: u32,
     pub(crate) new: u32,

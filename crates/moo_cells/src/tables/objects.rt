@@ -1,7 +1,7 @@
 //! The table of objects.
 
 ghost use Rattle.std.specs.Prelude.{◌≡◌, IfErr, OnOk};
-ghost use Rattle.std.specs.FinMap.{empty, insert};
+ghost use Rattle.std.specs.FinMap.{empty};
 ghost use Rattle.sqlite.specs.Tree.{has_rowid};
 ghost use Rattle.moo_tables.specs.Inside.{AreKeyed};
 ghost use Rattle.moo_cells.specs.Reading.{ReadsObject, IsRead};
@@ -12,7 +12,7 @@ use crate::cell::int_in;
 use crate::fault::{CellFault, RowFault};
 use crate::object::read_object;
 use crate::spent::Spent;
-use crate::table_row::TableRow;
+use crate::table_row::ReadRow;
 use moo_damage::{Key, Kind};
 use moo_flat::Flat;
 use moo_rows::{ObjRow, Rows};
@@ -21,39 +21,49 @@ use moo_value::ObjNo;
 use sqlite::Row;
 use std::alloc::Global;
 
-impl TableRow for ObjRow {
+impl ReadRow for ObjRow {
     type Key = ObjNo;
 
-    ghost reads = { λ _. ReadsObject };
+    ghost reads = { ReadsObject };
 
-    fn read(alloc: Global, _version: Version, cells: &Row) -> Result<(ObjNo, ObjRow), RowFault> {
-        read_object(alloc, cells)
+    fn read(alloc: Global, version: Version, cells: &Row) -> Result<(ObjNo, ObjRow), RowFault> {
+        read_object(alloc, version, cells)
     }
 }
 
 /// Puts the object that these cells show.
-fn take_object(alloc: Global, cells: &Row, rows: &mut Flat) -> Result<(), RowFault>
-    ensures ok { OnOk result (TakesRow ReadsObject cells.now rows.old.maps.objects rows.new.maps.objects) }
+fn take_object(
+    alloc: Global,
+    version: Version,
+    cells: &Row,
+    rows: &mut Flat,
+) -> Result<(), RowFault>
+    ensures ok { OnOk result (TakesRow (ReadsObject version) cells.now rows.old.maps.objects rows.new.maps.objects) }
     ensures kept { OnOk result (rows.new.maps ≡ record rows.old.maps { objects = rows.new.maps.objects }) }
-    ensures err { IfErr result (λ fault. fault ≡ Unreadable → ¬ (IsRead ReadsObject cells.now)) }
+    ensures err { IfErr result (λ fault. fault ≡ Unreadable → ¬ (IsRead (ReadsObject version) cells.now)) }
 {
-    let (key, row) = read_object(alloc, cells)?;
+    let (key, row) = read_object(alloc, version, cells)?;
     rows.put_object(key, row)?;
     Ok(())
 }
 
 /// Puts what each row of the table shows, in rows that have none of the table yet. The cells of the rows are let
 /// go soon after they are read.
-pub(crate) fn read_objects(alloc: Global, cells: Vec<Row>, rows: &mut Flat) -> Result<(), CellFault>
+pub(crate) fn read_objects(
+    alloc: Global,
+    version: Version,
+    cells: Vec<Row>,
+    rows: &mut Flat,
+) -> Result<(), CellFault>
     requires listed { AreKeyed cells.items }
     requires none { rows.old.maps.objects ≡ empty }
-    ensures holds { OnOk result (HoldsTable has_rowid object_number ReadsObject cells.items rows.new.maps.objects) }
+    ensures holds { OnOk result (HoldsTable has_rowid object_number (ReadsObject version) cells.items rows.new.maps.objects) }
     ensures kept { OnOk result (rows.new.maps ≡ record rows.old.maps { objects = rows.new.maps.objects }) }
-    ensures fault { IfErr result (SaysUnread has_rowid ReadsObject IsLess object_key cells.items) }
+    ensures fault { IfErr result (SaysUnread has_rowid (ReadsObject version) IsLess object_key cells.items) }
 {
     let mut spent = Spent::new(alloc);
     for row in cells {
-        match take_object(alloc, &row, rows) {
+        match take_object(alloc, version, &row, rows) {
             Ok(()) => {}
             Err(RowFault::Unreadable) => {
                 return Err(CellFault::Damaged(Kind::BadCell, Key::Object(int_in(&row, 0))));

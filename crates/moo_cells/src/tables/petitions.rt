@@ -1,7 +1,7 @@
 //! The table of petitions.
 
 ghost use Rattle.std.specs.Prelude.{◌≡◌, IfErr, OnOk};
-ghost use Rattle.std.specs.FinMap.{empty, insert};
+ghost use Rattle.std.specs.FinMap.{empty};
 ghost use Rattle.sqlite.specs.Tree.{has_rowid};
 ghost use Rattle.moo_tables.specs.Inside.{AreKeyed};
 ghost use Rattle.moo_cells.specs.Reading.{ReadsPetition, IsRead};
@@ -12,7 +12,7 @@ use crate::cell::int_in;
 use crate::fault::{CellFault, RowFault};
 use crate::petition::read_petition;
 use crate::spent::Spent;
-use crate::table_row::TableRow;
+use crate::table_row::ReadRow;
 use moo_damage::{Key, Kind};
 use moo_flat::Flat;
 use moo_rows::{PetitionId, PetitionRow, Rows};
@@ -20,27 +20,32 @@ use moo_tables::Version;
 use sqlite::Row;
 use std::alloc::Global;
 
-impl TableRow for PetitionRow {
+impl ReadRow for PetitionRow {
     type Key = PetitionId;
 
-    ghost reads = { λ _. ReadsPetition };
+    ghost reads = { ReadsPetition };
 
     fn read(
         alloc: Global,
-        _version: Version,
+        version: Version,
         cells: &Row,
     ) -> Result<(PetitionId, PetitionRow), RowFault> {
-        read_petition(alloc, cells)
+        read_petition(alloc, version, cells)
     }
 }
 
 /// Puts the petition that these cells show.
-fn take_petition(alloc: Global, cells: &Row, rows: &mut Flat) -> Result<(), RowFault>
-    ensures ok { OnOk result (TakesRow ReadsPetition cells.now rows.old.maps.petitions rows.new.maps.petitions) }
+fn take_petition(
+    alloc: Global,
+    version: Version,
+    cells: &Row,
+    rows: &mut Flat,
+) -> Result<(), RowFault>
+    ensures ok { OnOk result (TakesRow (ReadsPetition version) cells.now rows.old.maps.petitions rows.new.maps.petitions) }
     ensures kept { OnOk result (rows.new.maps ≡ record rows.old.maps { petitions = rows.new.maps.petitions }) }
-    ensures err { IfErr result (λ fault. fault ≡ Unreadable → ¬ (IsRead ReadsPetition cells.now)) }
+    ensures err { IfErr result (λ fault. fault ≡ Unreadable → ¬ (IsRead (ReadsPetition version) cells.now)) }
 {
-    let (key, row) = read_petition(alloc, cells)?;
+    let (key, row) = read_petition(alloc, version, cells)?;
     rows.put_petition(key, row)?;
     Ok(())
 }
@@ -49,18 +54,19 @@ fn take_petition(alloc: Global, cells: &Row, rows: &mut Flat) -> Result<(), RowF
 /// go soon after they are read.
 pub(crate) fn read_petitions(
     alloc: Global,
+    version: Version,
     cells: Vec<Row>,
     rows: &mut Flat,
 ) -> Result<(), CellFault>
     requires listed { AreKeyed cells.items }
     requires none { rows.old.maps.petitions ≡ empty }
-    ensures holds { OnOk result (HoldsTable has_rowid petition_number ReadsPetition cells.items rows.new.maps.petitions) }
+    ensures holds { OnOk result (HoldsTable has_rowid petition_number (ReadsPetition version) cells.items rows.new.maps.petitions) }
     ensures kept { OnOk result (rows.new.maps ≡ record rows.old.maps { petitions = rows.new.maps.petitions }) }
-    ensures fault { IfErr result (SaysUnread has_rowid ReadsPetition IsLess petition_key cells.items) }
+    ensures fault { IfErr result (SaysUnread has_rowid (ReadsPetition version) IsLess petition_key cells.items) }
 {
     let mut spent = Spent::new(alloc);
     for row in cells {
-        match take_petition(alloc, &row, rows) {
+        match take_petition(alloc, version, &row, rows) {
             Ok(()) => {}
             Err(RowFault::Unreadable) => {
                 return Err(CellFault::Damaged(Kind::BadCell, Key::Petition(int_in(&row, 0))));

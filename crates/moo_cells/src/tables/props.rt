@@ -1,7 +1,7 @@
 //! The table of properties.
 
 ghost use Rattle.std.specs.Prelude.{◌≡◌, IfErr, OnOk};
-ghost use Rattle.std.specs.FinMap.{empty, insert};
+ghost use Rattle.std.specs.FinMap.{empty};
 ghost use Rattle.sqlite.specs.Tree.{has_rowid};
 ghost use Rattle.moo_tables.specs.Inside.{AreKeyed};
 ghost use Rattle.moo_cells.specs.Reading.{ReadsProp, IsRead};
@@ -12,7 +12,7 @@ use crate::cell::int_in;
 use crate::fault::{CellFault, RowFault};
 use crate::prop::read_prop;
 use crate::spent::Spent;
-use crate::table_row::TableRow;
+use crate::table_row::ReadRow;
 use moo_damage::{Key, Kind};
 use moo_flat::Flat;
 use moo_rows::{PropId, PropRow, Rows};
@@ -20,39 +20,44 @@ use moo_tables::Version;
 use sqlite::Row;
 use std::alloc::Global;
 
-impl TableRow for PropRow {
+impl ReadRow for PropRow {
     type Key = PropId;
 
-    ghost reads = { λ _. ReadsProp };
+    ghost reads = { ReadsProp };
 
-    fn read(alloc: Global, _version: Version, cells: &Row) -> Result<(PropId, PropRow), RowFault> {
-        read_prop(alloc, cells)
+    fn read(alloc: Global, version: Version, cells: &Row) -> Result<(PropId, PropRow), RowFault> {
+        read_prop(alloc, version, cells)
     }
 }
 
 /// Puts the property that these cells show.
-fn take_prop(alloc: Global, cells: &Row, rows: &mut Flat) -> Result<(), RowFault>
-    ensures ok { OnOk result (TakesRow ReadsProp cells.now rows.old.maps.props rows.new.maps.props) }
+fn take_prop(alloc: Global, version: Version, cells: &Row, rows: &mut Flat) -> Result<(), RowFault>
+    ensures ok { OnOk result (TakesRow (ReadsProp version) cells.now rows.old.maps.props rows.new.maps.props) }
     ensures kept { OnOk result (rows.new.maps ≡ record rows.old.maps { props = rows.new.maps.props }) }
-    ensures err { IfErr result (λ fault. fault ≡ Unreadable → ¬ (IsRead ReadsProp cells.now)) }
+    ensures err { IfErr result (λ fault. fault ≡ Unreadable → ¬ (IsRead (ReadsProp version) cells.now)) }
 {
-    let (key, row) = read_prop(alloc, cells)?;
+    let (key, row) = read_prop(alloc, version, cells)?;
     rows.put_prop(key, row)?;
     Ok(())
 }
 
 /// Puts what each row of the table shows, in rows that have none of the table yet. The cells of the rows are let
 /// go soon after they are read.
-pub(crate) fn read_props(alloc: Global, cells: Vec<Row>, rows: &mut Flat) -> Result<(), CellFault>
+pub(crate) fn read_props(
+    alloc: Global,
+    version: Version,
+    cells: Vec<Row>,
+    rows: &mut Flat,
+) -> Result<(), CellFault>
     requires listed { AreKeyed cells.items }
     requires none { rows.old.maps.props ≡ empty }
-    ensures holds { OnOk result (HoldsTable has_rowid prop_number ReadsProp cells.items rows.new.maps.props) }
+    ensures holds { OnOk result (HoldsTable has_rowid prop_number (ReadsProp version) cells.items rows.new.maps.props) }
     ensures kept { OnOk result (rows.new.maps ≡ record rows.old.maps { props = rows.new.maps.props }) }
-    ensures fault { IfErr result (SaysUnread has_rowid ReadsProp IsLess prop_key cells.items) }
+    ensures fault { IfErr result (SaysUnread has_rowid (ReadsProp version) IsLess prop_key cells.items) }
 {
     let mut spent = Spent::new(alloc);
     for row in cells {
-        match take_prop(alloc, &row, rows) {
+        match take_prop(alloc, version, &row, rows) {
             Ok(()) => {}
             Err(RowFault::Unreadable) => {
                 return Err(CellFault::Damaged(Kind::BadCell, Key::Prop(int_in(&row, 0))));

@@ -1,7 +1,7 @@
 //! The table of slots.
 
 ghost use Rattle.std.specs.Prelude.{◌≡◌, IfErr, OnOk};
-ghost use Rattle.std.specs.FinMap.{empty, insert};
+ghost use Rattle.std.specs.FinMap.{empty};
 ghost use Rattle.moo_tables.specs.Listing.{has_key_pair, ArePaired};
 ghost use Rattle.moo_cells.specs.Reading.{ReadsSlot, IsRead};
 ghost use Rattle.moo_cells.specs.Holding.{slot_number, slot_key, IsPairLess, HoldsTable, SaysUnread, TakesRow};
@@ -11,7 +11,7 @@ use crate::cell::int_in;
 use crate::fault::{CellFault, RowFault};
 use crate::slot::read_slot;
 use crate::spent::Spent;
-use crate::table_row::TableRow;
+use crate::table_row::ReadRow;
 use moo_damage::{Key, Kind};
 use moo_flat::Flat;
 use moo_rows::{PropId, Rows, SlotRow};
@@ -20,7 +20,7 @@ use moo_value::ObjNo;
 use sqlite::Row;
 use std::alloc::Global;
 
-impl TableRow for SlotRow {
+impl ReadRow for SlotRow {
     type Key = (ObjNo, PropId);
 
     ghost reads = { ReadsSlot };

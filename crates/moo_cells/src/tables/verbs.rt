@@ -1,7 +1,7 @@
 //! The table of verbs.
 
 ghost use Rattle.std.specs.Prelude.{◌≡◌, IfErr, OnOk};
-ghost use Rattle.std.specs.FinMap.{empty, insert};
+ghost use Rattle.std.specs.FinMap.{empty};
 ghost use Rattle.moo_tables.specs.Listing.{has_key_pair, ArePaired};
 ghost use Rattle.moo_cells.specs.Reading.{ReadsVerb, IsRead};
 ghost use Rattle.moo_cells.specs.Holding.{verb_number, verb_key, IsPairLess, HoldsTable, SaysUnread, TakesRow};
@@ -10,7 +10,7 @@ ghost use Rattle.moo_cells.specs.declared.fault.RowFault.TheVariants.{Unreadable
 use crate::cell::int_in;
 use crate::fault::{CellFault, RowFault};
 use crate::spent::Spent;
-use crate::table_row::TableRow;
+use crate::table_row::ReadRow;
 use crate::verb::read_verb;
 use moo_damage::{Key, Kind};
 use moo_flat::Flat;
@@ -20,43 +20,48 @@ use moo_value::ObjNo;
 use sqlite::Row;
 use std::alloc::Global;
 
-impl TableRow for VerbRow {
+impl ReadRow for VerbRow {
     type Key = (ObjNo, VerbId);
 
-    ghost reads = { λ _. ReadsVerb };
+    ghost reads = { ReadsVerb };
 
     fn read(
         alloc: Global,
-        _version: Version,
+        version: Version,
         cells: &Row,
     ) -> Result<((ObjNo, VerbId), VerbRow), RowFault> {
-        read_verb(alloc, cells)
+        read_verb(alloc, version, cells)
     }
 }
 
 /// Puts the verb that these cells show.
-fn take_verb(alloc: Global, cells: &Row, rows: &mut Flat) -> Result<(), RowFault>
-    ensures ok { OnOk result (TakesRow ReadsVerb cells.now rows.old.maps.verbs rows.new.maps.verbs) }
+fn take_verb(alloc: Global, version: Version, cells: &Row, rows: &mut Flat) -> Result<(), RowFault>
+    ensures ok { OnOk result (TakesRow (ReadsVerb version) cells.now rows.old.maps.verbs rows.new.maps.verbs) }
     ensures kept { OnOk result (rows.new.maps ≡ record rows.old.maps { verbs = rows.new.maps.verbs }) }
-    ensures err { IfErr result (λ fault. fault ≡ Unreadable → ¬ (IsRead ReadsVerb cells.now)) }
+    ensures err { IfErr result (λ fault. fault ≡ Unreadable → ¬ (IsRead (ReadsVerb version) cells.now)) }
 {
-    let (key, row) = read_verb(alloc, cells)?;
+    let (key, row) = read_verb(alloc, version, cells)?;
     rows.put_verb(key, row)?;
     Ok(())
 }
 
 /// Puts what each row of the table shows, in rows that have none of the table yet. The cells of the rows are let
 /// go soon after they are read.
-pub(crate) fn read_verbs(alloc: Global, cells: Vec<Row>, rows: &mut Flat) -> Result<(), CellFault>
+pub(crate) fn read_verbs(
+    alloc: Global,
+    version: Version,
+    cells: Vec<Row>,
+    rows: &mut Flat,
+) -> Result<(), CellFault>
     requires listed { ArePaired cells.items }
     requires none { rows.old.maps.verbs ≡ empty }
-    ensures holds { OnOk result (HoldsTable has_key_pair verb_number ReadsVerb cells.items rows.new.maps.verbs) }
+    ensures holds { OnOk result (HoldsTable has_key_pair verb_number (ReadsVerb version) cells.items rows.new.maps.verbs) }
     ensures kept { OnOk result (rows.new.maps ≡ record rows.old.maps { verbs = rows.new.maps.verbs }) }
-    ensures fault { IfErr result (SaysUnread has_key_pair ReadsVerb IsPairLess verb_key cells.items) }
+    ensures fault { IfErr result (SaysUnread has_key_pair (ReadsVerb version) IsPairLess verb_key cells.items) }
 {
     let mut spent = Spent::new(alloc);
     for row in cells {
-        match take_verb(alloc, &row, rows) {
+        match take_verb(alloc, version, &row, rows) {
             Ok(()) => {}
             Err(RowFault::Unreadable) => {
                 return Err(CellFault::Damaged(

@@ -1,22 +1,15 @@
 -- The values of what a well formed state is dumped as are within the limits.
-use Rattle.moo_load.proofs.Words.{◌≡◌, ℕ, ◌+◌, ◌<◌, Bool, true, false, List, [], ◌∷◌, map, Option, Some, None, refl, sym, ap, subst, ◌∙◌, arith, ◌&&◌, pos, nat_le, is_some, length, option_map, list_all, AllByRecursion, false≢true, and_parts, leb-true, lt-ltb, same_Some, ObjNo, Value, Int, Obj, Str, a_list, Fits, gather, nesting, spread, Bits, ObjRow, PetitionId, PetitionRow, Place, This, Preposition, SlotState, Clear, Set, VerbBits, VerbRow, letters_of, verb_letters_of, flag, is_number, fits, all_within_limits, accept_value, is_named, are_few, are_shallow, petition_fits, place_text, prep_text, World, Record, IsWellFormed, Climbs, is_object, verb_fits, accept_fits, row_fits, state_fits, linked, state_values, both_true, object_values, petition_values, verb_values}
-use Rattle.std.proofs.lemmas.Bool.{le-leb}
-use Rattle.moo_value.specs.Values.{levels}
+use Rattle.moo_load.proofs.Words.{◌≡◌, ℕ, ◌+◌, ◌<◌, Bool, true, false, List, [], ◌∷◌, ◌++◌, map, Option, Some, None, refl, sym, ap, subst, ◌∙◌, arith, ◌&&◌, pos, nat_le, is_some, length, option_map, list_all, AllByRecursion, false≢true, and_parts, leb-true, lt-ltb, same_Some, ObjNo, Value, Int, Obj, Str, a_list, Fits, gather, nesting, spread, Bits, ObjRow, PetitionId, PetitionRow, ObjectSpec, This, Preposition, SlotState, Clear, Set, VerbBits, VerbRow, letters_of, verb_letters_of, flag, is_number, fits, all_within_limits, accept_value, is_named, are_few, are_shallow, petition_fits, object_spec_text, prep_text, World, WorldObject, IsWellFormed, Climbs, is_object, verb_fits, accept_fits, row_fits, state_fits, linked, state_values, both_true, object_values, petition_values, verb_values, le-leb, levels, is_text, has_word, nothing_is_no_object, object_numbered, fits_tested}
 use Rattle.moo_rows.specs.declared.row.Preposition.TheVariants.{Set as a_set}
 use Rattle.moo_rows.specs.declared.row.PrepositionSet.TheVariants.{With}
-use Rattle.moo_world.specs.Arguments.{is_text}
-use Rattle.moo_world.specs.World.{has_word}
-use Rattle.moo_world.proofs.Ancestry.Trees.{nothing_is_no_object}
-use Rattle.moo_world.proofs.Form.Limits.{object_numbered}
-use Rattle.moo_world.proofs.Form.Ranges.{fits_tested}
 use Rattle.moo_load.proofs.One.Values.{three_bits}
 
 pub fit : (v : Value) → fits v ≡ true → Fits v
 fit v e = (fits_tested v).0 e
 
-flag_fit : (b : Bool) → fits (flag b) ≡ true
-flag_fit true = refl
-flag_fit false = refl
+flagged : (b : Bool) → Fits (flag b)
+flagged true = fit (flag true) refl
+flagged false = fit (flag false) refl
 
 levels_objects : (l : List ObjNo) → levels (gather (map Obj l)) ≡ 0
 levels_objects [] = refl
@@ -37,7 +30,7 @@ verb_letters_fit : (r w x d : Bool) → (let b : VerbBits = record { r = r; w = 
 verb_letters_fit true = three_bits (λ w x d. let b : VerbBits = record { r = true; w = w; x = x; d = d } in fits (Str (verb_letters_of b)) ≡ true) (((refl, refl), (refl, refl)), ((refl, refl), (refl, refl)))
 verb_letters_fit false = three_bits (λ w x d. let b : VerbBits = record { r = false; w = w; x = x; d = d } in fits (Str (verb_letters_of b)) ≡ true) (((refl, refl), (refl, refl)), ((refl, refl), (refl, refl)))
 
-place_fit : (p : Place) → fits (Str (place_text p)) ≡ true
+place_fit : (p : ObjectSpec) → fits (Str (object_spec_text p)) ≡ true
 place_fit This = refl
 place_fit _ = refl
 
@@ -54,13 +47,16 @@ pub object_fit : (x : ObjNo) (row : ObjRow) → is_number x ≡ true → row_fit
 object_fit x row number fitting parent location =
     let p = and_parts (is_text row.name) (is_number row.owner && accept_fits row.accept) fitting in
     let q = and_parts (is_number row.owner) (accept_fits row.accept) p.1 in
-    (fit (Obj x) number, (fit (Str row.name) p.0, (fit (Obj row.owner) q.0, (fit (Obj row.parent) parent, (fit (Obj row.location) location, (fit (flag row.player) (flag_fit row.player), (fit (flag row.programmer) (flag_fit row.programmer), (fit (flag row.wizard) (flag_fit row.wizard), (fit (flag row.r) (flag_fit row.r), (fit (flag row.w) (flag_fit row.w), (fit (flag row.f) (flag_fit row.f), (fit (accept_value row.accept) (accept_fit row.accept q.1), tt))))))))))))
+    let accepting : Fits (accept_value row.accept) = fit (accept_value row.accept) (accept_fit row.accept q.1) in
+    let flags : AllByRecursion Fits (map flag (row.player ∷ row.programmer ∷ row.wizard ∷ row.r ∷ row.w ∷ row.f ∷ []) ++ accept_value row.accept ∷ []) =
+    (flagged row.player, (flagged row.programmer, (flagged row.wizard, (flagged row.r, (flagged row.w, (flagged row.f, (accepting, tt))))))) in
+    (fit (Obj x) number, (fit (Str row.name) p.0, (fit (Obj row.owner) q.0, (fit (Obj row.parent) parent, (fit (Obj row.location) location, flags)))))
 
 pub verb_fit : (x : ObjNo) (v : VerbRow) → is_number x ≡ true → verb_fits v ≡ true → AllByRecursion Fits (verb_values x v)
 verb_fit x v number fitting =
     let p = and_parts (has_word v.names) (is_text v.names && is_number v.owner) fitting in
     let q = and_parts (is_text v.names) (is_number v.owner) p.1 in
-    (fit (Obj x) number, (fit (Str v.names) q.0, (fit (Obj v.owner) q.1, (fit (Str (verb_letters_of v.bits)) (verb_letters_fit v.bits.r v.bits.w v.bits.x v.bits.d), (fit (Str (place_text v.args.dobj)) (place_fit v.args.dobj), (fit (Str (prep_text v.args.prep)) (prep_fit v.args.prep), (fit (Str (place_text v.args.iobj)) (place_fit v.args.iobj), tt)))))))
+    (fit (Obj x) number, (fit (Str v.names) q.0, (fit (Obj v.owner) q.1, (fit (Str (verb_letters_of v.bits)) (verb_letters_fit v.bits.r v.bits.w v.bits.x v.bits.d), (fit (Str (object_spec_text v.args.dobj)) (place_fit v.args.dobj), (fit (Str (prep_text v.args.prep)) (prep_fit v.args.prep), (fit (Str (object_spec_text v.args.iobj)) (place_fit v.args.iobj), tt)))))))
 
 pub petition_fit : (id : PetitionId) (row : PetitionRow) → id.0 < 4294967295 → petition_fits row ≡ true → AllByRecursion Fits (petition_values id row)
 petition_fit id row below fitting =
@@ -72,11 +68,11 @@ petition_fit id row below fitting =
     (fit (Int (pos id.0)) (lt-ltb id.0 9223372036854775808 (omega arith)), (fit (Obj row.who) p.0, (fit (a_list row.calls) (both_true _ _ deep s.1), tt)))
 
 module _ (w : World) (wf : IsWellFormed w) where
-  known : (f : Record → ObjNo) (x : ObjNo) (l : List ObjNo) → Climbs (λ y. option_map f (w.object y)) x l → is_number x ≡ true
+  known : (f : WorldObject → ObjNo) (x : ObjNo) (l : List ObjNo) → Climbs (λ y. option_map f (w.object y)) x l → is_number x ≡ true
   known f x [] c = subst (λ (y : ObjNo). is_number y ≡ true) (sym c) refl
   known f x (y ∷ l) c = object_numbered w wf x (linked (w.object x) f c.1 c.2)
 
-  pub next_known : (f : Record → ObjNo) (x : ObjNo) (r : Record) (l : List ObjNo) → w.object x ≡ Some r → Climbs (λ y. option_map f (w.object y)) x l → is_number (f r) ≡ true
+  pub next_known : (f : WorldObject → ObjNo) (x : ObjNo) (r : WorldObject) (l : List ObjNo) → w.object x ≡ Some r → Climbs (λ y. option_map f (w.object y)) x l → is_number (f r) ≡ true
   next_known f x r [] e c = absurd (false≢true (sym (nothing_is_no_object w wf.tree) ∙ ap (is_object w) (sym c) ∙ ap is_some e))
   next_known f x r (y ∷ l) e c =
       let same : c.1 ≡ f r = same_Some c.1 (f r) (sym c.2 ∙ ap (option_map f) e) in

@@ -1,8 +1,6 @@
 -- The values of a line tell the row that they are printed from.
-use Rattle.moo_load.proofs.Words.{◌≡◌, ℕ, ℤ, Bool, true, false, List, [], ◌∷◌, map, get_or, drop, Option, Some, None, refl, sym, ap, ◌∙◌, pos, not, ◌==◌, option_map, same_Some, ObjNo, Value, Int, Obj, Str, a_list, gather, spread, Values, no_values, Bits, ObjRow, PetitionId, PetitionRow, Place, This, Preposition, SlotState, Clear, Set, VerbBits, VerbRow, letters_of, verb_letters_of, flag, accept_value, Name, Pair, same_text, folded, prep_text, place_text, Slot, object_values, state_values, verb_values, petition_values}
-use Rattle.moo_rows.specs.Bits.{bits_of, verb_bits_of}
-use Rattle.moo_world.specs.Arguments.{objects_among}
-use Rattle.moo_world.specs.VerbReading.{place_of, prep_of}
+use Rattle.moo_load.proofs.Words.{◌≡◌, ℕ, ℤ, Bool, true, false, List, [], ◌∷◌, map, get_or, drop, Option, Some, None, refl, sym, ap, ◌∙◌, pos, not, ◌==◌, option_map, same_Some, ObjNo, Value, Int, Obj, Str, a_list, gather, spread, Values, no_values, Bits, ObjRow, PetitionId, PetitionRow, ObjectSpec, This, Preposition, SlotState, Clear, Set, VerbBits, VerbRow, letters_of, verb_letters_of, flag, accept_value, Name, Property, same_text, folded, prep_text, object_spec_text, Slot, object_values, state_values, verb_values, petition_values, bits_of, verb_bits_of, objects_among}
+use Rattle.moo_world.specs.VerbReading.{object_spec_of, prep_of}
 use Rattle.moo_verbs.proofs.TableLaw.{prep_read_again}
 
 -- ---- what a value holds
@@ -76,13 +74,13 @@ verb_letters_again false = three_bits (λ w x d. let b : VerbBits = record { r =
 one_verb_bits : (a b : VerbBits) → verb_letters_of a ≡ verb_letters_of b → a ≡ b
 one_verb_bits a b e = same_Some a b (sym (verb_letters_again a.r a.w a.x a.d) ∙ ap verb_bits_of e ∙ verb_letters_again b.r b.w b.x b.d)
 
-place_again : (p : Place) → place_of (place_text p) ≡ Some p
+place_again : (p : ObjectSpec) → object_spec_of (object_spec_text p) ≡ Some p
 unfolding same_text folded
 place_again This = refl
 place_again _ = refl
 
-one_place : (p q : Place) → place_text p ≡ place_text q → p ≡ q
-one_place p q e = same_Some p q (sym (place_again p) ∙ ap place_of e ∙ place_again q)
+one_place : (p q : ObjectSpec) → object_spec_text p ≡ object_spec_text q → p ≡ q
+one_place p q e = same_Some p q (sym (place_again p) ∙ ap object_spec_of e ∙ place_again q)
 
 one_prep : (p q : Preposition) → prep_text p ≡ prep_text q → p ≡ q
 one_prep p q e = same_Some p q (sym (prep_read_again p) ∙ ap prep_of e ∙ prep_read_again q)
@@ -117,10 +115,10 @@ one_object x y a b e =
 pub one_property : (x y : ObjNo) (m n : Name) → Obj x ∷ Str m ∷ [] ≡ Obj y ∷ Str n ∷ [] → (x ≡ y) × (m ≡ n)
 one_property x y m n e = (ap (λ (l : List Value). object_in (at 0 l)) e, ap (λ (l : List Value). text_in (at 1 l)) e)
 
-abbrev pub slot_values : ObjNo → Pair → Slot → List Value
+abbrev pub slot_values : ObjNo → Property → Slot → List Value
 slot_values x p s = Obj x ∷ Obj p.0 ∷ Str p.1 ∷ Obj s.owner ∷ Str (letters_of s.bits) ∷ state_values s.state
 
-pub one_slot : (x y : ObjNo) (p q : Pair) (s t : Slot) → s.definer ≡ p.0 → t.definer ≡ q.0 → slot_values x p s ≡ slot_values y q t → (x ≡ y) × (p ≡ q) × (s ≡ t)
+pub one_slot : (x y : ObjNo) (p q : Property) (s t : Slot) → s.definer ≡ p.0 → t.definer ≡ q.0 → slot_values x p s ≡ slot_values y q t → (x ≡ y) × (p ≡ q) × (s ≡ t)
 one_slot x y p q s t own_s own_t e =
     let definer : p.0 ≡ q.0 = ap (λ (l : List Value). object_in (at 1 l)) e in
     let name : p.1 ≡ q.1 = ap (λ (l : List Value). text_in (at 2 l)) e in

@@ -1,5 +1,5 @@
 -- The text of a dump, as it is read.
-use Rattle.moo_load.proofs.Words.{◌≡◌, ℕ, List, ◌++◌, sym, ap, subst, ◌∙◌, AllByRecursion, Head, PropId, Maps, no_maps, heading, dump, State, Pair, EntryFits, entry_lines, entries_taken, carried, EachHas, NumbersAreLeft, IsHeld, first_head, HasNumbers, AreRowsOf, no_slot, SlotIsNext, slot_line_put, all_properties}
+use Rattle.moo_load.proofs.Words.{◌≡◌, ℕ, List, ◌++◌, sym, ap, subst, ◌∙◌, AllByRecursion, Head, PropId, Maps, no_maps, heading, dump, State, Property, EntryFits, entry_lines, entries_taken, carried, EachHas, NumbersAreLeft, IsHeld, first_head, HasNumbers, AreRowsOf, no_slot, SlotIsNext, slot_line_put, all_properties}
 use Rattle.moo_load.proofs.One.Entries.{entries_of, dump_is}
 use Rattle.moo_load.proofs.ReadBack.Said.{all_fit}
 use Rattle.moo_load.proofs.ReadBack.Numbers.{number}
@@ -15,7 +15,7 @@ module _ (s : State) (held : IsHeld s) where
   pub fit : AllByRecursion EntryFits (entries_of s)
   fit = all_fit s held.formed
 
-  abbrev pub number_by : Pair → PropId
+  abbrev pub number_by : Property → PropId
   number_by = number (all_properties s.world)
 
   -- the maps before the first line of an entry

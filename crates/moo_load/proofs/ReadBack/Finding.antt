@@ -1,16 +1,7 @@
 -- The lines of slots come in the order in which their properties are found.
-use Rattle.moo_load.proofs.Words.{◌≡◌, ℕ, ◌+◌, ◌<◌, ◌≤◌, Bool, true, false, cond, Option, Some, None, List, [], ◌∷◌, ◌++◌, map, length, refl, sym, ap, subst, ◌∙◌, arith, append_assoc, length-append, append-nil, ◌&&◌, is_some, nat_cmp_is, ranked, get, entries, AllByRecursion, IsDistinct, flat_map, option_map, Less, length-map, flat_map-append, ObjNo, PropId, is_definer, Maps, State, objects_of, Name, Pair, folded, same_object, is_among, same_object-Decides, World, Record, Slot, IsWellFormed, Climbs, is_object, slot_of, names_of, defined_by, owed_by, chain, linked, Chain-chain, all_weaker, LastSlot, Entry, an_object, a_property, a_slot, a_verb, a_petition, EachHas, all_properties, at_number, property_row, no_slot, IsNextProperty, SlotIsNext, slot_line_put, false≢true}
-use Rattle.std.specs.Ordering.{int_eq}
-use Rattle.moo_rows.specs.Links.{row_defined}
-use Rattle.moo_world.specs.Objects.{nothing}
-use Rattle.moo_world.specs.World.{parent_of}
+use Rattle.moo_load.proofs.Words.{◌≡◌, ℕ, ◌+◌, ◌<◌, ◌≤◌, Bool, true, false, cond, Option, Some, None, List, [], ◌∷◌, ◌++◌, map, length, refl, sym, ap, subst, ◌∙◌, arith, append_assoc, length-append, append-nil, ◌&&◌, is_some, nat_cmp_is, ranked, get, entries, AllByRecursion, IsDistinct, flat_map, option_map, Less, length-map, flat_map-append, ObjNo, PropId, is_definer, Maps, State, objects_of, Name, Property, folded, same_object, is_among, same_object-Decides, World, WorldObject, Slot, IsWellFormed, Climbs, is_object, slot_of, property_names_of, defined_by, defined_by_any, chain, linked, Chain-chain, all_weaker, LastSlot, Entry, an_object, a_property, a_slot, a_verb, a_petition, EachHas, all_properties, at_number, property_row, no_slot, IsNextProperty, SlotIsNext, slot_line_put, false≢true, int_eq, row_defined, nothing, parent_of, nothing_is_no_object, no_parent, all_right, map-append, none_any, number_before}
 use Rattle.moo_world.proofs.Ancestry.Chains.{Climbs-once}
-use Rattle.moo_world.proofs.Ancestry.Trees.{nothing_is_no_object, no_parent}
-use Rattle.moo_world.proofs.Inheritance.Owed.{all_right}
 use Rattle.moo_world.proofs.Inheritance.Reparenting.{all_left}
-use Rattle.std.proofs.lemmas.List.{map-append}
-use Rattle.moo_damage.proofs.Apart.{none_any}
-use Rattle.moo_load.specs.Slots.{number_before}
 use Rattle.moo_load.proofs.One.Entries.{owed_entry, record_entries, object_entries, entries_of}
 use Rattle.moo_load.proofs.ReadBack.Lists.{of_all, number_at, made_of, numbered_front, all_of}
 use Rattle.moo_load.proofs.ReadBack.Numbers.{place, number, number_is, around, objects_once, objects_are}
@@ -40,7 +31,7 @@ all_unmapped P f [] a = tt
 all_unmapped P f (x ∷ l) a = (a.0, all_unmapped P f l a.1)
 
 module _ (w : World) (wf : IsWellFormed w) where
-  abbrev all : List Pair
+  abbrev all : List Property
   all = all_properties w
 
   -- the maps have the properties by their numbers
@@ -50,36 +41,36 @@ module _ (w : World) (wf : IsWellFormed w) where
   abbrev pub Each : List Entry → LastSlot × Maps → Type 0
   Each es t = EachHas (SlotIsNext (number all)) (slot_line_put (number all)) es t
 
-  other_definer : (m : Maps) → Numbered m → (d : ObjNo) (id : PropId) → ((p : Pair) → at_number all id.0 ≡ Some p → same_object p.0 d ≡ false) → is_definer m d id ≡ false
+  other_definer : (m : Maps) → Numbered m → (d : ObjNo) (id : PropId) → ((p : Property) → at_number all id.0 ≡ Some p → same_object p.0 d ≡ false) → is_definer m d id ≡ false
   unfolding same_object
-  other_definer m num d id h = ap (row_defined d) (num id) ∙ elim (at_number all id.0) as (λ (o : Option Pair). at_number all id.0 ≡ o → row_defined d (option_map property_row o) ≡ false) [ None ↦ λ e. refl | Some p ↦ λ e. h p e ] refl
+  other_definer m num d id h = ap (row_defined d) (num id) ∙ elim (at_number all id.0) as (λ (o : Option Property). at_number all id.0 ≡ o → row_defined d (option_map property_row o) ≡ false) [ None ↦ λ e. refl | Some p ↦ λ e. h p e ] refl
 
-  own_definer : (m : Maps) → Numbered m → (p : Pair) (id : PropId) → at_number all id.0 ≡ Some p → is_definer m p.0 id ≡ true
+  own_definer : (m : Maps) → Numbered m → (p : Property) (id : PropId) → at_number all id.0 ≡ Some p → is_definer m p.0 id ≡ true
   own_definer m num p id e = ap (row_defined p.0) (num id ∙ ap (option_map property_row) e) ∙ same_number p.0
 
-  abbrev HasSlot : ObjNo → Pair → Type 0
+  abbrev HasSlot : ObjNo → Property → Type 0
   HasSlot x p = (k : Slot) × (slot_of w x (folded p.1) ≡ Some k)
 
   -- ---- the slots that one definer has given an object
 
-  module _ (x d : ObjNo) (front back : List Pair) (whole : all ≡ front ++ (defined_by w d ++ back)) (others : AllByRecursion (λ (p : Pair). same_object p.0 d ≡ false) front) (R : LastSlot → Type 0) (own : (id : PropId) → R (record { object = x; definer = d; id = id })) where
+  module _ (x d : ObjNo) (front back : List Property) (whole : all ≡ front ++ (defined_by w d ++ back)) (others : AllByRecursion (λ (p : Property). same_object p.0 d ≡ false) front) (R : LastSlot → Type 0) (own : (id : PropId) → R (record { object = x; definer = d; id = id })) where
     -- up to this number no other property of the definer is left
     abbrev Before : ℕ → LastSlot → Type 0
-    Before base last = ((number_before last x d).0 ≤ base) × ((q : ℕ) → (number_before last x d).0 < q → q ≤ base → (p : Pair) → at_number all q ≡ Some p → same_object p.0 d ≡ false)
+    Before base last = ((number_before last x d).0 ≤ base) × ((q : ℕ) → (number_before last x d).0 < q → q ≤ base → (p : Property) → at_number all q ≡ Some p → same_object p.0 d ≡ false)
 
-    abbrev named : List Name → List Pair
-    named l = map (λ n. let p : Pair = (d, n) in p) l
+    abbrev named : List Name → List Property
+    named l = map (λ n. let p : Property = (d, n) in p) l
 
-    own_place : (a b : List Name) (n : Name) → names_of w d ≡ a ++ n ∷ b → at_number all (length front + length a + 1) ≡ Some (d, n)
+    own_place : (a b : List Name) (n : Name) → property_names_of w d ≡ a ++ n ∷ b → at_number all (length front + length a + 1) ≡ Some (d, n)
     own_place a b n e =
-        let p : Pair = (d, n) in
-        let parts : defined_by w d ≡ named a ++ p ∷ named b = ap named e ∙ map-append (λ n. let p : Pair = (d, n) in p) a (n ∷ b) in
+        let p : Property = (d, n) in
+        let parts : defined_by w d ≡ named a ++ p ∷ named b = ap named e ∙ map-append (λ n. let p : Property = (d, n) in p) a (n ∷ b) in
         let all_is : all ≡ (front ++ named a) ++ p ∷ (named b ++ back) =
-        whole ∙ ap (λ (l : List Pair). front ++ (l ++ back)) parts ∙ ap (λ (l : List Pair). front ++ l) (append_assoc (named a) (p ∷ named b) back) ∙ sym (append_assoc front (named a) (p ∷ (named b ++ back))) in
-        let count : length (front ++ named a) ≡ length front + length a = length-append front (named a) ∙ ap (λ (k : ℕ). length front + k) (length-map a (λ n. let p : Pair = (d, n) in p)) in
-        ap (λ (l : List Pair). at_number l (length front + length a + 1)) all_is ∙ number_at (front ++ named a) (named b ++ back) p (length front + length a + 1) (omega arith)
+        whole ∙ ap (λ (l : List Property). front ++ (l ++ back)) parts ∙ ap (λ (l : List Property). front ++ l) (append_assoc (named a) (p ∷ named b) back) ∙ sym (append_assoc front (named a) (p ∷ (named b ++ back))) in
+        let count : length (front ++ named a) ≡ length front + length a = length-append front (named a) ∙ ap (λ (k : ℕ). length front + k) (length-map a (λ n. let p : Property = (d, n) in p)) in
+        ap (λ (l : List Property). at_number l (length front + length a + 1)) all_is ∙ number_at (front ++ named a) (named b ++ back) p (length front + length a + 1) (omega arith)
 
-    is_next : (t : LastSlot × Maps) (a b : List Name) (n : Name) → names_of w d ≡ a ++ n ∷ b → Numbered t.1 → Before (length front + length a) t.0 → IsNextProperty t.1 t.0 x (d, n) (number all (d, n))
+    is_next : (t : LastSlot × Maps) (a b : List Name) (n : Name) → property_names_of w d ≡ a ++ n ∷ b → Numbered t.1 → Before (length front + length a) t.0 → IsNextProperty t.1 t.0 x (d, n) (number all (d, n))
     is_next t a b n e num before =
         let at = own_place a b n e in
         let own_number : place (d, n) all ≡ length front + length a + 1 = number_is w wf (length front + length a + 1) (d, n) at in
@@ -93,7 +84,7 @@ module _ (w : World) (wf : IsWellFormed w) where
           row = num (number all (d, n)) ∙ ap (option_map property_row) found;
         }
 
-    then_before : (a b : List Name) (n : Name) → names_of w d ≡ a ++ n ∷ b → Before (length front + length (a ++ n ∷ [])) (record { object = x; definer = d; id = number all (d, n) })
+    then_before : (a b : List Name) (n : Name) → property_names_of w d ≡ a ++ n ∷ b → Before (length front + length (a ++ n ∷ [])) (record { object = x; definer = d; id = number all (d, n) })
     then_before a b n e =
         let last : LastSlot = record { object = x; definer = d; id = number all (d, n) } in
         let own_number : place (d, n) all ≡ length front + length a + 1 = number_is w wf (length front + length a + 1) (d, n) (own_place a b n e) in
@@ -101,11 +92,11 @@ module _ (w : World) (wf : IsWellFormed w) where
         let now : (number_before last x d).0 ≡ place (d, n) all = ap (λ (c : Bool). (let id : PropId = cond c (number all (d, n)) (record { 0 = 0 }) in id).0) (own_goes_on x d (number all (d, n))) in
         (omega arith, λ q above below. absurd (omega arith))
 
-    names_next : (b a : List Name) → names_of w d ≡ a ++ b → (fs : List Entry) (t : LastSlot × Maps) → Numbered t.1 → R t.0 → Before (length front + length a) t.0 → AllByRecursion (λ n. HasSlot x (d, n)) b
+    names_next : (b a : List Name) → property_names_of w d ≡ a ++ b → (fs : List Entry) (t : LastSlot × Maps) → Numbered t.1 → R t.0 → Before (length front + length a) t.0 → AllByRecursion (λ n. HasSlot x (d, n)) b
         → ((u : LastSlot × Maps) → Numbered u.1 → R u.0 → Each fs u) → Each (flat_map (owed_entry w x) (map (λ n. (d, n)) b) ++ fs) t
     names_next [] a e fs t num r before slots on = on t num r
     names_next (n ∷ b) a e fs t num r before slots on =
-        let p : Pair = (d, n) in
+        let p : Property = (d, n) in
         let k = slots.0.0 in
         let rest = flat_map (owed_entry w x) (map (λ n. (d, n)) b) in
         let u = slot_line_put (number all) (a_slot x p k) t in
@@ -116,7 +107,7 @@ module _ (w : World) (wf : IsWellFormed w) where
     first_before : (last : LastSlot) → goes_on last x d ≡ false → Before (length front + 0) last
     first_before last stops =
         let none : (number_before last x d).0 ≡ 0 = ap (λ (c : Bool). (let id : PropId = cond c last.id (record { 0 = 0 }) in id).0) stops in
-        (omega arith, λ q above below p e. of_all (λ (k : Pair). same_object k.0 d ≡ false) front p others (numbered_front front (defined_by w d ++ back) q p (omega arith) (ap (λ l. at_number l q) (sym whole) ∙ e)))
+        (omega arith, λ q above below p e. of_all (λ (k : Property). same_object k.0 d ≡ false) front p others (numbered_front front (defined_by w d ++ back) q p (omega arith) (ap (λ l. at_number l q) (sym whole) ∙ e)))
 
   -- ---- the slots of an object
 
@@ -124,22 +115,22 @@ module _ (w : World) (wf : IsWellFormed w) where
   Fresh x ds last = AllByRecursion (λ d. goes_on last x d ≡ false) ds
 
   chain_next : (x : ObjNo) (R : LastSlot → Type 0) → ((d : ObjNo) (id : PropId) → R (record { object = x; definer = d; id = id }))
-      → (ds : List ObjNo) (y : ObjNo) → Climbs (parent_of w) y ds → (fs : List Entry) (t : LastSlot × Maps) → Numbered t.1 → R t.0 → Fresh x ds t.0 → AllByRecursion (HasSlot x) (owed_by w ds)
-      → ((u : LastSlot × Maps) → Numbered u.1 → R u.0 → Each fs u) → Each (flat_map (owed_entry w x) (owed_by w ds) ++ fs) t
+      → (ds : List ObjNo) (y : ObjNo) → Climbs (parent_of w) y ds → (fs : List Entry) (t : LastSlot × Maps) → Numbered t.1 → R t.0 → Fresh x ds t.0 → AllByRecursion (HasSlot x) (defined_by_any w ds)
+      → ((u : LastSlot × Maps) → Numbered u.1 → R u.0 → Each fs u) → Each (flat_map (owed_entry w x) (defined_by_any w ds) ++ fs) t
   chain_next x R own [] y c fs t num r fresh slots on = on t num r
   chain_next x R own (d ∷ ds) y c fs t num r fresh slots on =
       let here : is_object w d ≡ true = subst (λ z. is_object w z ≡ true) c.0 (linked (w.object y) (λ k. k.row.parent) c.1 c.2) in
       let a = around w wf d (object_stands w wf d here) in
       let below : AllByRecursion (λ e. same_object d e ≡ false) ds = none_any (same_object d) ds (subst (λ z. is_among z ds ≡ false) c.0 (Climbs-once (parent_of w) (no_parent w wf.tree) ds y d c)) in
-      let more = flat_map (owed_entry w x) (owed_by w ds) ++ fs in
-      let split : flat_map (owed_entry w x) (defined_by w d) ++ more ≡ flat_map (owed_entry w x) (owed_by w (d ∷ ds)) ++ fs =
-      sym (append_assoc (flat_map (owed_entry w x) (defined_by w d)) (flat_map (owed_entry w x) (owed_by w ds)) fs) ∙ ap (λ l. l ++ fs) (sym (flat_map-append (owed_entry w x) (defined_by w d) (owed_by w ds))) in
+      let more = flat_map (owed_entry w x) (defined_by_any w ds) ++ fs in
+      let split : flat_map (owed_entry w x) (defined_by w d) ++ more ≡ flat_map (owed_entry w x) (defined_by_any w (d ∷ ds)) ++ fs =
+      sym (append_assoc (flat_map (owed_entry w x) (defined_by w d)) (flat_map (owed_entry w x) (defined_by_any w ds)) fs) ∙ ap (λ l. l ++ fs) (sym (flat_map-append (owed_entry w x) (defined_by w d) (defined_by_any w ds))) in
       let both : LastSlot → Type 0 = λ last. R last × Fresh x ds last in
       let own_both : (id : PropId) → both (record { object = x; definer = d; id = id }) = λ id. (own d id, all_weaker (λ e. same_object d e ≡ false) (λ e. goes_on (record { object = x; definer = d; id = id }) x e ≡ false) (λ e h. other_stops x d e id h) ds below) in
       subst (λ es. Each es t) split
-      (names_next x d a.0 a.1 a.2 a.3 both own_both (names_of w d) [] refl more t num (r, fresh.1) (first_before x d a.0 a.1 a.2 a.3 both own_both t.0 fresh.0)
-      (all_unmapped (HasSlot x) (λ n. (d, n)) (names_of w d) (all_left (HasSlot x) (defined_by w d) (owed_by w ds) slots))
-      (λ u num r. chain_next x R own ds c.1 c.3 fs u num r.0 r.1 (all_right (HasSlot x) (defined_by w d) (owed_by w ds) slots) on))
+      (names_next x d a.0 a.1 a.2 a.3 both own_both (property_names_of w d) [] refl more t num (r, fresh.1) (first_before x d a.0 a.1 a.2 a.3 both own_both t.0 fresh.0)
+      (all_unmapped (HasSlot x) (λ n. (d, n)) (property_names_of w d) (all_left (HasSlot x) (defined_by w d) (defined_by_any w ds) slots))
+      (λ u num r. chain_next x R own ds c.1 c.3 fs u num r.0 r.1 (all_right (HasSlot x) (defined_by w d) (defined_by_any w ds) slots) on))
 
   -- ---- all objects
 
@@ -147,20 +138,20 @@ module _ (w : World) (wf : IsWellFormed w) where
   skip made over [] es t h = h
   skip made over (a ∷ l) es t h = over a t (map made l ++ es) (skip made over l es t h)
 
-  owed_slots : (x : ObjNo) → is_object w x ≡ true → AllByRecursion (HasSlot x) (owed_by w (chain w x))
+  owed_slots : (x : ObjNo) → is_object w x ≡ true → AllByRecursion (HasSlot x) (defined_by_any w (chain w x))
   owed_slots x here =
       let c = Chain-chain w wf.tree x here in
-      let owed = owed_by w (chain w x) in
-      all_of (HasSlot x) owed (λ p s. let r = made_of (λ (k : Slot). k.definer) (slot_of w x (folded p.1)) p.0 (wf.slots x (chain w x) (folded p.1) here c ∙ ap (option_map (λ (k : Pair). k.0)) (own_name owed (wf.names x (chain w x) c) p s)) in (r.0, r.1))
+      let owed = defined_by_any w (chain w x) in
+      all_of (HasSlot x) owed (λ p s. let r = made_of (λ (k : Slot). k.definer) (slot_of w x (folded p.1)) p.0 (wf.slots x (chain w x) (folded p.1) here c ∙ ap (option_map (λ (k : Property). k.0)) (own_name owed (wf.names x (chain w x) c) p s)) in (r.0, r.1))
 
   abbrev Off : List ObjNo → LastSlot → Type 0
   Off os last = AllByRecursion (λ y. same_object last.object y ≡ false) os
 
-  record_next : (x : ObjNo) (r : Record) → w.object x ≡ Some r → (os : List ObjNo) → AllByRecursion (λ y. same_object x y ≡ false) os → (fs : List Entry) (t : LastSlot × Maps) → Numbered t.1 → Off (x ∷ os) t.0
+  record_next : (x : ObjNo) (r : WorldObject) → w.object x ≡ Some r → (os : List ObjNo) → AllByRecursion (λ y. same_object x y ≡ false) os → (fs : List Entry) (t : LastSlot × Maps) → Numbered t.1 → Off (x ∷ os) t.0
       → ((u : LastSlot × Maps) → Numbered u.1 → Off os u.0 → Each fs u) → Each (record_entries w x r ++ fs) t
   record_next x r e os apart fs t num off on =
       let here : is_object w x ≡ true = ap is_some e in
-      let slots = flat_map (owed_entry w x) (owed_by w (chain w x)) in
+      let slots = flat_map (owed_entry w x) (defined_by_any w (chain w x)) in
       let whole : map (a_property x) r.defines ++ (slots ++ (map (a_verb x) r.verbs ++ fs)) ≡ (map (a_property x) r.defines ++ (slots ++ map (a_verb x) r.verbs)) ++ fs =
       ap (λ l. map (a_property x) r.defines ++ l) (sym (append_assoc slots (map (a_verb x) r.verbs) fs)) ∙ sym (append_assoc (map (a_property x) r.defines) (slots ++ map (a_verb x) r.verbs) fs) in
       subst (λ es. Each (an_object x r.row ∷ es) t) whole (
@@ -177,10 +168,10 @@ module _ (w : World) (wf : IsWellFormed w) where
   objects_next : (os : List ObjNo) → IsDistinct same_object os → (fs : List Entry) (t : LastSlot × Maps) → Numbered t.1 → Off os t.0 → ((u : LastSlot × Maps) → Numbered u.1 → Each fs u) → Each (flat_map (object_entries w) os ++ fs) t
   unfolding IsDistinct
   objects_next [] once fs t num off on = on t num
-  objects_next (x ∷ os) once fs t num off on = elim (w.object x) as (λ (o : Option Record). w.object x ≡ o → ((u : LastSlot × Maps) → Numbered u.1 → Off os u.0 → Each (flat_map (object_entries w) os ++ fs) u) → Each ((object_entries w x ++ flat_map (object_entries w) os) ++ fs) t) [
-    | None ↦ λ e r. subst (λ (o : Option Record). Each ((elim o [ None ↦ [] | Some k ↦ record_entries w x k ] ++ flat_map (object_entries w) os) ++ fs) t) (sym e) (r t num off.1)
+  objects_next (x ∷ os) once fs t num off on = elim (w.object x) as (λ (o : Option WorldObject). w.object x ≡ o → ((u : LastSlot × Maps) → Numbered u.1 → Off os u.0 → Each (flat_map (object_entries w) os ++ fs) u) → Each ((object_entries w x ++ flat_map (object_entries w) os) ++ fs) t) [
+    | None ↦ λ e r. subst (λ (o : Option WorldObject). Each ((elim o [ None ↦ [] | Some k ↦ record_entries w x k ] ++ flat_map (object_entries w) os) ++ fs) t) (sym e) (r t num off.1)
     | Some k ↦ λ e r.
-        subst (λ (o : Option Record). Each ((elim o [ None ↦ [] | Some k ↦ record_entries w x k ] ++ flat_map (object_entries w) os) ++ fs) t) (sym e)
+        subst (λ (o : Option WorldObject). Each ((elim o [ None ↦ [] | Some k ↦ record_entries w x k ] ++ flat_map (object_entries w) os) ++ fs) t) (sym e)
         (subst (λ es. Each es t) (sym (append_assoc (record_entries w x k) (flat_map (object_entries w) os) fs)) (record_next x k e os once.0 (flat_map (object_entries w) os ++ fs) t num off r))
   ] refl (λ u num off. objects_next os once.1 fs u num off on)
 

@@ -1,5 +1,5 @@
 -- The entries of a state, kind by kind, and the numbers that their rows need.
-use Rattle.moo_load.proofs.Words.{◌≡◌, ℕ, suc, ◌+◌, ◌<◌, ◌≤◌, Option, Some, None, List, [], ◌∷◌, ◌++◌, map, length, refl, ap, ◌∙◌, arith, append-nil, unwrap_or, entries, AllByRecursion, flat_map, filter_map, cons_option, option_map, filter_map-append, ObjNo, PetitionId, PetitionRow, Maps, State, objects_of, Pair, folded, World, Record, Slot, slot_of, defined_by, owed_by, chain, directory_of, Entry, a_property, a_slot, a_verb, a_petition, NumbersAreLeft, entry_taken, all_properties, all_verbs}
+use Rattle.moo_load.proofs.Words.{◌≡◌, ℕ, suc, ◌+◌, ◌<◌, ◌≤◌, Option, Some, None, List, [], ◌∷◌, ◌++◌, map, length, refl, ap, ◌∙◌, arith, append-nil, unwrap_or, entries, AllByRecursion, flat_map, filter_map, cons_option, option_map, filter_map-append, ObjNo, PetitionId, PetitionRow, Maps, State, objects_of, Property, folded, World, WorldObject, Slot, slot_of, defined_by, defined_by_any, chain, directory_of, Entry, a_property, a_slot, a_verb, a_petition, NumbersAreLeft, entry_taken, all_properties, all_verbs}
 use Rattle.moo_load.proofs.ReadBack.Lists.{none_made, made_flat, each_flat, each_made, each_map}
 use Rattle.moo_load.proofs.One.Entries.{owed_entry, record_entries, object_entries, entries_of, beside_row}
 use Rattle.moo_load.proofs.ReadBack.Taken.{property_in, verb_in, petition_in}
@@ -21,12 +21,12 @@ made_as f made g again [] = refl
 made_as f made g again (x ∷ l) = λ i. cons_option (again x i) (made_as f made g again l i)
 
 -- what isn't made of slots
-beside : {A : Type 0} (f : Entry → Option A) (w : World) (x : ObjNo) (r : Record) (a c : List A) → ((p : Pair) (s : Slot) → f (a_slot x p s) ≡ None) → filter_map f (map (a_property x) r.defines) ≡ a → filter_map f (map (a_verb x) r.verbs) ≡ c → filter_map f (beside_row w x r) ≡ a ++ c
+beside : {A : Type 0} (f : Entry → Option A) (w : World) (x : ObjNo) (r : WorldObject) (a c : List A) → ((p : Property) (s : Slot) → f (a_slot x p s) ≡ None) → filter_map f (map (a_property x) r.defines) ≡ a → filter_map f (map (a_verb x) r.verbs) ≡ c → filter_map f (beside_row w x r) ≡ a ++ c
 beside f w x r a c none p q =
-    let slots = flat_map (owed_entry w x) (owed_by w (chain w x)) in
-    let each : (p : Pair) → AllByRecursion (λ e. f e ≡ None) (owed_entry w x p) = λ p. elim (slot_of w x (folded p.1)) as (λ (o : Option Slot). AllByRecursion (λ e. f e ≡ None) (elim o [ None ↦ [] | Some s ↦ a_slot x p s ∷ [] ])) [ None ↦ tt | Some s ↦ (none p s, tt) ] in
+    let slots = flat_map (owed_entry w x) (defined_by_any w (chain w x)) in
+    let each : (p : Property) → AllByRecursion (λ e. f e ≡ None) (owed_entry w x p) = λ p. elim (slot_of w x (folded p.1)) as (λ (o : Option Slot). AllByRecursion (λ e. f e ≡ None) (elim o [ None ↦ [] | Some s ↦ a_slot x p s ∷ [] ])) [ None ↦ tt | Some s ↦ (none p s, tt) ] in
     filter_map-append f (map (a_property x) r.defines) (slots ++ map (a_verb x) r.verbs)
-    ∙ (λ i. p i ++ (filter_map-append f slots (map (a_verb x) r.verbs) ∙ (λ j. none_made f slots (each_flat (λ e. f e ≡ None) (owed_entry w x) (owed_by w (chain w x)) (λ p s. each p)) j ++ q j)) i)
+    ∙ (λ i. p i ++ (filter_map-append f slots (map (a_verb x) r.verbs) ∙ (λ j. none_made f slots (each_flat (λ e. f e ≡ None) (owed_entry w x) (defined_by_any w (chain w x)) (λ p s. each p)) j ++ q j)) i)
 
 over_state : {A : Type 0} (f : Entry → Option A) (g : World → ObjNo → List A) → ((w : World) (x : ObjNo) → filter_map f (object_entries w x) ≡ g w x) → ((e : PetitionId × PetitionRow) → f (a_petition e) ≡ None) → (s : State) → filter_map f (entries_of s) ≡ flat_map (g s.world) (objects_of s.world)
 over_state {A = A} f g each none s =
@@ -38,14 +38,14 @@ over_state {A = A} f g each none s =
 
 properties_at : (w : World) (x : ObjNo) → filter_map property_in (object_entries w x) ≡ defined_by w x
 properties_at w x =
-    elim (w.object x) as (λ (o : Option Record). filter_map property_in (elim o [ None ↦ [] | Some r ↦ record_entries w x r ]) ≡ map (λ n. (x, n)) (unwrap_or (option_map (λ r. r.defines) o) [])) [
+    elim (w.object x) as (λ (o : Option WorldObject). filter_map property_in (elim o [ None ↦ [] | Some r ↦ record_entries w x r ]) ≡ map (λ n. (x, n)) (unwrap_or (option_map (λ r. r.defines) o) [])) [
       | None ↦ refl
       | Some r ↦ beside property_in w x r (map (λ n. (x, n)) r.defines) [] (λ p s. refl) (made_as property_in (a_property x) (λ n. (x, n)) (λ n. refl) r.defines) (none_made property_in (map (a_verb x) r.verbs) (each_map (λ e. property_in e ≡ None) (a_verb x) r.verbs (λ v s. refl))) ∙ append-nil (map (λ n. (x, n)) r.defines)
     ]
 
 verbs_at : (w : World) (x : ObjNo) → filter_map verb_in (object_entries w x) ≡ map (λ v. (x, v)) (directory_of w x)
 verbs_at w x =
-    elim (w.object x) as (λ (o : Option Record). filter_map verb_in (elim o [ None ↦ [] | Some r ↦ record_entries w x r ]) ≡ map (λ v. (x, v)) (unwrap_or (option_map (λ r. r.verbs) o) [])) [
+    elim (w.object x) as (λ (o : Option WorldObject). filter_map verb_in (elim o [ None ↦ [] | Some r ↦ record_entries w x r ]) ≡ map (λ v. (x, v)) (unwrap_or (option_map (λ r. r.verbs) o) [])) [
       | None ↦ refl
       | Some r ↦ beside verb_in w x r [] (map (λ v. (x, v)) r.verbs) (λ p s. refl) (none_made verb_in (map (a_property x) r.defines) (each_map (λ e. verb_in e ≡ None) (a_property x) r.defines (λ n s. refl))) (made_as verb_in (a_verb x) (λ v. (x, v)) (λ v. refl) r.verbs)
     ]

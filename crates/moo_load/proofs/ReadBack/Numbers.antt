@@ -1,10 +1,6 @@
 -- Objects and properties stand once in their lists; the number of a property.
-use Rattle.moo_load.proofs.Words.{AllByRecursion, Bool, Chain-chain, IsDistinct, IsWellFormed, Name, NamesDiffer, None, PropId, Some, World, all_properties, ap, arith, at_number, both_true, chain, chain-step, cond, cons_option, defined_by, distinct_append, distinct_numbers, false≢true, filter, filter_map, folded, is_object, map, names_of, none-some, numbers_below, numbers_to, object_at, objects_of, owed_by, refl, same_object, same_object-Decides, same_pair, same_text, same_text-Decides, some_of, subst, sym, ℕ, ◌<◌, ◌≡◌, ◌++◌, ◌∷◌, ◌&&◌, ◌∙◌, ◌+◌, [], pos, List, ObjNo, Pair, false, inl, inr, suc, true, zero}
-use Rattle.std.proofs.lemmas.List.Elements.{filter_passes, recursion_from_All}
-use Rattle.moo_world.specs.Objects.{same_pair-self}
-use Rattle.moo_world.proofs.Inheritance.Keeping.{same_pair-is}
-use Rattle.moo_world.proofs.Inheritance.Owed.{owed_by-append}
-use Rattle.moo_world.proofs.Shown.PairLists.{pairs_left}
+use Rattle.moo_load.proofs.Words.{AllByRecursion, Bool, Chain-chain, IsDistinct, IsWellFormed, Name, NamesDiffer, None, PropId, Some, World, all_properties, ap, arith, at_number, both_true, chain, chain-step, cond, cons_option, defined_by, distinct_append, distinct_numbers, false≢true, filter, filter_map, folded, is_object, map, property_names_of, none-some, numbers_below, numbers_to, object_at, objects_of, defined_by_any, refl, same_object, same_object-Decides, same_property, same_text, same_text-Decides, some_of, subst, sym, ℕ, ◌<◌, ◌≡◌, ◌++◌, ◌∷◌, ◌&&◌, ◌∙◌, ◌+◌, [], pos, List, ObjNo, Property, false, inl, inr, suc, true, zero, filter_passes, recursion_from_All, same_property-self, defined_by_any-append, pairs_left}
+use Rattle.moo_world.proofs.Inheritance.Keeping.{same_property-is}
 use Rattle.moo_load.proofs.ReadBack.Lists.{Stands, before_differs, distinct_weaker, each_map, numbered_stands, of_all, of_holders, one_number, passed, split}
 
 -- ---- objects
@@ -32,35 +28,35 @@ objects_are w = recursion_from_All (λ x. is_object w x ≡ true) (objects_of w)
 -- ---- properties
 
 -- one object defines both, under one name
-abbrev pub alike : Pair → Pair → Bool
+abbrev pub alike : Property → Property → Bool
 alike p q = same_object p.0 q.0 && same_text (folded p.1) (folded q.1)
 
-alike_self : (p : Pair) → alike p p ≡ true
+alike_self : (p : Property) → alike p p ≡ true
 alike_self p = both_true _ _ ((same_object-Decides p.0 p.0).1 refl) ((same_text-Decides (folded p.1) (folded p.1)).1 refl)
 
 not_both : (a b : Bool) → b ≡ false → (a && b) ≡ false
 not_both true b e = e
 not_both false b e = refl
 
-other_pair : (p q : Pair) → alike p q ≡ false → same_pair p q ≡ false
-other_pair p q e = elim (same_pair p q) as (λ b. same_pair p q ≡ b → b ≡ false) [ true ↦ λ h. absurd (false≢true (sym e ∙ ap (alike p) (sym (same_pair-is p q h)) ∙ alike_self p)) | false ↦ λ h. refl ] refl
+other_pair : (p q : Property) → alike p q ≡ false → same_property p q ≡ false
+other_pair p q e = elim (same_property p q) as (λ b. same_property p q ≡ b → b ≡ false) [ true ↦ λ h. absurd (false≢true (sym e ∙ ap (alike p) (sym (same_property-is p q h)) ∙ alike_self p)) | false ↦ λ h. refl ] refl
 
 module _ (w : World) (wf : IsWellFormed w) where
   own_names : (x : ObjNo) → is_object w x ≡ true → IsDistinct alike (defined_by w x)
   own_names x there =
       let r = some_of (w.object x) there in
       distinct_weaker (λ p q. same_text (folded p.1) (folded q.1)) alike (λ p q e. not_both (same_object p.0 q.0) (same_text (folded p.1) (folded q.1)) e) (defined_by w x)
-      (pairs_left (defined_by w x) (owed_by w (chain w r.0.row.parent)) (subst (λ (l : List ObjNo). NamesDiffer (owed_by w l)) (chain-step w wf.tree x r.0 r.1) (wf.names x (chain w x) (Chain-chain w wf.tree x there))))
+      (pairs_left (defined_by w x) (defined_by_any w (chain w r.0.row.parent)) (subst (λ (l : List ObjNo). NamesDiffer (defined_by_any w l)) (chain-step w wf.tree x r.0 r.1) (wf.names x (chain w x) (Chain-chain w wf.tree x there))))
 
-  others : (x : ObjNo) (n : Name) (l : List ObjNo) → AllByRecursion (λ y. same_object x y ≡ false) l → AllByRecursion (λ q. alike (x, n) q ≡ false) (owed_by w l)
-  others x n l a = of_holders (names_of w) (λ q. alike (x, n) q ≡ false) l (λ y s k h. ap (λ b. b && same_text (folded n) (folded k)) (of_all (λ y. same_object x y ≡ false) l y a s))
+  others : (x : ObjNo) (n : Name) (l : List ObjNo) → AllByRecursion (λ y. same_object x y ≡ false) l → AllByRecursion (λ q. alike (x, n) q ≡ false) (defined_by_any w l)
+  others x n l a = of_holders (property_names_of w) (λ q. alike (x, n) q ≡ false) l (λ y s k h. ap (λ b. b && same_text (folded n) (folded k)) (of_all (λ y. same_object x y ≡ false) l y a s))
 
-  differ_along : (l : List ObjNo) → IsDistinct same_object l → AllByRecursion (λ x. is_object w x ≡ true) l → IsDistinct alike (owed_by w l)
+  differ_along : (l : List ObjNo) → IsDistinct same_object l → AllByRecursion (λ x. is_object w x ≡ true) l → IsDistinct alike (defined_by_any w l)
   unfolding IsDistinct
   differ_along [] d a = tt
   differ_along (x ∷ l) d a =
-      distinct_append alike (defined_by w x) (owed_by w l) (own_names x a.0) (differ_along l d.1 a.1)
-      (each_map (λ p. AllByRecursion (λ q. alike p q ≡ false) (owed_by w l)) (λ n. (x, n)) (names_of w x) (λ n s. others x n l d.0))
+      distinct_append alike (defined_by w x) (defined_by_any w l) (own_names x a.0) (differ_along l d.1 a.1)
+      (each_map (λ p. AllByRecursion (λ q. alike p q ≡ false) (defined_by_any w l)) (λ n. (x, n)) (property_names_of w x) (λ n s. others x n l d.0))
 
   pub properties_differ : IsDistinct alike (all_properties w)
   properties_differ = differ_along (objects_of w) (objects_once w) (objects_are w)
@@ -68,36 +64,36 @@ module _ (w : World) (wf : IsWellFormed w) where
 -- ---- numbers
 
 -- the number of the first pair like this one
-abbrev pub place : Pair → List Pair → ℕ
+abbrev pub place : Property → List Property → ℕ
 place p [] = 0
-place p (q ∷ l) = cond (same_pair p q) 1 (place p l + 1)
+place p (q ∷ l) = cond (same_property p q) 1 (place p l + 1)
 
-abbrev pub number : List Pair → Pair → PropId
+abbrev pub number : List Property → Property → PropId
 number all p = record { 0 = place p all }
 
 later : {A : Type 0} (x a : A) (l : List A) (n : ℕ) → at_number l n ≡ Some a → at_number (x ∷ l) (n + 1) ≡ Some a
 later x a l zero e = absurd (none-some a e)
 later x a l (suc n) e = let z : suc n + 1 ≡ suc (suc n) = omega arith in ap (at_number (x ∷ l)) z ∙ e
 
-pub place_found : (p : Pair) (l : List Pair) → Stands p l → at_number l (place p l) ≡ Some p
+pub place_found : (p : Property) (l : List Property) → Stands p l → at_number l (place p l) ≡ Some p
 place_found p [] s = absurd s
 place_found p (q ∷ l) s =
-    elim (same_pair p q) as (λ b. same_pair p q ≡ b → at_number (q ∷ l) (cond b 1 (place p l + 1)) ≡ Some p) [
-      | true ↦ λ e i. Some (sym (same_pair-is p q e) i)
-      | false ↦ λ e. elim s [ inl same ↦ absurd (false≢true (sym e ∙ ap (same_pair p) (sym same) ∙ same_pair-self p)) | inr k ↦ later q p l (place p l) (place_found p l k) ]
+    elim (same_property p q) as (λ b. same_property p q ≡ b → at_number (q ∷ l) (cond b 1 (place p l + 1)) ≡ Some p) [
+      | true ↦ λ e i. Some (sym (same_property-is p q e) i)
+      | false ↦ λ e. elim s [ inl same ↦ absurd (false≢true (sym e ∙ ap (same_property p) (sym same) ∙ same_property-self p)) | inr k ↦ later q p l (place p l) (place_found p l k) ]
     ] refl
 
 module _ (w : World) (wf : IsWellFormed w) where
-  properties_once : IsDistinct same_pair (all_properties w)
-  properties_once = distinct_weaker alike same_pair other_pair (all_properties w) (properties_differ w wf)
+  properties_once : IsDistinct same_property (all_properties w)
+  properties_once = distinct_weaker alike same_property other_pair (all_properties w) (properties_differ w wf)
 
   -- the number of a property is the one that it has in the list
-  pub number_is : (n : ℕ) (p : Pair) → at_number (all_properties w) n ≡ Some p → place p (all_properties w) ≡ n
-  number_is n p e = one_number same_pair (all_properties w) properties_once (place p (all_properties w)) n p p (place_found p (all_properties w) (numbered_stands (all_properties w) n p e)) e (same_pair-self p) (same_pair-self p)
+  pub number_is : (n : ℕ) (p : Property) → at_number (all_properties w) n ≡ Some p → place p (all_properties w) ≡ n
+  number_is n p e = one_number same_property (all_properties w) properties_once (place p (all_properties w)) n p p (place_found p (all_properties w) (numbered_stands (all_properties w) n p e)) e (same_property-self p) (same_property-self p)
 
   -- the properties of a definer among all of them
-  pub around : (d : ObjNo) → Stands d (objects_of w) → (front back : List Pair) × (all_properties w ≡ front ++ (defined_by w d ++ back)) × AllByRecursion (λ (p : Pair). same_object p.0 d ≡ false) front
+  pub around : (d : ObjNo) → Stands d (objects_of w) → (front back : List Property) × (all_properties w ≡ front ++ (defined_by w d ++ back)) × AllByRecursion (λ (p : Property). same_object p.0 d ≡ false) front
   around d s =
       let r = split d (objects_of w) s in
       let before = before_differs same_object d r.0 r.1 (subst (IsDistinct same_object) r.2 (objects_once w)) in
-      (owed_by w r.0, owed_by w r.1, ap (owed_by w) r.2 ∙ owed_by-append w r.0 (d ∷ r.1), of_holders (names_of w) (λ (p : Pair). same_object p.0 d ≡ false) r.0 (λ y s n h. of_all (λ y. same_object y d ≡ false) r.0 y before s))
+      (defined_by_any w r.0, defined_by_any w r.1, ap (defined_by_any w) r.2 ∙ defined_by_any-append w r.0 (d ∷ r.1), of_holders (property_names_of w) (λ (p : Property). same_object p.0 d ≡ false) r.0 (λ y s n h. of_all (λ y. same_object y d ≡ false) r.0 y before s))

@@ -1,5 +1,5 @@
 -- What the rows of entries make of maps, map by map.
-use Rattle.moo_load.proofs.Words.{◌≡◌, ℕ, ◌+◌, Option, Some, None, List, [], ◌∷◌, length, refl, arith, max, filter_map, ObjNo, ObjRow, PetitionId, PetitionRow, PropId, PropRow, SlotRow, VerbId, VerbRow, Maps, Pair, LastSlot, Entry, an_object, a_property, a_slot, a_verb, a_petition, entry_taken, entries_taken, carried, property_row, dumped_slot, slot_line_put}
+use Rattle.moo_load.proofs.Words.{◌≡◌, ℕ, ◌+◌, Option, Some, None, List, [], ◌∷◌, length, refl, arith, max, filter_map, ObjNo, ObjRow, PetitionId, PetitionRow, PropId, PropRow, SlotRow, VerbId, VerbRow, Maps, Property, LastSlot, Entry, an_object, a_property, a_slot, a_verb, a_petition, entry_taken, entries_taken, carried, property_row, dumped_slot, slot_line_put}
 use Rattle.moo_load.proofs.ReadBack.Lists.{counted}
 use Rattle.moo_load.proofs.ReadBack.Puts.{puts}
 
@@ -13,7 +13,7 @@ abbrev pub petition_in : Entry → Option (PetitionId × PetitionRow)
 petition_in (a_petition e) = Some e
 petition_in e = None
 
-abbrev pub property_in : Entry → Option Pair
+abbrev pub property_in : Entry → Option Property
 property_in (a_property x n) = Some (x, n)
 property_in e = None
 
@@ -21,11 +21,11 @@ abbrev pub verb_in : Entry → Option (ObjNo × VerbRow)
 verb_in (a_verb x v) = Some (x, v)
 verb_in e = None
 
-abbrev pub slot_in : (Pair → PropId) → Entry → Option ((ObjNo × PropId) × SlotRow)
+abbrev pub slot_in : (Property → PropId) → Entry → Option ((ObjNo × PropId) × SlotRow)
 slot_in number (a_slot x p k) = Some ((x, number p), dumped_slot k)
 slot_in number e = None
 
-abbrev pub property_entry : ℕ → Pair → PropId × PropRow
+abbrev pub property_entry : ℕ → Property → PropId × PropRow
 property_entry n p = (record { 0 = n }, property_row p)
 
 abbrev pub verb_entry : ℕ → ObjNo × VerbRow → (ObjNo × VerbId) × VerbRow
@@ -67,7 +67,7 @@ all_taken [] m = refl
 all_taken (an_object x row ∷ es) m = all_taken es (entry_taken (an_object x row) m)
 all_taken (e ∷ es) m = all_taken es (entry_taken e m)
 
-pub slots_taken : (number : Pair → PropId) (es : List Entry) (t : LastSlot × Maps) → (carried (slot_line_put number) es t).1 ≡ record (t.1) { slots = puts (filter_map (slot_in number) es) t.1.slots }
+pub slots_taken : (number : Property → PropId) (es : List Entry) (t : LastSlot × Maps) → (carried (slot_line_put number) es t).1 ≡ record (t.1) { slots = puts (filter_map (slot_in number) es) t.1.slots }
 slots_taken number [] t = refl
 slots_taken number (a_slot x p k ∷ es) t = slots_taken number es (slot_line_put number (a_slot x p k) t)
 slots_taken number (e ∷ es) t = slots_taken number es t

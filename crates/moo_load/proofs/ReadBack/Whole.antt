@@ -1,15 +1,12 @@
 -- What is read of the entries of a state are its rows.
-use Rattle.moo_load.proofs.Words.{◌≡◌, ℕ, ◌+◌, ◌<◌, ◌≤◌, true, false, cond, Option, Some, None, List, [], ◌∷◌, ◌++◌, map, length, refl, sym, ap, subst, ◌∙◌, inl, inr, arith, is_some, max, FinMap, get, get-entries, entries, empty, find_key, AllByRecursion, flat_map, filter_map, option_map, option_and_then, eq_by_cmp, same_Some, none-some, ObjNo, ObjRow, PetitionId, PetitionRow, PropId, SlotRow, VerbId, VerbRow, object_exact, prop_exact, slot_exact, verb_exact, petition_exact, Maps, no_maps, object_cmp, prop_cmp, slot_cmp, verb_cmp, petition_cmp, object_total, prop_total, slot_total, verb_total, petition_total, State, objects_of, Pair, folded, same_object, same_object-Decides, same_text-Decides, IsFormed, World, Record, Slot, slot_of, owed_by, chain, key-Decides, all_weaker, Entry, an_object, a_property, a_slot, a_verb, a_petition, NumbersAreLeft, entries_taken, carried, first_head, all_properties, all_verbs, at_number, property_row, dumped_slot, slot_of_property, verb_on, HasNumbers, AreRowsOf, no_slot, slot_line_put, Head, both_true, some_of}
-use Rattle.std.specs.FinMap.{same_map}
-use Rattle.moo_world.specs.World.{row_of}
-use Rattle.moo_load.specs.RowsOf.{IsAbove}
+use Rattle.moo_load.proofs.Words.{◌≡◌, ℕ, ◌+◌, ◌<◌, ◌≤◌, true, false, cond, Option, Some, None, List, [], ◌∷◌, ◌++◌, map, length, refl, sym, ap, subst, ◌∙◌, inl, inr, arith, is_some, max, FinMap, get, get-entries, entries, empty, find_key, AllByRecursion, flat_map, filter_map, option_map, option_and_then, eq_by_cmp, same_Some, none-some, ObjNo, ObjRow, PetitionId, PetitionRow, PropId, SlotRow, VerbId, VerbRow, object_exact, prop_exact, slot_exact, verb_exact, petition_exact, Maps, no_maps, object_cmp, prop_cmp, slot_cmp, verb_cmp, petition_cmp, object_total, prop_total, slot_total, verb_total, petition_total, State, objects_of, Property, folded, same_object, same_object-Decides, same_text-Decides, IsFormed, World, WorldObject, Slot, slot_of, defined_by_any, chain, key-Decides, all_weaker, Entry, an_object, a_property, a_slot, a_verb, a_petition, NumbersAreLeft, entries_taken, carried, first_head, all_properties, all_verbs, at_number, property_row, dumped_slot, slot_of_property, verb_on, HasNumbers, AreRowsOf, no_slot, slot_line_put, Head, both_true, some_of, same_map, row_of, IsAbove}
 use Rattle.moo_load.proofs.ReadBack.Taken.{petition_in, row_in, slot_in, property_entry, verb_entry, above_all, slots_taken, all_taken, after, after_one}
 use Rattle.moo_load.proofs.ReadBack.Fit.{petitions_of, numbers_left, properties_are, verbs_are}
 use Rattle.moo_load.proofs.One.Entries.{owed_entry, record_entries, object_entries, entries_of}
 use Rattle.moo_load.proofs.ReadBack.Finding.{Each, slots_next}
 use Rattle.moo_load.proofs.ReadBack.Lists.{Stands, stands_left, stands_right, stands_flat, stands_made, all_made_by, counted, alike_once, found_in, made_of, passed, numbered_stands}
 use Rattle.moo_load.proofs.ReadBack.Numbers.{place, number, number_is, place_found, alike, properties_differ}
-use Rattle.moo_load.proofs.ReadBack.Said.{object_stands, Good, all_good, among_all, has_property, of_property, of_slot, petitions_own, slot_object}
+use Rattle.moo_load.proofs.ReadBack.Said.{object_stands, Good, all_good, among_all, slot_has_property, of_property, of_slot, petitions_own, slot_object}
 use Rattle.moo_load.proofs.ReadBack.Puts.{puts, exactly, by_number}
 
 -- ---- numbers of petitions
@@ -51,7 +48,7 @@ module _ (m : FinMap petition_cmp PetitionRow) where
 -- ---- the entries of a state are its rows
 
 -- the maps that the lines make, if the properties have these numbers
-abbrev pub made_by : List Pair → List Entry → Head → Maps
+abbrev pub made_by : List Property → List Entry → Head → Maps
 made_by all es head = (carried (slot_line_put (number all)) es (no_slot, entries_taken es (record no_maps { head = head }))).1
 
 module _ (s : State) (formed : IsFormed s) where
@@ -61,20 +58,20 @@ module _ (s : State) (formed : IsFormed s) where
   abbrev es : List Entry
   es = entries_of s
 
-  abbrev all : List Pair
+  abbrev all : List Property
   all = all_properties w
 
   -- an entry of an object stands among them
-  entry_stands : (x : ObjNo) (r : Record) → w.object x ≡ Some r → (e : Entry) → Stands e (record_entries w x r) → Stands e es
+  entry_stands : (x : ObjNo) (r : WorldObject) → w.object x ≡ Some r → (e : Entry) → Stands e (record_entries w x r) → Stands e es
   entry_stands x r is e st =
       stands_left e (flat_map (object_entries w) (objects_of w)) (map a_petition (entries s.petitions))
       (stands_flat (object_entries w) (objects_of w) x e (object_stands w formed.world x (ap is_some is))
-      (subst (λ (o : Option Record). Stands e (elim o [ None ↦ [] | Some r ↦ record_entries w x r ])) (sym is) st))
+      (subst (λ (o : Option WorldObject). Stands e (elim o [ None ↦ [] | Some r ↦ record_entries w x r ])) (sym is) st))
 
   objects_are : (x : ObjNo) → get (puts {cmp = object_cmp} (filter_map row_in es) empty) x ≡ row_of w x
   objects_are x =
       exactly object_total object_exact (row_of w) x (filter_map row_in es) (all_made_by (λ (e : ObjNo × ObjRow). row_of w e.0 ≡ Some e.1) row_in es (all_weaker (Good s formed) (λ a. (b : ObjNo × ObjRow) → row_in a ≡ Some b → row_of w b.0 ≡ Some b.1) said es (all_good s formed)))
-      (λ row e. let r = made_of (λ (k : Record). k.row) (w.object x) row e in stands_made row_in es (an_object x r.0.row) (x, row) (entry_stands x r.0 r.1 (an_object x r.0.row) (inl refl)) (λ i. Some (x, r.2 i)))
+      (λ row e. let r = made_of (λ (k : WorldObject). k.row) (w.object x) row e in stands_made row_in es (an_object x r.0.row) (x, row) (entry_stands x r.0 r.1 (an_object x r.0.row) (inl refl)) (λ i. Some (x, r.2 i)))
     where
       said : (a : Entry) → Good s formed a → (b : ObjNo × ObjRow) → row_in a ≡ Some b → row_of w b.0 ≡ Some b.1
       said (an_object y row) h b e = subst (λ (k : ObjNo × ObjRow). row_of w k.0 ≡ Some k.1) (same_Some (y, row) b e) h.1
@@ -106,22 +103,22 @@ module _ (s : State) (formed : IsFormed s) where
   slot_told k = option_and_then (slot_of_property w k.0) (at_number all k.1.0)
 
   -- a slot that an object has of a property is owed to it
-  slot_owed : (x : ObjNo) (p : Pair) (k : Slot) → Stands p all → slot_of w x (folded p.1) ≡ Some k → k.definer ≡ p.0 → Stands p (owed_by w (chain w x))
+  slot_owed : (x : ObjNo) (p : Property) (k : Slot) → Stands p all → slot_of w x (folded p.1) ≡ Some k → k.definer ≡ p.0 → Stands p (defined_by_any w (chain w x))
   slot_owed x p k st e own =
       let q = of_slot s formed x (folded p.1) k e in
       let definer : q.0.0 ≡ p.0 = sym q.3 ∙ own in
       let same : q.0 ≡ p = alike_once alike all q.0 p (properties_differ w formed.world) (among_all s formed (chain w x) q.0 q.1) st
       (both_true _ _ ((same_object-Decides q.0.0 p.0).1 definer) ((same_text-Decides (folded q.0.1) (folded p.1)).1 q.2))
       (both_true _ _ ((same_object-Decides p.0 q.0.0).1 (sym definer)) ((same_text-Decides (folded p.1) (folded q.0.1)).1 (sym q.2))) in
-      subst (λ (r : Pair). Stands r (owed_by w (chain w x))) same q.1
+      subst (λ (r : Property). Stands r (defined_by_any w (chain w x))) same q.1
 
-  slot_stands : (x : ObjNo) (p : Pair) (k : Slot) → Stands p (owed_by w (chain w x)) → slot_of w x (folded p.1) ≡ Some k → Stands (a_slot x p k) es
+  slot_stands : (x : ObjNo) (p : Property) (k : Slot) → Stands p (defined_by_any w (chain w x)) → slot_of w x (folded p.1) ≡ Some k → Stands (a_slot x p k) es
   slot_stands x p k st e =
       let r = some_of (w.object x) (slot_object w x (folded p.1) k e) in
-      let slots = flat_map (owed_entry w x) (owed_by w (chain w x)) in
+      let slots = flat_map (owed_entry w x) (defined_by_any w (chain w x)) in
       entry_stands x r.0 r.1 (a_slot x p k)
       (inr (stands_right (a_slot x p k) (map (a_property x) r.0.defines) (slots ++ map (a_verb x) r.0.verbs) (stands_left (a_slot x p k) slots (map (a_verb x) r.0.verbs)
-      (stands_flat (owed_entry w x) (owed_by w (chain w x)) p (a_slot x p k) st
+      (stands_flat (owed_entry w x) (defined_by_any w (chain w x)) p (a_slot x p k) st
       (subst (λ (o : Option Slot). Stands (a_slot x p k) (elim o [ None ↦ [] | Some j ↦ a_slot x p j ∷ [] ])) (sym e) (inl refl))))))
 
   slots_are : (x : ObjNo) (id : PropId) → get (puts {cmp = slot_cmp} (filter_map (slot_in (number all)) es) empty) (x, id) ≡ slot_told (x, id)
@@ -136,7 +133,7 @@ module _ (s : State) (formed : IsFormed s) where
       said : (a : Entry) → Good s formed a → (b : (ObjNo × PropId) × SlotRow) → slot_in (number all) a ≡ Some b → slot_told b.0 ≡ Some b.1
       said (a_slot y p k) h b e =
           subst (λ (j : (ObjNo × PropId) × SlotRow). slot_told j.0 ≡ Some j.1) (same_Some ((y, number all p), dumped_slot k) b e)
-          (ap (option_and_then (slot_of_property w y)) (place_found p all h.1.0) ∙ has_property w y p k h.1.1 h.1.2)
+          (ap (option_and_then (slot_of_property w y)) (place_found p all h.1.0) ∙ slot_has_property w y p k h.1.1 h.1.2)
       said a h b e = absurd (none-some b e)
 
   -- ---- all
@@ -145,7 +142,7 @@ module _ (s : State) (formed : IsFormed s) where
   first = record no_maps { head = first_head s }
 
   props_got : (id : PropId) → get (entries_taken es first).props id ≡ option_map property_row (at_number all id.0)
-  props_got id = ap (λ (m : Maps). get m.props id) (all_taken es first) ∙ ap (λ (l : List Pair). get (puts {cmp = prop_cmp} (counted property_entry 1 l) empty) id) (properties_are s) ∙ props_are id
+  props_got id = ap (λ (m : Maps). get m.props id) (all_taken es first) ∙ ap (λ (l : List Property). get (puts {cmp = prop_cmp} (counted property_entry 1 l) empty) id) (properties_are s) ∙ props_are id
 
   pub slots_in_turn : Each w formed.world es (no_slot, entries_taken es first)
   slots_in_turn = slots_next s formed.world (entries_taken es first) props_got
@@ -156,11 +153,11 @@ module _ (s : State) (formed : IsFormed s) where
       (record {
         seq = refl;
         top = refl;
-        next_prop = ap (λ (l : List Pair). after 1 l) (properties_are s) ∙ after_one all;
+        next_prop = ap (λ (l : List Property). after 1 l) (properties_are s) ∙ after_one all;
         next_verb = ap (λ (l : List (ObjNo × VerbRow)). after 1 l) (verbs_are s) ∙ after_one (all_verbs w);
         next_petition = subst (IsAbove s.petitions) (sym (ap (above_all 1) (petitions_of s))) (next_is s.petitions);
         objects = objects_are;
-        props = λ id. ap (λ (l : List Pair). get (puts {cmp = prop_cmp} (counted property_entry 1 l) empty) id) (properties_are s) ∙ props_are id;
+        props = λ id. ap (λ (l : List Property). get (puts {cmp = prop_cmp} (counted property_entry 1 l) empty) id) (properties_are s) ∙ props_are id;
         slots = slots_are;
         verbs = λ x id. ap (λ (l : List (ObjNo × VerbRow)). get (puts {cmp = verb_cmp} (counted verb_entry 1 l) empty) (x, id)) (verbs_are s) ∙ verbs_are_by x id;
         petitions = petitions_are;
@@ -169,5 +166,5 @@ module _ (s : State) (formed : IsFormed s) where
   pub enough_numbers : HasNumbers s → NumbersAreLeft (entries_of s) first
   enough_numbers few =
       numbers_left (entries_of s) first
-      (subst (λ (l : List Pair). 1 + length l ≤ 4294967295) (sym (properties_are s)) (let p = few.properties in omega arith))
+      (subst (λ (l : List Property). 1 + length l ≤ 4294967295) (sym (properties_are s)) (let p = few.properties in omega arith))
       (subst (λ (l : List (ObjNo × VerbRow)). 1 + length l ≤ 4294967295) (sym (verbs_are s)) (let v = few.verbs in omega arith))

@@ -1,5 +1,5 @@
 -- A dump has a line for each property and each verb.
-use Rattle.moo_load.proofs.Words.{◌≡◌, ◌<◌, ◌≤◌, List, [], ◌∷◌, ◌++◌, length, map, Option, Some, None, ap, arith, codes, unwrap_or, option_map, entries, flat_map, length-append, length-map, ObjNo, VerbRow, heading, dump, State, objects_of, Pair, World, Record, defined_by, owed_by, chain, directory_of, Entry, an_object, a_property, a_verb, a_petition, entry_text, HasNumbers}
+use Rattle.moo_load.proofs.Words.{◌≡◌, ◌<◌, ◌≤◌, List, [], ◌∷◌, ◌++◌, length, map, Option, Some, None, ap, arith, codes, unwrap_or, option_map, entries, flat_map, length-append, length-map, ObjNo, VerbRow, heading, dump, State, objects_of, Property, World, WorldObject, defined_by, defined_by_any, chain, directory_of, Entry, an_object, a_property, a_verb, a_petition, entry_text, HasNumbers}
 use Rattle.moo_load.proofs.One.Entries.{owed_entry, record_entries, object_entries, entries_of, dump_is}
 
 some_text : (e : Entry) → 0 < length (entry_text e)
@@ -20,13 +20,13 @@ no_longer f g each (x ∷ l) =
     omega (arith, one, rest, left, right)
 
 few_properties : (w : World) (x : ObjNo) → length (defined_by w x) ≤ length (object_entries w x)
-few_properties w x = elim (w.object x) as (λ (o : Option Record). length {A = Pair} (map (λ n. (x, n)) (unwrap_or (option_map (λ (r : Record). r.defines) o) [])) ≤ length {A = Entry} (elim o [ None ↦ [] | Some r ↦ record_entries w x r ])) [
+few_properties w x = elim (w.object x) as (λ (o : Option WorldObject). length {A = Property} (map (λ n. (x, n)) (unwrap_or (option_map (λ (r : WorldObject). r.defines) o) [])) ≤ length {A = Entry} (elim o [ None ↦ [] | Some r ↦ record_entries w x r ])) [
   | None ↦ omega arith
   | Some r ↦
-      let rest = flat_map (owed_entry w x) (owed_by w (chain w x)) ++ map (a_verb x) r.verbs in
+      let rest = flat_map (owed_entry w x) (defined_by_any w (chain w x)) ++ map (a_verb x) r.verbs in
       let a = length-append (map (a_property x) r.defines) rest in
       let b = length-map r.defines (a_property x) in
-      let c : length {A = Pair} (map (λ n. (x, n)) r.defines) ≡ length r.defines = length-map r.defines (λ n. (x, n)) in
+      let c : length {A = Property} (map (λ n. (x, n)) r.defines) ≡ length r.defines = length-map r.defines (λ n. (x, n)) in
       omega (arith, a, b, c)
 ]
 
@@ -34,10 +34,10 @@ abbrev verbs_of : World → ObjNo → List (ObjNo × VerbRow)
 verbs_of w x = map (λ v. (x, v)) (directory_of w x)
 
 few_verbs : (w : World) (x : ObjNo) → length (verbs_of w x) ≤ length (object_entries w x)
-few_verbs w x = elim (w.object x) as (λ (o : Option Record). length {A = ObjNo × VerbRow} (map (λ v. (x, v)) (unwrap_or (option_map (λ (r : Record). r.verbs) o) [])) ≤ length {A = Entry} (elim o [ None ↦ [] | Some r ↦ record_entries w x r ])) [
+few_verbs w x = elim (w.object x) as (λ (o : Option WorldObject). length {A = ObjNo × VerbRow} (map (λ v. (x, v)) (unwrap_or (option_map (λ (r : WorldObject). r.verbs) o) [])) ≤ length {A = Entry} (elim o [ None ↦ [] | Some r ↦ record_entries w x r ])) [
   | None ↦ omega arith
   | Some r ↦
-      let owed = flat_map (owed_entry w x) (owed_by w (chain w x)) in
+      let owed = flat_map (owed_entry w x) (defined_by_any w (chain w x)) in
       let a = length-append (map (a_property x) r.defines) (owed ++ map (a_verb x) r.verbs) in
       let b = length-append owed (map (a_verb x) r.verbs) in
       let c = length-map r.verbs (a_verb x) in

@@ -1,7 +1,5 @@
 -- The rows of a state are good, and show the same state.
-use Rattle.moo_load.proofs.Words.{◌≡◌, ℕ, ◌<◌, ◌≤◌, true, List, Some, sym, ap, subst, ◌∙◌, arith, is_some, option_map, FinMap, get, same_Some, ObjNo, PetitionRow, PropRow, SlotRow, VerbRow, Maps, petition_cmp, State, state_of, Pair, same_object, folded, same_object-Decides, same_text-Decides, IsFormed, world_of, world_shown, prop_id, verb_id, World, Record, Slot, IsWellFormed, is_object, slot_of, chain, dump, AreTheSame, all_properties, all_verbs, at_number, property_row, slot_of_property, verb_on, HasNumbers, AreRowsOf, both_true, directory_of, names_of, objects_of, some_of}
-use Rattle.moo_world.specs.Petitions.{PetitionsStand}
-use Rattle.moo_world.specs.Rows.{IsSound, IsGood}
+use Rattle.moo_load.proofs.Words.{◌≡◌, ℕ, ◌<◌, ◌≤◌, true, List, Some, sym, ap, subst, ◌∙◌, arith, is_some, option_map, FinMap, get, same_Some, ObjNo, PetitionRow, PropRow, SlotRow, VerbRow, Maps, petition_cmp, State, state_of, Property, same_object, folded, same_object-Decides, same_text-Decides, IsFormed, world_of, world_shown, prop_id, verb_id, World, WorldObject, Slot, IsWellFormed, is_object, slot_of, chain, dump, AreTheSame, all_properties, all_verbs, at_number, property_row, slot_of_property, verb_on, HasNumbers, AreRowsOf, both_true, directory_of, property_names_of, objects_of, some_of, PetitionsStand, IsSound, IsGood}
 use Rattle.moo_load.proofs.Shown.Lists.{given}
 use Rattle.moo_load.proofs.ReadBack.Lists.{one_number, found_in, made_of, numbered_stands, of_all, of_holders, passed}
 use Rattle.moo_load.proofs.ReadBack.Said.{of_property, slot_object}
@@ -12,21 +10,21 @@ module _ (s : State) (formed : IsFormed s) (m : Maps) (rows : AreRowsOf s m) whe
   abbrev w : World
   w = s.world
 
-  abbrev ps : List Pair
+  abbrev ps : List Property
   ps = all_properties w
 
   -- ---- sound
 
   -- the property of a row
-  of_prop : (id : ℕ) (p : PropRow) → get m.props (prop_id id) ≡ Some p → (q : Pair) × (at_number ps id ≡ Some q) × (property_row q ≡ p)
+  of_prop : (id : ℕ) (p : PropRow) → get m.props (prop_id id) ≡ Some p → (q : Property) × (at_number ps id ≡ Some q) × (property_row q ≡ p)
   of_prop id p e = made_of property_row (at_number ps id) p (sym (rows.props (prop_id id)) ∙ e)
 
   -- the property and the slot of a row
-  of_row : (x : ObjNo) (id : ℕ) (row : SlotRow) → get m.slots (x, prop_id id) ≡ Some row → (q : Pair) × (at_number ps id ≡ Some q) × (slot_of_property w x q ≡ Some row)
+  of_row : (x : ObjNo) (id : ℕ) (row : SlotRow) → get m.slots (x, prop_id id) ≡ Some row → (q : Property) × (at_number ps id ≡ Some q) × (slot_of_property w x q ≡ Some row)
   of_row x id row e = found_in (slot_of_property w x) (at_number ps id) row (sym (rows.slots x (prop_id id)) ∙ e)
 
   has_row : (x : ObjNo) → is_object w x ≡ true → is_some (get m.objects x) ≡ true
-  has_row x there = let r = some_of (w.object x) there in ap is_some (rows.objects x ∙ ap (option_map (λ (k : Record). k.row)) r.1)
+  has_row x there = let r = some_of (w.object x) there in ap is_some (rows.objects x ∙ ap (option_map (λ (k : WorldObject). k.row)) r.1)
 
   one_name : (x : ObjNo) (i j : ℕ) (p q : PropRow) → is_some (get m.slots (x, prop_id i)) ≡ true → is_some (get m.slots (x, prop_id j)) ≡ true → get m.props (prop_id i) ≡ Some p → get m.props (prop_id j) ≡ Some q → folded p.name ≡ folded q.name → i ≡ j
   one_name x i j p q e f g h same =
@@ -36,8 +34,8 @@ module _ (s : State) (formed : IsFormed s) (m : Maps) (rows : AreRowsOf s m) whe
       let d = of_row x j b.0 b.1 in
       let u = of_property w x c.0 a.0 c.2 in
       let v = of_property w x d.0 b.0 d.2 in
-      let first : c.0.1 ≡ p.name = let o = of_prop i p g in ap (λ (r : Pair). r.1) (same_Some c.0 o.0 (sym c.1 ∙ o.1)) ∙ ap (λ (r : PropRow). r.name) o.2 in
-      let second : d.0.1 ≡ q.name = let o = of_prop j q h in ap (λ (r : Pair). r.1) (same_Some d.0 o.0 (sym d.1 ∙ o.1)) ∙ ap (λ (r : PropRow). r.name) o.2 in
+      let first : c.0.1 ≡ p.name = let o = of_prop i p g in ap (λ (r : Property). r.1) (same_Some c.0 o.0 (sym c.1 ∙ o.1)) ∙ ap (λ (r : PropRow). r.name) o.2 in
+      let second : d.0.1 ≡ q.name = let o = of_prop j q h in ap (λ (r : Property). r.1) (same_Some d.0 o.0 (sym d.1 ∙ o.1)) ∙ ap (λ (r : PropRow). r.name) o.2 in
       let names : folded c.0.1 ≡ folded d.0.1 = ap folded first ∙ same ∙ sym (ap folded second) in
       let one : u.0 ≡ v.0 = same_Some u.0 v.0 (sym u.1 ∙ ap (slot_of w x) names ∙ v.1) in
       let definers : c.0.0 ≡ d.0.0 = sym u.2 ∙ ap (λ (k : Slot). k.definer) one ∙ v.2 in
@@ -54,7 +52,7 @@ module _ (s : State) (formed : IsFormed s) (m : Maps) (rows : AreRowsOf s m) whe
         (g.0, subst (λ (n : ℕ). id < n) (sym rows.next_prop) g.1);
     definers = λ id p e.
         let q = of_prop id p e in
-        subst (λ (d : ObjNo). is_some (get m.objects d) ≡ true) (ap (λ (r : PropRow). r.definer) q.2) (has_row q.0.0 (of_all (λ (r : Pair). is_object w r.0 ≡ true) ps q.0 (of_holders (names_of w) (λ r. is_object w r.0 ≡ true) (objects_of w) (λ x s n h. of_all (λ x. is_object w x ≡ true) (objects_of w) x (objects_are w) s)) (numbered_stands ps id q.0 q.1)));
+        subst (λ (d : ObjNo). is_some (get m.objects d) ≡ true) (ap (λ (r : PropRow). r.definer) q.2) (has_row q.0.0 (of_all (λ (r : Property). is_object w r.0 ≡ true) ps q.0 (of_holders (property_names_of w) (λ r. is_object w r.0 ≡ true) (objects_of w) (λ x s n h. of_all (λ x. is_object w x ≡ true) (objects_of w) x (objects_are w) s)) (numbered_stands ps id q.0 q.1)));
     slots = λ x id there.
         let r = some_of (get m.slots (x, prop_id id)) there in
         let q = of_row x id r.0 r.1 in
@@ -64,8 +62,14 @@ module _ (s : State) (formed : IsFormed s) (m : Maps) (rows : AreRowsOf s m) whe
     verbs = λ x id there.
         let r = some_of (get m.verbs (x, verb_id id)) there in
         let v = found_in (verb_on x) (at_number (all_verbs w) id) r.0 (sym (rows.verbs x (verb_id id)) ∙ r.1) in
-        let g = given (all_verbs w) id v.0 v.1 in
-        (has_row x (ap (is_object w) ((same_object-Decides x v.0.0).0 (passed (same_object x v.0.0) v.0.1 r.0 v.2).0) ∙ of_all (λ (e : ObjNo × VerbRow). is_object w e.0 ≡ true) (all_verbs w) v.0 (of_holders (directory_of w) (λ e. is_object w e.0 ≡ true) (objects_of w) (λ x s n h. of_all (λ x. is_object w x ≡ true) (objects_of w) x (objects_are w) s)) (numbered_stands (all_verbs w) id v.0 v.1)), g.0, subst (λ (n : ℕ). id < n) (sym rows.next_verb) g.1);
+        let g = given (all_verbs w) id v.0 v.1 in (
+          has_row x (ap (is_object w) ((same_object-Decides x v.0.0).0 (passed (same_object x v.0.0) v.0.1 r.0 v.2).0)
+              ∙ of_all (λ (e : ObjNo × VerbRow). is_object w e.0 ≡ true) (all_verbs w) v.0
+              (of_holders (directory_of w) (λ e. is_object w e.0 ≡ true) (objects_of w)
+              (λ x s n h. of_all (λ x. is_object w x ≡ true) (objects_of w) x (objects_are w) s)) (numbered_stands (all_verbs w) id v.0 v.1)),
+          g.0,
+          subst (λ (n : ℕ). id < n) (sym rows.next_verb) g.1,
+        );
   }
 
   -- ---- the same state
@@ -95,7 +99,7 @@ module _ (s : State) (formed : IsFormed s) (m : Maps) (rows : AreRowsOf s m) whe
       let some_verb : 0 < m.head.next_verb = omega (arith, rows.next_verb) in
       let last_verb : m.head.next_verb ≤ 4294967295 = omega (arith, rows.next_verb, numbers.verbs) in
       record {
-        tree = record { numbers = wf.tree.numbers; chains = wf.tree.chains; places = wf.tree.places };
+        tree = record { numbers = wf.tree.numbers; chains = wf.tree.chains; locations = wf.tree.locations };
         names = wf.names;
         slots = wf.slots;
         set = wf.set;

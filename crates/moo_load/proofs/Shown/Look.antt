@@ -1,11 +1,9 @@
 -- The rows of a state show its objects.
-use Rattle.moo_load.proofs.Words.{◌≡◌, ℕ, true, false, cond, List, [], Option, Some, None, refl, sym, ap, ◌∙◌, is_some, unwrap_or, slice_get, option_map, option_and_then, get, filter_map, none-some, ObjNo, PropRow, VerbRow, Maps, State, objects_of, Name, Pair, same_object, same_text, folded, same_text-Decides, world_of, world_shown, numbers_below, prop_id, verb_id, World, Record, Slot, is_object, slot_of, chain, names_of, directory_of, all_properties, all_verbs, at_number, property_row, slot_of_property, verb_on, AreRowsOf, IsFormed}
-use Rattle.moo_world.specs.Rows.{look_ups, record_of, name_on, slot_on, slot_seen}
-use Rattle.moo_world.proofs.Ancestry.Subtrees.{object_listed}
+use Rattle.moo_load.proofs.Words.{◌≡◌, ℕ, true, false, cond, List, [], Option, Some, None, refl, sym, ap, ◌∙◌, is_some, unwrap_or, slice_get, option_map, option_and_then, get, filter_map, none-some, ObjNo, PropRow, VerbRow, Maps, State, objects_of, Name, Property, same_object, same_text, folded, same_text-Decides, world_of, world_shown, numbers_below, prop_id, verb_id, World, WorldObject, Slot, is_object, slot_of, chain, property_names_of, directory_of, all_properties, all_verbs, at_number, property_row, slot_of_property, verb_on, AreRowsOf, IsFormed, look_ups, object_shown, name_on, slot_on, slot_seen, object_listed}
 use Rattle.moo_world.proofs.Shown.ObjectEntries.{same_object-symm}
 use Rattle.moo_load.proofs.Shown.Lists.{all_by_number, first_made, of_object, some_first}
 use Rattle.moo_load.proofs.ReadBack.Numbers.{objects_once}
-use Rattle.moo_load.proofs.ReadBack.Said.{among_all, has_property, of_property, of_slot}
+use Rattle.moo_load.proofs.ReadBack.Said.{among_all, slot_has_property, of_property, of_slot}
 use Rattle.moo_load.proofs.ReadBack.Lists.{made_of, stands_made}
 
 -- what is made of what is made
@@ -17,12 +15,12 @@ module _ (s : State) (formed : IsFormed s) (m : Maps) (rows : AreRowsOf s m) whe
   abbrev w : World
   w = s.world
 
-  abbrev ps : List Pair
+  abbrev ps : List Property
   ps = all_properties w
 
   -- ---- definitions
 
-  abbrev name_of_pair : ObjNo → Pair → Option Name
+  abbrev name_of_pair : ObjNo → Property → Option Name
   name_of_pair x p = cond (same_object p.0 x) (Some p.1) None
 
   name_is : (x : ObjNo) (k : ℕ) → name_on (look_ups m) x k ≡ option_and_then (name_of_pair x) (at_number ps k)
@@ -30,12 +28,12 @@ module _ (s : State) (formed : IsFormed s) (m : Maps) (rows : AreRowsOf s m) whe
       ap (option_and_then (λ (p : PropRow). cond (same_object p.definer x) (Some p.name) None)) (rows.props (prop_id k))
       ∙ then_made property_row (λ (p : PropRow). cond (same_object p.definer x) (Some p.name) None) (at_number ps k)
 
-  defines_are : (x : ObjNo) → is_object w x ≡ true → filter_map (name_on (look_ups m) x) (numbers_below m.head.next_prop) ≡ names_of w x
+  defines_are : (x : ObjNo) → is_object w x ≡ true → filter_map (name_on (look_ups m) x) (numbers_below m.head.next_prop) ≡ property_names_of w x
   defines_are x there =
       ap (λ (f : ℕ → Option Name). filter_map f (numbers_below m.head.next_prop)) (λ i k. name_is x k i)
       ∙ all_by_number (name_of_pair x) ps m.head.next_prop rows.next_prop
-      ∙ ap (λ (f : Pair → Option Name). filter_map f ps) (λ i p. cond (same_object-symm p.0 x i) (Some p.1) None)
-      ∙ of_object (names_of w) x (objects_of w) (objects_once w) (object_listed w formed.world.tree x there)
+      ∙ ap (λ (f : Property → Option Name). filter_map f ps) (λ i p. cond (same_object-symm p.0 x i) (Some p.1) None)
+      ∙ of_object (property_names_of w) x (objects_of w) (objects_once w) (object_listed w formed.world.tree x there)
 
   -- ---- verbs
 
@@ -47,16 +45,16 @@ module _ (s : State) (formed : IsFormed s) (m : Maps) (rows : AreRowsOf s m) whe
 
   -- ---- slots
 
-  abbrev slot_of_pair : ObjNo → Name → Pair → Option Slot
+  abbrev slot_of_pair : ObjNo → Name → Property → Option Slot
   slot_of_pair x n p = cond (same_text (folded p.1) n) (option_map (slot_seen p.0) (slot_of_property w x p)) None
 
   slot_is : (x : ObjNo) (n : Name) (k : ℕ) → slot_on (look_ups m) x n k ≡ option_and_then (slot_of_pair x n) (at_number ps k)
   slot_is x n k =
       (λ i. option_and_then (λ (p : PropRow). cond (same_text (folded p.name) n) (option_map (slot_seen p.definer) (rows.slots x (prop_id k) i)) None) (rows.props (prop_id k) i))
-      ∙ elim (at_number ps k) as (λ (o : Option Pair). option_and_then (λ (p : PropRow). cond (same_text (folded p.name) n) (option_map (slot_seen p.definer) (option_and_then (slot_of_property w x) o)) None) (option_map property_row o) ≡ option_and_then (slot_of_pair x n) o) [ None ↦ refl | Some p ↦ refl ]
+      ∙ elim (at_number ps k) as (λ (o : Option Property). option_and_then (λ (p : PropRow). cond (same_text (folded p.name) n) (option_map (slot_seen p.definer) (option_and_then (slot_of_property w x) o)) None) (option_map property_row o) ≡ option_and_then (slot_of_pair x n) o) [ None ↦ refl | Some p ↦ refl ]
 
   -- what a property of the name gives is the slot of the name
-  only_slot : (x : ObjNo) (n : Name) (p : Pair) (k : Slot) → slot_of_pair x n p ≡ Some k → slot_of w x n ≡ Some k
+  only_slot : (x : ObjNo) (n : Name) (p : Property) (k : Slot) → slot_of_pair x n p ≡ Some k → slot_of w x n ≡ Some k
   only_slot x n p k e =
       elim (same_text (folded p.1) n) as (λ b. same_text (folded p.1) n ≡ b → cond b (option_map (slot_seen p.0) (slot_of_property w x p)) None ≡ Some k → slot_of w x n ≡ Some k) [
         | false ↦ λ g h. absurd (none-some k h)
@@ -78,7 +76,7 @@ module _ (s : State) (formed : IsFormed s) (m : Maps) (rows : AreRowsOf s m) whe
           | Some k ↦ λ f.
               let q = of_slot s formed x n k f in
               let made : slot_of_pair x n q.0 ≡ Some k =
-              (λ i. cond ((same_text-Decides (folded q.0.1) n).1 q.2 i) (option_map (slot_seen q.0.0) (has_property w x q.0 k (ap (slot_of w x) q.2 ∙ f) q.3 i)) None)
+              (λ i. cond ((same_text-Decides (folded q.0.1) n).1 q.2 i) (option_map (slot_seen q.0.0) (slot_has_property w x q.0 k (ap (slot_of w x) q.2 ∙ f) q.3 i)) None)
               ∙ ap (λ (d : ObjNo). Some (record { definer = d; owner = k.owner; bits = k.bits; state = k.state })) (sym q.3) in
               absurd (some_first (filter_map (slot_of_pair x n) ps) k (stands_made (slot_of_pair x n) ps q.0 k (among_all s formed (chain w x) q.0 q.1) made) e)
         ] refl
@@ -89,13 +87,13 @@ module _ (s : State) (formed : IsFormed s) (m : Maps) (rows : AreRowsOf s m) whe
   pub object_is : (x : ObjNo) → (world_of m).object x ≡ w.object x
   unfolding world_shown
   object_is x =
-      ap (option_map (record_of (look_ups m) x)) (rows.objects x)
-      ∙ elim (w.object x) as (λ (o : Option Record). w.object x ≡ o → option_map (record_of (look_ups m) x) (option_map (λ (r : Record). r.row) o) ≡ o) [
+      ap (option_map (object_shown (look_ups m) x)) (rows.objects x)
+      ∙ elim (w.object x) as (λ (o : Option WorldObject). w.object x ≡ o → option_map (object_shown (look_ups m) x) (option_map (λ (r : WorldObject). r.row) o) ≡ o) [
         | None ↦ λ e. refl
         | Some r ↦ λ e.
             let there : is_object w x ≡ true = ap is_some e in
-            let defines : filter_map (name_on (look_ups m) x) (numbers_below m.head.next_prop) ≡ r.defines = defines_are x there ∙ ap (λ (o : Option Record). unwrap_or (option_map (λ (k : Record). k.defines) o) []) e in
-            let verbs : filter_map (λ k. get m.verbs (x, verb_id k)) (numbers_below m.head.next_verb) ≡ r.verbs = verbs_are x there ∙ ap (λ (o : Option Record). unwrap_or (option_map (λ (k : Record). k.verbs) o) []) e in
-            let slot : (n : Name) → slice_get (filter_map (slot_on (look_ups m) x n) (numbers_below m.head.next_prop)) 0 ≡ r.slot n = λ n. slots_are x n ∙ ap (option_and_then (λ (k : Record). k.slot n)) e in
+            let defines : filter_map (name_on (look_ups m) x) (numbers_below m.head.next_prop) ≡ r.defines = defines_are x there ∙ ap (λ (o : Option WorldObject). unwrap_or (option_map (λ (k : WorldObject). k.defines) o) []) e in
+            let verbs : filter_map (λ k. get m.verbs (x, verb_id k)) (numbers_below m.head.next_verb) ≡ r.verbs = verbs_are x there ∙ ap (λ (o : Option WorldObject). unwrap_or (option_map (λ (k : WorldObject). k.verbs) o) []) e in
+            let slot : (n : Name) → slice_get (filter_map (slot_on (look_ups m) x n) (numbers_below m.head.next_prop)) 0 ≡ r.slot n = λ n. slots_are x n ∙ ap (option_and_then (λ (k : WorldObject). k.slot n)) e in
             λ i. Some (record { row = r.row; defines = defines i; slot = λ n. slot n i; verbs = verbs i })
       ] refl

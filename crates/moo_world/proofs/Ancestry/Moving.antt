@@ -1,5 +1,5 @@
 -- What a change of one parent does to chains.
-use Rattle.moo_world.proofs.Words.{◌≡◌, Bool, true, false, cond, ◌||◌, List, [], ◌∷◌, ◌++◌, map, refl, sym, ◌∙◌, ap, subst, ◌⊎◌, Option, Some, None, is_some, unwrap_or, if◌then◌else◌, option_map, flat_map, false≢true, or_parts, ObjNo, Name, nothing, same_object, is_among, same_object-Decides, World, Record, IsTree, Climbs, Chain, is_object, parent_of, location_of, names_of, owner_of, owed_by, chain, with_parent}
+use Rattle.moo_world.proofs.Words.{◌≡◌, Bool, true, false, cond, ◌||◌, List, [], ◌∷◌, ◌++◌, map, refl, sym, ◌∙◌, ap, subst, ◌⊎◌, Option, Some, None, is_some, unwrap_or, if◌then◌else◌, option_map, flat_map, false≢true, or_parts, ObjNo, Name, nothing, same_object, is_among, same_object-Decides, World, WorldObject, IsTree, Climbs, Chain, is_object, parent_of, location_of, property_names_of, owner_of, defined_by_any, chain, with_parent}
 use Rattle.moo_world.proofs.Ancestry.Chains.{front_of}
 use Rattle.moo_world.proofs.Ancestry.Trees.{chain_is, Chain-chain, Chain-either}
 
@@ -7,24 +7,24 @@ module _ (w : World) (x q : ObjNo) where
   abbrev pub moved : World
   moved = with_parent w x q
 
-  abbrev change : Record → Record
+  abbrev change : WorldObject → WorldObject
   change r = record r { row = record r.row { parent = q } }
 
-  abbrev at : ObjNo → Record → Record
+  abbrev at : ObjNo → WorldObject → WorldObject
   at y r = if same_object x y then change r else r
 
-  at_other : (y : ObjNo) (b : Bool) (o : Option Record) → same_object x y ≡ b → b ≡ false → option_map (λ r. r.row.parent) (option_map (λ r. if same_object x y then change r else r) o) ≡ option_map (λ r. r.row.parent) o
+  at_other : (y : ObjNo) (b : Bool) (o : Option WorldObject) → same_object x y ≡ b → b ≡ false → option_map (λ r. r.row.parent) (option_map (λ r. if same_object x y then change r else r) o) ≡ option_map (λ r. r.row.parent) o
   at_other y b None e f = refl
   at_other y b (Some r) e f = ap (λ v. Some (cond v (change r) r).row.parent) (e ∙ f)
 
   other_parent : (y : ObjNo) → same_object x y ≡ false → parent_of moved y ≡ parent_of w y
   other_parent y e = at_other y false (w.object y) e refl
 
-  at_itself : (y : ObjNo) (o : Option Record) → same_object x y ≡ true → is_some o ≡ true → option_map (λ r. r.row.parent) (option_map (λ r. if same_object x y then change r else r) o) ≡ Some q
+  at_itself : (y : ObjNo) (o : Option WorldObject) → same_object x y ≡ true → is_some o ≡ true → option_map (λ r. r.row.parent) (option_map (λ r. if same_object x y then change r else r) o) ≡ Some q
   at_itself y None e h = absurd (false≢true h)
   at_itself y (Some r) e h = ap (λ v. Some (cond v (change r) r).row.parent) e
 
-  same_field : {A : Type 0} (f : Record → A) → ((r : Record) → f (change r) ≡ f r) → (y : ObjNo) (o : Option Record) → option_map f (option_map (λ r. if same_object x y then change r else r) o) ≡ option_map f o
+  same_field : {A : Type 0} (f : WorldObject → A) → ((r : WorldObject) → f (change r) ≡ f r) → (y : ObjNo) (o : Option WorldObject) → option_map f (option_map (λ r. if same_object x y then change r else r) o) ≡ option_map f o
   same_field f h y None = refl
   same_field f h y (Some r) = by (same_object x y)
     where
@@ -32,7 +32,7 @@ module _ (w : World) (x q : ObjNo) where
       by true = ap Some (h r)
       by false = refl
 
-  pub names_moved : names_of moved ≡ names_of w
+  pub names_moved : property_names_of moved ≡ property_names_of w
   names_moved = λ i y. unwrap_or (same_field (λ r. r.defines) (λ r. refl) y (w.object y) i) []
 
   pub owner_moved : owner_of moved ≡ owner_of w
@@ -44,11 +44,11 @@ module _ (w : World) (x q : ObjNo) where
   pub object_moved : (y : ObjNo) → is_object moved y ≡ is_object w y
   object_moved y = by (w.object y)
     where
-      by : (o : Option Record) → is_some (option_map (λ r. if same_object x y then change r else r) o) ≡ is_some o
+      by : (o : Option WorldObject) → is_some (option_map (λ r. if same_object x y then change r else r) o) ≡ is_some o
       by None = refl
       by (Some r) = refl
 
-  pub owed_moved : (l : List ObjNo) → owed_by moved l ≡ owed_by w l
+  pub owed_moved : (l : List ObjNo) → defined_by_any moved l ≡ defined_by_any w l
   owed_moved l = ap (λ (names : ObjNo → List Name). flat_map (λ d. map (λ n. (d, n)) (names d)) l) names_moved
 
   -- a chain that x isn't in stays
@@ -79,7 +79,7 @@ module _ (w : World) (x q : ObjNo) where
     IsTree-moved = record {
       numbers = λ y o. t.numbers y (sym (object_moved y) ∙ o);
       chains = λ y o. chained y (sym (object_moved y) ∙ o);
-      places = λ y o. let c = t.places y (sym (object_moved y) ∙ o) in (c.0, subst (λ link. Climbs link y c.0) (sym location_moved) c.1);
+      locations = λ y o. let c = t.locations y (sym (object_moved y) ∙ o) in (c.0, subst (λ link. Climbs link y c.0) (sym location_moved) c.1);
     }
       where
         chained : (y : ObjNo) → is_object w y ≡ true → (l : List ObjNo) × Chain moved y l

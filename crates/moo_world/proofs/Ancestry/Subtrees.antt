@@ -1,8 +1,8 @@
 -- The ascending lists of objects, and names that don't clash.
-use Rattle.moo_world.proofs.Words.{◌≡◌, ℕ, zero, suc, ◌<◌, Bool, true, false, cond, ◌||◌, List, [], ◌∷◌, ◌++◌, map, refl, sym, ◌∙◌, ap, subst, ◌⊎◌, inl, inr, Option, Some, None, arith, pos, is_some, list_any, filter, false≢true, or_parts, or_right, or_cases, cases_eq, ObjNo, Pair, object_at, same_object, same_pair, folded, is_among, same_object-Decides, World, IsTree, is_object, chain, defined_by, owed_by, pair_named, numbers_to, numbers_below, objects_of, subtree_of, meets}
+use Rattle.moo_world.proofs.Words.{◌≡◌, ℕ, zero, suc, ◌<◌, Bool, true, false, cond, ◌||◌, List, [], ◌∷◌, ◌++◌, map, refl, sym, ◌∙◌, ap, subst, ◌⊎◌, inl, inr, Option, Some, None, arith, pos, is_some, list_any, filter, false≢true, or_parts, or_right, or_cases, cases_eq, ObjNo, Property, object_at, same_object, same_property, folded, is_among, same_object-Decides, World, IsTree, is_object, chain, defined_by, defined_by_any, property_named, numbers_to, numbers_below, objects_of, subtree_of, shares_property_name}
 use Rattle.moo_world.proofs.Ancestry.Trees.{assigned, chain_of_none}
 use Rattle.moo_world.proofs.Inheritance.Owed.{any-append, is_among-append}
-use Rattle.moo_world.proofs.Inheritance.Keeping.{same_pair-is}
+use Rattle.moo_world.proofs.Inheritance.Keeping.{same_property-is}
 use Rattle.moo_world.proofs.Inheritance.ManualLaw.{NoClash}
 
 pub among_filter : (t : ObjNo → Bool) (l : List ObjNo) (d : ObjNo) → is_among d l ≡ true → t d ≡ true → is_among d (filter t l) ≡ true
@@ -45,35 +45,35 @@ object_listed w t d o =
     let n = assigned d.0 w.top range.0 range.1 in
     among_filter (is_object w) _ d (numbered (numbers_to w.top) n.0 d n.2 n.1) o
 
-pub owed_listed : (w : World) (l : List ObjNo) (d : ObjNo) (p : Pair) → is_among d l ≡ true → list_any (same_pair p) (defined_by w d) ≡ true → list_any (same_pair p) (owed_by w l) ≡ true
+pub owed_listed : (w : World) (l : List ObjNo) (d : ObjNo) (p : Property) → is_among d l ≡ true → list_any (same_property p) (defined_by w d) ≡ true → list_any (same_property p) (defined_by_any w l) ≡ true
 owed_listed w [] d p h k = absurd (false≢true h)
-owed_listed w (y ∷ l) d p h k = any-append (same_pair p) (defined_by w y) (owed_by w l) ∙ by (or_cases _ _ h) (owed_listed w l d p)
+owed_listed w (y ∷ l) d p h k = any-append (same_property p) (defined_by w y) (defined_by_any w l) ∙ by (or_cases _ _ h) (owed_listed w l d p)
   where
     left : (a b : Bool) → a ≡ true → (a || b) ≡ true
     left true b e = refl
     left false b e = absurd (false≢true e)
 
-    by : (same_object d y ≡ true) ⊎ (is_among d l ≡ true) → (is_among d l ≡ true → list_any (same_pair p) (defined_by w d) ≡ true → list_any (same_pair p) (owed_by w l) ≡ true) → (list_any (same_pair p) (defined_by w y) || list_any (same_pair p) (owed_by w l)) ≡ true
-    by (inl g) r = left _ _ (subst (λ z. list_any (same_pair p) (defined_by w z) ≡ true) ((same_object-Decides d y).0 g) k)
+    by : (same_object d y ≡ true) ⊎ (is_among d l ≡ true) → (is_among d l ≡ true → list_any (same_property p) (defined_by w d) ≡ true → list_any (same_property p) (defined_by_any w l) ≡ true) → (list_any (same_property p) (defined_by w y) || list_any (same_property p) (defined_by_any w l)) ≡ true
+    by (inl g) r = left _ _ (subst (λ z. list_any (same_property p) (defined_by w z) ≡ true) ((same_object-Decides d y).0 g) k)
     by (inr g) r = or_right _ _ (r g k)
 
-none_passes : (t : Pair → Bool) (l : List Pair) (p : Pair) → list_any t l ≡ false → list_any (same_pair p) l ≡ true → t p ≡ false
+none_passes : (t : Property → Bool) (l : List Property) (p : Property) → list_any t l ≡ false → list_any (same_property p) l ≡ true → t p ≡ false
 none_passes t [] p h k = absurd (false≢true k)
 none_passes t (y ∷ l) p h k =
     let parts = or_parts (t y) (list_any t l) h in
-    elim (or_cases _ _ k) [ inl g ↦ ap t (same_pair-is p y g) ∙ parts.0 | inr g ↦ none_passes t l p parts.1 g ]
+    elim (or_cases _ _ k) [ inl g ↦ ap t (same_property-is p y g) ∙ parts.0 | inr g ↦ none_passes t l p parts.1 g ]
 
-is_none : (o : Option Pair) → is_some o ≡ false → o ≡ None
+is_none : (o : Option Property) → is_some o ≡ false → o ≡ None
 is_none None e = refl
 is_none (Some p) e = absurd (false≢true (sym e))
 
 -- the test of the call is the absence of clashes
-pub NoClash-from_meets : (w : World) (t : IsTree w) (x q : ObjNo) → meets w x q ≡ false → NoClash w x q
+pub NoClash-from_meets : (w : World) (t : IsTree w) (x q : ObjNo) → shares_property_name w x q ≡ false → NoClash w x q
 NoClash-from_meets w t x q h d p u k = by (is_object w d) refl
   where
     listed : is_object w d ≡ true → is_among d (subtree_of w x) ≡ true
     listed o = among_filter (λ y. is_among x (chain w y)) (objects_of w) d (object_listed w t d o) u
 
-    by : (b : Bool) → is_object w d ≡ b → pair_named (owed_by w (chain w q)) (folded p.1) ≡ None
-    by true o = is_none _ (none_passes (λ (m : Pair). is_some (pair_named (owed_by w (chain w q)) (folded m.1))) (owed_by w (subtree_of w x)) p h (owed_listed w (subtree_of w x) d p (listed o) k))
+    by : (b : Bool) → is_object w d ≡ b → property_named (defined_by_any w (chain w q)) (folded p.1) ≡ None
+    by true o = is_none _ (none_passes (λ (m : Property). is_some (property_named (defined_by_any w (chain w q)) (folded m.1))) (defined_by_any w (subtree_of w x)) p h (owed_listed w (subtree_of w x) d p (listed o) k))
     by false o = absurd (false≢true (sym (ap (is_among x) (chain_of_none w d o)) ∙ u))

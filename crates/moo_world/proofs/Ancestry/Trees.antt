@@ -1,5 +1,5 @@
 -- The laws of chains in a world.
-use Rattle.moo_world.proofs.Words.{◌≡◌, ℕ, zero, suc, ◌<◌, true, false, List, [], ◌∷◌, refl, sym, ◌∙◌, ap, subst, Option, Some, None, arith, ℤ, pos, negsuc, ◌≤ℤ◌, is_some, option_map, false≢true, ints, none-some, same_Some, ObjNo, nothing, is_among, World, Record, IsTree, Chain, IsUnder, is_object, parent_of, climb, chain, numbers_to, ◌⊎◌, inl, inr}
+use Rattle.moo_world.proofs.Words.{◌≡◌, ℕ, zero, suc, ◌<◌, true, false, List, [], ◌∷◌, refl, sym, ◌∙◌, ap, subst, Option, Some, None, arith, ℤ, pos, negsuc, ◌≤ℤ◌, is_some, option_map, false≢true, ints, none-some, same_Some, ObjNo, nothing, is_among, World, WorldObject, IsTree, Chain, IsUnder, is_object, parent_of, climb, chain, numbers_to, ◌⊎◌, inl, inr}
 use Rattle.moo_world.proofs.Ancestry.Chains.{Climbs-unique, Climbs-bound, climb_is, NumbersBelow}
 
 pub assigned : (z top : ℤ) → pos 0 ≤ℤ z → z ≤ℤ top → (n : ℕ) × (z ≡ pos n) × (n < numbers_to top)
@@ -7,11 +7,11 @@ assigned (pos n) (pos t) low high = (n, refl, omega (arith, ints))
 assigned (pos n) (negsuc t) low high = absurd (omega (arith, ints))
 assigned (negsuc n) top low high = absurd (omega (arith, ints))
 
-pub linked : (o : Option Record) (f : Record → ObjNo) (next : ObjNo) → option_map f o ≡ Some next → is_some o ≡ true
+pub linked : (o : Option WorldObject) (f : WorldObject → ObjNo) (next : ObjNo) → option_map f o ≡ Some next → is_some o ≡ true
 linked None f next e = absurd (none-some next e)
 linked (Some r) f next e = refl
 
-pub no_link : (o : Option Record) (f : Record → ObjNo) → is_some o ≡ false → option_map f o ≡ None
+pub no_link : (o : Option WorldObject) (f : WorldObject → ObjNo) → is_some o ≡ false → option_map f o ≡ None
 no_link None f e = refl
 no_link (Some r) f e = absurd (false≢true (sym e))
 
@@ -65,12 +65,12 @@ chain_of_none w x e = cut (numbers_to w.top)
     cut zero = refl
     cut (suc n) = subst (λ (o : Option ObjNo). elim o [ None ↦ [] | Some next ↦ x ∷ climb n (parent_of w) next ] ≡ []) (sym (no_link (w.object x) (λ r. r.row.parent) e)) refl
 
-parent_seen : (o : Option Record) (f : Record → ObjNo) (r : Record) → o ≡ Some r → option_map f o ≡ Some (f r)
+parent_seen : (o : Option WorldObject) (f : WorldObject → ObjNo) (r : WorldObject) → o ≡ Some r → option_map f o ≡ Some (f r)
 parent_seen o f r e = ap (option_map f) e
 
 module _ (w : World) (t : IsTree w) where
   -- one step up
-  pub chain-step : (x : ObjNo) (r : Record) → w.object x ≡ Some r → chain w x ≡ x ∷ chain w r.row.parent
+  pub chain-step : (x : ObjNo) (r : WorldObject) → w.object x ≡ Some r → chain w x ≡ x ∷ chain w r.row.parent
   chain-step x r e =
       let here : is_object w x ≡ true = ap is_some e in
       let c = Chain-chain w t x here in

@@ -1,5 +1,5 @@
 -- A move of an object up its own chain: the checks let it through, and what lay between goes.
-use Rattle.moo_world.proofs.Lemmas.{◌≡◌, Bool, true, false, cond, ◌||◌, List, [], ◌∷◌, ◌++◌, drop, refl, sym, ◌∙◌, ap, subst, ◌⊎◌, inl, inr, Option, Some, None, append_assoc, unwrap_or, is_some, if◌then◌else◌, option_map, list_any, find, filter, false≢true, both_ways, or_parts, or_right, or_cases, ObjNo, Name, Pair, nothing, same_object, same_pair, folded, is_among, same_object-Decides, same_pair-self, World, IsWellFormed, Chain, NamesDiffer, is_object, parent_of, names_of, owner_of, slot_of, defined_by, owed_by, pair_named, chain, fresh, MayReparent, common, except, lost, gained, kept_from, manual_slot, objects_of, subtree_of, meets, front_of, Climbs-split, Climbs-once, Chain-chain, chain_of_none, no_parent, is_among-append, is_among-right, owed_by-append, own_pair, in_owed, in_owed-append, definer_among, named_once, some_named, same_object-self, apart_in_chain, except_end, NoClash, own_owed, Chain-either}
+use Rattle.moo_world.proofs.Lemmas.{◌≡◌, Bool, true, false, cond, ◌||◌, List, [], ◌∷◌, ◌++◌, drop, refl, sym, ◌∙◌, ap, subst, ◌⊎◌, inl, inr, Option, Some, None, append_assoc, unwrap_or, is_some, if◌then◌else◌, option_map, list_any, find, filter, false≢true, both_ways, or_parts, or_right, or_cases, ObjNo, Name, Property, nothing, same_object, same_property, folded, is_among, same_object-Decides, same_property-self, World, IsWellFormed, Chain, NamesDiffer, is_object, parent_of, property_names_of, owner_of, slot_of, defined_by, defined_by_any, property_named, chain, fresh, MayReparent, common, except, lost, gained, unless_defined_by, manual_slot, objects_of, subtree_of, shares_property_name, front_of, Climbs-split, Climbs-once, Chain-chain, chain_of_none, no_parent, is_among-append, is_among-right, defined_by_any-append, own_pair, in_owed, in_owed-append, definer_among, named_once, some_named, same_object-self, apart_in_chain, except_end, NoClash, own_owed, Chain-either}
 
 pub filter_passes : (t : ObjNo → Bool) (l : List ObjNo) (d : ObjNo) → is_among d (filter t l) ≡ true → t d ≡ true
 filter_passes t [] d h = absurd (false≢true h)
@@ -9,15 +9,15 @@ filter_passes t (y ∷ l) d h = by (t y) refl h (filter_passes t l d)
     by true e k r = elim (or_cases _ _ k) [ inl g ↦ ap t ((same_object-Decides d y).0 g) ∙ e | inr g ↦ r g ]
     by false e k r = r k
 
-none_any : (t : Pair → Bool) (l : List Pair) → ((p : Pair) → list_any (same_pair p) l ≡ true → t p ≡ false) → list_any t l ≡ false
+none_any : (t : Property → Bool) (l : List Property) → ((p : Property) → list_any (same_property p) l ≡ true → t p ≡ false) → list_any t l ≡ false
 none_any t [] h = refl
 none_any t (p ∷ l) h =
-    ap (λ b. b || list_any t l) (h p (ap (λ b. b || list_any (same_pair p) l) (same_pair-self p)))
-    ∙ none_any t l (λ k g. h k (or_right (same_pair k p) (list_any (same_pair k) l) g))
+    ap (λ b. b || list_any t l) (h p (ap (λ b. b || list_any (same_property p) l) (same_property-self p)))
+    ∙ none_any t l (λ k g. h k (or_right (same_property k p) (list_any (same_property k) l) g))
 
 -- where no name clashes the test of the call passes
-pub meets-from_NoClash : (w : World) (x q : ObjNo) → NoClash w x q → meets w x q ≡ false
-meets-from_NoClash w x q apart = none_any (λ (p : Pair). is_some (pair_named (owed_by w (chain w q)) (folded p.1))) (owed_by w (subtree_of w x)) (λ p h.
+pub shares_property_name-from_NoClash : (w : World) (x q : ObjNo) → NoClash w x q → shares_property_name w x q ≡ false
+shares_property_name-from_NoClash w x q apart = none_any (λ (p : Property). is_some (property_named (defined_by_any w (chain w q)) (folded p.1))) (defined_by_any w (subtree_of w x)) (λ p h.
     let d = definer_among w p (subtree_of w x) h in
     ap is_some (apart p.0 p (filter_passes (λ y. is_among x (chain w y)) (objects_of w) p.0 d.0) d.1))
 
@@ -33,7 +33,7 @@ module _ (w : World) (c q : ObjNo) (between : List ObjNo) (wf : IsWellFormed w) 
 
   -- ---- no name clashes
 
-  module _ (d : ObjNo) (p : Pair) (dobj : is_object w d ≡ true) (under : is_among c (chain w d) ≡ true) (own : list_any (same_pair p) (defined_by w d) ≡ true) where
+  module _ (d : ObjNo) (p : Property) (dobj : is_object w d ≡ true) (under : is_among c (chain w d) ≡ true) (own : list_any (same_property p) (defined_by w d) ≡ true) where
     abbrev below : List ObjNo
     below = front_of c (chain w d) ++ c ∷ between
 
@@ -42,32 +42,32 @@ module _ (w : World) (c q : ObjNo) (between : List ObjNo) (wf : IsWellFormed w) 
         Climbs-split (parent_of w) (no_parent w wf.tree) (chain w d) (chain w c) d c (Chain-chain w wf.tree d dobj) (Chain-chain w wf.tree c co) (inl under)
         ∙ ap (λ l. front_of c (chain w d) ++ l) split ∙ sym (append_assoc (front_of c (chain w d)) (c ∷ between) (chain w q))
 
-    differ : NamesDiffer (owed_by w below ++ owed_by w (chain w q))
-    differ = subst NamesDiffer (ap (owed_by w) whole ∙ owed_by-append w below (chain w q)) (wf.names d (chain w d) (Chain-chain w wf.tree d dobj))
+    differ : NamesDiffer (defined_by_any w below ++ defined_by_any w (chain w q))
+    differ = subst NamesDiffer (ap (defined_by_any w) whole ∙ defined_by_any-append w below (chain w q)) (wf.names d (chain w d) (Chain-chain w wf.tree d dobj))
 
     -- d stands below q, so that what it defines is no property of q
     not_above : in_owed w p (chain w q) ≡ true → ⊥
     not_above h =
-        let there : is_among d (chain w q) ≡ true = subst (λ k. is_among k (chain w q) ≡ true) ((same_object-Decides p.0 d).0 (own_pair d (names_of w d) p own)) (definer_among w p (chain w q) h).0 in
+        let there : is_among d (chain w q) ≡ true = subst (λ k. is_among k (chain w q) ≡ true) ((same_object-Decides p.0 d).0 (own_pair d (property_names_of w d) p own)) (definer_among w p (chain w q) h).0 in
         let again = Climbs-split (parent_of w) (no_parent w wf.tree) (chain w q) (chain w d) q d Chain-q (Chain-chain w wf.tree d dobj) (inl there) in
         both_ways (is_among c (chain w q)) climbs_outside (ap (is_among c) again ∙ is_among-right c (front_of d (chain w q)) (chain w d) under)
 
     owed_below : in_owed w p below ≡ true
     owed_below = elim (or_cases _ _ (sym (in_owed-append w p below (chain w q)) ∙ sym (ap (in_owed w p) whole) ∙ own_owed w wf.tree d p dobj own)) [ inl g ↦ g | inr g ↦ absurd (not_above g) ]
 
-    no_name : (o : Option Pair) → pair_named (owed_by w below) (folded p.1) ≡ o → pair_named (owed_by w (chain w q)) (folded p.1) ≡ None
-    no_name None e = absurd (some_named (owed_by w below) p owed_below e)
-    no_name (Some k) e = named_once (owed_by w below) (owed_by w (chain w q)) (folded p.1) k differ e
+    no_name : (o : Option Property) → property_named (defined_by_any w below) (folded p.1) ≡ o → property_named (defined_by_any w (chain w q)) (folded p.1) ≡ None
+    no_name None e = absurd (some_named (defined_by_any w below) p owed_below e)
+    no_name (Some k) e = named_once (defined_by_any w below) (defined_by_any w (chain w q)) (folded p.1) k differ e
 
   climbs_apart : NoClash w c q
   climbs_apart d p u k = by (is_object w d) refl
     where
-      by : (b : Bool) → is_object w d ≡ b → pair_named (owed_by w (chain w q)) (folded p.1) ≡ None
+      by : (b : Bool) → is_object w d ≡ b → property_named (defined_by_any w (chain w q)) (folded p.1) ≡ None
       by true o = no_name d p o u k _ refl
       by false o = absurd (false≢true (sym (ap (is_among c) (chain_of_none w d o)) ∙ u))
 
   pub may_climb : MayReparent w c q
-  may_climb = record { well_formed = wf; object = co; new = new; outside = climbs_outside; apart = meets-from_NoClash w c q climbs_apart }
+  may_climb = record { well_formed = wf; object = co; new = new; outside = climbs_outside; apart = shares_property_name-from_NoClash w c q climbs_apart }
     where
       new : (is_object w q || same_object nothing q) ≡ true
       new = elim qo [ inl h ↦ ap (λ b. b || same_object nothing q) h | inr h ↦ or_right (is_object w q) (same_object nothing q) ((same_object-Decides nothing q).1 (sym h)) ]
@@ -93,11 +93,11 @@ module _ (w : World) (c q : ObjNo) (between : List ObjNo) (wf : IsWellFormed w) 
   gained_is = ap (λ k. except (chain w q) (chain w k)) common_is ∙ except_end [] (chain w q) (λ d h. absurd (false≢true h))
 
   -- the objects under c lose what is defined in between, and nothing comes
-  pub climbed_slot : (y : ObjNo) (n : Name) → manual_slot w c q y n ≡ (if is_among c (chain w y) then kept_from between (slot_of w y n) else slot_of w y n)
+  pub climbed_slot : (y : ObjNo) (n : Name) → manual_slot w c q y n ≡ (if is_among c (chain w y) then unless_defined_by between (slot_of w y n) else slot_of w y n)
   climbed_slot y n = λ i.
       if is_among c (chain w y)
-      then elim (pair_named (owed_by w (gained_is i)) n) [
+      then elim (property_named (defined_by_any w (gained_is i)) n) [
         | Some p ↦ option_map (fresh (owner_of w y)) (slot_of w q n)
-        | None ↦ kept_from (lost_is i) (slot_of w y n)
+        | None ↦ unless_defined_by (lost_is i) (slot_of w y n)
       ]
       else slot_of w y n

@@ -1,5 +1,5 @@
 -- No call gives the number of a petition again.
-use Rattle.moo_world.proofs.Lemmas.{◌≡◌, ℕ, ◌+◌, ◌<◌, ◌≤◌, ◌⊎◌, inl, inr, Some, None, sym, ap, ◌∙◌, arith, get, remove, none-some, ObjNo, Value, Values, PetitionId, PetitionRow, petition_exact, petition_total, Call, Done, State, PetitionsStay, petition_id, without, asked, request, World, Led, of_done, request_leaves, put_or_old, none_or_old}
+use Rattle.moo_world.proofs.Lemmas.{◌≡◌, ℕ, ◌+◌, ◌<◌, ◌≤◌, ◌⊎◌, inl, inr, Some, None, sym, ap, ◌∙◌, arith, get, remove, none-some, ObjNo, Value, Values, PetitionId, PetitionRow, petition_exact, petition_total, Call, Done, State, PetitionsStay, petition_id, without, asked, batch_call, World, Led, of_done, request_leaves, put_or_old, none_or_old}
 
 no_less : (n : ℕ) → n ≤ n
 no_less n = omega arith
@@ -36,8 +36,8 @@ one_gone s gone w = record {
     by id row h (inl e) = absurd (none-some row (sym e ∙ h))
     by id row h (inr e) = sym e ∙ h
 
-pub petitions_kept : (s next : State) (p : ObjNo) (call : Call) (v : Value) → request s p call ≡ Done v next → PetitionsStay s next
-petitions_kept s next p call v e = of_done (λ v. PetitionsStay s) (request s p call) v next (request_leaves (PetitionsStay s) s p call led) e
+pub petitions_kept : (s next : State) (p : ObjNo) (call : Call) (v : Value) → batch_call s p call ≡ Done v next → PetitionsStay s next
+petitions_kept s next p call v e = of_done (λ v. PetitionsStay s) (batch_call s p call) v next (request_leaves (PetitionsStay s) s p call led) e
   where
     led : Led (PetitionsStay s) s p call
     led = record {

@@ -1,5 +1,5 @@
 -- What any call of a batch leaves, along its checks.
-use Rattle.moo_world.proofs.Words.{◌≡◌, ℤ, pos, negsuc, Bool, true, false, List, [], ◌∷◌, refl, ap, ◌∙◌, subst, Option, Some, None, Result, Ok, Err, nat_lt, ◌||◌, option_map, list_all, get, false≢true, none-some, same_Some, Code, Permission, ObjNo, Value, Int, Obj, Str, Error, spread, Values, PetitionId, PetitionRow, Call, PetitionCall, no_values, petition_call, same_object, Outcome, Done, Failed, Full, check, is_named, are_few, are_shallow, State, in_world, one_list, one_integer, petition_id, petition_at, without, held_steps, last_petition, asked, are_on_world, petition_call_by, request, is_wizard, step, named_call, World, is_object}
+use Rattle.moo_world.proofs.Words.{◌≡◌, ℤ, pos, negsuc, Bool, true, false, List, [], ◌∷◌, refl, ap, ◌∙◌, subst, Option, Some, None, Result, Ok, Err, nat_lt, ◌||◌, option_map, list_all, get, false≢true, none-some, same_Some, Code, Permission, ObjNo, Value, Int, Obj, Str, Error, spread, Values, PetitionId, PetitionRow, Call, PetitionCall, no_values, petition_call, same_object, Outcome, Done, Failed, Full, check, is_named, are_few, are_shallow, State, in_world, one_list, one_integer, petition_id, petition_at, without, held_steps, number_limit, asked, are_on_world, petition_call_by, batch_call, is_wizard, world_call, named_call, World, is_object}
 use Rattle.moo_value.specs.declared.value.Value.TheVariants.{List as a_list}
 use Rattle.moo_value.specs.Values.{no_values as no_more}
 use Rattle.moo_world.specs.declared.name.PetitionCall.TheVariants.{Petition as to_petition, Petitions as to_list, Grant as to_grant, Decline as to_decline}
@@ -28,9 +28,9 @@ found_there s (pos n) e is = by (get s.petitions (petition_id n)) refl is
 
 -- what is asked of the states that a call may leave
 pub record Led (P : State → Type 0) (s : State) (p : ObjNo) (call : Call) : Type 0 where
-  pub stepped : (v : Value) (w : World) → step s.world p call ≡ Done v w → P (record s { world = w })
+  pub stepped : (v : Value) (w : World) → world_call s.world p call ≡ Done v w → P (record s { world = w })
   pub same : P s
-  pub asked : (calls : Values) → call.args ≡ a_list calls ∷ [] → is_object s.world p ≡ true → list_all is_named (spread calls) ≡ true → are_few calls ≡ true → are_shallow calls ≡ true → nat_lt s.next_petition last_petition ≡ true → P (asked s p calls)
+  pub asked : (calls : Values) → call.args ≡ a_list calls ∷ [] → is_object s.world p ≡ true → list_all is_named (spread calls) ≡ true → are_few calls ≡ true → are_shallow calls ≡ true → nat_lt s.next_petition number_limit ≡ true → P (asked s p calls)
   pub granted : (id : PetitionId) (row : PetitionRow) → get s.petitions id ≡ Some row → (v : Value) (w : World) → held_steps s.world p (spread row.calls) ≡ Done v w → P (record (without id s) { world = w })
   pub declined : (id : PetitionId) → P (without id s)
 
@@ -54,13 +54,13 @@ given_list (a_list values ∷ v ∷ rest) calls e = absurd (false≢true (ap is_
 given_list (u ∷ v ∷ rest) calls e = absurd (false≢true (ap is_read e))
 
 -- a call on the world, by a programmer who is an object, is the step of that name
-named_step : (s : State) (p : ObjNo) (call : Call) → is_object s.world p ≡ true → step s.world p call ≡ named_call s.world p call.name call.args
-unfolding step
+named_step : (s : State) (p : ObjNo) (call : Call) → is_object s.world p ≡ true → world_call s.world p call ≡ named_call s.world p call.name call.args
+unfolding world_call
 named_step s p call po = ap (λ b. check b (Failed Permission) (named_call s.world p call.name call.args)) po
 
 -- any call on the world is a step of it
-pub request_steps : (s : State) (p : ObjNo) (call : Call) → petition_call call.name ≡ None → request s p call ≡ in_world s (step s.world p call)
-unfolding request step
+pub request_steps : (s : State) (p : ObjNo) (call : Call) → petition_call call.name ≡ None → batch_call s p call ≡ in_world s (world_call s.world p call)
+unfolding batch_call world_call
 request_steps s p call on_world =
     ap (λ o. check (is_object s.world p) (Failed Permission) (elim o [ None ↦ in_world s (named_call s.world p call.name call.args) | Some c ↦ petition_call_by s p c call.args ])) on_world
     ∙ by (is_object s.world p) (named_call s.world p call.name call.args)
@@ -69,8 +69,8 @@ request_steps s p call on_world =
     by true o = refl
     by false o = refl
 
-pub request_leaves : (P : State → Type 0) (s : State) (p : ObjNo) (call : Call) → Led P s p call → Leaves P (request s p call)
-unfolding request
+pub request_leaves : (P : State → Type 0) (s : State) (p : ObjNo) (call : Call) → Led P s p call → Leaves P (batch_call s p call)
+unfolding batch_call
 request_leaves P s p call led = on_check _ (is_object s.world p) _ _ (λ po. by po (petition_call call.name))
   where
     one : (c : PetitionCall) → is_object s.world p ≡ true → Leaves P (petition_call_by s p c call.args)
@@ -80,7 +80,7 @@ request_leaves P s p call led = on_check _ (is_object s.world p) _ _ (λ po. by 
         on_check _ (are_few calls) _ _ (λ few.
         on_check _ (are_on_world calls) _ _ (λ world.
         on_check _ (are_shallow calls) _ _ (λ shallow.
-        on_room _ (nat_lt s.next_petition last_petition) _ (λ left.
+        on_room _ (nat_lt s.next_petition number_limit) _ (λ left.
         on_done _ _ _ (led.asked calls (given_list call.args calls e) po named few shallow left)))))))
     one to_list po = on_given _ (no_values call.args) _ (λ a e. on_done _ _ s led.same)
     one to_grant po =

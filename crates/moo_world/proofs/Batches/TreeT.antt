@@ -1,5 +1,5 @@
 -- The small tree of the worked rows, and what the definitions give on it.
-use Rattle.moo_world.proofs.Words.{◌≡◌, ℕ, pos, Bool, true, false, List, [], ◌∷◌, refl, Option, Some, None, eqb, ◌&&◌, lookup, empty, ObjNo, ObjRow, SlotRow, Clear, Set, Value, Int, Obj, Bits, nothing, same_object, same_text, same_pair, folded, World, slot_of, parent_of, read_of, chain, owed_by, rebuilt, reparented, Permission, RecursiveMove, Call, CallName, Create, MaxObject, common, manual_slot, chparent, subtree_of, children_of, Failed, recycled, step, request, Verdict, Accepted, Refused, NoRoom, Stale, judge, LookUps, world_shown}
+use Rattle.moo_world.proofs.Words.{◌≡◌, ℕ, pos, Bool, true, false, List, [], ◌∷◌, refl, Option, Some, None, eqb, ◌&&◌, lookup, empty, ObjNo, ObjRow, SlotRow, Clear, Set, Value, Int, Obj, Bits, nothing, same_object, same_text, same_property, folded, World, slot_of, parent_of, read_of, chain, defined_by_any, rebuilt, reparented, Permission, RecursiveMove, Call, CallName, Create, MaxObject, common, manual_slot, chparent, subtree_of, children_of, Failed, recycled, world_call, batch_call, Verdict, Accepted, Refused, NoRoom, Stale, judge, LookUps, world_shown}
 use Rattle.moo_rows.specs.PlainRow.{plain_row}
 
 abbrev pub no : ℕ → ObjNo
@@ -37,41 +37,41 @@ abbrev pub T : World
 T = world_shown rows_T
 
 on_the_tree :
-    -- chain of 6
+    -- the chain of #6
     (chain T (no 6) ≡ no 6 ∷ no 5 ∷ no 4 ∷ no 1 ∷ [])
-    -- owed to 6
-    × (owed_by T (chain T (no 6)) ≡ (no 5, 98 ∷ []) ∷ (no 4, 97 ∷ []) ∷ [])
-    -- chparent(#5, #7): what #6 reads of b is kept, c is there and clear, a is gone
+    -- the properties of #6: b of #5 and a of #4
+    × (defined_by_any T (chain T (no 6)) ≡ (no 5, 98 ∷ []) ∷ (no 4, 97 ∷ []) ∷ [])
+    -- chparent(#5, #7): #6 keeps its slot of b
     × (slot_of (reparented T (no 5) (no 7)) (no 6) (98 ∷ []) ≡ Some (record { definer = no 5; owner = no 3; bits = reading; state = Set (Int (pos 21)) }))
-    -- gains c
+    -- #6 gains c, clear
     × (slot_of (reparented T (no 5) (no 7)) (no 6) (99 ∷ []) ≡ Some (record { definer = no 7; owner = no 3; bits = reading; state = Clear }))
-    -- loses a
+    -- #6 loses a
     × (slot_of (reparented T (no 5) (no 7)) (no 6) (97 ∷ []) ≡ None)
-    -- chparent(#6, #4): b is gone and a stays
+    -- chparent(#6, #4): #6 keeps its slot of a
     × (slot_of (reparented T (no 6) (no 4)) (no 6) (97 ∷ []) ≡ Some (record { definer = no 4; owner = no 3; bits = reading; state = Clear }))
-    -- loses b
+    -- #6 loses b
     × (slot_of (reparented T (no 6) (no 4)) (no 6) (98 ∷ []) ≡ None)
-    -- what c reads on #6 after the change
+    -- after chparent(#5, #7) #6 reads c from #7
     × (read_of (reparented T (no 5) (no 7)) (no 6) (99 ∷ []) ≡ Some (Int (pos 30)))
-    -- the manual's wording computes the same
+    -- after chparent(#5, #7) the manual's wording gives #6 the same slot of c
     × (manual_slot T (no 5) (no 7) (no 6) (99 ∷ []) ≡ slot_of (reparented T (no 5) (no 7)) (no 6) (99 ∷ []))
-    -- chparent(#5, #5) and chparent(#4, #6)
+    -- chparent(#5, #5) is E_RECMOVE
     × (chparent T (no 3) (no 5) (no 5) ≡ Failed RecursiveMove)
-    -- under own
+    -- chparent(#4, #6) is E_RECMOVE: #6 is under #4
     × (chparent T (no 3) (no 4) (no 6) ≡ Failed RecursiveMove)
-    -- recycle(#5): #6 goes under #4, keeps a and loses b
+    -- recycle(#5): #6 is then a child of #4
     × (parent_of (recycled T (no 5)) (no 6) ≡ Some (no 4))
-    -- recycled b
+    -- and has lost b, which #5 defined
     × (slot_of (recycled T (no 5)) (no 6) (98 ∷ []) ≡ None)
-    -- the ascending lists
+    -- #4 and its descendants
     × (subtree_of T (no 4) ≡ no 4 ∷ no 5 ∷ no 6 ∷ [])
-    -- children of 1
+    -- the children of #1
     × (children_of T (no 1) ≡ no 0 ∷ no 2 ∷ no 3 ∷ no 4 ∷ no 7 ∷ [])
-    -- common(#5, #7) and common(#6, #4)
+    -- the nearest common ancestor of #5 and #7
     × (common T (no 5) (no 7) ≡ no 1)
-    -- common 6 4
+    -- and of #6 and #4
     × (common T (no 6) (no 4) ≡ no 4)
-unfolding world_shown chain same_object same_text folded same_pair rebuilt
+unfolding world_shown chain same_object same_text folded same_property rebuilt
 on_the_tree = (refl, refl, refl, refl, refl, refl, refl, refl, refl, refl, refl, refl, refl, refl, refl, refl, refl)
 
 -- a batch: create(#1); max_object(); create(#1), and one whose second call fails
@@ -85,12 +85,12 @@ answers (NoRoom k) = None
 answers (Stale k) = None
 
 batches_on_the_tree :
-    -- numbers rise
+    -- create, max_object, create: numbers rise
     (answers (judge (record { world = T; petitions = empty; next_petition = 1; seq = 1 }) (record { programmer = no 3; at = None; calls = call Create (Obj (no 1) ∷ []) ∷ call MaxObject [] ∷ call Create (Obj (no 1) ∷ []) ∷ [] }))
     ≡ Some (Obj (no 8) ∷ Obj (no 8) ∷ Obj (no 9) ∷ []))
-    -- refused second
+    -- a batch whose second call fails is refused with the number 2
     × (judge (record { world = T; petitions = empty; next_petition = 1; seq = 1 }) (record { programmer = no 3; at = None; calls = call Create (Obj (no 1) ∷ []) ∷ call Create (Obj (no 99) ∷ []) ∷ [] }) ≡ Refused 2 Permission)
-unfolding world_shown chain same_object same_text same_pair folded rebuilt step request judge
+unfolding world_shown chain same_object same_text same_property folded rebuilt world_call batch_call judge
 batches_on_the_tree = (refl, refl)
 
 -- ---- bits and owners come from the new parent's slot, not from the definer's
@@ -110,11 +110,11 @@ rows_8 bits = record rows_T {
 }
 
 bits_from_the_parent :
-    -- fresh d
+    -- the bits of a fresh slot, and its owner without the bit c, are those of the slot on the new parent
     (slot_of (reparented (world_shown (rows_8 reading)) (no 5) (no 8)) (no 6) (100 ∷ []) ≡ Some (record { definer = no 7; owner = no 0; bits = reading; state = Clear }))
-    -- fresh c
+    -- and if that slot has the owner of the definer's, the fresh one has it too
     × (slot_of (reparented (world_shown (rows_8 reading)) (no 5) (no 8)) (no 5) (99 ∷ []) ≡ Some (record { definer = no 7; owner = no 3; bits = reading; state = Clear }))
     -- with c on that slot, the owner is the object's own
     × (slot_of (reparented (world_shown (rows_8 keeping)) (no 5) (no 8)) (no 6) (100 ∷ []) ≡ Some (record { definer = no 7; owner = no 2; bits = keeping; state = Clear }))
-unfolding world_shown chain same_object same_text same_pair folded rebuilt
+unfolding world_shown chain same_object same_text same_property folded rebuilt
 bits_from_the_parent = (refl, refl, refl)

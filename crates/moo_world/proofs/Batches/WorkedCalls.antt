@@ -1,5 +1,5 @@
 -- Batches of calls on the opening world and on the small tree, and what the definitions answer.
-use Rattle.moo_world.proofs.Words.{◌≡◌, ℕ, pos, true, false, List, [], ◌∷◌, refl, Option, Some, None, codes, lookup, empty, Permission, NotAccepted, RecursiveMove, InvalidArgument, PropertyNotFound, VerbNotFound, Quota, Arguments, Value, Int, Obj, Str, Call, CallName, MaxObject, Get, Properties, VerbInfo, VerbArgs, Create, Chparent, Recycle, Move, AddProperty, DeleteProperty, SetPropertyInfo, ClearProperty, AddVerb, DeleteVerb, SetVerbArgs, SetAccept, SetVerbInfo, Verbs, nothing, same_object, same_text, same_pair, folded, World, chain, places, rebuilt, LookUps, world_shown, list_of, object_list, text_list, prep_of, step, State, request, Ran, Through, FailedAt, FullAt, run_calls}
+use Rattle.moo_world.proofs.Words.{◌≡◌, ℕ, pos, true, false, List, [], ◌∷◌, refl, Option, Some, None, codes, lookup, empty, Permission, NotAccepted, RecursiveMove, InvalidArgument, PropertyNotFound, VerbNotFound, Quota, Arguments, Value, Int, Obj, Str, Call, CallName, MaxObject, Get, Properties, VerbInfo, VerbArgs, Create, Chparent, Recycle, Move, AddProperty, DeleteProperty, SetPropertyInfo, ClearProperty, AddVerb, DeleteVerb, SetVerbArgs, SetAccept, SetVerbInfo, Verbs, nothing, same_object, same_text, same_property, folded, World, chain, location_chain, rebuilt, LookUps, world_shown, list_of, object_list, text_list, prep_of, world_call, State, batch_call, Ran, Through, FailedAt, FullAt, run_calls}
 use Rattle.moo_value.specs.declared.code.Code.TheVariants.{«Type» as WrongType}
 use Rattle.moo_rows.specs.declared.row.Preposition.TheVariants.{Set as of_set}
 use Rattle.moo_rows.specs.declared.row.PrepositionSet.TheVariants.{OutOf, In}
@@ -8,7 +8,7 @@ use Rattle.moo_world.specs.Answers.{zero}
 use Rattle.moo_world.specs.Matching.{matches}
 use Rattle.moo_world.proofs.Batches.TreeT.{no, row, T as world_T}
 
--- the answers of a batch's calls, or none where one failed
+-- the answers of a batch's calls, or None if one failed
 abbrev pub answers : Ran → Option (List Value)
 answers (Through vs w) = Some vs
 answers (FailedAt k e) = None
@@ -51,40 +51,40 @@ T = beside_none world_T
 
 -- a recycled number isn't given again
 numbers_are_new : answers (run_calls opening (no 3) (call Create (o 1 ∷ []) ∷ call Recycle (o 4 ∷ []) ∷ call Create (o 1 ∷ []) ∷ [])) ≡ Some (o 4 ∷ zero ∷ o 5 ∷ [])
-unfolding world_shown chain same_object same_text same_pair folded rebuilt step request
+unfolding world_shown chain same_object same_text same_property folded rebuilt world_call batch_call
 numbers_are_new = refl
 
--- who owns itself may not use #0 as parent, nor make objects for others or owners of themselves
+-- #4, which owns itself and isn't a wizard
 abbrev and_as_4 : List Call → Ran
 and_as_4 calls = elim (run_calls opening (no 3) (call Create (o 1 ∷ Obj nothing ∷ []) ∷ [])) [ Through vs w ↦ run_calls w (no 4) calls | FailedAt k e ↦ FailedAt k e | FullAt k ↦ FullAt k ]
 
 objects_worked :
-    -- not under 0
+    -- it may not make a child of #0, which isn't fertile
     (and_as_4 (call Create (o 0 ∷ []) ∷ []) ≡ FailedAt 1 Permission)
-    -- not for 3
+    -- nor an object for #3
     × (and_as_4 (call Create (o 1 ∷ o 3 ∷ []) ∷ []) ≡ FailedAt 1 Permission)
-    -- not for itself
+    -- nor one that owns itself
     × (and_as_4 (call Create (o 1 ∷ Obj nothing ∷ []) ∷ []) ≡ FailedAt 1 Permission)
-    -- numbers and types of arguments are tested first
+    -- a wrong number of arguments is E_ARGS
     × (run_calls opening (no 3) (call Create [] ∷ []) ≡ FailedAt 1 Arguments)
-    -- no object given
+    -- a wrong type is E_TYPE
     × (run_calls opening (no 3) (call Create (i 1 ∷ []) ∷ []) ≡ FailedAt 1 WrongType)
-    -- not a programmer
+    -- the programmer isn't an object
     × (run_calls opening (no 9) (call MaxObject [] ∷ []) ≡ FailedAt 1 Permission)
-unfolding world_shown chain same_object same_text same_pair folded rebuilt step request
+unfolding world_shown chain same_object same_text same_property folded rebuilt world_call batch_call
 objects_worked = (refl, refl, refl, refl, refl, refl)
 
--- ---- places
+-- ---- locations
 
-places_worked :
+locations_worked :
     -- #2 holds #3, so it can't go into it
     (run_calls opening (no 3) (call Move (o 2 ∷ o 3 ∷ []) ∷ []) ≡ FailedAt 1 RecursiveMove)
     -- a list of its own counts before one higher up
     × (answers (and_as_4 (call Create (o 1 ∷ []) ∷ call Create (o 1 ∷ []) ∷ call SetAccept (o 6 ∷ object_list (no 1 ∷ []) ∷ []) ∷ call Move (o 5 ∷ o 6 ∷ []) ∷ call Get (o 6 ∷ text (codes "contents") ∷ []) ∷ [])) ≡ Some (o 5 ∷ o 6 ∷ zero ∷ zero ∷ object_list (no 5 ∷ []) ∷ []))
-    -- empty list hides
+    -- an empty list of its own hides one higher up
     × (and_as_4 (call Create (o 1 ∷ []) ∷ call SetAccept (o 5 ∷ object_list (no 1 ∷ []) ∷ []) ∷ call Create (o 5 ∷ []) ∷ call SetAccept (o 6 ∷ object_list [] ∷ []) ∷ call Move (o 5 ∷ o 6 ∷ []) ∷ []) ≡ FailedAt 5 NotAccepted)
-unfolding world_shown chain places same_object same_text same_pair folded rebuilt step request
-places_worked = (refl, refl, refl)
+unfolding world_shown chain location_chain same_object same_text same_property folded rebuilt world_call batch_call
+locations_worked = (refl, refl, refl)
 
 -- ---- values
 
@@ -93,25 +93,25 @@ values_worked :
     (answers (run_calls T (no 3) (
     call Get (o 6 ∷ text (codes "a") ∷ []) ∷ call Set (o 5 ∷ text (codes "a") ∷ i 11 ∷ []) ∷ call Get (o 6 ∷ text (codes "A") ∷ [])
     ∷ call ClearProperty (o 5 ∷ text (codes "a") ∷ []) ∷ call Get (o 6 ∷ text (codes "a") ∷ []) ∷ [])) ≡ Some (i 10 ∷ zero ∷ i 11 ∷ zero ∷ i 10 ∷ []))
-    -- definer stays set
+    -- the slot on the definer can't be cleared
     × (run_calls T (no 3) (call ClearProperty (o 4 ∷ text (codes "a") ∷ []) ∷ []) ≡ FailedAt 1 InvalidArgument)
-unfolding world_shown chain same_object same_text same_pair folded rebuilt step request
+unfolding world_shown chain same_object same_text same_property folded rebuilt world_call batch_call
 values_worked = (refl, refl)
 
 -- ---- names
 
 names_worked :
-    -- a name that a descendant defines clashes with one of the new parent
+    -- #6 defines C
     (answers (run_calls T (no 3) (call AddProperty (o 6 ∷ text (codes "C") ∷ i 1 ∷ list_of (o 3 ∷ text [] ∷ []) ∷ []) ∷ [])) ≡ Some (zero ∷ []))
-    -- clash refused
+    -- then #5, its parent, can't go under #7, which defines c
     × (run_calls T (no 3) (call AddProperty (o 6 ∷ text (codes "C") ∷ i 1 ∷ list_of (o 3 ∷ text [] ∷ []) ∷ []) ∷ call Chparent (o 5 ∷ o 7 ∷ []) ∷ []) ≡ FailedAt 2 InvalidArgument)
-    -- renamed for all
+    -- a new name is that of all descendants, and a deleted property is gone
     × (answers (run_calls T (no 3) (
     call SetPropertyInfo (o 4 ∷ text (codes "a") ∷ list_of (o 3 ∷ text (codes "r") ∷ text (codes "aa") ∷ []) ∷ []) ∷ call Get (o 6 ∷ text (codes "AA") ∷ [])
     ∷ call DeleteProperty (o 4 ∷ text (codes "aa") ∷ []) ∷ call Properties (o 4 ∷ []) ∷ [])) ≡ Some (zero ∷ i 10 ∷ zero ∷ text_list [] ∷ []))
-    -- inherited isnt deleted
+    -- an inherited property can't be deleted
     × (run_calls T (no 3) (call DeleteProperty (o 5 ∷ text (codes "a") ∷ []) ∷ []) ≡ FailedAt 1 PropertyNotFound)
-unfolding world_shown chain same_object same_text same_pair folded rebuilt step request
+unfolding world_shown chain same_object same_text same_property folded rebuilt world_call batch_call
 names_worked = (refl, refl, refl, refl)
 
 -- ---- quotas
@@ -125,15 +125,15 @@ then_as_4 (FailedAt k e) calls = FailedAt k e
 then_as_4 (FullAt k) calls = FullAt k
 
 quotas_worked :
-    -- one left
+    -- a quota of 1 lets one object be made
     (then_as_4 (with_quota (call Set (o 4 ∷ text (codes "ownership_quota") ∷ i 1 ∷ []) ∷ [])) (call Create (o 1 ∷ []) ∷ call Create (o 1 ∷ []) ∷ []) ≡ FailedAt 2 Quota)
-    -- one back
+    -- recycling it gives that back
     × (answers (then_as_4 (with_quota (call Set (o 4 ∷ text (codes "ownership_quota") ∷ i 1 ∷ []) ∷ [])) (call Create (o 1 ∷ []) ∷ call Recycle (o 5 ∷ []) ∷ call Create (o 1 ∷ []) ∷ [])) ≡ Some (o 5 ∷ zero ∷ o 6 ∷ []))
-    -- a quota at the greatest integer stays, and none is asked where the owner is the new object itself
+    -- a quota at the greatest integer stays, and none is asked for if the new object owns itself
     × (answers (with_quota (
     call Create (o 1 ∷ o 4 ∷ []) ∷ call Set (o 4 ∷ text (codes "ownership_quota") ∷ i 9223372036854775807 ∷ []) ∷ call Recycle (o 5 ∷ []) ∷ call Get (o 4 ∷ text (codes "ownership_quota") ∷ []) ∷ call Create (o 1 ∷ Obj nothing ∷ []) ∷ call Get (o 4 ∷ text (codes "ownership_quota") ∷ []) ∷ []))
     ≡ Some (zero ∷ o 4 ∷ o 5 ∷ zero ∷ zero ∷ i 9223372036854775807 ∷ o 6 ∷ i 9223372036854775807 ∷ []))
-    -- one at the greatest number of 32 bits does not
+    -- a quota at the greatest number of 32 bits is raised
     × (answers (with_quota (
     call Create (o 1 ∷ o 4 ∷ []) ∷ call Set (o 4 ∷ text (codes "ownership_quota") ∷ i 2147483647 ∷ []) ∷ call Recycle (o 5 ∷ []) ∷ call Get (o 4 ∷ text (codes "ownership_quota") ∷ []) ∷ call Create (o 1 ∷ Obj nothing ∷ []) ∷ call Get (o 4 ∷ text (codes "ownership_quota") ∷ []) ∷ []))
     ≡ Some (zero ∷ o 4 ∷ o 5 ∷ zero ∷ zero ∷ i 2147483648 ∷ o 6 ∷ i 2147483648 ∷ []))
@@ -142,43 +142,43 @@ quotas_worked :
     call AddProperty (o 1 ∷ text (codes "ownership_quota") ∷ i 5 ∷ list_of (o 3 ∷ text [] ∷ []) ∷ []) ∷ call Create (o 1 ∷ Obj nothing ∷ []) ∷ call Set (o 4 ∷ text (codes "ownership_quota") ∷ i 9 ∷ []) ∷ call Create (o 4 ∷ Obj nothing ∷ [])
     ∷ call Set (o 4 ∷ text (codes "owner") ∷ o 5 ∷ []) ∷ call Recycle (o 4 ∷ []) ∷ call Get (o 5 ∷ text (codes "ownership_quota") ∷ []) ∷ []))
     ≡ Some (zero ∷ o 4 ∷ zero ∷ o 5 ∷ zero ∷ zero ∷ i 6 ∷ []))
-unfolding world_shown chain same_object same_text same_pair folded rebuilt step request places
+unfolding world_shown chain same_object same_text same_property folded rebuilt world_call batch_call location_chain
 quotas_worked = (refl, refl, refl, refl, refl)
 
 -- ---- built-in properties
 
 built_ins_worked :
-    -- bits take the truth
+    -- a bit takes the truth of the value: an empty string is false
     (answers (run_calls opening (no 3) (call Set (o 1 ∷ text (codes "f") ∷ text [] ∷ []) ∷ call Get (o 1 ∷ text (codes "F") ∷ []) ∷ [])) ≡ Some (zero ∷ zero ∷ []))
-    -- no such owner
+    -- an owner has to be an object
     × (run_calls opening (no 3) (call Set (o 1 ∷ text (codes "owner") ∷ o 9 ∷ []) ∷ []) ≡ FailedAt 1 InvalidArgument)
-    -- no name
+    -- a name has to be a string
     × (run_calls opening (no 3) (call Set (o 1 ∷ text (codes "name") ∷ i 5 ∷ []) ∷ []) ≡ FailedAt 1 WrongType)
-    -- contents by nobody
+    -- contents can't be set
     × (run_calls opening (no 3) (call Set (o 1 ∷ text (codes "contents") ∷ list_of [] ∷ []) ∷ []) ≡ FailedAt 1 Permission)
-unfolding world_shown chain places same_object same_text same_pair folded rebuilt step request
+unfolding world_shown chain location_chain same_object same_text same_property folded rebuilt world_call batch_call
 built_ins_worked = (refl, refl, refl, refl)
 
 -- ---- verbs
 
 matching_worked :
-    -- star front
+    -- the front of a name with a star
     (matches (codes "foo*bar") (codes "foo") ≡ true)
-    -- star part
+    -- the front and a part of the rest, in any case
     × (matches (codes "foo*bar") (codes "FooBa") ≡ true)
-    -- star past
+    -- not more than the whole name
     × (matches (codes "foo*bar") (codes "foobarr") ≡ false)
-    -- second star
+    -- a second star is itself
     × (matches (codes "foo*b*") (codes "foob*") ≡ true)
-    -- second star stands
+    -- and not any text
     × (matches (codes "foo*b*") (codes "foobx") ≡ false)
-    -- star at end
+    -- a star at the end: anything may follow
     × (matches (codes "get*") (codes "getting") ≡ true)
-    -- phrase of a set
+    -- a phrase means its set
     × (prep_of (codes "from") ≡ Some (of_set OutOf))
-    -- set by its first
+    -- a slash and what follows it don't count
     × (prep_of (codes "In/anything") ≡ Some (of_set In))
-    -- two phrases
+    -- two phrases of a set are no phrase
     × (prep_of (codes "out from") ≡ None)
 unfolding same_text folded
 matching_worked = (refl, refl, refl, refl, refl, refl, refl, refl, refl)
@@ -188,14 +188,14 @@ with_verb calls = run_calls opening (no 3) (
     call Create (o 1 ∷ []) ∷ call AddVerb (o 4 ∷ list_of (o 3 ∷ text (codes "rd") ∷ text (codes "get take") ∷ []) ∷ list_of (text (codes "any") ∷ text (codes "in") ∷ text (codes "this") ∷ []) ∷ []) ∷ calls)
 
 verbs_worked :
-    -- args by word
+    -- new arguments by the number of the verb, seen by its name
     (answers (with_verb (call SetVerbArgs (o 4 ∷ i 1 ∷ list_of (text (codes "any") ∷ text (codes "from") ∷ text (codes "this") ∷ []) ∷ []) ∷ call VerbArgs (o 4 ∷ text (codes "take") ∷ []) ∷ []))
     ≡ Some (o 4 ∷ zero ∷ zero ∷ list_of (text (codes "any") ∷ text (codes "out of/from inside/from") ∷ text (codes "this") ∷ []) ∷ []))
-    -- no such verb
+    -- after the only verb is deleted there is none
     × (with_verb (call DeleteVerb (o 4 ∷ i 1 ∷ []) ∷ call VerbInfo (o 4 ∷ i 1 ∷ []) ∷ []) ≡ FailedAt 4 VerbNotFound)
     -- a verb found by a word gets other names, and is found by these
     × (answers (with_verb (
     call SetVerbInfo (o 4 ∷ text (codes "get") ∷ list_of (o 3 ∷ text (codes "r") ∷ text (codes "foo*bar drop") ∷ []) ∷ []) ∷ call Verbs (o 4 ∷ []) ∷ call VerbInfo (o 4 ∷ text (codes "foob") ∷ []) ∷ call DeleteVerb (o 4 ∷ i 1 ∷ []) ∷ call Verbs (o 4 ∷ []) ∷ []))
     ≡ Some (o 4 ∷ zero ∷ zero ∷ list_of (text (codes "foo*bar drop") ∷ []) ∷ list_of (o 3 ∷ text (codes "r") ∷ text (codes "foo*bar drop") ∷ []) ∷ zero ∷ list_of [] ∷ []))
-unfolding world_shown chain same_object same_text same_pair folded rebuilt step request places
+unfolding world_shown chain same_object same_text same_property folded rebuilt world_call batch_call location_chain
 verbs_worked = (refl, refl, refl)

@@ -1,5 +1,5 @@
 -- Petitions on the opening world, and what the definitions answer: as far as no petition is looked up, which no worked row computes.
-use Rattle.moo_world.proofs.Lemmas.{◌≡◌, List, [], ◌∷◌, refl, Some, codes, Permission, InvalidArgument, Value, Obj, Call, Create, Petition, Grant, nothing, same_object, same_text, same_pair, folded, chain, rebuilt, world_shown, list_of, step, request, Ran, Through, FailedAt, FullAt, run_calls, no}
+use Rattle.moo_world.proofs.Lemmas.{◌≡◌, List, [], ◌∷◌, refl, Some, codes, Permission, InvalidArgument, Value, Obj, Call, Create, Petition, Grant, nothing, same_object, same_text, same_property, folded, chain, rebuilt, world_shown, list_of, world_call, batch_call, Ran, Through, FailedAt, FullAt, run_calls, no}
 use Rattle.moo_value.specs.declared.code.Code.TheVariants.{«Type» as WrongType}
 use Rattle.moo_world.proofs.Batches.WorkedCalls.{opening, answers, call, o, text, i}
 
@@ -13,15 +13,15 @@ abbrev wishes : Value
 wishes = list_of (list_of (text (codes "create") ∷ o 1 ∷ o 4 ∷ []) ∷ list_of (text (codes "set_player_flag") ∷ o 4 ∷ i 1 ∷ []) ∷ [])
 
 petitions_worked :
-    -- no resident grants
+    -- a resident can't grant
     (asked_by_4 (call Petition (wishes ∷ []) ∷ call Grant (i 1 ∷ []) ∷ []) ≡ FailedAt 2 Permission)
     -- petitions are numbered from 1 on
     × (answers (asked_by_4 (call Petition (wishes ∷ []) ∷ call Petition (wishes ∷ []) ∷ [])) ≡ Some (i 1 ∷ i 2 ∷ []))
-    -- what can't be asked for
+    -- a petition can't ask for a grant
     × (asked_by_4 (call Petition (list_of (list_of (text (codes "grant") ∷ i 1 ∷ []) ∷ []) ∷ []) ∷ []) ≡ FailedAt 1 InvalidArgument)
-    -- nothing is asked
+    -- nor for nothing
     × (asked_by_4 (call Petition (list_of [] ∷ []) ∷ []) ≡ FailedAt 1 InvalidArgument)
-    -- no calls are asked
+    -- nor for what isn't a list that begins with a name
     × (asked_by_4 (call Petition (list_of (i 1 ∷ []) ∷ []) ∷ []) ≡ FailedAt 1 WrongType)
-unfolding world_shown chain same_object same_text same_pair folded rebuilt step request
+unfolding world_shown chain same_object same_text same_property folded rebuilt world_call batch_call
 petitions_worked = (refl, refl, refl, refl, refl)

@@ -1,6 +1,6 @@
 -- What every call keeps, by one walk through the checks of each: the form of the world, and nobody's ownership changes by who is
 -- no wizard.
-use Rattle.moo_world.proofs.Lemmas.{◌≡◌, Bool, true, false, ◌||◌, List, [], ◌∷◌, ◌++◌, ◌+◌, ◌<◌, arith, refl, sym, ◌∙◌, ap, subst, ◌⊎◌, inl, inr, Option, Some, None, Result, Ok, not, nat_le, nat_lt, length, unwrap_or, if◌then◌else◌, list_all, same_Some, false≢true, both_ways, or_cases, and_parts, ltb-true, Code, Permission, PropertyNotFound, ObjNo, Value, Int, Obj, Str, Error, is_true, Bits, Clear, VerbRow, BuiltIn, Call, Change, Desc, CallName, Valid, Parent, Children, IsPlayer, Players, MaxObject, Get, Properties, PropertyInfo, IsClearProperty, Verbs, VerbInfo, VerbArgs, AcceptList, Create, Chparent, Recycle, Move, SetPlayerFlag, AddProperty, DeleteProperty, SetPropertyInfo, ClearProperty, AddVerb, DeleteVerb, SetVerbInfo, SetVerbArgs, SetAccept, Petition, Petitions, Grant, Decline, Info, is_number, is_text, fits, no_values, one_object, two_objects, object_and_text, object_and_value, object_text_and_value, parent_and_owner, object_and_accept, new_property, new_property_info, object_and_desc, new_verb, new_verb_info, new_verb_args, create, chparent, recycle, move, set_player_flag, set_accept, clashes, info_set, with_slot_of, next_object, owner_or_self, created, with_verbs, verb_added, CallsKeepForm, Name, nothing, same_object, folded, is_among, same_object-Decides, meets, Outcome, Done, Failed, found_or, check, KeepsOwnership, NoWizardKeepsOwnership, name_by, name_given, name_after, change_of, may_set, names_object, set_built_in, set, defines_name, may_define, add_property, delete_property, may_rename, renamed_to, set_property_info, clear_property, recycled, is_wizard, controls, may_be_parent, may_own, may_read_object, may_write_object, may_read_slot, may_write_slot, may_read_verb, may_write_verb, accepts, is_within, named_call, step, args_of, World, Slot, IsWellFormed, is_object, owner_of, slot_of, chain, has_word, is_property_name, verb_fits, state_fits, IsWellFormed-with_slot_of, same_links, object_numbered, slot_owner, on_record, on_slot, unchanged, Holds, on_check, on_field, on_failed, on_done, objects_same, NoClash-from_meets, nothing_is_no_object, of_done, on_room, on_given, on_found, both_true}
+use Rattle.moo_world.proofs.Lemmas.{◌≡◌, Bool, true, false, ◌||◌, List, [], ◌∷◌, ◌++◌, ◌+◌, ◌<◌, arith, refl, sym, ◌∙◌, ap, subst, ◌⊎◌, inl, inr, Option, Some, None, Result, Ok, not, nat_le, nat_lt, length, unwrap_or, if◌then◌else◌, list_all, same_Some, false≢true, both_ways, or_cases, and_parts, ltb-true, Code, Permission, PropertyNotFound, ObjNo, Value, Int, Obj, Str, Error, is_true, Bits, Clear, VerbRow, BuiltIn, Call, Change, Desc, CallName, Valid, Parent, Children, IsPlayer, Players, MaxObject, Get, Properties, PropertyInfo, IsClearProperty, Verbs, VerbInfo, VerbArgs, AcceptList, Create, Chparent, Recycle, Move, SetPlayerFlag, AddProperty, DeleteProperty, SetPropertyInfo, ClearProperty, AddVerb, DeleteVerb, SetVerbInfo, SetVerbArgs, SetAccept, Petition, Petitions, Grant, Decline, Info, is_number, is_text, fits, no_values, one_object, two_objects, object_and_text, object_and_value, object_text_and_value, parent_and_owner, object_and_accept, new_property, new_property_info, object_and_desc, new_verb, new_verb_info, new_verb_args, create, chparent, recycle, move, set_player_flag, set_accept, clashes, info_set, with_slot_of, next_object, owner_or_self, created, with_verbs, verb_added, CallsKeepForm, Name, nothing, same_object, folded, is_among, same_object-Decides, shares_property_name, Outcome, Done, Failed, found_or, check, KeepsOwnership, NoWizardKeepsOwnership, name_by, name_given, name_after, change_of, may_set, owner_is_object, set_built_in, set, defines_name, may_define, add_property, delete_property, may_rename, renamed_to, set_property_info, clear_property, recycled, is_wizard, controls, may_be_parent, may_make_owner, may_read_object, may_write_object, may_read_slot, may_write_slot, may_read_verb, may_write_verb, accepts, is_within, named_call, world_call, args_of, World, Slot, IsWellFormed, is_object, owner_of, slot_of, chain, has_word, is_property_name, verb_fits, state_fits, IsWellFormed-with_slot_of, same_links, object_numbered, slot_owner, on_record, on_slot, unchanged, Holds, on_check, on_field, on_failed, on_done, objects_same, NoClash-from_meets, nothing_is_no_object, of_done, on_room, on_given, on_found, both_true}
 use Rattle.std.specs.List.{remove}
 use Rattle.moo_value.specs.declared.value.Value.TheVariants.{List as a_list}
 use Rattle.moo_rows.specs.declared.row.SlotState.TheVariants.{Set as a_value}
@@ -17,14 +17,14 @@ use Rattle.moo_world.proofs.Form.Fields.{IsWellFormed-field_changed, not_true}
 use Rattle.moo_world.proofs.Form.Arguments.{set_value_fits, new_value_fits, accept_list_numbered, new_verb_named, new_verb_info_named, change_allowed}
 use Rattle.moo_world.proofs.Form.Values.{set_formed, renamed_formed, clashes_same, defines_same}
 use Rattle.moo_world.proofs.Form.Quotas.{charged_formed, returned_formed}
-use Rattle.moo_world.proofs.Inheritance.Insertion.{IsWellFormed-defined}
+use Rattle.moo_world.proofs.Inheritance.Insertion.{IsWellFormed-property_added}
 use Rattle.moo_world.proofs.Ownership.Changed.{is_modest, by_field_change, by_charge, by_return, by_info, by_defining, by_renaming}
 use Rattle.moo_world.proofs.Ownership.Counted.{on_create, on_recycle}
 use Rattle.moo_world.proofs.Ownership.Kept.{after}
 use Rattle.moo_world.proofs.Ownership.Rebuilt.{by_reparenting, by_recycling, by_undefining, by_creation}
 use Rattle.moo_world.proofs.Inheritance.Recycling.{IsWellFormed-recycled}
 use Rattle.moo_world.proofs.Inheritance.Reparenting.{IsWellFormed-reparented}
-use Rattle.moo_world.proofs.Inheritance.Shorter.{IsWellFormed-undefined}
+use Rattle.moo_world.proofs.Inheritance.Shorter.{IsWellFormed-property_removed}
 
 -- what is allowed without the wizard bit is modest
 abbrev modest_read : Result Change Code → Bool
@@ -83,7 +83,7 @@ module _ (w : World) (p : ObjNo) (values : List Value) (wf : IsWellFormed w) (po
       by true e = absurd (both_ways (is_object w nothing) (nothing_is_no_object w wf.tree) (ap (is_object w) ((same_object-Decides nothing p).0 e) ∙ po))
 
   -- without the wizard bit an object may be made for oneself alone
-  own_creation : (x q owner : ObjNo) → next_object w ≡ Some x → (is_object w q || same_object nothing q) ≡ true → may_own w p owner ≡ true → is_wizard w p ≡ false → KeepsOwnership w (created w x q (owner_or_self x owner)) p (λ y n. n)
+  own_creation : (x q owner : ObjNo) → next_object w ≡ Some x → (is_object w q || same_object nothing q) ≡ true → may_make_owner w p owner ≡ true → is_wizard w p ≡ false → KeepsOwnership w (created w x q (owner_or_self x owner)) p (λ y n. n)
   own_creation x q owner is_next parent mine none =
       subst (λ o. KeepsOwnership w (created w x q (owner_or_self x o)) p (λ y n. n)) (sym ((same_object-Decides owner p).0 (no_wizard none (same_object owner p) mine)))
       (subst (λ b. KeepsOwnership w (created w x q (if b then x else p)) p (λ y n. n)) (sym p_is_something) (by_creation w wf p x q is_next parent))
@@ -102,9 +102,9 @@ module _ (w : World) (p : ObjNo) (values : List Value) (wf : IsWellFormed w) (po
       on_check _ (controls w p x) _ _ (λ mine.
       on_check _ (may_be_parent w p q) _ _ (λ parent.
       on_check _ (not (is_among x (chain w q))) _ _ (λ outside.
-      on_check _ (not (meets w x q)) _ _ (λ apart.
+      on_check _ (not (shares_property_name w x q)) _ _ (λ apart.
       let above = not_true (is_among x (chain w q)) outside in
-      let free = NoClash-from_meets w wf.tree x q (not_true (meets w x q) apart) in
+      let free = NoClash-from_meets w wf.tree x q (not_true (shares_property_name w x q) apart) in
       on_done _ _ _ (record {
         form = λ fit. IsWellFormed-reparented w x q wf xo (known q there) above free;
         ownership = λ none. by_reparenting w wf p x q xo (known q there) above free;
@@ -165,7 +165,7 @@ module _ (w : World) (p : ObjNo) (values : List Value) (wf : IsWellFormed w) (po
   set_built_in_kept x f v good xo =
       on_given _ (change_of f v) _ (λ c e.
       on_check _ (may_set w p x f) _ _ (λ may.
-      on_check _ (names_object w c) _ _ (λ there.
+      on_check _ (owner_is_object w c) _ _ (λ there.
       on_done _ _ _ (record {
         form = λ fit. IsWellFormed-field_changed w x c xo (change_allowed w x f v c e (good fit)) wf;
         ownership = λ none. by_field_change w p x c (sym (ap modest_read e) ∙ modest_if w p x f v none may);
@@ -209,12 +209,12 @@ module _ (w : World) (p : ObjNo) (values : List Value) (wf : IsWellFormed w) (po
       on_check _ (is_object w info.0) _ _ (λ there.
       on_found _ (bits_of info.1) _ _ (λ bits e.
       on_check _ (may_write_object w p x) _ _ (λ may.
-      on_check _ (may_own w p info.0) _ _ (λ mine.
+      on_check _ (may_make_owner w p info.0) _ _ (λ mine.
       on_check _ (may_define w x n) _ _ (λ free.
       on_room _ (nat_lt w.next_prop 4294967295) _ (λ left.
       let s : Slot = record { definer = x; owner = info.0; bits = bits; state = a_value v } in
       on_done _ _ _ (record {
-        form = λ fit. IsWellFormed-defined w wf x n s xo (definable x n free).1 refl (λ c. absurd (cc)) (definable x n free).0 (ltb-true w.next_prop 4294967295 left) (both_true (object_numbered w wf info.0 there) (good fit));
+        form = λ fit. IsWellFormed-property_added w wf x n s xo (definable x n free).1 refl (λ c. absurd (cc)) (definable x n free).0 (ltb-true w.next_prop 4294967295 left) (both_true (object_numbered w wf info.0 there) (good fit));
         ownership = λ none. by_defining w p wf x n xo (definable x n free).1 s;
       }))))))))
 
@@ -223,7 +223,7 @@ module _ (w : World) (p : ObjNo) (values : List Value) (wf : IsWellFormed w) (po
       on_check _ (is_object w x) _ _ (λ xo.
       on_check _ (may_write_object w p x) _ _ (λ may.
       on_check _ (defines_name w x n) _ _ (λ mine.
-      on_done _ _ _ (record { form = λ fit. IsWellFormed-undefined w wf x n; ownership = λ none. by_undefining w wf p x n }))))
+      on_done _ _ _ (record { form = λ fit. IsWellFormed-property_removed w wf x n; ownership = λ none. by_undefining w wf p x n }))))
 
   -- another owner and other rights
   info_formed : (x : ObjNo) (n : Name) (owner : ObjNo) (bits : Bits) → is_number owner ≡ true → IsWellFormed (info_set w x n owner bits)
@@ -279,7 +279,7 @@ module _ (w : World) (p : ObjNo) (values : List Value) (wf : IsWellFormed w) (po
       on_check _ (has_word names) _ _ (λ word.
       on_found _ (args_of args.0 args.1 args.2) _ _ (λ spec f.
       on_check _ (may_write_object w p x) _ _ (λ may.
-      on_check _ (may_own w p info.0) _ _ (λ mine.
+      on_check _ (may_make_owner w p info.0) _ _ (λ mine.
       on_room _ (nat_lt w.next_verb 4294967295) _ (λ left.
       on_done _ _ _ (added_pass x (record { names = names; owner = info.0; bits = bits; args = spec }) (λ fit. both_true word (both_true (text fit) (object_numbered w wf info.0 there))) (ltb-true w.next_verb 4294967295 left))))))))))
 
@@ -298,7 +298,7 @@ module _ (w : World) (p : ObjNo) (values : List Value) (wf : IsWellFormed w) (po
       on_found _ (verb_bits_of info.1) _ _ (λ bits f.
       on_check _ (has_word names) _ _ (λ word.
       on_check _ (may_write_verb w p found.1) _ _ (λ may.
-      on_check _ (may_own w p info.0) _ _ (λ mine.
+      on_check _ (may_make_owner w p info.0) _ _ (λ mine.
       on_done _ _ _ (verbs_pass x _ (λ fit. changed_fit (λ v. record v { owner = info.0; bits = bits; names = names }) (λ v h. both_true word (both_true (text fit) (object_numbered w wf info.0 there))) found.0)))))))))
 
   verb_args_kept : (x : ObjNo) (desc : Desc) (args : Name × Name × Name) → Kept (set_verb_args w p x desc args)
@@ -356,10 +356,10 @@ module _ (w : World) (p : ObjNo) (values : List Value) (wf : IsWellFormed w) (po
   named_kept Grant = on_failed _ _
   named_kept Decline = on_failed _ _
 
-calls_keep : (w next : World) (p : ObjNo) (call : Call) (v : Value) → IsWellFormed w → step w p call ≡ Done v next → CallKeeps w p call.args (name_after w call) next
-unfolding step
+calls_keep : (w next : World) (p : ObjNo) (call : Call) (v : Value) → IsWellFormed w → world_call w p call ≡ Done v next → CallKeeps w p call.args (name_after w call) next
+unfolding world_call
 calls_keep w next p call v wf h =
-    of_done (λ v next. CallKeeps w p call.args (name_after w call) next) (step w p call) v next
+    of_done (λ v next. CallKeeps w p call.args (name_after w call) next) (world_call w p call) v next
     (on_check _ (is_object w p) _ _ (λ po. named_kept w p call.args wf po call.name)) h
 
 pub calls_keep_form : CallsKeepForm

@@ -1,5 +1,5 @@
 -- A change of one directory keeps the world well formed.
-use Rattle.moo_world.proofs.Words.{◌≡◌, ℕ, zero, suc, ◌<◌, ◌≤◌, Bool, true, false, Option, None, Some, List, [], ◌∷◌, ◌++◌, refl, sym, ap, ◌∙◌, subst, map, is_some, unwrap_or, if◌then◌else◌, option_map, option_and_then, list_all, flat_map, and_parts, list_all-append, ObjNo, VerbRow, same_object, World, Record, IsWellFormed, KeepsLimits, Climbs, Chain, NamesDiffer, is_object, parent_of, location_of, names_of, owed_by, pair_named, slot_of, row_of, without_slots, with_slots, is_property_name, verb_fits, row_fits, with_verbs, changed_at, both_true}
+use Rattle.moo_world.proofs.Words.{◌≡◌, ℕ, zero, suc, ◌<◌, ◌≤◌, Bool, true, false, Option, None, Some, List, [], ◌∷◌, ◌++◌, refl, sym, ap, ◌∙◌, subst, map, is_some, unwrap_or, if◌then◌else◌, option_map, option_and_then, list_all, flat_map, and_parts, list_all-append, ObjNo, VerbRow, same_object, World, WorldObject, IsWellFormed, KeepsLimits, Climbs, Chain, NamesDiffer, is_object, parent_of, location_of, property_names_of, defined_by_any, property_named, slot_of, row_of, without_slots, with_slots, is_property_name, verb_fits, row_fits, with_verbs, changed_at, both_true}
 use Rattle.std.specs.List.{remove}
 
 -- the world with the directory of x changed, and that number for the next verb
@@ -32,10 +32,10 @@ module _ (w : World) (x : ObjNo) (change : List VerbRow → List VerbRow) (next 
   after = with_directory w x change next
 
   -- what doesn't look at verbs
-  alike : {A : Type 0} (seen : Option Record → A) → ((r : Record) (verbs : List VerbRow) → seen (Some (record r { verbs = verbs })) ≡ seen (Some r)) → (y : ObjNo) → seen (after.object y) ≡ seen (w.object y)
+  alike : {A : Type 0} (seen : Option WorldObject → A) → ((r : WorldObject) (verbs : List VerbRow) → seen (Some (record r { verbs = verbs })) ≡ seen (Some r)) → (y : ObjNo) → seen (after.object y) ≡ seen (w.object y)
   alike seen h y = by (same_object x y) (w.object y)
     where
-      by : (b : Bool) (o : Option Record) → seen (option_map (λ (r : Record). if b then record r { verbs = change r.verbs } else r) o) ≡ seen o
+      by : (b : Bool) (o : Option WorldObject) → seen (option_map (λ (r : WorldObject). if b then record r { verbs = change r.verbs } else r) o) ≡ seen o
       by b None = refl
       by true (Some r) = h r (change r.verbs)
       by false (Some r) = refl
@@ -49,19 +49,19 @@ module _ (w : World) (x : ObjNo) (change : List VerbRow → List VerbRow) (next 
   locations : location_of after ≡ location_of w
   locations = λ i y. alike (λ o. option_map (λ r. r.row.location) o) (λ r verbs. refl) y i
 
-  names : names_of after ≡ names_of w
+  names : property_names_of after ≡ property_names_of w
   names = λ i y. alike (λ o. unwrap_or (option_map (λ r. r.defines) o) []) (λ r verbs. refl) y i
 
   slots : slot_of after ≡ slot_of w
   slots = λ i y n. alike (λ o. option_and_then (λ r. r.slot n) o) (λ r verbs. refl) y i
 
-  bare_names : names_of (without_slots after) ≡ names_of (without_slots w)
+  bare_names : property_names_of (without_slots after) ≡ property_names_of (without_slots w)
   bare_names = λ i y. alike (λ o. unwrap_or (option_map (λ r. r.defines) (option_map (with_slots (λ n. None)) o)) []) (λ r verbs. refl) y i
 
   bare_rows : row_of (without_slots after) ≡ row_of (without_slots w)
   bare_rows = λ i y. alike (λ o. option_map (λ r. r.row) (option_map (with_slots (λ n. None)) o)) (λ r verbs. refl) y i
 
-  owed_as_before : (l : List ObjNo) → owed_by after l ≡ owed_by w l
+  owed_as_before : (l : List ObjNo) → defined_by_any after l ≡ defined_by_any w l
   owed_as_before l = λ i. flat_map (λ d. map (λ n. (d, n)) (names i d)) l
 
   module _ (formed : IsWellFormed w) (room : (0 < next) × (next ≤ 4294967295)) (named : (verbs : List VerbRow) → all_fit verbs ≡ true → all_fit (change verbs) ≡ true) where
@@ -71,11 +71,11 @@ module _ (w : World) (x : ObjNo) (change : List VerbRow → List VerbRow) (next 
     Chain_before : (y : ObjNo) (l : List ObjNo) → Chain after y l → Chain w y l
     Chain_before y l c = subst (λ link. Climbs link y l) parents c
 
-    fitting : (y : ObjNo) → all_fit (unwrap_or (option_map (λ (r : Record). r.verbs) (option_map (with_slots (λ n. None)) (after.object y))) []) ≡ true
+    fitting : (y : ObjNo) → all_fit (unwrap_or (option_map (λ (r : WorldObject). r.verbs) (option_map (with_slots (λ n. None)) (after.object y))) []) ≡ true
     fitting y = by (same_object x y) (w.object y) (formed.limits.directories y)
       where
-        by : (b : Bool) (o : Option Record) → all_fit (unwrap_or (option_map (λ (r : Record). r.verbs) (option_map (with_slots (λ n. None)) o)) []) ≡ true
-            → all_fit (unwrap_or (option_map (λ (r : Record). r.verbs) (option_map (with_slots (λ n. None)) (option_map (λ (r : Record). if b then record r { verbs = change r.verbs } else r) o))) []) ≡ true
+        by : (b : Bool) (o : Option WorldObject) → all_fit (unwrap_or (option_map (λ (r : WorldObject). r.verbs) (option_map (with_slots (λ n. None)) o)) []) ≡ true
+            → all_fit (unwrap_or (option_map (λ (r : WorldObject). r.verbs) (option_map (with_slots (λ n. None)) (option_map (λ (r : WorldObject). if b then record r { verbs = change r.verbs } else r) o))) []) ≡ true
         by b None e = e
         by true (Some r) e = named r.verbs e
         by false (Some r) e = e
@@ -95,10 +95,10 @@ module _ (w : World) (x : ObjNo) (change : List VerbRow → List VerbRow) (next 
       tree = record {
         numbers = λ y e. formed.tree.numbers y (object_before y e);
         chains = λ y e. let c = formed.tree.chains y (object_before y e) in (c.0, subst (λ link. Climbs link y c.0) (sym parents) c.1);
-        places = λ y e. let c = formed.tree.places y (object_before y e) in (c.0, subst (λ link. Climbs link y c.0) (sym locations) c.1);
+        locations = λ y e. let c = formed.tree.locations y (object_before y e) in (c.0, subst (λ link. Climbs link y c.0) (sym locations) c.1);
       };
       names = λ y l c. subst NamesDiffer (sym (owed_as_before l)) (formed.names y l (Chain_before y l c));
-      slots = λ y l n e c. ap (λ f. option_map (λ s. s.definer) (f y n)) slots ∙ formed.slots y l n (object_before y e) (Chain_before y l c) ∙ ap (λ owed. option_map (λ p. p.0) (pair_named owed n)) (sym (owed_as_before l));
+      slots = λ y l n e c. ap (λ f. option_map (λ s. s.definer) (f y n)) slots ∙ formed.slots y l n (object_before y e) (Chain_before y l c) ∙ ap (λ owed. option_map (λ p. p.0) (property_named owed n)) (sym (owed_as_before l));
       set = λ y n s e. formed.set y n s (sym (ap (λ f. f y n) slots) ∙ e);
       fit = λ y n s e. formed.fit y n s (sym (ap (λ f. f y n) slots) ∙ e);
       limits = limits;

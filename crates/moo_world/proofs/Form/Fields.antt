@@ -1,8 +1,8 @@
 -- An allowed change of one field of an object keeps the world well formed.
-use Rattle.moo_world.proofs.Lemmas.{◌≡◌, Bool, true, false, cond, refl, sym, ◌∙◌, ap, subst, ◌⊎◌, inl, inr, List, [], Option, Some, None, not, ◌&&◌, ◌||◌, is_some, if◌then◌else◌, option_map, false≢true, and_parts, or_cases, ObjNo, ObjRow, Change, is_number, is_text, Name, nothing, same_object, same_object-Decides, World, Record, IsTree, IsWellFormed, Places, is_object, location_of, places, accept_fits, row_fits, is_within, changed, with_row, field_changed, is_allowed_change, IsWellFormed-same_shape, both_true}
+use Rattle.moo_world.proofs.Lemmas.{◌≡◌, Bool, true, false, cond, refl, sym, ◌∙◌, ap, subst, ◌⊎◌, inl, inr, List, [], Option, Some, None, not, ◌&&◌, ◌||◌, is_some, if◌then◌else◌, option_map, false≢true, and_parts, or_cases, ObjNo, ObjRow, Change, is_number, is_text, Name, nothing, same_object, same_object-Decides, World, WorldObject, IsTree, IsWellFormed, LocationChain, is_object, location_of, location_chain, accept_fits, row_fits, is_within, changed, with_row, field_changed, is_allowed_change, IsWellFormed-same_shape, both_true}
 use Rattle.moo_world.specs.declared.change.Change.TheVariants.{Owner, Location, Player, Programmer, Wizard, Readable, Writable, Fertile, Accept}
 use Rattle.moo_world.specs.declared.change.Change.TheVariants as to
-use Rattle.moo_world.proofs.Ancestry.Places.{places_is, Places-places}
+use Rattle.moo_world.proofs.Ancestry.Locations.{places_is, LocationChain-location_chain}
 use Rattle.moo_world.proofs.Form.Rows.{same_objects, SameShape-with_row, same_places, fitting_rows}
 use Rattle.moo_world.proofs.Ancestry.Redirected.{redirected}
 
@@ -29,13 +29,13 @@ listed list r fits e =
 
 -- ---- a place
 
--- an object, or nothing, has its list of places
-has_places : (w : World) → IsTree w → (q : ObjNo) → (is_object w q || same_object nothing q) ≡ true → Places w q (places w q)
+-- an object, or nothing, has its list of locations
+has_places : (w : World) → IsTree w → (q : ObjNo) → (is_object w q || same_object nothing q) ≡ true → LocationChain w q (location_chain w q)
 has_places w t q e = by (or_cases (is_object w q) (same_object nothing q) e)
   where
-    by : (is_object w q ≡ true) ⊎ (same_object nothing q ≡ true) → Places w q (places w q)
-    by (inl h) = Places-places w t q h
-    by (inr h) = subst (λ k. Places w k (places w k)) ((same_object-Decides nothing q).0 h) (subst (Places w nothing) (sym (places_is w t nothing [] refl)) refl)
+    by : (is_object w q ≡ true) ⊎ (same_object nothing q ≡ true) → LocationChain w q (location_chain w q)
+    by (inl h) = LocationChain-location_chain w t q h
+    by (inr h) = subst (λ k. LocationChain w k (location_chain w k)) ((same_object-Decides nothing q).0 h) (subst (LocationChain w nothing) (sym (places_is w t nothing [] refl)) refl)
 
 module _ (w : World) (x to : ObjNo) (there : is_object w x ≡ true) (valid_to : (is_object w to || same_object nothing to) ≡ true) (outside : is_within w to x ≡ false) (wf : IsWellFormed w) where
   abbrev v : World
@@ -44,21 +44,21 @@ module _ (w : World) (x to : ObjNo) (there : is_object w x ≡ true) (valid_to :
   other : (y : ObjNo) → same_object x y ≡ false → location_of v y ≡ location_of w y
   other y e = by (w.object y)
     where
-      by : (o : Option Record) → option_map (λ r. r.row.location) (option_map (λ r. if same_object x y then (record r { row = changed (Location to) r.row }) else r) o) ≡ option_map (λ r. r.row.location) o
+      by : (o : Option WorldObject) → option_map (λ r. r.row.location) (option_map (λ r. if same_object x y then (record r { row = changed (Location to) r.row }) else r) o) ≡ option_map (λ r. r.row.location) o
       by None = refl
       by (Some r) = ap (λ b. Some (cond b (record r { row = changed (Location to) r.row }) r).row.location) e
 
   here : location_of v x ≡ Some to
   here = by (w.object x) there
     where
-      by : (o : Option Record) → is_some o ≡ true → option_map (λ r. r.row.location) (option_map (λ r. if same_object x x then (record r { row = changed (Location to) r.row }) else r) o) ≡ Some to
+      by : (o : Option WorldObject) → is_some o ≡ true → option_map (λ r. r.row.location) (option_map (λ r. if same_object x x then (record r { row = changed (Location to) r.row }) else r) o) ≡ Some to
       by None e = absurd (false≢true e)
       by (Some r) e = ap (λ b. Some (cond b (record r { row = changed (Location to) r.row }) r).row.location) ((same_object-Decides x x).1 refl)
 
   placed : IsWellFormed v
   placed =
       IsWellFormed-same_shape w v (SameShape-with_row w x (changed (Location to)) (λ r. refl)) wf
-      (λ y e. let p = wf.tree.places y (sym (same_objects w x (changed (Location to)) y) ∙ e) in redirected (location_of w) (location_of v) x to other here (places w to) (has_places w wf.tree to valid_to) outside p.0 y p.1)
+      (λ y e. let p = wf.tree.locations y (sym (same_objects w x (changed (Location to)) y) ∙ e) in redirected (location_of w) (location_of v) x to other here (location_chain w to) (has_places w wf.tree to valid_to) outside p.0 y p.1)
       (fitting_rows w x (changed (Location to)) (λ r e. e) wf)
 
 -- ---- any field

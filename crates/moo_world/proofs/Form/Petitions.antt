@@ -1,5 +1,5 @@
 -- Every call of a batch leaves a well formed world, and petitions as they may stand.
-use Rattle.moo_world.proofs.Lemmas.{◌≡◌, ℕ, ◌+◌, ◌<◌, ◌≤◌, ◌⊎◌, inl, inr, max, Bool, true, false, List, [], ◌∷◌, Option, Some, None, refl, sym, ap, ◌∙◌, subst, arith, ◌&&◌, nat_le, is_some, if◌then◌else◌, option_and_then, list_all, FinMap, get, insert, remove, and_parts, false≢true, le-leb, leb-true, ltb-true, none-some, same_Some, InvalidArgument, ObjNo, Value, Int, Obj, Str, Error, nesting, spread, Values, levels, int, object, string, error, list, PetitionId, PetitionRow, petition_exact, petition_cmp, petition_total, Call, CallName, is_integer, in_range, is_number, is_text, all_within_limits, is_within_limits, fits, arguments_fit, RequestsKeepForm, call_name_of, petition_call, Outcome, Done, Failed, Full, PetitionsStand, petition_fits, is_named, are_few, are_shallow, State, IsFormed, petition_id, call_in, held_call, held_step, held_steps, last_petition, asked, request, step, World, IsWellFormed, is_object, Led, of_done, request_leaves, object_numbered, put_or_old, none_or_old}
+use Rattle.moo_world.proofs.Lemmas.{◌≡◌, ℕ, ◌+◌, ◌<◌, ◌≤◌, ◌⊎◌, inl, inr, max, Bool, true, false, List, [], ◌∷◌, Option, Some, None, refl, sym, ap, ◌∙◌, subst, arith, ◌&&◌, nat_le, is_some, if◌then◌else◌, option_and_then, list_all, FinMap, get, insert, remove, and_parts, false≢true, le-leb, leb-true, ltb-true, none-some, same_Some, InvalidArgument, ObjNo, Value, Int, Obj, Str, Error, nesting, spread, Values, levels, int, object, string, error, list, PetitionId, PetitionRow, petition_exact, petition_cmp, petition_total, Call, CallName, is_integer, in_range, is_number, is_text, all_within_limits, is_within_limits, fits, arguments_fit, RequestsKeepForm, call_name_of, petition_call, Outcome, Done, Failed, Full, PetitionsStand, petition_fits, is_named, are_few, are_shallow, State, IsFormed, petition_id, call_in, held_call, held_step, held_steps, number_limit, asked, batch_call, world_call, World, IsWellFormed, is_object, Led, of_done, request_leaves, object_numbered, put_or_old, none_or_old}
 use Rattle.moo_value.specs.declared.value.Value.TheVariants.{List as a_list}
 use Rattle.moo_value.specs.Values.{no_values}
 use Rattle.moo_world.proofs.Form.Calls.{calls_keep_form}
@@ -85,7 +85,7 @@ failed_done v w o e f = let g = sym e ∙ f in cc
 held_step_keeps : (w next : World) (p : ObjNo) (held : Value) (v : Value) → IsWellFormed w → fits held ≡ true → held_step w p held ≡ Done v next → IsWellFormed next
 held_step_keeps w next p held v wf fit e = by (held_call held) refl e
   where
-    by : (o : Option Call) → held_call held ≡ o → elim o [ None ↦ Failed InvalidArgument | Some call ↦ step w p call ] ≡ Done v next → IsWellFormed next
+    by : (o : Option Call) → held_call held ≡ o → elim o [ None ↦ Failed InvalidArgument | Some call ↦ world_call w p call ] ≡ Done v next → IsWellFormed next
     by None h e = absurd (failed_done v next (Failed InvalidArgument) refl e)
     by (Some call) h e = calls_keep_form w next p call v wf (held_args_fit held call h fit) e
 
@@ -167,7 +167,7 @@ asked_fits s p calls formed there call_name_of few shallow fit =
     both _ _ (object_numbered s.world formed.world p there) (both _ _ call_name_of (both _ _ few (both _ _ shallow within)))
 
 pub requests_keep_form : RequestsKeepForm
-requests_keep_form s next p call v formed fit e = of_done (λ v. IsFormed) (request s p call) v next (request_leaves IsFormed s p call led) e
+requests_keep_form s next p call v formed fit e = of_done (λ v. IsFormed) (batch_call s p call) v next (request_leaves IsFormed s p call led) e
   where
     led : Led IsFormed s p call
     led = record {
@@ -176,7 +176,7 @@ requests_keep_form s next p call v formed fit e = of_done (λ v. IsFormed) (requ
       asked = λ calls given there call_name_of few shallow left. record {
         world = formed.world;
         petitions = one_more_stands s.petitions s.next_petition (record { who = p; calls = calls }) formed.petitions
-            (asked_fits s p calls formed there call_name_of few shallow (subst (λ args. list_all fits args ≡ true) given fit)) (ltb-true s.next_petition last_petition left);
+            (asked_fits s p calls formed there call_name_of few shallow (subst (λ args. list_all fits args ≡ true) given fit)) (ltb-true s.next_petition number_limit left);
       };
       granted = λ id row there v w e. record {
         world = held_steps_keep s.world w p (spread row.calls) v formed.world (held_fit row (formed.petitions.fit id row there)) e;

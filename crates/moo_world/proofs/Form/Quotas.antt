@@ -1,5 +1,5 @@
 -- Quotas are moved within 64 bits, so that the world stays well formed.
-use Rattle.moo_world.proofs.Lemmas.{◌≡◌, Bool, true, false, ◌||◌, List, [], ◌∷◌, refl, sym, ◌∙◌, ap, subst, inl, inr, Option, Some, None, ℤ, pos, negsuc, FitsSigned, w64, arith, ◌+ℤ◌, int_lt, nat_le, unwrap_or, if◌then◌else◌, option_map, both_ways, or_cases, and_parts, ints, none-some, same_Some, ObjNo, Value, Int, Obj, Str, Error, nesting, SlotState, Clear, Set, fits, is_integer, is_number, next_object, owner_or_self, created, Name, nothing, same_object, folded, quota_name, quota_in, quota_of, quota_moved, may_afford, has_quota_left, charged, quota_returned, set_slot, World, Slot, IsWellFormed, is_object, slot_of, chain, read_in, read_along, read_of, with_record, state_fits, known_numbered, integer_of, integer_fits}
+use Rattle.moo_world.proofs.Lemmas.{◌≡◌, Bool, true, false, ◌||◌, List, [], ◌∷◌, refl, sym, ◌∙◌, ap, subst, inl, inr, Option, Some, None, ℤ, pos, negsuc, FitsSigned, w64, arith, ◌+ℤ◌, int_lt, nat_le, unwrap_or, if◌then◌else◌, option_map, both_ways, or_cases, and_parts, ints, none-some, same_Some, ObjNo, Value, Int, Obj, Str, Error, nesting, SlotState, Clear, Set, fits, is_integer, is_number, next_object, owner_or_self, created, Name, nothing, same_object, folded, quota_name, quota_in, quota_of, quota_changed, may_afford, has_quota_left, charged, quota_returned, set_slot, World, Slot, IsWellFormed, is_object, slot_of, chain, read_in, read_along, read_of, object_changed, state_fits, known_numbered, integer_of, integer_fits}
 use Rattle.moo_value.specs.declared.value.Value.TheVariants.{List as a_list}
 use Rattle.moo_world.proofs.Form.Values.{set_formed}
 use Rattle.moo_world.proofs.Ownership.Created.{formed, new_numbered, read_old}
@@ -37,12 +37,12 @@ quota_spelled : folded quota_name ≡ quota_name
 unfolding folded
 quota_spelled = refl
 
-moved : (w : World) (o : ObjNo) (more : ℤ) → ((had : ℤ) → quota_of w o ≡ Some had → is_integer (had +ℤ more) ≡ true) → IsWellFormed w → IsWellFormed (quota_moved w o more)
+moved : (w : World) (o : ObjNo) (more : ℤ) → ((had : ℤ) → quota_of w o ≡ Some had → is_integer (had +ℤ more) ≡ true) → IsWellFormed w → IsWellFormed (quota_changed w o more)
 moved w o more room wf = by (quota_of w o) refl
   where
-    by : (q : Option ℤ) → quota_of w o ≡ q → IsWellFormed (elim q [ None ↦ w | Some had ↦ with_record w o (set_slot quota_name (Set (Int (had +ℤ more)))) ])
+    by : (q : Option ℤ) → quota_of w o ≡ q → IsWellFormed (elim q [ None ↦ w | Some had ↦ object_changed w o (set_slot quota_name (Set (Int (had +ℤ more)))) ])
     by None e = wf
-    by (Some had) e = subst IsWellFormed (ap (λ n. with_record w o (set_slot n (Set (Int (had +ℤ more))))) quota_spelled) (set_formed w o quota_name (Int (had +ℤ more)) (room had e) wf)
+    by (Some had) e = subst IsWellFormed (ap (λ n. object_changed w o (set_slot n (Set (Int (had +ℤ more))))) quota_spelled) (set_formed w o quota_name (Int (had +ℤ more)) (room had e) wf)
 
 less_fits : (k : ℤ) → is_integer k ≡ true → int_lt (pos 0) k ≡ true → is_integer (k +ℤ negsuc 0) ≡ true
 less_fits k f h = integer_of (k +ℤ negsuc 0) (less k (integer_fits k f) h)
@@ -77,7 +77,7 @@ charged_formed w wf x q owner is_next parent known can = by (same_object nothing
         let left : has_quota_left w owner ≡ true = elim (or_cases _ _ can) [ inl f ↦ absurd (both_ways (same_object nothing owner) e f) | inr f ↦ f ] in
         less_fits had (quota_fits w wf owner had before) (sym (ap (λ k. unwrap_or (option_map (λ n. int_lt (pos 0) n) k) true) before) ∙ left)
 
-    by : (b : Bool) → same_object nothing owner ≡ b → IsWellFormed (if b then created w x q (owner_or_self x owner) else quota_moved (created w x q (owner_or_self x owner)) owner (negsuc 0))
+    by : (b : Bool) → same_object nothing owner ≡ b → IsWellFormed (if b then created w x q (owner_or_self x owner) else quota_changed (created w x q (owner_or_self x owner)) owner (negsuc 0))
     by true e = made
     by false e = moved (created w x q (owner_or_self x owner)) owner (negsuc 0) (room e) made
 
@@ -85,6 +85,6 @@ charged_formed w wf x q owner is_next parent known can = by (same_object nothing
 pub returned_formed : (w : World) (o : ObjNo) → IsWellFormed w → IsWellFormed (quota_returned w o)
 returned_formed w o wf = by (unwrap_or (option_map (λ k. int_lt k (pos 9223372036854775807)) (quota_of w o)) false) refl
   where
-    by : (b : Bool) → unwrap_or (option_map (λ k. int_lt k (pos 9223372036854775807)) (quota_of w o)) false ≡ b → IsWellFormed (if b then quota_moved w o (pos 1) else w)
+    by : (b : Bool) → unwrap_or (option_map (λ k. int_lt k (pos 9223372036854775807)) (quota_of w o)) false ≡ b → IsWellFormed (if b then quota_changed w o (pos 1) else w)
     by false e = wf
     by true e = moved w o (pos 1) (λ had h. more_fits had (quota_fits w wf o had h) (sym (ap (λ k. unwrap_or (option_map (λ n. int_lt n (pos 9223372036854775807)) k) false) h) ∙ e)) wf

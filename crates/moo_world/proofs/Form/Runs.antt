@@ -1,5 +1,5 @@
 -- A run of batches leaves a well formed world and petitions of such ones.
-use Rattle.moo_world.proofs.Words.{◌≡◌, Bool, true, false, List, [], ◌∷◌, refl, nat_lt, if◌then◌else◌, list_all, and_parts, ObjNo, Value, Batch, Call, Ran, Through, FailedAt, FullAt, NoRoom, Stale, after_one, run_calls, is_due, last_seq, verdict_of, judge, left_by, arguments_fit, RunsKeepForm, Outcome, Done, Failed, Full, State, IsFormed, request}
+use Rattle.moo_world.proofs.Words.{◌≡◌, Bool, true, false, List, [], ◌∷◌, refl, nat_lt, if◌then◌else◌, list_all, and_parts, ObjNo, Value, Batch, Call, Ran, Through, FailedAt, FullAt, NoRoom, Stale, after_one, run_calls, is_due, last_seq, verdict_of, judge, left_by, arguments_fit, RunsKeepForm, Outcome, Done, Failed, Full, State, IsFormed, batch_call}
 use Rattle.moo_world.proofs.Form.Petitions.{requests_keep_form}
 
 -- calls that were all done leave them so
@@ -15,12 +15,12 @@ one_more v (FullAt k) h = h
 
 calls_leave : (s : State) (p : ObjNo) (calls : List Call) → IsFormed s → list_all arguments_fit calls ≡ true → LeavesForm (run_calls s p calls)
 calls_leave s p [] formed fit = formed
-calls_leave s p (call ∷ calls) formed fit = by (request s p call) refl (λ next. calls_leave next p calls)
+calls_leave s p (call ∷ calls) formed fit = by (batch_call s p call) refl (λ next. calls_leave next p calls)
   where
     parts : (arguments_fit call ≡ true) × (list_all arguments_fit calls ≡ true)
     parts = and_parts (arguments_fit call) (list_all arguments_fit calls) fit
 
-    by : (e : Outcome State) → request s p call ≡ e → ((next : State) → IsFormed next → list_all arguments_fit calls ≡ true → LeavesForm (run_calls next p calls))
+    by : (e : Outcome State) → batch_call s p call ≡ e → ((next : State) → IsFormed next → list_all arguments_fit calls ≡ true → LeavesForm (run_calls next p calls))
         → LeavesForm (elim e [ Done v next ↦ after_one v (run_calls next p calls) | Failed code ↦ FailedAt 1 code | Full ↦ FullAt 1 ])
     by (Done v next) e rest = one_more v (run_calls next p calls) (rest next (requests_keep_form s next p call v formed parts.0 e) parts.1)
     by (Failed code) e rest = tt

@@ -1,5 +1,5 @@
 -- Worlds of one shape: where one is well formed, so is the other.
-use Rattle.moo_world.proofs.Words.{◌≡◌, ◌≤◌, true, refl, sym, ◌∙◌, ap, subst, List, [], Option, Some, None, ◌<◌, ◌≤ℤ◌, pos, negsuc, map, unwrap_or, is_some, option_map, list_all, flat_map, ObjNo, ObjRow, World, Record, IsWellFormed, KeepsLimits, IsTree, Climbs, Chain, Places, NamesDiffer, is_object, parent_of, location_of, names_of, owed_by, pair_named, slot_of, directory_of, row_of, without_slots, with_slots, is_property_name, verb_fits, row_fits}
+use Rattle.moo_world.proofs.Words.{◌≡◌, ◌≤◌, true, refl, sym, ◌∙◌, ap, subst, List, [], Option, Some, None, ◌<◌, ◌≤ℤ◌, pos, negsuc, map, unwrap_or, is_some, option_map, list_all, flat_map, ObjNo, ObjRow, World, WorldObject, IsWellFormed, KeepsLimits, IsTree, Climbs, Chain, LocationChain, NamesDiffer, is_object, parent_of, location_of, property_names_of, defined_by_any, property_named, slot_of, directory_of, row_of, without_slots, with_slots, is_property_name, verb_fits, row_fits}
 
 -- the worlds differ in fields of rows alone, and not in parents
 pub record SameShape (w v : World) : Type 0 where
@@ -8,38 +8,38 @@ pub record SameShape (w v : World) : Type 0 where
   pub next_prop : v.next_prop ≡ w.next_prop
   pub next_verb : v.next_verb ≡ w.next_verb
   pub parents : parent_of v ≡ parent_of w
-  pub names : names_of v ≡ names_of w
+  pub names : property_names_of v ≡ property_names_of w
   pub slots : slot_of v ≡ slot_of w
   pub verbs : directory_of v ≡ directory_of w
 
 module _ (w : World) where
-  bare_names : names_of (without_slots w) ≡ names_of w
+  bare_names : property_names_of (without_slots w) ≡ property_names_of w
   bare_names = λ i x. by (w.object x) i
     where
-      by : (o : Option Record) → unwrap_or (option_map (λ r. r.defines) (option_map (with_slots (λ n. None)) o)) [] ≡ unwrap_or (option_map (λ r. r.defines) o) []
+      by : (o : Option WorldObject) → unwrap_or (option_map (λ r. r.defines) (option_map (with_slots (λ n. None)) o)) [] ≡ unwrap_or (option_map (λ r. r.defines) o) []
       by None = refl
       by (Some r) = refl
 
   bare_verbs : directory_of (without_slots w) ≡ directory_of w
   bare_verbs = λ i x. by (w.object x) i
     where
-      by : (o : Option Record) → unwrap_or (option_map (λ r. r.verbs) (option_map (with_slots (λ n. None)) o)) [] ≡ unwrap_or (option_map (λ r. r.verbs) o) []
+      by : (o : Option WorldObject) → unwrap_or (option_map (λ r. r.verbs) (option_map (with_slots (λ n. None)) o)) [] ≡ unwrap_or (option_map (λ r. r.verbs) o) []
       by None = refl
       by (Some r) = refl
 
   pub bare_rows : row_of (without_slots w) ≡ row_of w
   bare_rows = λ i x. by (w.object x) i
     where
-      by : (o : Option Record) → option_map (λ r. r.row) (option_map (with_slots (λ n. None)) o) ≡ option_map (λ r. r.row) o
+      by : (o : Option WorldObject) → option_map (λ r. r.row) (option_map (with_slots (λ n. None)) o) ≡ option_map (λ r. r.row) o
       by None = refl
       by (Some r) = refl
 
 -- worlds whose objects differ in what they define and in slots alone
-module _ (w v : World) (f : ObjNo → Record → Record) (is : (y : ObjNo) → v.object y ≡ option_map (f y) (w.object y)) (rows : (y : ObjNo) (r : Record) → (f y r).row ≡ r.row) where
-  alike : {A : Type 0} (g : Record → A) → ((y : ObjNo) (r : Record) → g (f y r) ≡ g r) → (y : ObjNo) → option_map g (v.object y) ≡ option_map g (w.object y)
+module _ (w v : World) (f : ObjNo → WorldObject → WorldObject) (is : (y : ObjNo) → v.object y ≡ option_map (f y) (w.object y)) (rows : (y : ObjNo) (r : WorldObject) → (f y r).row ≡ r.row) where
+  alike : {A : Type 0} (g : WorldObject → A) → ((y : ObjNo) (r : WorldObject) → g (f y r) ≡ g r) → (y : ObjNo) → option_map g (v.object y) ≡ option_map g (w.object y)
   alike g e y = ap (option_map g) (is y) ∙ by (w.object y)
     where
-      by : (o : Option Record) → option_map g (option_map (f y) o) ≡ option_map g o
+      by : (o : Option WorldObject) → option_map g (option_map (f y) o) ≡ option_map g o
       by None = refl
       by (Some r) = ap Some (e y r)
 
@@ -52,7 +52,7 @@ module _ (w v : World) (f : ObjNo → Record → Record) (is : (y : ObjNo) → v
   pub objects_alike : (y : ObjNo) → is_object v y ≡ is_object w y
   objects_alike y = ap is_some (is y) ∙ by (w.object y)
     where
-      by : (o : Option Record) → is_some (option_map (f y) o) ≡ is_some o
+      by : (o : Option WorldObject) → is_some (option_map (f y) o) ≡ is_some o
       by None = refl
       by (Some r) = refl
 
@@ -60,11 +60,11 @@ module _ (w v : World) (f : ObjNo → Record → Record) (is : (y : ObjNo) → v
   tree_alike top tree = record {
     numbers = λ y o. subst (λ n. (pos 0 ≤ℤ y.0) × (y.0 ≤ℤ n)) (sym top) (tree.numbers y (sym (objects_alike y) ∙ o));
     chains = λ y o. let c = tree.chains y (sym (objects_alike y) ∙ o) in (c.0, subst (λ link. Climbs link y c.0) (sym parents_alike) c.1);
-    places = λ y o. let c = tree.places y (sym (objects_alike y) ∙ o) in (c.0, subst (λ link. Climbs link y c.0) (sym locations_alike) c.1);
+    locations = λ y o. let c = tree.locations y (sym (objects_alike y) ∙ o) in (c.0, subst (λ link. Climbs link y c.0) (sym locations_alike) c.1);
   }
 
-  pub limits_alike : v.top ≡ w.top → (0 < v.next_prop) × (v.next_prop ≤ 4294967295) → v.next_verb ≡ w.next_verb → ((y : ObjNo) (r : Record) → (f y r).verbs ≡ r.verbs)
-      → ((y : ObjNo) → list_all is_property_name (names_of v y) ≡ true) → KeepsLimits (without_slots w) → KeepsLimits (without_slots v)
+  pub limits_alike : v.top ≡ w.top → (0 < v.next_prop) × (v.next_prop ≤ 4294967295) → v.next_verb ≡ w.next_verb → ((y : ObjNo) (r : WorldObject) → (f y r).verbs ≡ r.verbs)
+      → ((y : ObjNo) → list_all is_property_name (property_names_of v y) ≡ true) → KeepsLimits (without_slots w) → KeepsLimits (without_slots v)
   limits_alike top props next_verb verbs names limits = record {
     top = subst (λ n. (negsuc 0 ≤ℤ n) × (n ≤ℤ pos 2147483647)) (sym top) limits.top;
     props = props;
@@ -75,17 +75,17 @@ module _ (w v : World) (f : ObjNo → Record → Record) (is : (y : ObjNo) → v
   }
 
 -- what an object of a well formed world defines has names that a property may have
-pub names_fit : (w : World) → KeepsLimits (without_slots w) → (y : ObjNo) → list_all is_property_name (names_of w y) ≡ true
+pub names_fit : (w : World) → KeepsLimits (without_slots w) → (y : ObjNo) → list_all is_property_name (property_names_of w y) ≡ true
 names_fit w limits y = ap (λ g. list_all is_property_name (g y)) (sym (bare_names w)) ∙ limits.names y
 
-module _ (w v : World) (same : SameShape w v) (wf : IsWellFormed w) (places : (x : ObjNo) → is_object v x ≡ true → (l : List ObjNo) × Places v x l) (rows : (x : ObjNo) → unwrap_or (option_map row_fits (row_of v x)) true ≡ true) where
+module _ (w v : World) (same : SameShape w v) (wf : IsWellFormed w) (locations : (x : ObjNo) → is_object v x ≡ true → (l : List ObjNo) × LocationChain v x l) (rows : (x : ObjNo) → unwrap_or (option_map row_fits (row_of v x)) true ≡ true) where
   object_was : (x : ObjNo) → is_object v x ≡ true → is_object w x ≡ true
   object_was x e = sym (ap (λ f. f x) same.objects) ∙ e
 
   Chain_was : (x : ObjNo) (l : List ObjNo) → Chain v x l → Chain w x l
   Chain_was x l c = subst (λ link. Climbs link x l) same.parents c
 
-  owed_was : (l : List ObjNo) → owed_by v l ≡ owed_by w l
+  owed_was : (l : List ObjNo) → defined_by_any v l ≡ defined_by_any w l
   owed_was l = λ i. flat_map (λ d. map (λ n. (d, n)) (same.names i d)) l
 
   limits_kept : KeepsLimits (without_slots v)
@@ -103,10 +103,10 @@ module _ (w v : World) (same : SameShape w v) (wf : IsWellFormed w) (places : (x
     tree = record {
       numbers = λ x e. subst (λ t. (pos 0 ≤ℤ x.0) × (x.0 ≤ℤ t)) (sym same.top) (wf.tree.numbers x (object_was x e));
       chains = λ x e. let c = wf.tree.chains x (object_was x e) in (c.0, subst (λ link. Climbs link x c.0) (sym same.parents) c.1);
-      places = places;
+      locations = locations;
     };
     names = λ x l c. subst NamesDiffer (sym (owed_was l)) (wf.names x l (Chain_was x l c));
-    slots = λ x l n e c. ap (λ f. option_map (λ s. s.definer) (f x n)) same.slots ∙ wf.slots x l n (object_was x e) (Chain_was x l c) ∙ ap (λ owed. option_map (λ p. p.0) (pair_named owed n)) (sym (owed_was l));
+    slots = λ x l n e c. ap (λ f. option_map (λ s. s.definer) (f x n)) same.slots ∙ wf.slots x l n (object_was x e) (Chain_was x l c) ∙ ap (λ owed. option_map (λ p. p.0) (property_named owed n)) (sym (owed_was l));
     set = λ x n s e. wf.set x n s (sym (ap (λ f. f x n) same.slots) ∙ e);
     fit = λ x n s e. wf.fit x n s (sym (ap (λ f. f x n) same.slots) ∙ e);
     limits = limits_kept;

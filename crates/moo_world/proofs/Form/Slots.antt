@@ -1,5 +1,5 @@
 -- A changed slot keeps the world well formed.
-use Rattle.moo_world.proofs.Words.{◌≡◌, ◌≢◌, Bool, true, false, refl, sym, ◌∙◌, ap, subst, Option, Some, None, ◌&&◌, ◌≤ℤ◌, if◌then◌else◌, option_map, option_and_then, and_parts, none-some, same_Some, ObjNo, Clear, Name, Pair, same_object, same_text, folded, same_object-Decides, same_text-Decides, World, Record, Slot, IsTree, IsWellFormed, Climbs, NamesDiffer, is_object, location_of, slot_of, pair_named, with_slots, KeepsLimits, SameButSlots, slot_fits, with_slot_of}
+use Rattle.moo_world.proofs.Words.{◌≡◌, ◌≢◌, Bool, true, false, refl, sym, ◌∙◌, ap, subst, Option, Some, None, ◌&&◌, ◌≤ℤ◌, if◌then◌else◌, option_map, option_and_then, and_parts, none-some, same_Some, ObjNo, Clear, Name, Property, same_object, same_text, folded, same_object-Decides, same_text-Decides, World, WorldObject, Slot, IsTree, IsWellFormed, Climbs, NamesDiffer, is_object, location_of, slot_of, property_named, with_slots, KeepsLimits, SameButSlots, slot_fits, with_slot_of}
 use Rattle.moo_world.proofs.Inheritance.Rebuilding.{parents_same, objects_same, owed_same, Chain-same}
 
 -- worlds that differ in slots alone are well formed alike, where the slots have the same definers and those on them are set
@@ -7,7 +7,7 @@ module _ (v w : World) (same : SameButSlots v w) (wf : IsWellFormed w) (definers
   location_same : location_of v ≡ location_of w
   location_same = (λ i x. sym (bare (v.object x)) i) ∙ ap location_of same ∙ (λ i x. bare (w.object x) i)
     where
-      bare : (o : Option Record) → option_map (λ k. k.row.location) (option_map (with_slots (λ n. None)) o) ≡ option_map (λ k. k.row.location) o
+      bare : (o : Option WorldObject) → option_map (λ k. k.row.location) (option_map (with_slots (λ n. None)) o) ≡ option_map (λ k. k.row.location) o
       bare None = refl
       bare (Some k) = refl
 
@@ -18,14 +18,14 @@ module _ (v w : World) (same : SameButSlots v w) (wf : IsWellFormed w) (definers
   IsTree-alike = record {
     numbers = λ x o. let h = wf.tree.numbers x (back x o) in (h.0, subst (λ t. x.0 ≤ℤ t) (sym (ap (λ (k : World). k.top) same)) h.1);
     chains = λ x o. let c = wf.tree.chains x (back x o) in (c.0, subst (λ link. Climbs link x c.0) (sym (parents_same v w same)) c.1);
-    places = λ x o. let c = wf.tree.places x (back x o) in (c.0, subst (λ link. Climbs link x c.0) (sym location_same) c.1);
+    locations = λ x o. let c = wf.tree.locations x (back x o) in (c.0, subst (λ link. Climbs link x c.0) (sym location_same) c.1);
   }
 
   pub formed_alike : IsWellFormed v
   formed_alike = record {
     tree = IsTree-alike;
     names = λ x l c. subst NamesDiffer (sym (owed_same v w same l)) (wf.names x l (Chain-same v w same x l c));
-    slots = λ x l n o c. definers x n ∙ wf.slots x l n (back x o) (Chain-same v w same x l c) ∙ ap (λ k. option_map (λ (p : Pair). p.0) (pair_named k n)) (sym (owed_same v w same l));
+    slots = λ x l n o c. definers x n ∙ wf.slots x l n (back x o) (Chain-same v w same x l c) ∙ ap (λ k. option_map (λ (p : Property). p.0) (property_named k n)) (sym (owed_same v w same l));
     set = set;
     fit = fit;
     limits = subst KeepsLimits (sym same) wf.limits;
@@ -38,7 +38,7 @@ module _ (w : World) (x : ObjNo) (n : Name) (change : Slot → Slot) where
   pub same_links : SameButSlots v w
   same_links = λ i. record w { object = λ y. bare (same_object x y) (w.object y) i }
     where
-      bare : (b : Bool) (o : Option Record) → option_map (with_slots (λ n. None)) (option_map (λ (r : Record). if b then record r { slot = λ m. if same_text (folded n) m then option_map change (r.slot m) else r.slot m } else r) o) ≡ option_map (with_slots (λ n. None)) o
+      bare : (b : Bool) (o : Option WorldObject) → option_map (with_slots (λ n. None)) (option_map (λ (r : WorldObject). if b then record r { slot = λ m. if same_text (folded n) m then option_map change (r.slot m) else r.slot m } else r) o) ≡ option_map (with_slots (λ n. None)) o
       bare b None = refl
       bare true (Some r) = refl
       bare false (Some r) = refl
@@ -50,7 +50,7 @@ module _ (w : World) (x : ObjNo) (n : Name) (change : Slot → Slot) where
   pub slot_changed : (y : ObjNo) (m : Name) → slot_of v y m ≡ (if same_object x y && same_text (folded n) m then option_map change (slot_of w y m) else slot_of w y m)
   slot_changed y m = by (same_object x y) (w.object y)
     where
-      inner : (r : Record) (b : Bool) → (if b then option_map change (r.slot m) else r.slot m) ≡ (if b then option_map change (option_and_then (λ (k : Record). k.slot m) (Some r)) else option_and_then (λ (k : Record). k.slot m) (Some r))
+      inner : (r : WorldObject) (b : Bool) → (if b then option_map change (r.slot m) else r.slot m) ≡ (if b then option_map change (option_and_then (λ (k : WorldObject). k.slot m) (Some r)) else option_and_then (λ (k : WorldObject). k.slot m) (Some r))
       inner r true = refl
       inner r false = refl
 
@@ -58,7 +58,7 @@ module _ (w : World) (x : ObjNo) (n : Name) (change : Slot → Slot) where
       none true = refl
       none false = refl
 
-      by : (a : Bool) (o : Option Record) → option_and_then (λ (r : Record). r.slot m) (option_map (λ (r : Record). if a then record r { slot = λ k. if same_text (folded n) k then option_map change (r.slot k) else r.slot k } else r) o) ≡ (if a && same_text (folded n) m then option_map change (option_and_then (λ (r : Record). r.slot m) o) else option_and_then (λ (r : Record). r.slot m) o)
+      by : (a : Bool) (o : Option WorldObject) → option_and_then (λ (r : WorldObject). r.slot m) (option_map (λ (r : WorldObject). if a then record r { slot = λ k. if same_text (folded n) k then option_map change (r.slot k) else r.slot k } else r) o) ≡ (if a && same_text (folded n) m then option_map change (option_and_then (λ (r : WorldObject). r.slot m) o) else option_and_then (λ (r : WorldObject). r.slot m) o)
       by true None = none (same_text (folded n) m)
       by false None = refl
       by true (Some r) = inner r (same_text (folded n) m)

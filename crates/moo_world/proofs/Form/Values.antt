@@ -1,8 +1,8 @@
 -- A value that is set and a new name keep the world well formed, and worlds with other slots have names clash alike.
-use Rattle.moo_world.proofs.Lemmas.{◌≡◌, true, false, ◌||◌, List, [], ◌∷◌, map, refl, ◌∙◌, ap, subst, ◌⊎◌, inl, inr, None, is_some, if◌then◌else◌, option_map, filter, flat_map, list_any, false≢true, or_cases, ObjNo, Value, Set, fits, clashes, renamed, with_slot_of, Name, object_at, same_object, same_text, same_pair, folded, is_among, same_text-Decides, same_pair-self, defines_name, numbers_below, World, Record, IsWellFormed, SameButSlots, is_object, is_property_name, names_of, numbers_to, pair_named, chain, IsWellFormed-with_slot_of, slot_owner, names_same, objects_same, both_true}
+use Rattle.moo_world.proofs.Lemmas.{◌≡◌, true, false, ◌||◌, List, [], ◌∷◌, map, refl, ◌∙◌, ap, subst, ◌⊎◌, inl, inr, None, is_some, if◌then◌else◌, option_map, filter, flat_map, list_any, false≢true, or_cases, ObjNo, Value, Set, fits, clashes, property_renamed, with_slot_of, Name, object_at, same_object, same_text, same_property, folded, is_among, same_text-Decides, same_property-self, defines_name, numbers_below, World, WorldObject, IsWellFormed, SameButSlots, is_object, is_property_name, property_names_of, numbers_to, property_named, chain, IsWellFormed-with_slot_of, slot_owner, names_same, objects_same, both_true}
 use Rattle.std.proofs.Math.Bool.{or-true}
 use Rattle.moo_world.proofs.Ownership.Created.{chains_same}
-use Rattle.moo_world.proofs.Inheritance.Replacement.{IsWellFormed-renamed}
+use Rattle.moo_world.proofs.Inheritance.Replacement.{IsWellFormed-property_renamed}
 
 -- a slot that is set to a value
 pub set_formed : (w : World) (x : ObjNo) (n : Name) (v : Value) → fits v ≡ true → IsWellFormed w → IsWellFormed (with_slot_of w x n (λ s. record s { state = Set v }))
@@ -11,35 +11,35 @@ set_formed w x n v f wf = IsWellFormed-with_slot_of w x n (λ s. record s { stat
 -- ---- names
 
 -- a defined name, as it is spelled
-spelled : (x : ObjNo) (n : Name) (l : List Name) → list_any (λ m. same_text (folded m) (folded n)) l ≡ true → (m : Name) × (folded m ≡ folded n) × (list_any (same_pair (x, m)) (map (λ k. (x, k)) l) ≡ true)
+spelled : (x : ObjNo) (n : Name) (l : List Name) → list_any (λ m. same_text (folded m) (folded n)) l ≡ true → (m : Name) × (folded m ≡ folded n) × (list_any (same_property (x, m)) (map (λ k. (x, k)) l) ≡ true)
 spelled x n [] e = absurd (false≢true e)
 spelled x n (m ∷ l) e = by (or_cases _ _ e) (spelled x n l)
   where
     by : (same_text (folded m) (folded n) ≡ true) ⊎ (list_any (λ k. same_text (folded k) (folded n)) l ≡ true)
-        → (list_any (λ k. same_text (folded k) (folded n)) l ≡ true → (k : Name) × (folded k ≡ folded n) × (list_any (same_pair (x, k)) (map (λ z. (x, z)) l) ≡ true))
-        → (k : Name) × (folded k ≡ folded n) × (list_any (same_pair (x, k)) (map (λ z. (x, z)) (m ∷ l)) ≡ true)
-    by (inl h) rest = (m, (same_text-Decides (folded m) (folded n)).0 h, ap (λ b. b || list_any (same_pair (x, m)) (map (λ z. (x, z)) l)) (same_pair-self (x, m)))
-    by (inr h) rest = let r = rest h in (r.0, r.1, ap (λ b. same_pair (x, r.0) (x, m) || b) r.2 ∙ or-true (same_pair (x, r.0) (x, m)))
+        → (list_any (λ k. same_text (folded k) (folded n)) l ≡ true → (k : Name) × (folded k ≡ folded n) × (list_any (same_property (x, k)) (map (λ z. (x, z)) l) ≡ true))
+        → (k : Name) × (folded k ≡ folded n) × (list_any (same_property (x, k)) (map (λ z. (x, z)) (m ∷ l)) ≡ true)
+    by (inl h) rest = (m, (same_text-Decides (folded m) (folded n)).0 h, ap (λ b. b || list_any (same_property (x, m)) (map (λ z. (x, z)) l)) (same_property-self (x, m)))
+    by (inr h) rest = let r = rest h in (r.0, r.1, ap (λ b. same_property (x, r.0) (x, m) || b) r.2 ∙ or-true (same_property (x, r.0) (x, m)))
 
 -- a property is renamed alike however its name is spelled
-renamed_alike : (w : World) (x : ObjNo) (m n new : Name) → folded m ≡ folded n → renamed w x m new ≡ renamed w x n new
+renamed_alike : (w : World) (x : ObjNo) (m n new : Name) → folded m ≡ folded n → property_renamed w x m new ≡ property_renamed w x n new
 renamed_alike w x m n new e = ap (λ (old : Name). record w {
-  object = λ y. option_map (λ (r : Record). record r {
+  object = λ y. option_map (λ (r : WorldObject). record r {
     defines = if same_object x y then map (λ k. if same_text (folded k) old then new else k) r.defines else r.defines;
     slot = λ k. if is_among x (chain w y) then (if same_text (folded new) k then r.slot old else (if same_text old k then None else r.slot k)) else r.slot k;
   }) (w.object y);
 }) e
 
-pub renamed_formed : (w : World) (x : ObjNo) (old new : Name) → is_object w x ≡ true → defines_name w x old ≡ true → is_property_name new ≡ true → clashes w x new ≡ false → IsWellFormed w → IsWellFormed (renamed w x old new)
+pub renamed_formed : (w : World) (x : ObjNo) (old new : Name) → is_object w x ≡ true → defines_name w x old ≡ true → is_property_name new ≡ true → clashes w x new ≡ false → IsWellFormed w → IsWellFormed (property_renamed w x old new)
 renamed_formed w x old new xo mine good free wf =
-    let m = spelled x old (names_of w x) mine in
-    subst IsWellFormed (renamed_alike w x m.0 old new m.1) (IsWellFormed-renamed w wf x m.0 new xo m.2 free good)
+    let m = spelled x old (property_names_of w x) mine in
+    subst IsWellFormed (renamed_alike w x m.0 old new m.1) (IsWellFormed-property_renamed w wf x m.0 new xo m.2 free good)
 
 -- worlds that differ in slots alone have names clash alike
 pub clashes_same : (v w : World) → SameButSlots v w → (x : ObjNo) (n : Name) → clashes v x n ≡ clashes w x n
 clashes_same v w same x n = λ i.
-    is_some (pair_named (flat_map (λ d. map (λ m. (d, m)) (names_same v w same i d)) (chains_same v w same x i)) (folded n))
-    || is_some (pair_named (flat_map (λ d. map (λ m. (d, m)) (names_same v w same i d)) (filter (λ y. is_among x (chains_same v w same y i)) (filter (λ y. objects_same v w same y i) (map object_at (numbers_below (numbers_to (same i).top)))))) (folded n))
+    is_some (property_named (flat_map (λ d. map (λ m. (d, m)) (names_same v w same i d)) (chains_same v w same x i)) (folded n))
+    || is_some (property_named (flat_map (λ d. map (λ m. (d, m)) (names_same v w same i d)) (filter (λ y. is_among x (chains_same v w same y i)) (filter (λ y. objects_same v w same y i) (map object_at (numbers_below (numbers_to (same i).top)))))) (folded n))
 
 pub defines_same : (v w : World) → SameButSlots v w → (x : ObjNo) (n : Name) → defines_name v x n ≡ defines_name w x n
 defines_same v w same x n = λ i. list_any (λ m. same_text (folded m) (folded n)) (names_same v w same i x)

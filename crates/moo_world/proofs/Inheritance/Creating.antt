@@ -1,26 +1,26 @@
 -- A new object keeps the world well formed.
-use Rattle.moo_world.proofs.Lemmas.{◌≡◌, arith, Bool, true, false, List, [], ◌∷◌, ◌++◌, map, refl, sym, ◌∙◌, ap, subst, ◌⊎◌, inl, inr, Option, Some, None, ℤ, pos, ◌&&◌, is_some, unwrap_or, ◌≤ℤ◌, ◌<ℤ◌, ◌+ℤ◌, if◌then◌else◌, option_map, list_any, list_all, flat_map, IsDistinct, false≢true, both_ways, ints, ObjNo, Name, Pair, nothing, same_object, same_pair, same_object-Decides, is_number, World, Record, IsTree, IsWellFormed, Climbs, Chain, Places, NamesDiffer, is_object, chain, names_of, slot_of, defined_by, owed_by, pair_named, owes, with_slots, is_property_name, verb_fits, row_fits, born, with_new_record, created, chain_is, Chain-chain, linked, named_owed, MayBeRebuilt, IsWellFormed-rebuilt, own_owed, owed_is_object, Chain-either}
+use Rattle.moo_world.proofs.Lemmas.{◌≡◌, arith, Bool, true, false, List, [], ◌∷◌, ◌++◌, map, refl, sym, ◌∙◌, ap, subst, ◌⊎◌, inl, inr, Option, Some, None, ℤ, pos, ◌&&◌, is_some, unwrap_or, ◌≤ℤ◌, ◌<ℤ◌, ◌+ℤ◌, if◌then◌else◌, option_map, list_any, list_all, flat_map, IsDistinct, false≢true, both_ways, ints, ObjNo, Name, Property, nothing, same_object, same_property, same_object-Decides, is_number, World, WorldObject, IsTree, IsWellFormed, Climbs, Chain, LocationChain, NamesDiffer, is_object, chain, property_names_of, slot_of, defined_by, defined_by_any, property_named, has_property, with_slots, is_property_name, verb_fits, row_fits, plain_object, object_added, created, chain_is, Chain-chain, linked, named_owed, MayBeRebuilt, IsWellFormed-rebuilt, own_owed, owed_is_object, Chain-either}
 
 module _ (w : World) (x q owner : ObjNo) (wf : IsWellFormed w) (free : is_object w x ≡ false) (next : x.0 ≡ w.top +ℤ pos 1) (room : w.top <ℤ pos 2147483647) (qo : (is_object w q ≡ true) ⊎ (q ≡ nothing)) where
   abbrev pub s : World
-  s = with_new_record w x (born q owner)
+  s = object_added w x (plain_object q owner)
 
-  same_link : (f : Record → ObjNo) (y k : ObjNo) → option_map f (w.object y) ≡ Some k → option_map f (s.object y) ≡ Some k
+  same_link : (f : WorldObject → ObjNo) (y k : ObjNo) → option_map f (w.object y) ≡ Some k → option_map f (s.object y) ≡ Some k
   same_link f y k e = by (same_object x y) refl
     where
-      by : (b : Bool) → same_object x y ≡ b → option_map f (if b then Some (born q owner) else w.object y) ≡ Some k
+      by : (b : Bool) → same_object x y ≡ b → option_map f (if b then Some (plain_object q owner) else w.object y) ≡ Some k
       by true h = absurd (both_ways (is_object w y) (ap (is_object w) (sym ((same_object-Decides x y).0 h)) ∙ free) (linked (w.object y) f k e))
       by false h = e
 
-  Climbs-still : (f : Record → ObjNo) (l : List ObjNo) (z : ObjNo) → Climbs (λ y. option_map f (w.object y)) z l → Climbs (λ y. option_map f (s.object y)) z l
+  Climbs-still : (f : WorldObject → ObjNo) (l : List ObjNo) (z : ObjNo) → Climbs (λ y. option_map f (w.object y)) z l → Climbs (λ y. option_map f (s.object y)) z l
   Climbs-still f [] z p = p
   Climbs-still f (y ∷ l) z p = (p.0, p.1, same_link f z p.1 p.2, Climbs-still f l p.1 p.3)
 
   Chain-q : Chain w q (chain w q)
   Chain-q = Chain-either w wf.tree q qo
 
-  at_x : {A : Type 0} (f : Record → A) → option_map f (s.object x) ≡ Some (f (born q owner))
-  at_x f = ap (λ b. option_map f (if b then Some (born q owner) else w.object x)) ((same_object-Decides x x).1 refl)
+  at_x : {A : Type 0} (f : WorldObject → A) → option_map f (s.object x) ≡ Some (f (plain_object q owner))
+  at_x f = ap (λ b. option_map f (if b then Some (plain_object q owner) else w.object x)) ((same_object-Decides x x).1 refl)
 
   Chain-x : Chain s x (x ∷ chain w q)
   Chain-x = (refl, q, at_x (λ r. r.row.parent), Climbs-still (λ r. r.row.parent) (chain w q) q Chain-q)
@@ -29,7 +29,7 @@ module _ (w : World) (x q owner : ObjNo) (wf : IsWellFormed w) (free : is_object
   which : (y : ObjNo) → is_object s y ≡ true → (y ≡ x) ⊎ (is_object w y ≡ true)
   which y h = by (same_object x y) refl h
     where
-      by : (b : Bool) → same_object x y ≡ b → is_some (if b then Some (born q owner) else w.object y) ≡ true → (y ≡ x) ⊎ (is_object w y ≡ true)
+      by : (b : Bool) → same_object x y ≡ b → is_some (if b then Some (plain_object q owner) else w.object y) ≡ true → (y ≡ x) ⊎ (is_object w y ≡ true)
       by true e k = inl (sym ((same_object-Decides x y).0 e))
       by false e k = inr k
 
@@ -46,40 +46,40 @@ module _ (w : World) (x q owner : ObjNo) (wf : IsWellFormed w) (free : is_object
       | inl e ↦ (x ∷ chain w q, subst (λ k. Chain s k (x ∷ chain w q)) (sym e) Chain-x)
       | inr h ↦ let c = wf.tree.chains y h in (c.0, Climbs-still (λ r. r.row.parent) c.0 y c.1)
     ];
-    places = λ y o. elim (which y o) [
-      | inl e ↦ (x ∷ [], subst (λ k. Places s k (x ∷ [])) (sym e) (refl, nothing, at_x (λ r. r.row.location), refl))
-      | inr h ↦ let c = wf.tree.places y h in (c.0, Climbs-still (λ r. r.row.location) c.0 y c.1)
+    locations = λ y o. elim (which y o) [
+      | inl e ↦ (x ∷ [], subst (λ k. LocationChain s k (x ∷ [])) (sym e) (refl, nothing, at_x (λ r. r.row.location), refl))
+      | inr h ↦ let c = wf.tree.locations y h in (c.0, Climbs-still (λ r. r.row.location) c.0 y c.1)
     ];
   }
 
   -- what is read of a record where none is and of a new one
-  unread : {A : Type 0} (g : Option Record → A) → g (Some (born q owner)) ≡ g None → (y : ObjNo) → g (s.object y) ≡ g (w.object y)
+  unread : {A : Type 0} (g : Option WorldObject → A) → g (Some (plain_object q owner)) ≡ g None → (y : ObjNo) → g (s.object y) ≡ g (w.object y)
   unread g e y = by (same_object x y) refl
     where
-      gone : (o : Option Record) → is_some o ≡ false → g None ≡ g o
+      gone : (o : Option WorldObject) → is_some o ≡ false → g None ≡ g o
       gone None h = refl
       gone (Some r) h = absurd (false≢true (sym h))
 
-      by : (b : Bool) → same_object x y ≡ b → g (if b then Some (born q owner) else w.object y) ≡ g (w.object y)
+      by : (b : Bool) → same_object x y ≡ b → g (if b then Some (plain_object q owner) else w.object y) ≡ g (w.object y)
       by true h = e ∙ gone (w.object y) (ap (is_object w) (sym ((same_object-Decides x y).0 h)) ∙ free)
       by false h = refl
 
-  names_still : names_of s ≡ names_of w
+  names_still : property_names_of s ≡ property_names_of w
   names_still = λ i y. unread (λ o. unwrap_or (option_map (λ r. r.defines) o) []) refl y i
 
-  pub owed_still : (l : List ObjNo) → owed_by s l ≡ owed_by w l
+  pub owed_still : (l : List ObjNo) → defined_by_any s l ≡ defined_by_any w l
   owed_still l = ap (λ (names : ObjNo → List Name). flat_map (λ d. map (λ n. (d, n)) (names d)) l) names_still
 
-  no_names : names_of w x ≡ []
+  no_names : property_names_of w x ≡ []
   no_names = by (w.object x) free
     where
-      by : (o : Option Record) → is_some o ≡ false → unwrap_or (option_map (λ r. r.defines) o) [] ≡ []
+      by : (o : Option WorldObject) → is_some o ≡ false → unwrap_or (option_map (λ r. r.defines) o) [] ≡ []
       by None h = refl
       by (Some r) h = absurd (false≢true (sym h))
 
-  -- x owes what q owes
-  pub owed_x : owed_by w (x ∷ chain w q) ≡ owed_by w (chain w q)
-  owed_x = ap (λ names. map (λ n. (x, n)) names ++ owed_by w (chain w q)) no_names
+  -- x has_property what q has_property
+  pub owed_x : defined_by_any w (x ∷ chain w q) ≡ defined_by_any w (chain w q)
+  owed_x = ap (λ names. map (λ n. (x, n)) names ++ defined_by_any w (chain w q)) no_names
 
   pub chain_x : chain s x ≡ x ∷ chain w q
   chain_x = chain_is s IsTree-with x (x ∷ chain w q) Chain-x
@@ -87,39 +87,39 @@ module _ (w : World) (x q owner : ObjNo) (wf : IsWellFormed w) (free : is_object
   pub chain_other : (y : ObjNo) → is_object w y ≡ true → chain s y ≡ chain w y
   chain_other y h = chain_is s IsTree-with y (chain w y) (Climbs-still (λ r. r.row.parent) (chain w y) y (Chain-chain w wf.tree y h))
 
-  differ_at : (y : ObjNo) → is_object s y ≡ true → NamesDiffer (owed_by w (chain s y))
+  differ_at : (y : ObjNo) → is_object s y ≡ true → NamesDiffer (defined_by_any w (chain s y))
   differ_at y o = elim (which y o) [
-    | inl e ↦ subst (λ k. NamesDiffer (owed_by w (chain s k))) (sym e) (subst NamesDiffer (sym (ap (owed_by w) chain_x ∙ owed_x)) (wf.names q (chain w q) Chain-q))
-    | inr h ↦ subst (λ l. NamesDiffer (owed_by w l)) (sym (chain_other y h)) (wf.names y (chain w y) (Chain-chain w wf.tree y h))
+    | inl e ↦ subst (λ k. NamesDiffer (defined_by_any w (chain s k))) (sym e) (subst NamesDiffer (sym (ap (defined_by_any w) chain_x ∙ owed_x)) (wf.names q (chain w q) Chain-q))
+    | inr h ↦ subst (λ l. NamesDiffer (defined_by_any w l)) (sym (chain_other y h)) (wf.names y (chain w y) (Chain-chain w wf.tree y h))
   ]
 
-  differ : (y : ObjNo) (l : List ObjNo) → Chain s y l → NamesDiffer (owed_by s l)
+  differ : (y : ObjNo) (l : List ObjNo) → Chain s y l → NamesDiffer (defined_by_any s l)
   unfolding IsDistinct
   differ y [] c = tt
   differ y (z ∷ l) c =
       let o : is_object s y ≡ true = linked (s.object y) (λ r. r.row.parent) c.1 c.2 in
-      subst NamesDiffer (sym (owed_still (z ∷ l))) (subst (λ m. NamesDiffer (owed_by w m)) (chain_is s IsTree-with y (z ∷ l) c) (differ_at y o))
+      subst NamesDiffer (sym (owed_still (z ∷ l))) (subst (λ m. NamesDiffer (defined_by_any w m)) (chain_is s IsTree-with y (z ∷ l) c) (differ_at y o))
 
-  new_slot : (y : ObjNo) (n : Name) (p : Pair) → is_object s y ≡ true → pair_named (owed_by s (chain s y)) n ≡ Some p → owes w y p ≡ false → option_map (λ k. k.definer) (slot_of w q n) ≡ Some p.0
+  new_slot : (y : ObjNo) (n : Name) (p : Property) → is_object s y ≡ true → property_named (defined_by_any s (chain s y)) n ≡ Some p → has_property w y p ≡ false → option_map (λ k. k.definer) (slot_of w q n) ≡ Some p.0
   new_slot y n p o e h = by (which y o)
     where
-      here : pair_named (owed_by w (chain s y)) n ≡ Some p
-      here = sym (ap (λ k. pair_named k n) (owed_still (chain s y))) ∙ e
+      here : property_named (defined_by_any w (chain s y)) n ≡ Some p
+      here = sym (ap (λ k. property_named k n) (owed_still (chain s y))) ∙ e
 
       by : (y ≡ x) ⊎ (is_object w y ≡ true) → option_map (λ k. k.definer) (slot_of w q n) ≡ Some p.0
       by (inl k) =
-          let there : pair_named (owed_by w (chain w q)) n ≡ Some p = sym (ap (λ m. pair_named m n) (ap (λ z. owed_by w (chain s z)) k ∙ ap (owed_by w) chain_x ∙ owed_x)) ∙ here in
+          let there : property_named (defined_by_any w (chain w q)) n ≡ Some p = sym (ap (λ m. property_named m n) (ap (λ z. defined_by_any w (chain s z)) k ∙ ap (defined_by_any w) chain_x ∙ owed_x)) ∙ here in
           wf.slots q (chain w q) n (owed_is_object w q n p there) Chain-q ∙ ap (option_map (λ m. m.0)) there
-      by (inr k) = absurd (both_ways (owes w y p) h (named_owed w (chain w y) n p (sym (ap (λ l. pair_named (owed_by w l) n) (chain_other y k)) ∙ here)))
+      by (inr k) = absurd (both_ways (has_property w y p) h (named_owed w (chain w y) n p (sym (ap (λ l. property_named (defined_by_any w l) n) (chain_other y k)) ∙ here)))
 
-  own_slot : (y : ObjNo) (p : Pair) → is_object s y ≡ true → list_any (same_pair p) (defined_by s y) ≡ true → owes w y p ≡ true
+  own_slot : (y : ObjNo) (p : Property) → is_object s y ≡ true → list_any (same_property p) (defined_by s y) ≡ true → has_property w y p ≡ true
   own_slot y p o h = by (which y o)
     where
-      mine : list_any (same_pair p) (defined_by w y) ≡ true
-      mine = subst (λ (names : ObjNo → List Name). list_any (same_pair p) (map (λ n. (y, n)) (names y)) ≡ true) names_still h
+      mine : list_any (same_property p) (defined_by w y) ≡ true
+      mine = subst (λ (names : ObjNo → List Name). list_any (same_property p) (map (λ n. (y, n)) (names y)) ≡ true) names_still h
 
-      by : (y ≡ x) ⊎ (is_object w y ≡ true) → owes w y p ≡ true
-      by (inl k) = absurd (false≢true (sym (ap (λ names. list_any (same_pair p) (map (λ n. (y, n)) names)) (ap (names_of w) k ∙ no_names)) ∙ mine))
+      by : (y ≡ x) ⊎ (is_object w y ≡ true) → has_property w y p ≡ true
+      by (inl k) = absurd (false≢true (sym (ap (λ names. list_any (same_property p) (map (λ n. (y, n)) names)) (ap (property_names_of w) k ∙ no_names)) ∙ mine))
       by (inr k) = own_owed w wf.tree y p k mine
 
   MayBeRebuilt-with : is_number owner ≡ true → MayBeRebuilt w s q

@@ -1,20 +1,20 @@
 -- A property added to a well formed world.
-use Rattle.moo_world.proofs.Lemmas.{◌≡◌, ◌≢◌, ◌<◌, Bool, true, false, cond, ◌||◌, Option, None, Some, List, [], ◌∷◌, ◌++◌, map, refl, sym, ap, ◌∙◌, subst, ◌⊎◌, inl, inr, append_assoc, arith, ◌&&◌, is_some, unwrap_or, if◌then◌else◌, option_map, option_and_then, list_any, list_all, IsDistinct, AllByRecursion, false≢true, both_ways, or_parts, list_all-append, none-some, same_Some, ObjNo, Clear, clashes, defined, subtree_of, objects_of, Name, Pair, same_object, same_text, same_pair, folded, is_among, same_object-Decides, same_text-Decides, World, Record, Slot, IsTree, IsWellFormed, Climbs, Chain, NamesDiffer, is_object, parent_of, chain, names_of, defined_by, owed_by, pair_named, slot_of, fresh, is_property_name, slot_fits, Climbs-once, row_fitting, row_owner, fresh_fits, named_owed, named_so, definer_among, some_named, among_filter, object_listed, owed_listed, chain_is, chain_of_none, no_parent, parents_alike, objects_alike, tree_alike, limits_alike, names_fit}
+use Rattle.moo_world.proofs.Lemmas.{◌≡◌, ◌≢◌, ◌<◌, Bool, true, false, cond, ◌||◌, Option, None, Some, List, [], ◌∷◌, ◌++◌, map, refl, sym, ap, ◌∙◌, subst, ◌⊎◌, inl, inr, append_assoc, arith, ◌&&◌, is_some, unwrap_or, if◌then◌else◌, option_map, option_and_then, list_any, list_all, IsDistinct, AllByRecursion, false≢true, both_ways, or_parts, list_all-append, none-some, same_Some, ObjNo, Clear, clashes, property_added, subtree_of, objects_of, Name, Property, same_object, same_text, same_property, folded, is_among, same_object-Decides, same_text-Decides, World, WorldObject, Slot, IsTree, IsWellFormed, Climbs, Chain, NamesDiffer, is_object, parent_of, chain, property_names_of, defined_by, defined_by_any, property_named, slot_of, fresh, is_property_name, slot_fits, Climbs-once, row_fitting, row_owner, fresh_fits, named_owed, named_so, definer_among, some_named, among_filter, object_listed, owed_listed, chain_is, chain_of_none, no_parent, parents_alike, objects_alike, tree_alike, limits_alike, names_fit}
 
 -- ---- lists of pairs
 
 -- b is a with p put in somewhere
-pub record Inserted (p : Pair) (a b : List Pair) : Type 0 where
-  pub before : List Pair
-  pub after : List Pair
+pub record Inserted (p : Property) (a b : List Property) : Type 0 where
+  pub before : List Property
+  pub after : List Property
   pub less : a ≡ before ++ after
   pub more : b ≡ before ++ (p ∷ after)
 
-apart : (p : Pair) (xs ys : List Pair) → pair_named (xs ++ ys) (folded p.1) ≡ None → NamesDiffer (xs ++ ys) → NamesDiffer (xs ++ (p ∷ ys))
+apart : (p : Property) (xs ys : List Property) → property_named (xs ++ ys) (folded p.1) ≡ None → NamesDiffer (xs ++ ys) → NamesDiffer (xs ++ (p ∷ ys))
 unfolding IsDistinct
 apart p [] ys none d = (first ys none, d)
   where
-    first : (ys : List Pair) → pair_named ys (folded p.1) ≡ None → AllByRecursion (λ y. same_text (folded p.1) (folded y.1) ≡ false) ys
+    first : (ys : List Property) → property_named ys (folded p.1) ≡ None → AllByRecursion (λ y. same_text (folded p.1) (folded y.1) ≡ false) ys
     first [] e = tt
     first (y ∷ ys) e = by (same_text (folded y.1) (folded p.1)) refl e (first ys)
       where
@@ -22,30 +22,30 @@ apart p [] ys none d = (first ys none, d)
         turned true k h = absurd (both_ways (same_text (folded y.1) (folded p.1)) h ((same_text-Decides (folded y.1) (folded p.1)).1 (sym ((same_text-Decides (folded p.1) (folded y.1)).0 k))))
         turned false k h = refl
 
-        by : (b : Bool) → same_text (folded y.1) (folded p.1) ≡ b → cond b (Some y) (pair_named ys (folded p.1)) ≡ None → (pair_named ys (folded p.1) ≡ None → AllByRecursion (λ y. same_text (folded p.1) (folded y.1) ≡ false) ys) → AllByRecursion (λ y. same_text (folded p.1) (folded y.1) ≡ false) (y ∷ ys)
+        by : (b : Bool) → same_text (folded y.1) (folded p.1) ≡ b → cond b (Some y) (property_named ys (folded p.1)) ≡ None → (property_named ys (folded p.1) ≡ None → AllByRecursion (λ y. same_text (folded p.1) (folded y.1) ≡ false) ys) → AllByRecursion (λ y. same_text (folded p.1) (folded y.1) ≡ false) (y ∷ ys)
         by true h k r = absurd (none-some y (sym k))
         by false h k r = (turned (same_text (folded p.1) (folded y.1)) refl h, r k)
 apart p (x ∷ xs) ys none d = by (same_text (folded x.1) (folded p.1)) refl none (λ k. apart p xs ys k d.1)
   where
-    also : (l : List Pair) → same_text (folded x.1) (folded p.1) ≡ false → AllByRecursion (λ y. same_text (folded x.1) (folded y.1) ≡ false) (l ++ ys) → AllByRecursion (λ y. same_text (folded x.1) (folded y.1) ≡ false) (l ++ (p ∷ ys))
+    also : (l : List Property) → same_text (folded x.1) (folded p.1) ≡ false → AllByRecursion (λ y. same_text (folded x.1) (folded y.1) ≡ false) (l ++ ys) → AllByRecursion (λ y. same_text (folded x.1) (folded y.1) ≡ false) (l ++ (p ∷ ys))
     also [] e a = (e, a)
     also (y ∷ l) e a = (a.0, also l e a.1)
 
-    by : (b : Bool) → same_text (folded x.1) (folded p.1) ≡ b → cond b (Some x) (pair_named (xs ++ ys) (folded p.1)) ≡ None → (pair_named (xs ++ ys) (folded p.1) ≡ None → NamesDiffer (xs ++ (p ∷ ys))) → NamesDiffer ((x ∷ xs) ++ (p ∷ ys))
+    by : (b : Bool) → same_text (folded x.1) (folded p.1) ≡ b → cond b (Some x) (property_named (xs ++ ys) (folded p.1)) ≡ None → (property_named (xs ++ ys) (folded p.1) ≡ None → NamesDiffer (xs ++ (p ∷ ys))) → NamesDiffer ((x ∷ xs) ++ (p ∷ ys))
     by true e k r = absurd (none-some x (sym k))
     by false e k r = (also xs e d.0, r k)
 
-named : (p : Pair) (n : Name) (xs ys : List Pair) → pair_named (xs ++ ys) (folded p.1) ≡ None → pair_named (xs ++ (p ∷ ys)) n ≡ (if same_text (folded p.1) n then Some p else pair_named (xs ++ ys) n)
+named : (p : Property) (n : Name) (xs ys : List Property) → property_named (xs ++ ys) (folded p.1) ≡ None → property_named (xs ++ (p ∷ ys)) n ≡ (if same_text (folded p.1) n then Some p else property_named (xs ++ ys) n)
 named p n [] ys none = by (same_text (folded p.1) n)
   where
-    by : (b : Bool) → cond b (Some p) (pair_named ys n) ≡ (if b then Some p else pair_named ys n)
+    by : (b : Bool) → cond b (Some p) (property_named ys n) ≡ (if b then Some p else property_named ys n)
     by true = refl
     by false = refl
 named p n (x ∷ xs) ys none = by (same_text (folded x.1) n) refl (same_text (folded x.1) (folded p.1)) refl none (named p n xs ys)
   where
-    by : (b : Bool) → same_text (folded x.1) n ≡ b → (c : Bool) → same_text (folded x.1) (folded p.1) ≡ c → cond c (Some x) (pair_named (xs ++ ys) (folded p.1)) ≡ None
-        → (pair_named (xs ++ ys) (folded p.1) ≡ None → pair_named (xs ++ (p ∷ ys)) n ≡ (if same_text (folded p.1) n then Some p else pair_named (xs ++ ys) n))
-        → cond b (Some x) (pair_named (xs ++ (p ∷ ys)) n) ≡ (if same_text (folded p.1) n then Some p else cond b (Some x) (pair_named (xs ++ ys) n))
+    by : (b : Bool) → same_text (folded x.1) n ≡ b → (c : Bool) → same_text (folded x.1) (folded p.1) ≡ c → cond c (Some x) (property_named (xs ++ ys) (folded p.1)) ≡ None
+        → (property_named (xs ++ ys) (folded p.1) ≡ None → property_named (xs ++ (p ∷ ys)) n ≡ (if same_text (folded p.1) n then Some p else property_named (xs ++ ys) n))
+        → cond b (Some x) (property_named (xs ++ (p ∷ ys)) n) ≡ (if same_text (folded p.1) n then Some p else cond b (Some x) (property_named (xs ++ ys) n))
     by b e true f k r = absurd (none-some x (sym k))
     by false e false f k r = r k
     by true e false f k r = other (same_text (folded p.1) n) refl
@@ -54,15 +54,15 @@ named p n (x ∷ xs) ys none = by (same_text (folded x.1) n) refl (same_text (fo
         other false g = refl
         other true g = absurd (both_ways (same_text (folded x.1) (folded p.1)) f ((same_text-Decides (folded x.1) (folded p.1)).1 ((same_text-Decides (folded x.1) n).0 e ∙ sym ((same_text-Decides (folded p.1) n).0 g))))
 
-pub still_apart : (p : Pair) (a b : List Pair) → Inserted p a b → pair_named a (folded p.1) ≡ None → NamesDiffer a → NamesDiffer b
-still_apart p a b i none d = subst NamesDiffer (sym i.more) (apart p i.before i.after (sym (ap (λ l. pair_named l (folded p.1)) i.less) ∙ none) (subst NamesDiffer i.less d))
+pub still_apart : (p : Property) (a b : List Property) → Inserted p a b → property_named a (folded p.1) ≡ None → NamesDiffer a → NamesDiffer b
+still_apart p a b i none d = subst NamesDiffer (sym i.more) (apart p i.before i.after (sym (ap (λ l. property_named l (folded p.1)) i.less) ∙ none) (subst NamesDiffer i.less d))
 
-pub named_after : (p : Pair) (n : Name) (a b : List Pair) → Inserted p a b → pair_named a (folded p.1) ≡ None → pair_named b n ≡ (if same_text (folded p.1) n then Some p else pair_named a n)
+pub named_after : (p : Property) (n : Name) (a b : List Property) → Inserted p a b → property_named a (folded p.1) ≡ None → property_named b n ≡ (if same_text (folded p.1) n then Some p else property_named a n)
 named_after p n a b i none =
-    ap (λ l. pair_named l n) i.more ∙ named p n i.before i.after (sym (ap (λ l. pair_named l (folded p.1)) i.less) ∙ none)
-    ∙ ap (λ l. if same_text (folded p.1) n then Some p else pair_named l n) (sym i.less)
+    ap (λ l. property_named l n) i.more ∙ named p n i.before i.after (sym (ap (λ l. property_named l (folded p.1)) i.less) ∙ none)
+    ∙ ap (λ l. if same_text (folded p.1) n then Some p else property_named l n) (sym i.less)
 
-pub further : (p : Pair) (l a b : List Pair) → Inserted p a b → Inserted p (l ++ a) (l ++ b)
+pub further : (p : Property) (l a b : List Property) → Inserted p a b → Inserted p (l ++ a) (l ++ b)
 further p l a b i = record {
   before = l ++ i.before;
   after = i.after;
@@ -70,7 +70,7 @@ further p l a b i = record {
   more = ap (λ k. l ++ k) i.more ∙ sym (append_assoc l i.before (p ∷ i.after));
 }
 
-at_end : (p : Pair) (l m : List Pair) → Inserted p (l ++ m) ((l ++ p ∷ []) ++ m)
+at_end : (p : Property) (l m : List Property) → Inserted p (l ++ m) ((l ++ p ∷ []) ++ m)
 at_end p l m = record { before = l; after = m; less = refl; more = append_assoc l (p ∷ []) m }
 
 -- ---- chains
@@ -89,37 +89,37 @@ comparable w t (z ∷ l) y d x c h k = by (same_object d z) refl (same_object x 
     by false e true f u v r = inl (ap (is_among d) (whole x f) ∙ h)
     by false e false f u v r = r u v
 
-pub some_record : (o : Option Record) → is_some o ≡ true → (r : Record) × (o ≡ Some r)
+pub some_record : (o : Option WorldObject) → is_some o ≡ true → (r : WorldObject) × (o ≡ Some r)
 some_record None e = absurd (false≢true e)
 some_record (Some r) e = (r, refl)
 
 module _ (w : World) (wf : IsWellFormed w) (x : ObjNo) (name : Name) (s : Slot) (xo : is_object w x ≡ true) (free : clashes w x name ≡ false) where
   abbrev pub v : World
-  v = defined w x name s
+  v = property_added w x name s
 
   -- no property of that name is owed to what has x in its chain
-  pub none_owed : (y : ObjNo) (l : List ObjNo) → Chain w y l → is_among x l ≡ true → pair_named (owed_by w l) (folded name) ≡ None
-  none_owed y l c u = by (pair_named (owed_by w l) (folded name)) refl
+  pub none_owed : (y : ObjNo) (l : List ObjNo) → Chain w y l → is_among x l ≡ true → property_named (defined_by_any w l) (folded name) ≡ None
+  none_owed y l c u = by (property_named (defined_by_any w l) (folded name)) refl
     where
-      apart_both : (is_some (pair_named (owed_by w (chain w x)) (folded name)) ≡ false) × (is_some (pair_named (owed_by w (subtree_of w x)) (folded name)) ≡ false)
+      apart_both : (is_some (property_named (defined_by_any w (chain w x)) (folded name)) ≡ false) × (is_some (property_named (defined_by_any w (subtree_of w x)) (folded name)) ≡ false)
       apart_both = or_parts _ _ free
 
-      none : (o : Option Pair) → is_some o ≡ false → o ≡ None
+      none : (o : Option Property) → is_some o ≡ false → o ≡ None
       none None e = refl
       none (Some p) e = absurd (false≢true (sym e))
 
-      by : (o : Option Pair) → pair_named (owed_by w l) (folded name) ≡ o → o ≡ None
+      by : (o : Option Property) → property_named (defined_by_any w l) (folded name) ≡ o → o ≡ None
       by None e = refl
       by (Some p) e = absurd (clash (comparable w wf.tree l y p.0 x c own.0 u))
         where
-          own : (is_among p.0 l ≡ true) × (list_any (same_pair p) (defined_by w p.0) ≡ true)
+          own : (is_among p.0 l ≡ true) × (list_any (same_property p) (defined_by w p.0) ≡ true)
           own = definer_among w p l (named_owed w l (folded name) p e)
 
           called : folded p.1 ≡ folded name
-          called = named_so (owed_by w l) (folded name) p e
+          called = named_so (defined_by_any w l) (folded name) p e
 
-          hit : (k : List ObjNo) → is_among p.0 k ≡ true → is_some (pair_named (owed_by w k) (folded name)) ≡ false → ⊥
-          hit k h g = some_named (owed_by w k) p (owed_listed w k p.0 p h own.1) (ap (pair_named (owed_by w k)) called ∙ none _ g)
+          hit : (k : List ObjNo) → is_among p.0 k ≡ true → is_some (property_named (defined_by_any w k) (folded name)) ≡ false → ⊥
+          hit k h g = some_named (defined_by_any w k) p (owed_listed w k p.0 p h own.1) (ap (property_named (defined_by_any w k)) called ∙ none _ g)
 
           there : is_among x (chain w p.0) ≡ true → is_object w p.0 ≡ true
           there h = decide (is_object w p.0) refl
@@ -135,7 +135,7 @@ module _ (w : World) (wf : IsWellFormed w) (x : ObjNo) (name : Name) (s : Slot) 
   abbrev under : ObjNo → Bool
   under y = is_among x (chain w y)
 
-  abbrev new_record : ObjNo → Record → Record
+  abbrev new_record : ObjNo → WorldObject → WorldObject
   new_record y r = record r {
     defines = if same_object x y then r.defines ++ name ∷ [] else r.defines;
     slot = λ n. if is_among x (chain w y) then (if same_text (folded name) n then Some (if same_object x y then s else fresh r.row.owner s) else r.slot n) else r.slot n;
@@ -154,57 +154,57 @@ module _ (w : World) (wf : IsWellFormed w) (x : ObjNo) (name : Name) (s : Slot) 
 
   -- ---- what is owed
 
-  names_now : (y : ObjNo) → names_of v y ≡ (if same_object x y then names_of w y ++ name ∷ [] else names_of w y)
+  names_now : (y : ObjNo) → property_names_of v y ≡ (if same_object x y then property_names_of w y ++ name ∷ [] else property_names_of w y)
   names_now y = by (w.object y) refl
     where
       alone : (b : Bool) → same_object x y ≡ b → is_object w y ≡ false → [] ≡ (if b then [] ++ name ∷ [] else [])
       alone false e f = refl
       alone true e f = absurd (both_ways (is_object w x) (ap (is_object w) ((same_object-Decides x y).0 e) ∙ f) xo)
 
-      by : (o : Option Record) → w.object y ≡ o → unwrap_or (option_map (λ r. r.defines) (option_map (new_record y) o)) [] ≡ (if same_object x y then unwrap_or (option_map (λ r. r.defines) o) [] ++ name ∷ [] else unwrap_or (option_map (λ r. r.defines) o) [])
+      by : (o : Option WorldObject) → w.object y ≡ o → unwrap_or (option_map (λ r. r.defines) (option_map (new_record y) o)) [] ≡ (if same_object x y then unwrap_or (option_map (λ r. r.defines) o) [] ++ name ∷ [] else unwrap_or (option_map (λ r. r.defines) o) [])
       by None e = alone (same_object x y) refl (ap is_some e)
       by (Some r) e = refl
 
   defined_other : (y : ObjNo) → same_object x y ≡ false → defined_by v y ≡ defined_by w y
-  defined_other y e = ap (map {B = Pair} (λ n. (y, n))) (names_now y ∙ ap (λ b. if b then names_of w y ++ name ∷ [] else names_of w y) e)
+  defined_other y e = ap (map {B = Property} (λ n. (y, n))) (names_now y ∙ ap (λ b. if b then property_names_of w y ++ name ∷ [] else property_names_of w y) e)
 
   defined_here : defined_by v x ≡ defined_by w x ++ (x, name) ∷ []
-  defined_here = ap (map {B = Pair} (λ n. (x, n))) (names_now x ∙ ap (λ b. if b then names_of w x ++ name ∷ [] else names_of w x) ((same_object-Decides x x).1 refl)) ∙ mapped (names_of w x)
+  defined_here = ap (map {B = Property} (λ n. (x, n))) (names_now x ∙ ap (λ b. if b then property_names_of w x ++ name ∷ [] else property_names_of w x) ((same_object-Decides x x).1 refl)) ∙ mapped (property_names_of w x)
     where
-      mapped : (l : List Name) → map {B = Pair} (λ n. (x, n)) (l ++ name ∷ []) ≡ map (λ n. (x, n)) l ++ (x, name) ∷ []
+      mapped : (l : List Name) → map {B = Property} (λ n. (x, n)) (l ++ name ∷ []) ≡ map (λ n. (x, n)) l ++ (x, name) ∷ []
       mapped [] = refl
       mapped (n ∷ l) = ap (λ k. (x, n) ∷ k) (mapped l)
 
-  owed_beside : (l : List ObjNo) → is_among x l ≡ false → owed_by v l ≡ owed_by w l
+  owed_beside : (l : List ObjNo) → is_among x l ≡ false → defined_by_any v l ≡ defined_by_any w l
   owed_beside [] h = refl
   owed_beside (z ∷ l) h =
       let parts = or_parts (same_object x z) (is_among x l) h in
       λ i. defined_other z parts.0 i ++ owed_beside l parts.1 i
 
-  inserted : (y : ObjNo) (l : List ObjNo) → Chain w y l → is_among x l ≡ true → Inserted (x, name) (owed_by w l) (owed_by v l)
+  inserted : (y : ObjNo) (l : List ObjNo) → Chain w y l → is_among x l ≡ true → Inserted (x, name) (defined_by_any w l) (defined_by_any v l)
   inserted y [] c h = absurd (false≢true h)
   inserted y (z ∷ l) c h = by (same_object x z) refl h (inserted c.1 l c.3)
     where
-      by : (b : Bool) → same_object x z ≡ b → (b || is_among x l) ≡ true → (is_among x l ≡ true → Inserted (x, name) (owed_by w l) (owed_by v l)) → Inserted (x, name) (owed_by w (z ∷ l)) (owed_by v (z ∷ l))
-      by false e k r = subst (λ d. Inserted (x, name) (owed_by w (z ∷ l)) (d ++ owed_by v l)) (sym (defined_other z e)) (further (x, name) (defined_by w z) (owed_by w l) (owed_by v l) (r k))
+      by : (b : Bool) → same_object x z ≡ b → (b || is_among x l) ≡ true → (is_among x l ≡ true → Inserted (x, name) (defined_by_any w l) (defined_by_any v l)) → Inserted (x, name) (defined_by_any w (z ∷ l)) (defined_by_any v (z ∷ l))
+      by false e k r = subst (λ d. Inserted (x, name) (defined_by_any w (z ∷ l)) (d ++ defined_by_any v l)) (sym (defined_other z e)) (further (x, name) (defined_by w z) (defined_by_any w l) (defined_by_any v l) (r k))
       by true e k r =
           let own : x ≡ z = (same_object-Decides x z).0 e in
           let once : is_among x l ≡ false = subst (λ u. is_among u l ≡ false) (c.0 ∙ sym own) (Climbs-once (parent_of w) (no_parent w wf.tree) l y z c) in
-          subst (λ u. Inserted (x, name) (defined_by w u ++ owed_by w l) (defined_by v u ++ owed_by v l)) own
-          (subst (λ d. Inserted (x, name) (defined_by w x ++ owed_by w l) (d ++ owed_by v l)) (sym defined_here)
-          (subst (λ d. Inserted (x, name) (defined_by w x ++ owed_by w l) ((defined_by w x ++ (x, name) ∷ []) ++ d)) (sym (owed_beside l once)) (at_end (x, name) (defined_by w x) (owed_by w l))))
+          subst (λ u. Inserted (x, name) (defined_by w u ++ defined_by_any w l) (defined_by v u ++ defined_by_any v l)) own
+          (subst (λ d. Inserted (x, name) (defined_by w x ++ defined_by_any w l) (d ++ defined_by_any v l)) (sym defined_here)
+          (subst (λ d. Inserted (x, name) (defined_by w x ++ defined_by_any w l) ((defined_by w x ++ (x, name) ∷ []) ++ d)) (sym (owed_beside l once)) (at_end (x, name) (defined_by w x) (defined_by_any w l))))
 
-  names : (y : ObjNo) (l : List ObjNo) → Chain v y l → NamesDiffer (owed_by v l)
+  names : (y : ObjNo) (l : List ObjNo) → Chain v y l → NamesDiffer (defined_by_any v l)
   names y l c = by (is_among x l) refl
     where
-      by : (b : Bool) → is_among x l ≡ b → NamesDiffer (owed_by v l)
+      by : (b : Bool) → is_among x l ≡ b → NamesDiffer (defined_by_any v l)
       by false e = subst NamesDiffer (sym (owed_beside l e)) (wf.names y l (back y l c))
-      by true e = still_apart (x, name) (owed_by w l) (owed_by v l) (inserted y l (back y l c) e) (none_owed y l (back y l c) e) (wf.names y l (back y l c))
+      by true e = still_apart (x, name) (defined_by_any w l) (defined_by_any v l) (inserted y l (back y l c) e) (none_owed y l (back y l c) e) (wf.names y l (back y l c))
 
   -- ---- the slots
 
-  pub slot_now : (y : ObjNo) (n : Name) (r : Record) → w.object y ≡ Some r → slot_of v y n ≡ (new_record y r).slot n
-  slot_now y n r e = ap (λ o. option_and_then (λ (k : Record). k.slot n) (option_map (new_record y) o)) e
+  pub slot_now : (y : ObjNo) (n : Name) (r : WorldObject) → w.object y ≡ Some r → slot_of v y n ≡ (new_record y r).slot n
+  slot_now y n r e = ap (λ o. option_and_then (λ (k : WorldObject). k.slot n) (option_map (new_record y) o)) e
 
   module _ (mine : s.definer ≡ x) (set_here : s.state ≢ Clear) where
     definer_new : (y : ObjNo) (owner : ObjNo) → (if same_object x y then s else fresh owner s).definer ≡ x
@@ -214,47 +214,47 @@ module _ (w : World) (wf : IsWellFormed w) (x : ObjNo) (name : Name) (s : Slot) 
         by true = mine
         by false = mine
 
-    slots : (y : ObjNo) (l : List ObjNo) (n : Name) → is_object v y ≡ true → Chain v y l → option_map (λ k. k.definer) (slot_of v y n) ≡ option_map (λ p. p.0) (pair_named (owed_by v l) n)
+    slots : (y : ObjNo) (l : List ObjNo) (n : Name) → is_object v y ≡ true → Chain v y l → option_map (λ k. k.definer) (slot_of v y n) ≡ option_map (λ p. p.0) (property_named (defined_by_any v l) n)
     slots y l n o c =
         let yo : is_object w y ≡ true = sym (objects y) ∙ o in
         let r = some_record (w.object y) yo in
         let d : Chain w y l = back y l c in
-        let old : option_map (λ (k : Slot). k.definer) (r.0.slot n) ≡ option_map (λ (p : Pair). p.0) (pair_named (owed_by w l) n) = ap (λ o. option_map (λ (k : Slot). k.definer) (option_and_then (λ (k : Record). k.slot n) o)) (sym r.1) ∙ wf.slots y l n yo d in
+        let old : option_map (λ (k : Slot). k.definer) (r.0.slot n) ≡ option_map (λ (p : Property). p.0) (property_named (defined_by_any w l) n) = ap (λ o. option_map (λ (k : Slot). k.definer) (option_and_then (λ (k : WorldObject). k.slot n) o)) (sym r.1) ∙ wf.slots y l n yo d in
         ap (option_map (λ (k : Slot). k.definer)) (slot_now y n r.0 r.1) ∙ by r.0 d old (is_among x l) refl
       where
-        inner : (r : Record) (b : Bool) → option_map (λ (k : Slot). k.definer) (r.slot n) ≡ option_map (λ (p : Pair). p.0) (pair_named (owed_by w l) n)
-            → option_map (λ k. k.definer) (if b then Some (if same_object x y then s else fresh r.row.owner s) else r.slot n) ≡ option_map (λ p. p.0) (if b then Some (x, name) else pair_named (owed_by w l) n)
+        inner : (r : WorldObject) (b : Bool) → option_map (λ (k : Slot). k.definer) (r.slot n) ≡ option_map (λ (p : Property). p.0) (property_named (defined_by_any w l) n)
+            → option_map (λ k. k.definer) (if b then Some (if same_object x y then s else fresh r.row.owner s) else r.slot n) ≡ option_map (λ p. p.0) (if b then Some (x, name) else property_named (defined_by_any w l) n)
         inner r true old = ap Some (definer_new y r.row.owner)
         inner r false old = old
 
-        by : (r : Record) (d : Chain w y l) → option_map (λ (k : Slot). k.definer) (r.slot n) ≡ option_map (λ (p : Pair). p.0) (pair_named (owed_by w l) n) → (b : Bool) → is_among x l ≡ b
-            → option_map (λ k. k.definer) ((new_record y r).slot n) ≡ option_map (λ p. p.0) (pair_named (owed_by v l) n)
+        by : (r : WorldObject) (d : Chain w y l) → option_map (λ (k : Slot). k.definer) (r.slot n) ≡ option_map (λ (p : Property). p.0) (property_named (defined_by_any w l) n) → (b : Bool) → is_among x l ≡ b
+            → option_map (λ k. k.definer) ((new_record y r).slot n) ≡ option_map (λ p. p.0) (property_named (defined_by_any v l) n)
         by r d old false e =
             ap (λ b. option_map (λ (k : Slot). k.definer) (if b then (if same_text (folded name) n then Some (if same_object x y then s else fresh r.row.owner s) else r.slot n) else r.slot n)) (ap (is_among x) (chain_is w wf.tree y l d) ∙ e)
-            ∙ old ∙ ap (λ k. option_map (λ (p : Pair). p.0) (pair_named k n)) (sym (owed_beside l e))
+            ∙ old ∙ ap (λ k. option_map (λ (p : Property). p.0) (property_named k n)) (sym (owed_beside l e))
         by r d old true e =
             ap (λ b. option_map (λ (k : Slot). k.definer) (if b then (if same_text (folded name) n then Some (if same_object x y then s else fresh r.row.owner s) else r.slot n) else r.slot n)) (ap (is_among x) (chain_is w wf.tree y l d) ∙ e)
             ∙ inner r (same_text (folded name) n) old
-            ∙ sym (ap (option_map (λ (p : Pair). p.0)) (named_after (x, name) n (owed_by w l) (owed_by v l) (inserted y l d e) (none_owed y l d e)))
+            ∙ sym (ap (option_map (λ (p : Property). p.0)) (named_after (x, name) n (defined_by_any w l) (defined_by_any v l) (inserted y l d e) (none_owed y l d e)))
 
     -- each slot was there, or is the new one, here or below
-    new_or_old : (y : ObjNo) (n : Name) (k : Slot) → slot_of v y n ≡ Some k → (slot_of w y n ≡ Some k) ⊎ ((r : Record) × (w.object y ≡ Some r) × ((if same_object x y then s else fresh r.row.owner s) ≡ k))
+    new_or_old : (y : ObjNo) (n : Name) (k : Slot) → slot_of v y n ≡ Some k → (slot_of w y n ≡ Some k) ⊎ ((r : WorldObject) × (w.object y ≡ Some r) × ((if same_object x y then s else fresh r.row.owner s) ≡ k))
     new_or_old y n k e = by (w.object y) refl e
       where
-        test : (r : Record) → w.object y ≡ Some r → (a b : Bool) → (if a then (if b then Some (if same_object x y then s else fresh r.row.owner s) else r.slot n) else r.slot n) ≡ Some k
-            → (slot_of w y n ≡ Some k) ⊎ ((r : Record) × (w.object y ≡ Some r) × ((if same_object x y then s else fresh r.row.owner s) ≡ k))
-        test r g false b h = inl (ap (option_and_then (λ (z : Record). z.slot n)) g ∙ h)
-        test r g true false h = inl (ap (option_and_then (λ (z : Record). z.slot n)) g ∙ h)
+        test : (r : WorldObject) → w.object y ≡ Some r → (a b : Bool) → (if a then (if b then Some (if same_object x y then s else fresh r.row.owner s) else r.slot n) else r.slot n) ≡ Some k
+            → (slot_of w y n ≡ Some k) ⊎ ((r : WorldObject) × (w.object y ≡ Some r) × ((if same_object x y then s else fresh r.row.owner s) ≡ k))
+        test r g false b h = inl (ap (option_and_then (λ (z : WorldObject). z.slot n)) g ∙ h)
+        test r g true false h = inl (ap (option_and_then (λ (z : WorldObject). z.slot n)) g ∙ h)
         test r g true true h = inr (r, g, same_Some _ k h)
 
-        by : (o : Option Record) → w.object y ≡ o → option_and_then (λ (z : Record). z.slot n) (option_map (new_record y) o) ≡ Some k → (slot_of w y n ≡ Some k) ⊎ ((r : Record) × (w.object y ≡ Some r) × ((if same_object x y then s else fresh r.row.owner s) ≡ k))
+        by : (o : Option WorldObject) → w.object y ≡ o → option_and_then (λ (z : WorldObject). z.slot n) (option_map (new_record y) o) ≡ Some k → (slot_of w y n ≡ Some k) ⊎ ((r : WorldObject) × (w.object y ≡ Some r) × ((if same_object x y then s else fresh r.row.owner s) ≡ k))
         by None g h = absurd (none-some k h)
         by (Some r) g h = test r g (under y) (same_text (folded name) n) h
 
     set : (y : ObjNo) (n : Name) (k : Slot) → slot_of v y n ≡ Some k → k.definer ≡ y → k.state ≢ Clear
     set y n k e d = elim (new_or_old y n k e) [ inl h ↦ wf.set y n k h d | inr h ↦ new h.0 (same_object x y) refl h.2 ]
       where
-        new : (r : Record) (b : Bool) → same_object x y ≡ b → (if b then s else fresh r.row.owner s) ≡ k → k.state ≢ Clear
+        new : (r : WorldObject) (b : Bool) → same_object x y ≡ b → (if b then s else fresh r.row.owner s) ≡ k → k.state ≢ Clear
         new r true g h = λ c. set_here (ap (λ (z : Slot). z.state) h ∙ c)
         new r false g h = absurd (both_ways (same_object x y) g ((same_object-Decides x y).1 (sym mine ∙ ap (λ (z : Slot). z.definer) h ∙ d)))
 
@@ -262,19 +262,19 @@ module _ (w : World) (wf : IsWellFormed w) (x : ObjNo) (name : Name) (s : Slot) 
       fit : (y : ObjNo) (n : Name) (k : Slot) → slot_of v y n ≡ Some k → slot_fits k ≡ true
       fit y n k e = elim (new_or_old y n k e) [ inl h ↦ wf.fit y n k h | inr h ↦ new h.0 h.1 (same_object x y) h.2 ]
         where
-          new : (r : Record) → w.object y ≡ Some r → (b : Bool) → (if b then s else fresh r.row.owner s) ≡ k → slot_fits k ≡ true
+          new : (r : WorldObject) → w.object y ≡ Some r → (b : Bool) → (if b then s else fresh r.row.owner s) ≡ k → slot_fits k ≡ true
           new r g true h = ap slot_fits (sym h) ∙ fits_here
           new r g false h = ap slot_fits (sym h) ∙ fresh_fits r.row.owner s (row_owner r (row_fitting w wf.limits y r g)) fits_here
 
-      all_names : (y : ObjNo) → list_all is_property_name (names_of v y) ≡ true
+      all_names : (y : ObjNo) → list_all is_property_name (property_names_of v y) ≡ true
       all_names y = ap (list_all is_property_name) (names_now y) ∙ by (same_object x y)
         where
-          by : (b : Bool) → list_all is_property_name (if b then names_of w y ++ name ∷ [] else names_of w y) ≡ true
+          by : (b : Bool) → list_all is_property_name (if b then property_names_of w y ++ name ∷ [] else property_names_of w y) ≡ true
           by false = names_fit w wf.limits y
-          by true = list_all-append is_property_name (names_of w y) (name ∷ []) ∙ (λ i. names_fit w wf.limits y i && (good_name i && true))
+          by true = list_all-append is_property_name (property_names_of w y) (name ∷ []) ∙ (λ i. names_fit w wf.limits y i && (good_name i && true))
 
-      pub IsWellFormed-defined : IsWellFormed v
-      IsWellFormed-defined = record {
+      pub IsWellFormed-property_added : IsWellFormed v
+      IsWellFormed-property_added = record {
         tree = tree_alike w v new_record (λ y. refl) (λ y r. refl) refl wf.tree;
         names = names;
         slots = slots;

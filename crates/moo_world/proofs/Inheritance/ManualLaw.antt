@@ -1,19 +1,19 @@
 -- The manual's wording of a change of parent gives the rebuilt world.
-use Rattle.moo_world.proofs.Words.{◌≡◌, Bool, true, false, cond, ◌||◌, List, [], ◌∷◌, ◌++◌, drop, refl, sym, ◌∙◌, ap, subst, ◌⊎◌, inl, inr, Option, Some, None, append_assoc, unwrap_or, if◌then◌else◌, option_map, option_or, list_any, find, false≢true, both_ways, or_parts, or_right, or_cases, false_from_ne_true, none-some, same_Some, ObjNo, Name, Pair, nothing, same_object, same_pair, folded, is_among, same_object-Decides, World, Slot, IsWellFormed, Chain, NamesDiffer, is_object, parent_of, owner_of, slot_of, defined_by, owed_by, pair_named, owes, chain, fresh, slot_for, reparented, with_parent, ancestors, common, except, lost, gained, kept_from, manual_slot}
+use Rattle.moo_world.proofs.Words.{◌≡◌, Bool, true, false, cond, ◌||◌, List, [], ◌∷◌, ◌++◌, drop, refl, sym, ◌∙◌, ap, subst, ◌⊎◌, inl, inr, Option, Some, None, append_assoc, unwrap_or, if◌then◌else◌, option_map, option_or, list_any, find, false≢true, both_ways, or_parts, or_right, or_cases, false_from_ne_true, none-some, same_Some, ObjNo, Name, Property, nothing, same_object, same_property, folded, is_among, same_object-Decides, World, Slot, IsWellFormed, Chain, NamesDiffer, is_object, parent_of, owner_of, slot_of, defined_by, defined_by_any, property_named, has_property, chain, fresh, slot_for, reparented, with_parent, ancestors, common, except, lost, gained, unless_defined_by, manual_slot}
 use Rattle.moo_world.proofs.Ancestry.Chains.{front_of, Climbs-split, Climbs-among}
 use Rattle.moo_world.proofs.Ancestry.Trees.{chain_is, Chain-chain, chain-nothing, no_parent}
-use Rattle.moo_world.proofs.Inheritance.Owed.{is_among-append, owed_by-append, named-append, find_passes, found_among, in_owed, in_owed-append, definer_among, named_owed, named_so, named_once}
+use Rattle.moo_world.proofs.Inheritance.Owed.{is_among-append, defined_by_any-append, named-append, find_passes, found_among, in_owed, in_owed-append, definer_among, named_owed, named_so, named_once}
 use Rattle.moo_world.proofs.Ancestry.Ancestors.{same_object-self, apart_in_chain, except_end, front_fails, all_fail, front_within}
 use Rattle.moo_world.proofs.Ancestry.Moving.{moved, owner_moved, owed_moved, Chain-new, chain_unmoved, chain_moved}
 use Rattle.moo_world.proofs.Inheritance.Rebuilding.{slot_of-rebuilt}
 
 -- ---- a slot and the ones that are lost
 
-pub slot_kept : (gone : List ObjNo) (o : Option Slot) (d : ObjNo) → option_map (λ s. s.definer) o ≡ Some d → is_among d gone ≡ false → kept_from gone o ≡ o
+pub slot_kept : (gone : List ObjNo) (o : Option Slot) (d : ObjNo) → option_map (λ s. s.definer) o ≡ Some d → is_among d gone ≡ false → unless_defined_by gone o ≡ o
 slot_kept gone None d e h = refl
 slot_kept gone (Some s) d e h = ap (λ b. if b then None else Some s) (ap (λ k. is_among k gone) (same_Some s.definer d e) ∙ h)
 
-pub slot_lost : (gone : List ObjNo) (o : Option Slot) (d : ObjNo) → option_map (λ s. s.definer) o ≡ Some d → is_among d gone ≡ true → kept_from gone o ≡ None
+pub slot_lost : (gone : List ObjNo) (o : Option Slot) (d : ObjNo) → option_map (λ s. s.definer) o ≡ Some d → is_among d gone ≡ true → unless_defined_by gone o ≡ None
 slot_lost gone None d e h = absurd (none-some d e)
 slot_lost gone (Some s) d e h = ap (λ b. if b then None else Some s) (ap (λ k. is_among k gone) (same_Some s.definer d e) ∙ h)
 
@@ -23,7 +23,7 @@ slot_absent (Some s) e = absurd (none-some s.definer (sym e))
 
 -- no object under x defines a name that q or an ancestor of q defines
 abbrev pub NoClash : World → ObjNo → ObjNo → Type 0
-NoClash w x q = (d : ObjNo) (p : Pair) → is_among x (chain w d) ≡ true → list_any (same_pair p) (defined_by w d) ≡ true → pair_named (owed_by w (chain w q)) (folded p.1) ≡ None
+NoClash w x q = (d : ObjNo) (p : Property) → is_among x (chain w d) ≡ true → list_any (same_property p) (defined_by w d) ≡ true → property_named (defined_by_any w (chain w q)) (folded p.1) ≡ None
 
 module _ (w : World) (x q : ObjNo) (wf : IsWellFormed w) (xo : is_object w x ≡ true) (qo : (is_object w q ≡ true) ⊎ (q ≡ nothing)) (outside : is_among x (chain w q) ≡ false) (apart : NoClash w x q) where
   abbrev pub above : List ObjNo
@@ -123,8 +123,8 @@ module _ (w : World) (x q : ObjNo) (wf : IsWellFormed w) (xo : is_object w x ≡
     chain_y_moved : chain (moved w x q) y ≡ below ++ chain w q
     chain_y_moved = chain_moved w x q wf.tree xo qo outside y yo under ∙ sym (append_assoc (front_of x (chain w y)) (x ∷ []) (chain w q))
 
-    abbrev named : List ObjNo → Option Pair
-    named l = pair_named (owed_by w l) n
+    abbrev named : List ObjNo → Option Property
+    named l = property_named (defined_by_any w l) n
 
     pub named_y : named (chain w y) ≡ option_or (named below) (option_or (named going) (named shared))
     named_y = ap named chain_y ∙ named-append w below above n ∙ ap (option_or (named below)) (ap named above_split ∙ named-append w going shared n)
@@ -132,55 +132,55 @@ module _ (w : World) (x q : ObjNo) (wf : IsWellFormed w) (xo : is_object w x ≡
     pub named_new : named (chain w q) ≡ option_or (named coming) (named shared)
     named_new = ap named new_split ∙ named-append w coming shared n
 
-    named_y_moved : pair_named (owed_by (moved w x q) (chain (moved w x q) y)) n ≡ option_or (named below) (option_or (named coming) (named shared))
-    named_y_moved = ap (λ k. pair_named k n) (owed_moved w x q (chain (moved w x q) y)) ∙ ap named chain_y_moved ∙ named-append w below (chain w q) n ∙ ap (option_or (named below)) named_new
+    named_y_moved : property_named (defined_by_any (moved w x q) (chain (moved w x q) y)) n ≡ option_or (named below) (option_or (named coming) (named shared))
+    named_y_moved = ap (λ k. property_named k n) (owed_moved w x q (chain (moved w x q) y)) ∙ ap named chain_y_moved ∙ named-append w below (chain w q) n ∙ ap (option_or (named below)) named_new
 
     pub definer_of_slot : option_map (λ s. s.definer) (slot_of w y n) ≡ option_map (λ p. p.0) (option_or (named below) (option_or (named going) (named shared)))
     definer_of_slot = wf.slots y (chain w y) n yo (Chain-chain w wf.tree y yo) ∙ ap (option_map (λ p. p.0)) named_y
 
-    owes_below : (p : Pair) → named below ≡ Some p → owes w y p ≡ true
+    owes_below : (p : Property) → named below ≡ Some p → has_property w y p ≡ true
     owes_below p e = ap (in_owed w p) chain_y ∙ in_owed-append w p below above ∙ ap (λ b. b || in_owed w p above) (named_owed w below n p e)
 
-    owes_shared : (p : Pair) → named shared ≡ Some p → owes w y p ≡ true
+    owes_shared : (p : Property) → named shared ≡ Some p → has_property w y p ≡ true
     owes_shared p e =
         ap (in_owed w p) (chain_y ∙ ap (λ l. below ++ l) above_split) ∙ in_owed-append w p below (going ++ shared)
         ∙ or_right (in_owed w p below) _ (in_owed-append w p going shared ∙ or_right (in_owed w p going) _ (named_owed w shared n p e))
 
     -- a name that an object below x or x defines is no name of q's chain
-    pub no_new : (p : Pair) → in_owed w p below ≡ true → folded p.1 ≡ n → named (chain w q) ≡ None
+    pub no_new : (p : Property) → in_owed w p below ≡ true → folded p.1 ≡ n → named (chain w q) ≡ None
     no_new p o e =
         let d = definer_among w p below o in
-        subst (λ m. pair_named (owed_by w (chain w q)) m ≡ None) e (apart p.0 p (under_x (chain w y) y p.0 (Chain-chain w wf.tree y yo) under d.0) d.1)
+        subst (λ m. property_named (defined_by_any w (chain w q)) m ≡ None) e (apart p.0 p (under_x (chain w y) y p.0 (Chain-chain w wf.tree y yo) under d.0) d.1)
 
-    not_owed_yet : (p : Pair) → named coming ≡ Some p → owes w y p ≡ false
-    not_owed_yet p e = false_from_ne_true (owes w y p) (λ o.
+    not_owed_yet : (p : Property) → named coming ≡ Some p → has_property w y p ≡ false
+    not_owed_yet p e = false_from_ne_true (has_property w y p) (λ o.
         elim (or_cases _ _ (sym (in_owed-append w p below above) ∙ sym (ap (in_owed w p) chain_y) ∙ o)) [
-          | inl h ↦ none-some p (sym (no_new p h (named_so (owed_by w coming) n p e)) ∙ named_new ∙ ap (λ g. option_or g (named shared)) e)
+          | inl h ↦ none-some p (sym (no_new p h (named_so (defined_by_any w coming) n p e)) ∙ named_new ∙ ap (λ g. option_or g (named shared)) e)
           | inr h ↦ both_ways (is_among p.0 above) (coming_fails _ p.0 refl (definer_among w p coming (named_owed w coming n p e)).0) (definer_among w p above h).0
         ])
 
-    below_stays : (p : Pair) → named below ≡ Some p → is_among p.0 going ≡ false
+    below_stays : (p : Property) → named below ≡ Some p → is_among p.0 going ≡ false
     below_stays p e =
         let once : is_among p.0 above ≡ false = apart_in_chain (parent_of w) (no_parent w wf.tree) below above y p.0 (subst (Chain w y) chain_y (Chain-chain w wf.tree y yo)) (definer_among w p below (named_owed w below n p e)).0 in
         (or_parts (is_among p.0 going) (is_among p.0 shared) (sym (is_among-append p.0 going shared) ∙ sym (ap (is_among p.0) above_split) ∙ once)).0
 
-    shared_stays : (p : Pair) → named shared ≡ Some p → is_among p.0 going ≡ false
+    shared_stays : (p : Property) → named shared ≡ Some p → is_among p.0 going ≡ false
     shared_stays p e = false_from_ne_true (is_among p.0 going) (λ h. both_ways (is_among p.0 shared) (apart_above p.0 h) (definer_among w p shared (named_owed w shared n p e)).0)
 
-    one_of : (k p : Pair) → named going ≡ Some k → named shared ≡ Some p → ⊥
+    one_of : (k p : Property) → named going ≡ Some k → named shared ≡ Some p → ⊥
     one_of k p e f =
-        let differ : NamesDiffer (owed_by w going ++ owed_by w shared) = subst NamesDiffer (ap (owed_by w) above_split ∙ owed_by-append w going shared) (wf.names Chain-x.1 above Chain-x.3) in
-        none-some p (sym (named_once (owed_by w going) (owed_by w shared) n k differ e) ∙ f)
+        let differ : NamesDiffer (defined_by_any w going ++ defined_by_any w shared) = subst NamesDiffer (ap (defined_by_any w) above_split ∙ defined_by_any-append w going shared) (wf.names Chain-x.1 above Chain-x.3) in
+        none-some p (sym (named_once (defined_by_any w going) (defined_by_any w shared) n k differ e) ∙ f)
 
     abbrev s : World
     s = with_parent w x q
 
-    abbrev wording : Option Pair → Option Slot
-    wording g = elim g [ Some p ↦ option_map (fresh (owner_of w y)) (slot_of w q n) | None ↦ kept_from going (slot_of w y n) ]
+    abbrev wording : Option Property → Option Slot
+    wording g = elim g [ Some p ↦ option_map (fresh (owner_of w y)) (slot_of w q n) | None ↦ unless_defined_by going (slot_of w y n) ]
 
-    by_case : (b g h l : Option Pair) → named below ≡ b → named coming ≡ g → named shared ≡ h → named going ≡ l → slot_for w s q y n (option_or b (option_or g h)) ≡ wording g
+    by_case : (b g h l : Option Property) → named below ≡ b → named coming ≡ g → named shared ≡ h → named going ≡ l → slot_for w s q y n (option_or b (option_or g h)) ≡ wording g
     by_case (Some p) (Some k) h l eb eg eh el =
-        absurd (none-some k (sym (no_new p (named_owed w below n p eb) (named_so (owed_by w below) n p eb)) ∙ named_new ∙ ap (λ m. option_or m (named shared)) eg))
+        absurd (none-some k (sym (no_new p (named_owed w below n p eb) (named_so (defined_by_any w below) n p eb)) ∙ named_new ∙ ap (λ m. option_or m (named shared)) eg))
     by_case (Some p) None h l eb eg eh el =
         ap (λ v. if v then slot_of w y n else option_map (fresh (owner_of s y)) (slot_of w q n)) (owes_below p eb)
         ∙ sym (slot_kept going (slot_of w y n) p.0 (definer_of_slot ∙ ap (λ m. option_map (λ k. k.0) (option_or m (option_or (named going) (named shared)))) eb) (below_stays p eb))
@@ -194,7 +194,7 @@ module _ (w : World) (x q : ObjNo) (wf : IsWellFormed w) (xo : is_object w x ≡
     by_case None None None (Some k) eb eg eh el =
         sym (slot_lost going (slot_of w y n) k.0 (definer_of_slot ∙ (λ i. option_map (λ m. m.0) (option_or (eb i) (option_or (el i) (eh i))))) (definer_among w k going (named_owed w going n k el)).0)
     by_case None None None None eb eg eh el =
-        sym (ap (kept_from going) (slot_absent (slot_of w y n) (definer_of_slot ∙ (λ i. option_map (λ m. m.0) (option_or (eb i) (option_or (el i) (eh i)))))))
+        sym (ap (unless_defined_by going) (slot_absent (slot_of w y n) (definer_of_slot ∙ (λ i. option_map (λ m. m.0) (option_or (eb i) (option_or (el i) (eh i)))))))
 
     under_slot : slot_of (reparented w x q) y n ≡ wording (named coming)
     under_slot = slot_of-rebuilt w s q y n ∙ ap (slot_for w s q y n) named_y_moved ∙ by_case _ _ _ _ refl refl refl refl
@@ -202,22 +202,22 @@ module _ (w : World) (x q : ObjNo) (wf : IsWellFormed w) (xo : is_object w x ≡
     pub under_law : slot_of (reparented w x q) y n ≡ manual_slot w x q y n
     under_law =
         under_slot
-        ∙ (λ i. elim (pair_named (owed_by w (sym gained_is i)) n) [ Some p ↦ option_map (fresh (owner_of w y)) (slot_of w q n) | None ↦ kept_from (sym lost_is i) (slot_of w y n) ])
-        ∙ sym (ap (λ b. if b then elim (pair_named (owed_by w (gained w x q)) n) [ Some p ↦ option_map (fresh (owner_of w y)) (slot_of w q n) | None ↦ kept_from (lost w x q) (slot_of w y n) ] else slot_of w y n) under)
+        ∙ (λ i. elim (property_named (defined_by_any w (sym gained_is i)) n) [ Some p ↦ option_map (fresh (owner_of w y)) (slot_of w q n) | None ↦ unless_defined_by (sym lost_is i) (slot_of w y n) ])
+        ∙ sym (ap (λ b. if b then elim (property_named (defined_by_any w (gained w x q)) n) [ Some p ↦ option_map (fresh (owner_of w y)) (slot_of w q n) | None ↦ unless_defined_by (lost w x q) (slot_of w y n) ] else slot_of w y n) under)
 
   -- ---- another object
 
   module _ (y : ObjNo) (n : Name) (yo : is_object w y ≡ true) (beside : is_among x (chain w y) ≡ false) where
-    beside_case : (o : Option Pair) → pair_named (owed_by w (chain w y)) n ≡ o → slot_for w (with_parent w x q) q y n o ≡ slot_of w y n
+    beside_case : (o : Option Property) → property_named (defined_by_any w (chain w y)) n ≡ o → slot_for w (with_parent w x q) q y n o ≡ slot_of w y n
     beside_case None e = sym (slot_absent (slot_of w y n) (wf.slots y (chain w y) n yo (Chain-chain w wf.tree y yo) ∙ ap (option_map (λ p. p.0)) e))
     beside_case (Some p) e = ap (λ v. if v then slot_of w y n else option_map (fresh (owner_of (with_parent w x q) y)) (slot_of w q n)) (named_owed w (chain w y) n p e)
 
     pub beside_law : slot_of (reparented w x q) y n ≡ manual_slot w x q y n
     beside_law =
         slot_of-rebuilt w (with_parent w x q) q y n
-        ∙ ap (slot_for w (with_parent w x q) q y n) (ap (λ k. pair_named k n) (owed_moved w x q (chain (moved w x q) y)) ∙ ap (λ l. pair_named (owed_by w l) n) (chain_unmoved w x q wf.tree xo qo outside y yo beside))
+        ∙ ap (slot_for w (with_parent w x q) q y n) (ap (λ k. property_named k n) (owed_moved w x q (chain (moved w x q) y)) ∙ ap (λ l. property_named (defined_by_any w l) n) (chain_unmoved w x q wf.tree xo qo outside y yo beside))
         ∙ beside_case _ refl
-        ∙ sym (ap (λ b. if b then elim (pair_named (owed_by w (gained w x q)) n) [ Some p ↦ option_map (fresh (owner_of w y)) (slot_of w q n) | None ↦ kept_from (lost w x q) (slot_of w y n) ] else slot_of w y n) beside)
+        ∙ sym (ap (λ b. if b then elim (property_named (defined_by_any w (gained w x q)) n) [ Some p ↦ option_map (fresh (owner_of w y)) (slot_of w q n) | None ↦ unless_defined_by (lost w x q) (slot_of w y n) ] else slot_of w y n) beside)
 
   -- the manual's wording gives the slots of the rebuilt world
   pub manual_law : (y : ObjNo) (n : Name) → is_object w y ≡ true → slot_of (reparented w x q) y n ≡ manual_slot w x q y n

@@ -1,5 +1,5 @@
 -- The children of a recycled object, moved one by one in the manual's words, leave the world that recycling leaves.
-use Rattle.moo_world.proofs.Lemmas.{◌≡◌, Bool, true, false, cond, ◌||◌, List, [], ◌∷◌, ◌++◌, refl, sym, ◌∙◌, ap, subst, ◌⊎◌, inl, inr, Option, Some, None, is_some, unwrap_or, if◌then◌else◌, option_map, option_and_then, false≢true, both_ways, or_right, false_from_ne_true, none-some, same_Some, ObjNo, Name, Pair, nothing, same_object, same_object-Decides, is_among, World, Record, Slot, IsTree, IsWellFormed, Chain, is_object, parent_of, slot_of, owed_by, pair_named, chain, with_slots, without_slots, with_parent, reparented, SameButSlots, MayReparent, kept_from, manual_slot, has_parent, children_of, objects_of, manually_moved, moved_one_by_one, MayMoveOneByOne, emptied, taken_out, ChildrenMoveOneByOne, ChildrenMoveAscending, released, without_record, recycled, Climbs-once, Chain-chain, chain-step, linked, no_parent, definer_among, named_owed, same_object-self, manual_law, slot_kept, slot_absent, no_slot, objects_same, same_world, SameButSlots-rebuilt, NoClash-from_meets, among_filter, object_listed}
+use Rattle.moo_world.proofs.Lemmas.{◌≡◌, Bool, true, false, cond, ◌||◌, List, [], ◌∷◌, ◌++◌, refl, sym, ◌∙◌, ap, subst, ◌⊎◌, inl, inr, Option, Some, None, is_some, unwrap_or, if◌then◌else◌, option_map, option_and_then, false≢true, both_ways, or_right, false_from_ne_true, none-some, same_Some, ObjNo, Name, Property, nothing, same_object, same_object-Decides, is_among, World, WorldObject, Slot, IsTree, IsWellFormed, Chain, is_object, parent_of, slot_of, defined_by_any, property_named, chain, with_slots, without_slots, with_parent, reparented, SameButSlots, MayReparent, unless_defined_by, manual_slot, is_parent_of, children_of, objects_of, manually_moved, moved_one_by_one, MayMoveOneByOne, emptied, taken_out, ChildrenMoveOneByOne, ChildrenMoveAscending, released, object_removed, recycled, Climbs-once, Chain-chain, chain-step, linked, no_parent, definer_among, named_owed, same_object-self, manual_law, slot_kept, slot_absent, no_slot, objects_same, same_world, SameButSlots-rebuilt, NoClash-from_meets, among_filter, object_listed}
 use Rattle.moo_world.proofs.Inheritance.Recycling.{stays, recycle_law}
 use Rattle.moo_world.proofs.Inheritance.Reparenting.{IsWellFormed-reparented}
 use Rattle.moo_world.proofs.Ancestry.Upward.{filter_passes, may_climb, climbed_slot}
@@ -16,13 +16,13 @@ one_world a b same slots = same_world a b same (λ y n. by y n (is_object a y) r
 
 module _ (w : World) (c q : ObjNo) where
   -- the record that c gets
-  abbrev under_q : Record → Record
+  abbrev under_q : WorldObject → WorldObject
   under_q r = record r { row = record r.row { parent = q } }
 
   pub parent_moved : (y : ObjNo) → parent_of (manually_moved w c q) y ≡ option_map (λ p. if same_object c y then q else p) (parent_of w y)
   parent_moved y = of (w.object y)
     where
-      of : (o : Option Record) → option_map (λ r. r.row.parent) (option_map (with_slots (manual_slot w c q y)) (option_map (λ r. if same_object c y then under_q r else r) o)) ≡ option_map (λ p. if same_object c y then q else p) (option_map (λ r. r.row.parent) o)
+      of : (o : Option WorldObject) → option_map (λ r. r.row.parent) (option_map (with_slots (manual_slot w c q y)) (option_map (λ r. if same_object c y then under_q r else r) o)) ≡ option_map (λ p. if same_object c y then q else p) (option_map (λ r. r.row.parent) o)
       of None = refl
       of (Some r) = by (same_object c y)
         where
@@ -33,21 +33,21 @@ module _ (w : World) (c q : ObjNo) where
   slot_moved : (y : ObjNo) (n : Name) → is_object w y ≡ true → slot_of (manually_moved w c q) y n ≡ manual_slot w c q y n
   slot_moved y n o = of (w.object y) o
     where
-      of : (k : Option Record) → is_some k ≡ true → option_and_then (λ r. r.slot n) (option_map (with_slots (manual_slot w c q y)) (option_map (λ r. if same_object c y then under_q r else r) k)) ≡ manual_slot w c q y n
+      of : (k : Option WorldObject) → is_some k ≡ true → option_and_then (λ r. r.slot n) (option_map (with_slots (manual_slot w c q y)) (option_map (λ r. if same_object c y then under_q r else r) k)) ≡ manual_slot w c q y n
       of None h = absurd (false≢true h)
       of (Some r) h = refl
 
   object_stays : (y : ObjNo) → is_object (manually_moved w c q) y ≡ is_object w y
   object_stays y = of (w.object y)
     where
-      of : (k : Option Record) → is_some (option_map (with_slots (manual_slot w c q y)) (option_map (λ r. if same_object c y then under_q r else r) k)) ≡ is_some k
+      of : (k : Option WorldObject) → is_some (option_map (with_slots (manual_slot w c q y)) (option_map (λ r. if same_object c y then under_q r else r) k)) ≡ is_some k
       of None = refl
       of (Some r) = refl
 
   SameButSlots-moved : SameButSlots (manually_moved w c q) (with_parent w c q)
   SameButSlots-moved = λ i. record w { object = λ y. twice (manual_slot w c q y) ((with_parent w c q).object y) i }
     where
-      twice : (f : Name → Option Slot) (o : Option Record) → option_map (with_slots (λ n. None)) (option_map (with_slots f) o) ≡ option_map (with_slots (λ n. None)) o
+      twice : (f : Name → Option Slot) (o : Option WorldObject) → option_map (with_slots (λ n. None)) (option_map (with_slots f) o) ≡ option_map (with_slots (λ n. None)) o
       twice f None = refl
       twice f (Some r) = refl
 
@@ -77,7 +77,7 @@ module _ (w : World) (x q : ObjNo) (wf : IsWellFormed w) (xp : parent_of w x ≡
   step_up : (z p : ObjNo) → parent_of w z ≡ Some p → chain w z ≡ z ∷ chain w p
   step_up z p e = of (w.object z) refl e
     where
-      of : (o : Option Record) → w.object z ≡ o → option_map (λ r. r.row.parent) o ≡ Some p → chain w z ≡ z ∷ chain w p
+      of : (o : Option WorldObject) → w.object z ≡ o → option_map (λ r. r.row.parent) o ≡ Some p → chain w z ≡ z ∷ chain w p
       of None h g = absurd (none-some p g)
       of (Some r) h g = chain-step w wf.tree z r h ∙ ap (λ k. z ∷ chain w k) (same_Some r.row.parent p g)
 
@@ -126,25 +126,25 @@ module _ (w : World) (x q : ObjNo) (wf : IsWellFormed w) (xp : parent_of w x ≡
         either true = refl
         either false = refl
 
-    kept_twice : (k : (parent_of w c ≡ Some x) ⊎ (parent_of w c ≡ Some q)) (o : Option Slot) → kept_from (x ∷ []) (kept_from (between k) o) ≡ kept_from (x ∷ []) o
+    kept_twice : (k : (parent_of w c ≡ Some x) ⊎ (parent_of w c ≡ Some q)) (o : Option Slot) → unless_defined_by (x ∷ []) (unless_defined_by (between k) o) ≡ unless_defined_by (x ∷ []) o
     kept_twice (inl h) None = refl
     kept_twice (inr h) None = refl
     kept_twice (inr h) (Some s) = refl
     kept_twice (inl h) (Some s) = by (is_among s.definer (x ∷ [])) refl
       where
-        by : (b : Bool) → is_among s.definer (x ∷ []) ≡ b → kept_from (x ∷ []) (if b then None else Some s) ≡ kept_from (x ∷ []) (Some s)
+        by : (b : Bool) → is_among s.definer (x ∷ []) ≡ b → unless_defined_by (x ∷ []) (if b then None else Some s) ≡ unless_defined_by (x ∷ []) (Some s)
         by true e = sym (ap (λ b. if b then None else Some s) e)
         by false e = refl
 
-    same_kept : (y : ObjNo) (n : Name) → is_object w y ≡ true → kept_from (x ∷ []) (slot_of v y n) ≡ kept_from (x ∷ []) (slot_of w y n)
-    same_kept y n o = ap (kept_from (x ∷ [])) (slot_moved w c q y n o ∙ climbed_slot w c q (between cp) wf child heir_is (climbs cp) y n) ∙ by (is_among c (chain w y))
+    same_kept : (y : ObjNo) (n : Name) → is_object w y ≡ true → unless_defined_by (x ∷ []) (slot_of v y n) ≡ unless_defined_by (x ∷ []) (slot_of w y n)
+    same_kept y n o = ap (unless_defined_by (x ∷ [])) (slot_moved w c q y n o ∙ climbed_slot w c q (between cp) wf child heir_is (climbs cp) y n) ∙ by (is_among c (chain w y))
       where
-        by : (b : Bool) → kept_from (x ∷ []) (if b then kept_from (between cp) (slot_of w y n) else slot_of w y n) ≡ kept_from (x ∷ []) (slot_of w y n)
+        by : (b : Bool) → unless_defined_by (x ∷ []) (if b then unless_defined_by (between cp) (slot_of w y n) else slot_of w y n) ≡ unless_defined_by (x ∷ []) (slot_of w y n)
         by true = kept_twice cp (slot_of w y n)
         by false = refl
 
     -- what is left when x goes has the same links, whether or not c was moved
-    abbrev linked_to : Record → ObjNo → Record
+    abbrev linked_to : WorldObject → ObjNo → WorldObject
     linked_to r p = record { row = record r.row { parent = p; location = if same_object x r.row.location then nothing else r.row.location }; defines = r.defines; slot = λ n. None; verbs = r.verbs }
 
     one_parent : (p : ObjNo) → (Some p ≡ Some x) ⊎ (Some p ≡ Some q) → (if same_object x q then q else q) ≡ (if same_object x p then q else p)
@@ -157,7 +157,7 @@ module _ (w : World) (x q : ObjNo) (wf : IsWellFormed w) (xp : parent_of w x ≡
         either true = refl
         either false = refl
 
-    left : (f : Name → Option Slot) (o : Option Record) (a b : Bool) → (b ≡ true → (option_map (λ r. r.row.parent) o ≡ Some x) ⊎ (option_map (λ r. r.row.parent) o ≡ Some q))
+    left : (f : Name → Option Slot) (o : Option WorldObject) (a b : Bool) → (b ≡ true → (option_map (λ r. r.row.parent) o ≡ Some x) ⊎ (option_map (λ r. r.row.parent) o ≡ Some q))
         → option_map (with_slots (λ n. None)) (if a then None else option_map (released x q) (option_map (with_slots f) (option_map (λ r. if b then under_q w c q r else r) o)))
         ≡ option_map (with_slots (λ n. None)) (if a then None else option_map (released x q) o)
     left f None true b k = refl
@@ -166,7 +166,7 @@ module _ (w : World) (x q : ObjNo) (wf : IsWellFormed w) (xp : parent_of w x ≡
     left f (Some r) false true k = ap (λ p. Some (linked_to r p)) (one_parent r.row.parent (k refl))
     left f (Some r) false false k = refl
 
-    same_left : SameButSlots (without_record v x) (without_record w x)
+    same_left : SameButSlots (object_removed v x) (object_removed w x)
     same_left =
         (λ i. record w { object = λ y. option_map (with_slots (λ n. None)) (if same_object x y then None else option_map (released x (unwrap_or (heir_moved i) nothing)) (v.object y)) })
         ∙ (λ i. record w { object = λ y. left (manual_slot w c q y) (w.object y) (same_object x y) (same_object c y) (λ h. subst (λ z. (parent_of w z ≡ Some x) ⊎ (parent_of w z ≡ Some q)) ((same_object-Decides c y).0 h) cp) i })
@@ -174,9 +174,9 @@ module _ (w : World) (x q : ObjNo) (wf : IsWellFormed w) (xp : parent_of w x ≡
 
     -- to recycle x after c was moved is to recycle x
     pub recycled_moved : recycled v x ≡ recycled w x
-    recycled_moved = one_world (recycled v x) (recycled w x) (SameButSlots-rebuilt v (without_record v x) nothing ∙ same_left ∙ sym (SameButSlots-rebuilt w (without_record w x) nothing)) (λ y n o.
-        let vo : is_object (without_record v x) y ≡ true = sym (objects_same (recycled v x) (without_record v x) (SameButSlots-rebuilt v (without_record v x) nothing) y) ∙ o in
-        let wo : is_object (without_record w x) y ≡ true = sym (objects_same (without_record v x) (without_record w x) same_left y) ∙ vo in
+    recycled_moved = one_world (recycled v x) (recycled w x) (SameButSlots-rebuilt v (object_removed v x) nothing ∙ same_left ∙ sym (SameButSlots-rebuilt w (object_removed w x) nothing)) (λ y n o.
+        let vo : is_object (object_removed v x) y ≡ true = sym (objects_same (recycled v x) (object_removed v x) (SameButSlots-rebuilt v (object_removed v x) nothing) y) ∙ o in
+        let wo : is_object (object_removed w x) y ≡ true = sym (objects_same (object_removed v x) (object_removed w x) same_left y) ∙ vo in
         recycle_law v x form_moved (linked (v.object x) (λ r. r.row.parent) q heir_moved) y n vo ∙ same_kept y n (stays w x wf.tree xo y wo).1 ∙ sym (recycle_law w x wf xo y n wo))
 
 -- ---- no child
@@ -185,14 +185,14 @@ module _ (w : World) (x : ObjNo) (wf : IsWellFormed w) (xo : is_object w x ≡ t
   heir : ObjNo
   heir = unwrap_or (parent_of w x) nothing
 
-  untouched : (y : ObjNo) (o : Option Record) → w.object y ≡ o → option_map (emptied x) o ≡ option_map (released x heir) o
+  untouched : (y : ObjNo) (o : Option WorldObject) → w.object y ≡ o → option_map (emptied x) o ≡ option_map (released x heir) o
   untouched y None e = refl
   untouched y (Some r) e = ap (λ b. Some (record r { row = record r.row { parent = if b then heir else r.row.parent; location = if same_object x r.row.location then nothing else r.row.location } })) (sym other)
     where
       other : same_object x r.row.parent ≡ false
       other = false_from_ne_true (same_object x r.row.parent) (λ h. none y (ap (option_map (λ k. k.row.parent)) e ∙ ap Some (sym ((same_object-Decides x r.row.parent).0 h))))
 
-  out_is : taken_out w x ≡ without_record w x
+  out_is : taken_out w x ≡ object_removed w x
   unfolding heir
   out_is = λ i. record w { object = λ y. if same_object x y then None else untouched y (w.object y) refl i }
 
@@ -203,31 +203,31 @@ module _ (w : World) (x : ObjNo) (wf : IsWellFormed w) (xo : is_object w x ≡ t
       ∙ beside l p.1 p.3 (false_from_ne_true (same_object x p.1) (λ h. none z (p.2 ∙ ap Some (sym ((same_object-Decides x p.1).0 h)))))
 
   -- no other object has a slot of a property that x defines
-  all_kept : (y : ObjNo) (n : Name) → is_object w y ≡ true → same_object x y ≡ false → kept_from (x ∷ []) (slot_of w y n) ≡ slot_of w y n
-  all_kept y n o e = by (pair_named (owed_by w (chain w y)) n) refl
+  all_kept : (y : ObjNo) (n : Name) → is_object w y ≡ true → same_object x y ≡ false → unless_defined_by (x ∷ []) (slot_of w y n) ≡ slot_of w y n
+  all_kept y n o e = by (property_named (defined_by_any w (chain w y)) n) refl
     where
-      definer : option_map (λ k. k.definer) (slot_of w y n) ≡ option_map (λ k. k.0) (pair_named (owed_by w (chain w y)) n)
+      definer : option_map (λ k. k.definer) (slot_of w y n) ≡ option_map (λ k. k.0) (property_named (defined_by_any w (chain w y)) n)
       definer = wf.slots y (chain w y) n o (Chain-chain w wf.tree y o)
 
       apart : (d : ObjNo) → is_among d (chain w y) ≡ true → is_among d (x ∷ []) ≡ false
       apart d h = ap (λ b. b || false) (false_from_ne_true (same_object d x) (λ k.
           both_ways (is_among x (chain w y)) (beside (chain w y) y (Chain-chain w wf.tree y o) e) (subst (λ z. is_among z (chain w y) ≡ true) ((same_object-Decides d x).0 k) h)))
 
-      by : (p : Option Pair) → pair_named (owed_by w (chain w y)) n ≡ p → kept_from (x ∷ []) (slot_of w y n) ≡ slot_of w y n
-      by None g = let absent = slot_absent (slot_of w y n) (definer ∙ ap (option_map (λ p. p.0)) g) in ap (kept_from (x ∷ [])) absent ∙ sym absent
+      by : (p : Option Property) → property_named (defined_by_any w (chain w y)) n ≡ p → unless_defined_by (x ∷ []) (slot_of w y n) ≡ slot_of w y n
+      by None g = let absent = slot_absent (slot_of w y n) (definer ∙ ap (option_map (λ p. p.0)) g) in ap (unless_defined_by (x ∷ [])) absent ∙ sym absent
       by (Some p) g = slot_kept (x ∷ []) (slot_of w y n) p.0 (definer ∙ ap (option_map (λ k. k.0)) g) (apart p.0 (definer_among w p (chain w y) (named_owed w (chain w y) n p g)).0)
 
   slot_left : (y : ObjNo) (n : Name) → same_object x y ≡ false → slot_of (taken_out w x) y n ≡ slot_of w y n
-  slot_left y n e = ap (λ b. option_and_then (λ (r : Record). r.slot n) (if b then None else option_map (emptied x) (w.object y))) e ∙ of (w.object y)
+  slot_left y n e = ap (λ b. option_and_then (λ (r : WorldObject). r.slot n) (if b then None else option_map (emptied x) (w.object y))) e ∙ of (w.object y)
     where
-      of : (o : Option Record) → option_and_then (λ r. r.slot n) (option_map (emptied x) o) ≡ option_and_then (λ r. r.slot n) o
+      of : (o : Option WorldObject) → option_and_then (λ r. r.slot n) (option_map (emptied x) o) ≡ option_and_then (λ r. r.slot n) o
       of None = refl
       of (Some r) = refl
 
   -- where x has no child, taking it out is recycling it
   pub taken_out_is : taken_out w x ≡ recycled w x
-  taken_out_is = one_world (taken_out w x) (recycled w x) (ap without_slots out_is ∙ sym (SameButSlots-rebuilt w (without_record w x) nothing)) (λ y n o.
-      let so : is_object (without_record w x) y ≡ true = ap (λ v. is_object v y) (sym out_is) ∙ o in
+  taken_out_is = one_world (taken_out w x) (recycled w x) (ap without_slots out_is ∙ sym (SameButSlots-rebuilt w (object_removed w x) nothing)) (λ y n o.
+      let so : is_object (object_removed w x) y ≡ true = ap (λ v. is_object v y) (sym out_is) ∙ o in
       let k = stays w x wf.tree xo y so in
       slot_left y n k.0 ∙ sym (all_kept y n k.1 k.0) ∙ sym (recycle_law w x wf xo y n so))
 
@@ -274,27 +274,27 @@ moved_all (c ∷ l) w x q wf xp each all =
 
 -- ---- the tests of the definitions
 
-parent_from : (w : World) (x y : ObjNo) → has_parent w x y ≡ true → parent_of w y ≡ Some x
+parent_from : (w : World) (x y : ObjNo) → is_parent_of w x y ≡ true → parent_of w y ≡ Some x
 parent_from w x y h = of (w.object y) h
   where
-    of : (o : Option Record) → unwrap_or (option_map (λ r. same_object x r.parent) (option_map (λ r. r.row) o)) false ≡ true → option_map (λ r. r.row.parent) o ≡ Some x
+    of : (o : Option WorldObject) → unwrap_or (option_map (λ r. same_object x r.parent) (option_map (λ r. r.row) o)) false ≡ true → option_map (λ r. r.row.parent) o ≡ Some x
     of None k = absurd (false≢true k)
     of (Some r) k = ap Some (sym ((same_object-Decides x r.row.parent).0 k))
 
-parent_to : (w : World) (x y : ObjNo) → parent_of w y ≡ Some x → has_parent w x y ≡ true
+parent_to : (w : World) (x y : ObjNo) → parent_of w y ≡ Some x → is_parent_of w x y ≡ true
 parent_to w x y e = of (w.object y) e
   where
-    of : (o : Option Record) → option_map (λ r. r.row.parent) o ≡ Some x → unwrap_or (option_map (λ r. same_object x r.parent) (option_map (λ r. r.row) o)) false ≡ true
+    of : (o : Option WorldObject) → option_map (λ r. r.row.parent) o ≡ Some x → unwrap_or (option_map (λ r. same_object x r.parent) (option_map (λ r. r.row) o)) false ≡ true
     of None k = absurd (none-some x k)
     of (Some r) k = (same_object-Decides x r.row.parent).1 (sym (same_Some r.row.parent x k))
 
 -- the ascending list has exactly the children
-pub children_listed : (w : World) (t : IsTree w) (x y : ObjNo) → is_among y (children_of w x) ≡ has_parent w x y
-children_listed w t x y = by (has_parent w x y) refl
+pub children_listed : (w : World) (t : IsTree w) (x y : ObjNo) → is_among y (children_of w x) ≡ is_parent_of w x y
+children_listed w t x y = by (is_parent_of w x y) refl
   where
-    by : (b : Bool) → has_parent w x y ≡ b → is_among y (children_of w x) ≡ b
-    by true e = among_filter (has_parent w x) (objects_of w) y (object_listed w t y (linked (w.object y) (λ r. r.row.parent) x (parent_from w x y e))) e
-    by false e = false_from_ne_true (is_among y (children_of w x)) (λ h. both_ways (has_parent w x y) e (filter_passes (has_parent w x) (objects_of w) y h))
+    by : (b : Bool) → is_parent_of w x y ≡ b → is_among y (children_of w x) ≡ b
+    by true e = among_filter (is_parent_of w x) (objects_of w) y (object_listed w t y (linked (w.object y) (λ r. r.row.parent) x (parent_from w x y e))) e
+    by false e = false_from_ne_true (is_among y (children_of w x)) (λ h. both_ways (is_parent_of w x y) e (filter_passes (is_parent_of w x) (objects_of w) y h))
 
 pub children_move : ChildrenMoveOneByOne
 children_move w x q children wf xp exact = moved_all children w x q wf xp (λ y h. inl (parent_from w x y (sym (exact y) ∙ h))) (λ y e. exact y ∙ parent_to w x y e)

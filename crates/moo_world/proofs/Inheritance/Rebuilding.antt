@@ -1,36 +1,36 @@
 -- A rebuilt world exists, and there is one only.
-use Rattle.moo_world.proofs.Words.{◌≡◌, true, false, List, [], refl, sym, ◌∙◌, ap, subst, map, Option, Some, None, is_some, unwrap_or, if◌then◌else◌, option_map, option_and_then, Decides, list_any, flat_map, false≢true, both_ways, false_from_ne_true, none-some, same_Some, ObjNo, Name, Pair, nothing, same_pair, World, Record, Slot, IsTree, Climbs, Chain, Owes, Rebuilt, is_object, parent_of, names_of, owner_of, slot_of, owed_by, pair_named, owes, chain, fresh, slot_for, rebuilt_slot, rebuilt, with_slots, SameButSlots}
+use Rattle.moo_world.proofs.Words.{◌≡◌, true, false, List, [], refl, sym, ◌∙◌, ap, subst, map, Option, Some, None, is_some, unwrap_or, if◌then◌else◌, option_map, option_and_then, Decides, list_any, flat_map, false≢true, both_ways, false_from_ne_true, none-some, same_Some, ObjNo, Name, Property, nothing, same_property, World, WorldObject, Slot, IsTree, Climbs, Chain, HasProperty, Rebuilt, is_object, parent_of, property_names_of, owner_of, slot_of, defined_by_any, property_named, has_property, chain, fresh, slot_for, rebuilt_slot, rebuilt, with_slots, SameButSlots}
 use Rattle.moo_world.proofs.Ancestry.Trees.{chain_is, Chain-chain, chain_of_none}
 
 -- what is owed, as a test
-pub Owes-Decides : (w : World) → IsTree w → (x : ObjNo) (p : Pair) → Decides (owes w x p) (Owes w x p)
-Owes-Decides w t x p = (
-  λ e. elim (is_object w x) as (λ b. is_object w x ≡ b → Owes w x p) [
+pub HasProperty-Decides : (w : World) → IsTree w → (x : ObjNo) (p : Property) → Decides (has_property w x p) (HasProperty w x p)
+HasProperty-Decides w t x p = (
+  λ e. elim (is_object w x) as (λ b. is_object w x ≡ b → HasProperty w x p) [
     | true ↦ λ o. (chain w x, Chain-chain w t x o, e)
-    | false ↦ λ o. let none : list_any (same_pair p) (owed_by w []) ≡ true = subst (λ l. list_any (same_pair p) (owed_by w l) ≡ true) (chain_of_none w x o) e in absurd (false≢true none)
+    | false ↦ λ o. let none : list_any (same_property p) (defined_by_any w []) ≡ true = subst (λ l. list_any (same_property p) (defined_by_any w l) ≡ true) (chain_of_none w x o) e in absurd (false≢true none)
   ] refl,
-  λ o. subst (λ l. list_any (same_pair p) (owed_by w l) ≡ true) (sym (chain_is w t x o.0 o.1)) o.2,
+  λ o. subst (λ l. list_any (same_property p) (defined_by_any w l) ≡ true) (sym (chain_is w t x o.0 o.1)) o.2,
 )
 
-pub no_slot : (o : Option Record) (n : Name) → is_some o ≡ false → option_and_then (λ r. r.slot n) o ≡ None
+pub no_slot : (o : Option WorldObject) (n : Name) → is_some o ≡ false → option_and_then (λ r. r.slot n) o ≡ None
 no_slot None n e = refl
 no_slot (Some r) n e = absurd (false≢true (sym e))
 
 -- ---- what doesn't read slots
 
-same_parent : (o : Option Record) → option_map (λ r. r.row.parent) (option_map (with_slots (λ n. None)) o) ≡ option_map (λ r. r.row.parent) o
+same_parent : (o : Option WorldObject) → option_map (λ r. r.row.parent) (option_map (with_slots (λ n. None)) o) ≡ option_map (λ r. r.row.parent) o
 same_parent None = refl
 same_parent (Some r) = refl
 
-same_names : (o : Option Record) → option_map (λ r. r.defines) (option_map (with_slots (λ n. None)) o) ≡ option_map (λ r. r.defines) o
+same_names : (o : Option WorldObject) → option_map (λ r. r.defines) (option_map (with_slots (λ n. None)) o) ≡ option_map (λ r. r.defines) o
 same_names None = refl
 same_names (Some r) = refl
 
-same_owner : (o : Option Record) → option_map (λ r. r.row.owner) (option_map (with_slots (λ n. None)) o) ≡ option_map (λ r. r.row.owner) o
+same_owner : (o : Option WorldObject) → option_map (λ r. r.row.owner) (option_map (with_slots (λ n. None)) o) ≡ option_map (λ r. r.row.owner) o
 same_owner None = refl
 same_owner (Some r) = refl
 
-same_some : (o : Option Record) → is_some (option_map (with_slots (λ n. None)) o) ≡ is_some o
+same_some : (o : Option WorldObject) → is_some (option_map (with_slots (λ n. None)) o) ≡ is_some o
 same_some None = refl
 same_some (Some r) = refl
 
@@ -38,8 +38,8 @@ module _ (a b : World) (same : SameButSlots a b) where
   pub parents_same : parent_of a ≡ parent_of b
   parents_same = (λ i x. sym (same_parent (a.object x)) i) ∙ ap parent_of same ∙ (λ i x. same_parent (b.object x) i)
 
-  pub names_same : names_of a ≡ names_of b
-  names_same = (λ i x. unwrap_or (sym (same_names (a.object x)) i) []) ∙ ap names_of same ∙ (λ i x. unwrap_or (same_names (b.object x) i) [])
+  pub names_same : property_names_of a ≡ property_names_of b
+  names_same = (λ i x. unwrap_or (sym (same_names (a.object x)) i) []) ∙ ap property_names_of same ∙ (λ i x. unwrap_or (same_names (b.object x) i) [])
 
   pub owners_same : owner_of a ≡ owner_of b
   owners_same = (λ i x. unwrap_or (sym (same_owner (a.object x)) i) nothing) ∙ ap owner_of same ∙ (λ i x. unwrap_or (same_owner (b.object x) i) nothing)
@@ -47,7 +47,7 @@ module _ (a b : World) (same : SameButSlots a b) where
   pub objects_same : (x : ObjNo) → is_object a x ≡ is_object b x
   objects_same x = sym (same_some (a.object x)) ∙ ap (λ w. is_object w x) same ∙ same_some (b.object x)
 
-  pub owed_same : (l : List ObjNo) → owed_by a l ≡ owed_by b l
+  pub owed_same : (l : List ObjNo) → defined_by_any a l ≡ defined_by_any b l
   owed_same l = ap (λ (names : ObjNo → List Name). flat_map (λ d. map (λ n. (d, n)) (names d)) l) names_same
 
   pub Chain-same : (x : ObjNo) (l : List ObjNo) → Chain a x l → Chain b x l
@@ -60,7 +60,7 @@ module _ (w s : World) (q : ObjNo) where
   unfolding rebuilt
   SameButSlots-rebuilt = λ i. record s { object = λ x. twice (rebuilt_slot w s q x) (s.object x) i }
     where
-      twice : (f : Name → Option Slot) (o : Option Record) → option_map (with_slots (λ n. None)) (option_map (with_slots f) o) ≡ option_map (with_slots (λ n. None)) o
+      twice : (f : Name → Option Slot) (o : Option WorldObject) → option_map (with_slots (λ n. None)) (option_map (with_slots f) o) ≡ option_map (with_slots (λ n. None)) o
       twice f None = refl
       twice f (Some r) = refl
 
@@ -68,7 +68,7 @@ module _ (w s : World) (q : ObjNo) where
   unfolding rebuilt
   slot_rebuilt x n e = of (s.object x) e
     where
-      of : (o : Option Record) → is_some o ≡ true → option_and_then (λ r. r.slot n) (option_map (with_slots (rebuilt_slot w s q x)) o) ≡ rebuilt_slot w s q x n
+      of : (o : Option WorldObject) → is_some o ≡ true → option_and_then (λ r. r.slot n) (option_map (with_slots (rebuilt_slot w s q x)) o) ≡ rebuilt_slot w s q x n
       of None h = absurd (false≢true h)
       of (Some r) h = refl
 
@@ -76,7 +76,7 @@ module _ (w s : World) (q : ObjNo) where
   unfolding rebuilt
   no_slot_rebuilt x n e =
       no_slot ((rebuilt w s q).object x) n (objects_same (rebuilt w s q) s SameButSlots-rebuilt x ∙ e)
-      ∙ sym (ap (λ l. slot_for w s q x n (pair_named (owed_by s l) n)) (chain_of_none s x e))
+      ∙ sym (ap (λ l. slot_for w s q x n (property_named (defined_by_any s l) n)) (chain_of_none s x e))
 
   pub slot_of-rebuilt : (x : ObjNo) (n : Name) → slot_of (rebuilt w s q) x n ≡ rebuilt_slot w s q x n
   slot_of-rebuilt x n =
@@ -86,26 +86,26 @@ module _ (w s : World) (q : ObjNo) where
       ] refl
 
   module _ (tw : IsTree w) (ts : IsTree s) where
-    by_pair : (x : ObjNo) (l : List ObjNo) (n : Name) (o : Option Pair) → Chain (rebuilt w s q) x l → pair_named (owed_by (rebuilt w s q) l) n ≡ o → slot_of (rebuilt w s q) x n ≡ slot_for w s q x n o
+    by_pair : (x : ObjNo) (l : List ObjNo) (n : Name) (o : Option Property) → Chain (rebuilt w s q) x l → property_named (defined_by_any (rebuilt w s q) l) n ≡ o → slot_of (rebuilt w s q) x n ≡ slot_for w s q x n o
     by_pair x l n o p e =
         let same = SameButSlots-rebuilt in
         let here : chain s x ≡ l = chain_is s ts x l (Chain-same (rebuilt w s q) s same x l p) in
-        let owed : pair_named (owed_by s (chain s x)) n ≡ o = ap (λ k. pair_named (owed_by s k) n) here ∙ sym (ap (λ k. pair_named k n) (owed_same (rebuilt w s q) s same l)) ∙ e in
+        let owed : property_named (defined_by_any s (chain s x)) n ≡ o = ap (λ k. property_named (defined_by_any s k) n) here ∙ sym (ap (λ k. property_named k n) (owed_same (rebuilt w s q) s same l)) ∙ e in
         slot_of-rebuilt x n ∙ ap (slot_for w s q x n) owed
 
     -- the rebuilt world is one
     pub Rebuilt-rebuilt : Rebuilt w (rebuilt w s q) q
     Rebuilt-rebuilt = record {
-      kept = λ x l n p c e o. by_pair x l n (Some p) c e ∙ ap (λ b. if b then slot_of w x n else option_map (fresh (owner_of s x)) (slot_of w q n)) ((Owes-Decides w tw x p).1 o);
+      kept = λ x l n p c e o. by_pair x l n (Some p) c e ∙ ap (λ b. if b then slot_of w x n else option_map (fresh (owner_of s x)) (slot_of w q n)) ((HasProperty-Decides w tw x p).1 o);
       added = λ x l n p c e o.
-          by_pair x l n (Some p) c e ∙ ap (λ b. if b then slot_of w x n else option_map (fresh (owner_of s x)) (slot_of w q n)) (false_from_ne_true (owes w x p) (λ h. o ((Owes-Decides w tw x p).0 h)))
+          by_pair x l n (Some p) c e ∙ ap (λ b. if b then slot_of w x n else option_map (fresh (owner_of s x)) (slot_of w q n)) (false_from_ne_true (has_property w x p) (λ h. o ((HasProperty-Decides w tw x p).0 h)))
           ∙ ap (λ (owner : ObjNo → ObjNo). option_map (fresh (owner x)) (slot_of w q n)) (sym (owners_same (rebuilt w s q) s SameButSlots-rebuilt));
       no_other = λ x l n c e. by_pair x l n None c e;
     }
 
 -- ---- there is one only
 
-same_record : (o k : Option Record) → option_map (with_slots (λ n. None)) o ≡ option_map (with_slots (λ n. None)) k → ((n : Name) → option_and_then (λ r. r.slot n) o ≡ option_and_then (λ r. r.slot n) k) → o ≡ k
+same_record : (o k : Option WorldObject) → option_map (with_slots (λ n. None)) o ≡ option_map (with_slots (λ n. None)) k → ((n : Name) → option_and_then (λ r. r.slot n) o ≡ option_and_then (λ r. r.slot n) k) → o ≡ k
 same_record None None e h = refl
 same_record None (Some r) e h = absurd (none-some (with_slots (λ n. None) r) e)
 same_record (Some r) None e h = absurd (none-some (with_slots (λ n. None) r) (sym e))
@@ -123,20 +123,20 @@ same_world a b same slots = λ i. record {
 }
 
 module _ (w a b : World) (q : ObjNo) (tw : IsTree w) (ta : IsTree a) (same : SameButSlots a b) (ra : Rebuilt w a q) (rb : Rebuilt w b q) where
-  one_slot : (x : ObjNo) (n : Name) (o : Option Pair) → Chain a x (chain a x) → pair_named (owed_by a (chain a x)) n ≡ o → slot_of a x n ≡ slot_of b x n
+  one_slot : (x : ObjNo) (n : Name) (o : Option Property) → Chain a x (chain a x) → property_named (defined_by_any a (chain a x)) n ≡ o → slot_of a x n ≡ slot_of b x n
   one_slot x n o c e =
       let l = chain a x in
       let d : Chain b x l = Chain-same a b same x l c in
-      let k : pair_named (owed_by b l) n ≡ o = sym (ap (λ m. pair_named m n) (owed_same a b same l)) ∙ e in
+      let k : property_named (defined_by_any b l) n ≡ o = sym (ap (λ m. property_named m n) (owed_same a b same l)) ∙ e in
       by o e k d
     where
-      by : (o : Option Pair) → pair_named (owed_by a (chain a x)) n ≡ o → pair_named (owed_by b (chain a x)) n ≡ o → Chain b x (chain a x) → slot_of a x n ≡ slot_of b x n
+      by : (o : Option Property) → property_named (defined_by_any a (chain a x)) n ≡ o → property_named (defined_by_any b (chain a x)) n ≡ o → Chain b x (chain a x) → slot_of a x n ≡ slot_of b x n
       by None e k d = ra.no_other x (chain a x) n c e ∙ sym (rb.no_other x (chain a x) n d k)
       by (Some p) e k d =
-          elim (owes w x p) as (λ v. owes w x p ≡ v → slot_of a x n ≡ slot_of b x n) [
-            | true ↦ λ v. let o = (Owes-Decides w tw x p).0 v in ra.kept x (chain a x) n p c e o ∙ sym (rb.kept x (chain a x) n p d k o)
+          elim (has_property w x p) as (λ v. has_property w x p ≡ v → slot_of a x n ≡ slot_of b x n) [
+            | true ↦ λ v. let o = (HasProperty-Decides w tw x p).0 v in ra.kept x (chain a x) n p c e o ∙ sym (rb.kept x (chain a x) n p d k o)
             | false ↦ λ v.
-                let o = λ (h : Owes w x p). both_ways (owes w x p) v ((Owes-Decides w tw x p).1 h) in
+                let o = λ (h : HasProperty w x p). both_ways (has_property w x p) v ((HasProperty-Decides w tw x p).1 h) in
                 ra.added x (chain a x) n p c e o ∙ ap (λ (owner : ObjNo → ObjNo). option_map (fresh (owner x)) (slot_of w q n)) (owners_same a b same) ∙ sym (rb.added x (chain a x) n p d k o)
           ] refl
 
@@ -144,6 +144,6 @@ module _ (w a b : World) (q : ObjNo) (tw : IsTree w) (ta : IsTree a) (same : Sam
   pub Rebuilt-unique : a ≡ b
   Rebuilt-unique = same_world a b same (λ x n.
       elim (is_object a x) as (λ v. is_object a x ≡ v → slot_of a x n ≡ slot_of b x n) [
-        | true ↦ λ e. one_slot x n (pair_named (owed_by a (chain a x)) n) (Chain-chain a ta x e) refl
+        | true ↦ λ e. one_slot x n (property_named (defined_by_any a (chain a x)) n) (Chain-chain a ta x e) refl
         | false ↦ λ e. no_slot (a.object x) n e ∙ sym (no_slot (b.object x) n (sym (objects_same a b same x) ∙ e))
       ] refl)

@@ -1,5 +1,5 @@
 -- A change of parent keeps the world well formed.
-use Rattle.moo_world.proofs.Lemmas.{◌≡◌, Bool, true, false, cond, ◌||◌, List, [], ◌∷◌, ◌++◌, map, refl, sym, ◌∙◌, ap, subst, ◌⊎◌, inl, Option, Some, None, append_assoc, unwrap_or, if◌then◌else◌, option_map, option_or, list_any, list_all, IsDistinct, AllByRecursion, both_ways, or_right, none-some, same_Some, ObjNo, Name, Pair, nothing, same_object, same_text, same_pair, folded, is_among, same_text-Decides, same_pair-self, World, Record, with_slots, is_property_name, verb_fits, row_fits, IsWellFormed, Chain, NamesDiffer, is_object, parent_of, slot_of, defined_by, owed_by, pair_named, owes, chain, with_parent, reparented, front_of, Climbs-split, chain_is, Chain-chain, linked, no_parent, nothing_is_no_object, owed_by-append, named-append, in_owed, in_owed-append, definer_among, named_owed, NoClash, under_x, MayBeRebuilt, IsWellFormed-rebuilt, own_owed, owed_is_object}
+use Rattle.moo_world.proofs.Lemmas.{◌≡◌, Bool, true, false, cond, ◌||◌, List, [], ◌∷◌, ◌++◌, map, refl, sym, ◌∙◌, ap, subst, ◌⊎◌, inl, Option, Some, None, append_assoc, unwrap_or, if◌then◌else◌, option_map, option_or, list_any, list_all, IsDistinct, AllByRecursion, both_ways, or_right, none-some, same_Some, ObjNo, Name, Property, nothing, same_object, same_text, same_property, folded, is_among, same_text-Decides, same_property-self, World, WorldObject, with_slots, is_property_name, verb_fits, row_fits, IsWellFormed, Chain, NamesDiffer, is_object, parent_of, slot_of, defined_by, defined_by_any, property_named, has_property, chain, with_parent, reparented, front_of, Climbs-split, chain_is, Chain-chain, linked, no_parent, nothing_is_no_object, defined_by_any-append, named-append, in_owed, in_owed-append, definer_among, named_owed, NoClash, under_x, MayBeRebuilt, IsWellFormed-rebuilt, own_owed, owed_is_object}
 use Rattle.moo_world.proofs.Ancestry.Moving.{names_moved, object_moved, owed_moved, Chain-new, IsTree-moved, chain_unmoved, chain_moved}
 
 -- ---- lists of names that differ, joined
@@ -12,12 +12,12 @@ pub all_left : {X : Type 0} (P : X → Type 0) (xs ys : List X) → AllByRecursi
 all_left P [] ys h = tt
 all_left P (x ∷ xs) ys h = (h.0, all_left P xs ys h.1)
 
-differ_left : (xs ys : List Pair) → NamesDiffer (xs ++ ys) → NamesDiffer xs
+differ_left : (xs ys : List Property) → NamesDiffer (xs ++ ys) → NamesDiffer xs
 unfolding IsDistinct
 differ_left [] ys d = tt
 differ_left (x ∷ xs) ys d = (all_left (λ y. same_text (folded x.1) (folded y.1) ≡ false) xs ys d.0, differ_left xs ys d.1)
 
-others : (x : Pair) (ys : List Pair) → pair_named ys (folded x.1) ≡ None → AllByRecursion (λ y. same_text (folded x.1) (folded y.1) ≡ false) ys
+others : (x : Property) (ys : List Property) → property_named ys (folded x.1) ≡ None → AllByRecursion (λ y. same_text (folded x.1) (folded y.1) ≡ false) ys
 others x [] e = tt
 others x (y ∷ ys) e = by (same_text (folded y.1) (folded x.1)) refl e (others x ys)
   where
@@ -25,16 +25,16 @@ others x (y ∷ ys) e = by (same_text (folded y.1) (folded x.1)) refl e (others 
     turned true k h = absurd (both_ways (same_text (folded y.1) (folded x.1)) h ((same_text-Decides (folded y.1) (folded x.1)).1 (sym ((same_text-Decides (folded x.1) (folded y.1)).0 k))))
     turned false k h = refl
 
-    by : (b : Bool) → same_text (folded y.1) (folded x.1) ≡ b → cond b (Some y) (pair_named ys (folded x.1)) ≡ None → (pair_named ys (folded x.1) ≡ None → AllByRecursion (λ k. same_text (folded x.1) (folded k.1) ≡ false) ys) → (same_text (folded x.1) (folded y.1) ≡ false) × AllByRecursion (λ k. same_text (folded x.1) (folded k.1) ≡ false) ys
+    by : (b : Bool) → same_text (folded y.1) (folded x.1) ≡ b → cond b (Some y) (property_named ys (folded x.1)) ≡ None → (property_named ys (folded x.1) ≡ None → AllByRecursion (λ k. same_text (folded x.1) (folded k.1) ≡ false) ys) → (same_text (folded x.1) (folded y.1) ≡ false) × AllByRecursion (λ k. same_text (folded x.1) (folded k.1) ≡ false) ys
     by true k g r = absurd (none-some y (sym g))
     by false k g r = (turned (same_text (folded x.1) (folded y.1)) refl k, r g)
 
-differ_join : (xs ys : List Pair) → NamesDiffer xs → NamesDiffer ys → ((p : Pair) → list_any (same_pair p) xs ≡ true → pair_named ys (folded p.1) ≡ None) → NamesDiffer (xs ++ ys)
+differ_join : (xs ys : List Property) → NamesDiffer xs → NamesDiffer ys → ((p : Property) → list_any (same_property p) xs ≡ true → property_named ys (folded p.1) ≡ None) → NamesDiffer (xs ++ ys)
 unfolding IsDistinct
 differ_join [] ys d e h = e
 differ_join (x ∷ xs) ys d e h = (
-  all_join (λ y. same_text (folded x.1) (folded y.1) ≡ false) xs ys d.0 (others x ys (h x (ap (λ b. b || list_any (same_pair x) xs) (same_pair-self x)))),
-  differ_join xs ys d.1 e (λ p k. h p (or_right (same_pair p x) (list_any (same_pair p) xs) k)),
+  all_join (λ y. same_text (folded x.1) (folded y.1) ≡ false) xs ys d.0 (others x ys (h x (ap (λ b. b || list_any (same_property x) xs) (same_property-self x)))),
+  differ_join xs ys d.1 e (λ p k. h p (or_right (same_property p x) (list_any (same_property p) xs) k)),
 )
 
 module _ (w : World) (x q : ObjNo) (wf : IsWellFormed w) (xo : is_object w x ≡ true) (qo : (is_object w q ≡ true) ⊎ (q ≡ nothing)) (outside : is_among x (chain w q) ≡ false) (apart : NoClash w x q) where
@@ -52,7 +52,7 @@ module _ (w : World) (x q : ObjNo) (wf : IsWellFormed w) (xo : is_object w x ≡
     chain_before = Climbs-split (parent_of w) (no_parent w wf.tree) (chain w y) (chain w x) y x (Chain-chain w wf.tree y yo) (Chain-chain w wf.tree x xo) (inl under)
 
     -- what is defined below is owed before and clashes with nothing new
-    clear_of_new : (p : Pair) → in_owed w p (below y) ≡ true → pair_named (owed_by w (chain w q)) (folded p.1) ≡ None
+    clear_of_new : (p : Property) → in_owed w p (below y) ≡ true → property_named (defined_by_any w (chain w q)) (folded p.1) ≡ None
     clear_of_new p o =
         let d = definer_among w p (below y) o in
         apart p.0 p (under_x w x q wf xo qo outside apart (chain w y) y p.0 (Chain-chain w wf.tree y yo) under d.0) d.1
@@ -64,48 +64,48 @@ module _ (w : World) (x q : ObjNo) (wf : IsWellFormed w) (xo : is_object w x ≡
         no_row z o e = absurd (both_ways (is_object w nothing) (nothing_is_no_object w wf.tree) (ap (is_object w) (sym e) ∙ o))
     starts_at (z ∷ l) p = (l, λ i. sym p.0 i ∷ l)
 
-    owed_before : (p : Pair) → in_owed w p (below y) ≡ true → owes w y p ≡ true
+    owed_before : (p : Property) → in_owed w p (below y) ≡ true → has_property w y p ≡ true
     owed_before p o =
         let m = starts_at (chain w x) (Chain-chain w wf.tree x xo) in
         let whole : chain w y ≡ below y ++ m.0 = chain_before ∙ ap (λ l. front_of x (chain w y) ++ l) m.1 ∙ sym (append_assoc (front_of x (chain w y)) (x ∷ []) m.0) in
         ap (in_owed w p) whole ∙ in_owed-append w p (below y) m.0 ∙ ap (λ b. b || in_owed w p m.0) o
 
-    names_below : NamesDiffer (owed_by w (below y))
+    names_below : NamesDiffer (defined_by_any w (below y))
     names_below =
         let m = starts_at (chain w x) (Chain-chain w wf.tree x xo) in
         let whole : chain w y ≡ below y ++ m.0 = chain_before ∙ ap (λ l. front_of x (chain w y) ++ l) m.1 ∙ sym (append_assoc (front_of x (chain w y)) (x ∷ []) m.0) in
-        differ_left (owed_by w (below y)) (owed_by w m.0) (subst NamesDiffer (ap (owed_by w) whole ∙ owed_by-append w (below y) m.0) (wf.names y (chain w y) (Chain-chain w wf.tree y yo)))
+        differ_left (defined_by_any w (below y)) (defined_by_any w m.0) (subst NamesDiffer (ap (defined_by_any w) whole ∙ defined_by_any-append w (below y) m.0) (wf.names y (chain w y) (Chain-chain w wf.tree y yo)))
 
-    names_here : NamesDiffer (owed_by w (below y ++ chain w q))
-    names_here = subst NamesDiffer (sym (owed_by-append w (below y) (chain w q))) (differ_join (owed_by w (below y)) (owed_by w (chain w q)) names_below (wf.names q (chain w q) (Chain-new w x q wf.tree xo qo outside)) clear_of_new)
+    names_here : NamesDiffer (defined_by_any w (below y ++ chain w q))
+    names_here = subst NamesDiffer (sym (defined_by_any-append w (below y) (chain w q))) (differ_join (defined_by_any w (below y)) (defined_by_any w (chain w q)) names_below (wf.names q (chain w q) (Chain-new w x q wf.tree xo qo outside)) clear_of_new)
 
-    new_here : (n : Name) (p : Pair) → pair_named (owed_by s (chain s y)) n ≡ Some p → owes w y p ≡ false → pair_named (owed_by w (chain w q)) n ≡ Some p
-    new_here n p e o = by (pair_named (owed_by w (below y)) n) refl
+    new_here : (n : Name) (p : Property) → property_named (defined_by_any s (chain s y)) n ≡ Some p → has_property w y p ≡ false → property_named (defined_by_any w (chain w q)) n ≡ Some p
+    new_here n p e o = by (property_named (defined_by_any w (below y)) n) refl
       where
-        whole : option_or (pair_named (owed_by w (below y)) n) (pair_named (owed_by w (chain w q)) n) ≡ Some p
-        whole = sym (named-append w (below y) (chain w q) n) ∙ sym (ap (λ k. pair_named k n) (owed_moved w x q (chain s y)) ∙ ap (λ l. pair_named (owed_by w l) n) chain_here) ∙ e
+        whole : option_or (property_named (defined_by_any w (below y)) n) (property_named (defined_by_any w (chain w q)) n) ≡ Some p
+        whole = sym (named-append w (below y) (chain w q) n) ∙ sym (ap (λ k. property_named k n) (owed_moved w x q (chain s y)) ∙ ap (λ l. property_named (defined_by_any w l) n) chain_here) ∙ e
 
-        by : (b : Option Pair) → pair_named (owed_by w (below y)) n ≡ b → pair_named (owed_by w (chain w q)) n ≡ Some p
-        by None g = sym (ap (λ b. option_or b (pair_named (owed_by w (chain w q)) n)) g) ∙ whole
+        by : (b : Option Property) → property_named (defined_by_any w (below y)) n ≡ b → property_named (defined_by_any w (chain w q)) n ≡ Some p
+        by None g = sym (ap (λ b. option_or b (property_named (defined_by_any w (chain w q)) n)) g) ∙ whole
         by (Some k) g =
-            let it : k ≡ p = same_Some k p (sym (ap (λ b. option_or b (pair_named (owed_by w (chain w q)) n)) g) ∙ whole) in
-            absurd (both_ways (owes w y p) o (owed_before p (named_owed w (below y) n p (g ∙ ap Some it))))
+            let it : k ≡ p = same_Some k p (sym (ap (λ b. option_or b (property_named (defined_by_any w (chain w q)) n)) g) ∙ whole) in
+            absurd (both_ways (has_property w y p) o (owed_before p (named_owed w (below y) n p (g ∙ ap Some it))))
 
-  names_at : (y : ObjNo) → is_object w y ≡ true → NamesDiffer (owed_by w (chain s y))
+  names_at : (y : ObjNo) → is_object w y ≡ true → NamesDiffer (defined_by_any w (chain s y))
   names_at y yo = by (is_among x (chain w y)) refl
     where
-      by : (b : Bool) → is_among x (chain w y) ≡ b → NamesDiffer (owed_by w (chain s y))
-      by true e = subst (λ l. NamesDiffer (owed_by w l)) (sym (chain_here y yo e)) (names_here y yo e)
-      by false e = subst (λ l. NamesDiffer (owed_by w l)) (sym (chain_unmoved w x q wf.tree xo qo outside y yo e)) (wf.names y (chain w y) (Chain-chain w wf.tree y yo))
+      by : (b : Bool) → is_among x (chain w y) ≡ b → NamesDiffer (defined_by_any w (chain s y))
+      by true e = subst (λ l. NamesDiffer (defined_by_any w l)) (sym (chain_here y yo e)) (names_here y yo e)
+      by false e = subst (λ l. NamesDiffer (defined_by_any w l)) (sym (chain_unmoved w x q wf.tree xo qo outside y yo e)) (wf.names y (chain w y) (Chain-chain w wf.tree y yo))
 
-  names_moved_differ : (y : ObjNo) (l : List ObjNo) → Chain s y l → NamesDiffer (owed_by s l)
+  names_moved_differ : (y : ObjNo) (l : List ObjNo) → Chain s y l → NamesDiffer (defined_by_any s l)
   unfolding IsDistinct
   names_moved_differ y [] c = tt
   names_moved_differ y (z ∷ l) c =
       let yo : is_object w y ≡ true = sym (object_moved w x q y) ∙ linked (s.object y) (λ r. r.row.parent) c.1 c.2 in
-      subst NamesDiffer (sym (owed_moved w x q (z ∷ l))) (subst (λ m. NamesDiffer (owed_by w m)) (chain_is s (IsTree-moved w x q wf.tree xo qo outside) y (z ∷ l) c) (names_at y yo))
+      subst NamesDiffer (sym (owed_moved w x q (z ∷ l))) (subst (λ m. NamesDiffer (defined_by_any w m)) (chain_is s (IsTree-moved w x q wf.tree xo qo outside) y (z ∷ l) c) (names_at y yo))
 
-  new_slot : (y : ObjNo) (n : Name) (p : Pair) → is_object s y ≡ true → pair_named (owed_by s (chain s y)) n ≡ Some p → owes w y p ≡ false → option_map (λ k. k.definer) (slot_of w q n) ≡ Some p.0
+  new_slot : (y : ObjNo) (n : Name) (p : Property) → is_object s y ≡ true → property_named (defined_by_any s (chain s y)) n ≡ Some p → has_property w y p ≡ false → option_map (λ k. k.definer) (slot_of w q n) ≡ Some p.0
   new_slot y n p so e o = by (is_among x (chain w y)) refl
     where
       yo : is_object w y ≡ true
@@ -116,14 +116,14 @@ module _ (w : World) (x q : ObjNo) (wf : IsWellFormed w) (xo : is_object w x ≡
           let there = new_here y yo u n p e o in
           wf.slots q (chain w q) n (owed_is_object w q n p there) (Chain-new w x q wf.tree xo qo outside) ∙ ap (option_map (λ k. k.0)) there
       by false u =
-          let old : pair_named (owed_by w (chain w y)) n ≡ Some p = sym (ap (λ k. pair_named k n) (owed_moved w x q (chain s y)) ∙ ap (λ l. pair_named (owed_by w l) n) (chain_unmoved w x q wf.tree xo qo outside y yo u)) ∙ e in
-          absurd (both_ways (owes w y p) o (named_owed w (chain w y) n p old))
+          let old : property_named (defined_by_any w (chain w y)) n ≡ Some p = sym (ap (λ k. property_named k n) (owed_moved w x q (chain s y)) ∙ ap (λ l. property_named (defined_by_any w l) n) (chain_unmoved w x q wf.tree xo qo outside y yo u)) ∙ e in
+          absurd (both_ways (has_property w y p) o (named_owed w (chain w y) n p old))
 
-  own_slot : (y : ObjNo) (p : Pair) → is_object s y ≡ true → list_any (same_pair p) (defined_by s y) ≡ true → owes w y p ≡ true
-  own_slot y p so h = own_owed w wf.tree y p (sym (object_moved w x q y) ∙ so) (subst (λ (names : ObjNo → List Name). list_any (same_pair p) (map (λ n. (y, n)) (names y)) ≡ true) (names_moved w x q) h)
+  own_slot : (y : ObjNo) (p : Property) → is_object s y ≡ true → list_any (same_property p) (defined_by s y) ≡ true → has_property w y p ≡ true
+  own_slot y p so h = own_owed w wf.tree y p (sym (object_moved w x q y) ∙ so) (subst (λ (names : ObjNo → List Name). list_any (same_property p) (map (λ n. (y, n)) (names y)) ≡ true) (names_moved w x q) h)
 
   -- what reads neither slots nor the parent is as it was
-  unread : {A : Type 0} (y : ObjNo) (g : Option Record → A) → ((r : Record) → g (Some (with_slots (λ n. None) (record r { row = record r.row { parent = q } }))) ≡ g (Some (with_slots (λ n. None) r))) → (o : Option Record)
+  unread : {A : Type 0} (y : ObjNo) (g : Option WorldObject → A) → ((r : WorldObject) → g (Some (with_slots (λ n. None) (record r { row = record r.row { parent = q } }))) ≡ g (Some (with_slots (λ n. None) r))) → (o : Option WorldObject)
       → g (option_map (with_slots (λ n. None)) (option_map (λ r. if same_object x y then (record r { row = record r.row { parent = q } }) else r) o)) ≡ g (option_map (with_slots (λ n. None)) o)
   unread y g h None = refl
   unread y g h (Some r) = by (same_object x y)

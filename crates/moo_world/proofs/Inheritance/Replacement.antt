@@ -1,5 +1,5 @@
 -- A property of a well formed world under another name.
-use Rattle.moo_world.proofs.Lemmas.{◌≡◌, Bool, true, false, cond, ◌||◌, Option, None, Some, List, [], ◌∷◌, ◌++◌, map, refl, sym, ap, ◌∙◌, subst, ◌⊎◌, inl, inr, append_assoc, ◌&&◌, unwrap_or, if◌then◌else◌, option_map, option_and_then, list_any, list_all, IsDistinct, AllByRecursion, false≢true, both_ways, or_parts, or_cases, and_parts, none-some, ObjNo, Clear, clashes, renamed, Name, Pair, nothing, same_object, same_text, same_pair, folded, is_among, same_object-Decides, same_text-Decides, World, Record, Slot, IsWellFormed, Climbs, Chain, NamesDiffer, is_object, parent_of, chain, names_of, defined_by, owed_by, pair_named, slot_of, is_property_name, Climbs-once, none_named, chain_is, Chain-chain, no_parent, nothing_is_no_object, parents_alike, objects_alike, tree_alike, limits_alike, names_fit}
+use Rattle.moo_world.proofs.Lemmas.{◌≡◌, Bool, true, false, cond, ◌||◌, Option, None, Some, List, [], ◌∷◌, ◌++◌, map, refl, sym, ap, ◌∙◌, subst, ◌⊎◌, inl, inr, append_assoc, ◌&&◌, unwrap_or, if◌then◌else◌, option_map, option_and_then, list_any, list_all, IsDistinct, AllByRecursion, false≢true, both_ways, or_parts, or_cases, and_parts, none-some, ObjNo, Clear, clashes, property_renamed, Name, Property, nothing, same_object, same_text, same_property, folded, is_among, same_object-Decides, same_text-Decides, World, WorldObject, Slot, IsWellFormed, Climbs, Chain, NamesDiffer, is_object, parent_of, chain, property_names_of, defined_by, defined_by_any, property_named, slot_of, is_property_name, Climbs-once, none_named, chain_is, Chain-chain, no_parent, nothing_is_no_object, parents_alike, objects_alike, tree_alike, limits_alike, names_fit}
 use Rattle.moo_world.proofs.Shown.PairLists.{distinct_map, pairs_left}
 use Rattle.moo_world.proofs.Inheritance.Insertion.{Inserted, still_apart, named_after, further, none_owed, some_record}
 
@@ -13,40 +13,40 @@ one_of : {A : Type 0} (P : A → Type 0) (xs ys : List A) (a : A) → AllByRecur
 one_of P [] ys a h = h.0
 one_of P (x ∷ xs) ys a h = one_of P xs ys a h.1
 
-apart_but : (p : Pair) (xs ys : List Pair) → NamesDiffer (xs ++ (p ∷ ys)) → NamesDiffer (xs ++ ys)
+apart_but : (p : Property) (xs ys : List Property) → NamesDiffer (xs ++ (p ∷ ys)) → NamesDiffer (xs ++ ys)
 unfolding IsDistinct
 apart_but p [] ys d = d.1
 apart_but p (x ∷ xs) ys d = (all_but (λ y. same_text (folded x.1) (folded y.1) ≡ false) xs ys p d.0, apart_but p xs ys d.1)
 
-none_but : (p : Pair) (xs ys : List Pair) → NamesDiffer (xs ++ (p ∷ ys)) → pair_named (xs ++ ys) (folded p.1) ≡ None
+none_but : (p : Property) (xs ys : List Property) → NamesDiffer (xs ++ (p ∷ ys)) → property_named (xs ++ ys) (folded p.1) ≡ None
 unfolding IsDistinct
 none_but p [] ys d = none_named p ys (folded p.1) d.0 refl
 none_but p (x ∷ xs) ys d =
-    ap (λ b. cond b (Some x) (pair_named (xs ++ ys) (folded p.1))) (one_of (λ y. same_text (folded x.1) (folded y.1) ≡ false) xs ys p d.0) ∙ none_but p xs ys d.1
+    ap (λ b. cond b (Some x) (property_named (xs ++ ys) (folded p.1))) (one_of (λ y. same_text (folded x.1) (folded y.1) ≡ false) xs ys p d.0) ∙ none_but p xs ys d.1
 
-none_fewer : (p : Pair) (n : Name) (xs ys : List Pair) → pair_named (xs ++ (p ∷ ys)) n ≡ None → pair_named (xs ++ ys) n ≡ None
+none_fewer : (p : Property) (n : Name) (xs ys : List Property) → property_named (xs ++ (p ∷ ys)) n ≡ None → property_named (xs ++ ys) n ≡ None
 none_fewer p n [] ys e = by (same_text (folded p.1) n) e
   where
-    by : (b : Bool) → cond b (Some p) (pair_named ys n) ≡ None → pair_named ys n ≡ None
+    by : (b : Bool) → cond b (Some p) (property_named ys n) ≡ None → property_named ys n ≡ None
     by true h = absurd (none-some p (sym h))
     by false h = h
 none_fewer p n (x ∷ xs) ys e = by (same_text (folded x.1) n) e (none_fewer p n xs ys)
   where
-    by : (b : Bool) → cond b (Some x) (pair_named (xs ++ (p ∷ ys)) n) ≡ None → (pair_named (xs ++ (p ∷ ys)) n ≡ None → pair_named (xs ++ ys) n ≡ None) → cond b (Some x) (pair_named (xs ++ ys) n) ≡ None
+    by : (b : Bool) → cond b (Some x) (property_named (xs ++ (p ∷ ys)) n) ≡ None → (property_named (xs ++ (p ∷ ys)) n ≡ None → property_named (xs ++ ys) n ≡ None) → cond b (Some x) (property_named (xs ++ ys) n) ≡ None
     by true h r = absurd (none-some x (sym h))
     by false h r = r h
 
 -- b is a with q in the place of p
-record Replaced (p q : Pair) (a b : List Pair) : Type 0 where
-  rest : List Pair
+record Replaced (p q : Property) (a b : List Property) : Type 0 where
+  rest : List Property
   had : Inserted p rest a
   has : Inserted q rest b
 
-module _ (p q : Pair) (a b : List Pair) (r : Replaced p q a b) (d : NamesDiffer a) where
-  abbrev before : List Pair
+module _ (p q : Property) (a b : List Property) (r : Replaced p q a b) (d : NamesDiffer a) where
+  abbrev before : List Property
   before = r.had.before
 
-  abbrev after : List Pair
+  abbrev after : List Property
   after = r.had.after
 
   differ : NamesDiffer (before ++ (p ∷ after))
@@ -55,23 +55,23 @@ module _ (p q : Pair) (a b : List Pair) (r : Replaced p q a b) (d : NamesDiffer 
   rest_differ : NamesDiffer r.rest
   rest_differ = subst NamesDiffer (sym r.had.less) (apart_but p before after differ)
 
-  none_old : pair_named r.rest (folded p.1) ≡ None
-  none_old = ap (λ l. pair_named l (folded p.1)) r.had.less ∙ none_but p before after differ
+  none_old : property_named r.rest (folded p.1) ≡ None
+  none_old = ap (λ l. property_named l (folded p.1)) r.had.less ∙ none_but p before after differ
 
-  rest_none : (n : Name) → pair_named a n ≡ None → pair_named r.rest n ≡ None
-  rest_none n e = ap (λ l. pair_named l n) r.had.less ∙ none_fewer p n before after (sym (ap (λ l. pair_named l n) r.had.more) ∙ e)
+  rest_none : (n : Name) → property_named a n ≡ None → property_named r.rest n ≡ None
+  rest_none n e = ap (λ l. property_named l n) r.had.less ∙ none_fewer p n before after (sym (ap (λ l. property_named l n) r.had.more) ∙ e)
 
-  module _ (free : pair_named a (folded q.1) ≡ None) where
-    none_new : pair_named r.rest (folded q.1) ≡ None
+  module _ (free : property_named a (folded q.1) ≡ None) where
+    none_new : property_named r.rest (folded q.1) ≡ None
     none_new = rest_none (folded q.1) free
 
     differ_now : NamesDiffer b
     differ_now = still_apart q r.rest b r.has none_new rest_differ
 
-    named_old : (n : Name) → pair_named a n ≡ (if same_text (folded p.1) n then Some p else pair_named r.rest n)
+    named_old : (n : Name) → property_named a n ≡ (if same_text (folded p.1) n then Some p else property_named r.rest n)
     named_old n = named_after p n r.rest a r.had none_old
 
-    named_now : (n : Name) → pair_named b n ≡ (if same_text (folded q.1) n then Some q else pair_named r.rest n)
+    named_now : (n : Name) → property_named b n ≡ (if same_text (folded q.1) n then Some q else property_named r.rest n)
     named_now n = named_after q n r.rest b r.has none_new
 
 -- ---- lists of names
@@ -115,34 +115,34 @@ place old new (n ∷ l) h d = by (same_text (folded n) (folded old)) refl (or_ca
         let p = r k in
         record { before = n ∷ p.before; after = p.after; was = ap (λ m. n ∷ m) p.was; now = ap (λ m. n ∷ m) p.now }
 
-map-mid : (x : ObjNo) (xs ys : List Name) (n : Name) → map {B = Pair} (λ k. (x, k)) (xs ++ (n ∷ ys)) ≡ map (λ k. (x, k)) xs ++ ((x, n) ∷ map (λ k. (x, k)) ys)
+map-mid : (x : ObjNo) (xs ys : List Name) (n : Name) → map {B = Property} (λ k. (x, k)) (xs ++ (n ∷ ys)) ≡ map (λ k. (x, k)) xs ++ ((x, n) ∷ map (λ k. (x, k)) ys)
 map-mid x [] ys n = refl
 map-mid x (k ∷ xs) ys n = ap (λ l. (x, k) ∷ l) (map-mid x xs ys n)
 
-listed_name : (x : ObjNo) (old : Name) (l : List Name) → list_any (same_pair (x, old)) (map (λ n. (x, n)) l) ≡ true → list_any (same_text old) l ≡ true
-unfolding same_pair
+listed_name : (x : ObjNo) (old : Name) (l : List Name) → list_any (same_property (x, old)) (map (λ n. (x, n)) l) ≡ true → list_any (same_text old) l ≡ true
+unfolding same_property
 listed_name x old [] h = h
 listed_name x old (n ∷ l) h = by (same_object x x) (same_text old n) h (listed_name x old l)
   where
-    by : (a b : Bool) → ((a && b) || list_any (same_pair (x, old)) (map (λ n. (x, n)) l)) ≡ true → (list_any (same_pair (x, old)) (map (λ n. (x, n)) l) ≡ true → list_any (same_text old) l ≡ true) → (b || list_any (same_text old) l) ≡ true
+    by : (a b : Bool) → ((a && b) || list_any (same_property (x, old)) (map (λ n. (x, n)) l)) ≡ true → (list_any (same_property (x, old)) (map (λ n. (x, n)) l) ≡ true → list_any (same_text old) l ≡ true) → (b || list_any (same_text old) l) ≡ true
     by a true e r = refl
     by true false e r = r e
     by false false e r = r e
 
 -- ---- the world
 
-module _ (w : World) (wf : IsWellFormed w) (x : ObjNo) (old new : Name) (xo : is_object w x ≡ true) (mine : list_any (same_pair (x, old)) (defined_by w x) ≡ true) (free : clashes w x new ≡ false) where
+module _ (w : World) (wf : IsWellFormed w) (x : ObjNo) (old new : Name) (xo : is_object w x ≡ true) (mine : list_any (same_property (x, old)) (defined_by w x) ≡ true) (free : clashes w x new ≡ false) where
   abbrev pub v : World
-  v = renamed w x old new
+  v = property_renamed w x old new
 
-  abbrev new_record : ObjNo → Record → Record
+  abbrev new_record : ObjNo → WorldObject → WorldObject
   new_record y r = record r {
     defines = if same_object x y then map (λ m. if same_text (folded m) (folded old) then new else m) r.defines else r.defines;
     slot = λ n. if is_among x (chain w y) then (if same_text (folded new) n then r.slot (folded old) else (if same_text (folded old) n then None else r.slot n)) else r.slot n;
   }
 
   -- no property of that name is owed to what has x in its chain
-  pub none_of_name : (y : ObjNo) (l : List ObjNo) → Chain w y l → is_among x l ≡ true → pair_named (owed_by w l) (folded new) ≡ None
+  pub none_of_name : (y : ObjNo) (l : List ObjNo) → Chain w y l → is_among x l ≡ true → property_named (defined_by_any w l) (folded new) ≡ None
   none_of_name = none_owed w wf x new (record { definer = x; owner = nothing; bits = record { r = false; w = false; c = false }; state = Clear }) xo free
 
   -- ---- what is as it was
@@ -158,48 +158,48 @@ module _ (w : World) (wf : IsWellFormed w) (x : ObjNo) (old new : Name) (xo : is
 
   -- ---- what is owed
 
-  names_now : (y : ObjNo) → names_of v y ≡ (if same_object x y then map (renames old new) (names_of w y) else names_of w y)
+  names_now : (y : ObjNo) → property_names_of v y ≡ (if same_object x y then map (renames old new) (property_names_of w y) else property_names_of w y)
   names_now y = by (w.object y)
     where
       alone : (b : Bool) → [] ≡ (if b then map (renames old new) [] else [])
       alone true = refl
       alone false = refl
 
-      by : (o : Option Record) → unwrap_or (option_map (λ r. r.defines) (option_map (new_record y) o)) [] ≡ (if same_object x y then map (renames old new) (unwrap_or (option_map (λ r. r.defines) o) []) else unwrap_or (option_map (λ r. r.defines) o) [])
+      by : (o : Option WorldObject) → unwrap_or (option_map (λ r. r.defines) (option_map (new_record y) o)) [] ≡ (if same_object x y then map (renames old new) (unwrap_or (option_map (λ r. r.defines) o) []) else unwrap_or (option_map (λ r. r.defines) o) [])
       by None = alone (same_object x y)
       by (Some r) = refl
 
-  own_distinct : IsDistinct (λ a b. same_text (folded a) (folded b)) (names_of w x)
+  own_distinct : IsDistinct (λ a b. same_text (folded a) (folded b)) (property_names_of w x)
   own_distinct = first (chain w x) (Chain-chain w wf.tree x xo) (wf.names x (chain w x) (Chain-chain w wf.tree x xo))
     where
-      first : (l : List ObjNo) → Chain w x l → NamesDiffer (owed_by w l) → IsDistinct (λ a b. same_text (folded a) (folded b)) (names_of w x)
+      first : (l : List ObjNo) → Chain w x l → NamesDiffer (defined_by_any w l) → IsDistinct (λ a b. same_text (folded a) (folded b)) (property_names_of w x)
       first [] c d = absurd (both_ways (is_object w nothing) (nothing_is_no_object w wf.tree) (ap (is_object w) (sym c) ∙ xo))
       first (z ∷ l) c d =
-          distinct_map (λ (a b : Pair). same_text (folded a.1) (folded b.1)) (λ n. (x, n)) (names_of w x)
-          (pairs_left (defined_by w x) (owed_by w l) (subst (λ u. NamesDiffer (defined_by w u ++ owed_by w l)) (sym c.0) d))
+          distinct_map (λ (a b : Property). same_text (folded a.1) (folded b.1)) (λ n. (x, n)) (property_names_of w x)
+          (pairs_left (defined_by w x) (defined_by_any w l) (subst (λ u. NamesDiffer (defined_by w u ++ defined_by_any w l)) (sym c.0) d))
 
-  at : Place old new (names_of w x) (map (renames old new) (names_of w x))
-  at = place old new (names_of w x) (listed_name x old (names_of w x) mine) own_distinct
+  at : Place old new (property_names_of w x) (map (renames old new) (property_names_of w x))
+  at = place old new (property_names_of w x) (listed_name x old (property_names_of w x) mine) own_distinct
 
-  abbrev pairs : List Name → List Pair
-  pairs l = map {B = Pair} (λ n. (x, n)) l
+  abbrev pairs : List Name → List Property
+  pairs l = map {B = Property} (λ n. (x, n)) l
 
   defined_was : defined_by w x ≡ pairs at.before ++ ((x, old) ∷ pairs at.after)
   defined_was = ap pairs at.was ∙ map-mid x at.before at.after old
 
   defined_here : defined_by v x ≡ pairs at.before ++ ((x, new) ∷ pairs at.after)
-  defined_here = ap pairs (names_now x ∙ ap (λ b. if b then map (renames old new) (names_of w x) else names_of w x) ((same_object-Decides x x).1 refl) ∙ at.now) ∙ map-mid x at.before at.after new
+  defined_here = ap pairs (names_now x ∙ ap (λ b. if b then map (renames old new) (property_names_of w x) else property_names_of w x) ((same_object-Decides x x).1 refl) ∙ at.now) ∙ map-mid x at.before at.after new
 
   defined_other : (y : ObjNo) → same_object x y ≡ false → defined_by v y ≡ defined_by w y
-  defined_other y e = ap (map {B = Pair} (λ n. (y, n))) (names_now y ∙ ap (λ b. if b then map (renames old new) (names_of w y) else names_of w y) e)
+  defined_other y e = ap (map {B = Property} (λ n. (y, n))) (names_now y ∙ ap (λ b. if b then map (renames old new) (property_names_of w y) else property_names_of w y) e)
 
-  owed_beside : (l : List ObjNo) → is_among x l ≡ false → owed_by v l ≡ owed_by w l
+  owed_beside : (l : List ObjNo) → is_among x l ≡ false → defined_by_any v l ≡ defined_by_any w l
   owed_beside [] h = refl
   owed_beside (z ∷ l) h =
       let parts = or_parts (same_object x z) (is_among x l) h in
       λ i. defined_other z parts.0 i ++ owed_beside l parts.1 i
 
-  put_in : (n : Name) (d : List Pair) (m : List Pair) → d ≡ pairs at.before ++ ((x, n) ∷ pairs at.after) → Inserted (x, n) (pairs at.before ++ (pairs at.after ++ m)) (d ++ m)
+  put_in : (n : Name) (d : List Property) (m : List Property) → d ≡ pairs at.before ++ ((x, n) ∷ pairs at.after) → Inserted (x, n) (pairs at.before ++ (pairs at.after ++ m)) (d ++ m)
   put_in n d m e = record {
     before = pairs at.before;
     after = pairs at.after ++ m;
@@ -207,40 +207,40 @@ module _ (w : World) (wf : IsWellFormed w) (x : ObjNo) (old new : Name) (xo : is
     more = ap (λ k. k ++ m) e ∙ append_assoc (pairs at.before) ((x, n) ∷ pairs at.after) m;
   }
 
-  replaced : (y : ObjNo) (l : List ObjNo) → Chain w y l → is_among x l ≡ true → Replaced (x, old) (x, new) (owed_by w l) (owed_by v l)
+  replaced : (y : ObjNo) (l : List ObjNo) → Chain w y l → is_among x l ≡ true → Replaced (x, old) (x, new) (defined_by_any w l) (defined_by_any v l)
   replaced y [] c h = absurd (false≢true h)
   replaced y (z ∷ l) c h = by (same_object x z) refl h (replaced c.1 l c.3)
     where
-      by : (b : Bool) → same_object x z ≡ b → (b || is_among x l) ≡ true → (is_among x l ≡ true → Replaced (x, old) (x, new) (owed_by w l) (owed_by v l)) → Replaced (x, old) (x, new) (owed_by w (z ∷ l)) (owed_by v (z ∷ l))
+      by : (b : Bool) → same_object x z ≡ b → (b || is_among x l) ≡ true → (is_among x l ≡ true → Replaced (x, old) (x, new) (defined_by_any w l) (defined_by_any v l)) → Replaced (x, old) (x, new) (defined_by_any w (z ∷ l)) (defined_by_any v (z ∷ l))
       by false e k r =
           let here = r k in
           record {
             rest = defined_by w z ++ here.rest;
-            had = further (x, old) (defined_by w z) here.rest (owed_by w l) here.had;
-            has = subst (λ d. Inserted (x, new) (defined_by w z ++ here.rest) (d ++ owed_by v l)) (sym (defined_other z e)) (further (x, new) (defined_by w z) here.rest (owed_by v l) here.has);
+            had = further (x, old) (defined_by w z) here.rest (defined_by_any w l) here.had;
+            has = subst (λ d. Inserted (x, new) (defined_by w z ++ here.rest) (d ++ defined_by_any v l)) (sym (defined_other z e)) (further (x, new) (defined_by w z) here.rest (defined_by_any v l) here.has);
           }
       by true e k r =
           let own : x ≡ z = (same_object-Decides x z).0 e in
           let once : is_among x l ≡ false = subst (λ u. is_among u l ≡ false) (c.0 ∙ sym own) (Climbs-once (parent_of w) (no_parent w wf.tree) l y z c) in
-          subst (λ u. Replaced (x, old) (x, new) (defined_by w u ++ owed_by w l) (defined_by v u ++ owed_by v l)) own
-          (subst (λ d. Replaced (x, old) (x, new) (defined_by w x ++ owed_by w l) (defined_by v x ++ d)) (sym (owed_beside l once))
+          subst (λ u. Replaced (x, old) (x, new) (defined_by w u ++ defined_by_any w l) (defined_by v u ++ defined_by_any v l)) own
+          (subst (λ d. Replaced (x, old) (x, new) (defined_by w x ++ defined_by_any w l) (defined_by v x ++ d)) (sym (owed_beside l once))
           (record {
-            rest = pairs at.before ++ (pairs at.after ++ owed_by w l);
-            had = put_in old (defined_by w x) (owed_by w l) defined_was;
-            has = put_in new (defined_by v x) (owed_by w l) defined_here;
+            rest = pairs at.before ++ (pairs at.after ++ defined_by_any w l);
+            had = put_in old (defined_by w x) (defined_by_any w l) defined_was;
+            has = put_in new (defined_by v x) (defined_by_any w l) defined_here;
           }))
 
-  names : (y : ObjNo) (l : List ObjNo) → Chain v y l → NamesDiffer (owed_by v l)
+  names : (y : ObjNo) (l : List ObjNo) → Chain v y l → NamesDiffer (defined_by_any v l)
   names y l c = by (is_among x l) refl
     where
-      by : (b : Bool) → is_among x l ≡ b → NamesDiffer (owed_by v l)
+      by : (b : Bool) → is_among x l ≡ b → NamesDiffer (defined_by_any v l)
       by false e = subst NamesDiffer (sym (owed_beside l e)) (wf.names y l (back y l c))
-      by true e = differ_now (x, old) (x, new) (owed_by w l) (owed_by v l) (replaced y l (back y l c) e) (wf.names y l (back y l c)) (none_of_name y l (back y l c) e)
+      by true e = differ_now (x, old) (x, new) (defined_by_any w l) (defined_by_any v l) (replaced y l (back y l c) e) (wf.names y l (back y l c)) (none_of_name y l (back y l c) e)
 
   -- ---- the slots
 
-  slot_now : (y : ObjNo) (n : Name) (r : Record) → w.object y ≡ Some r → slot_of v y n ≡ (new_record y r).slot n
-  slot_now y n r e = ap (λ o. option_and_then (λ (k : Record). k.slot n) (option_map (new_record y) o)) e
+  slot_now : (y : ObjNo) (n : Name) (r : WorldObject) → w.object y ≡ Some r → slot_of v y n ≡ (new_record y r).slot n
+  slot_now y n r e = ap (λ o. option_and_then (λ (k : WorldObject). k.slot n) (option_map (new_record y) o)) e
 
   abbrev moved_slot : Bool → (Name → Option Slot) → Name → Option Slot
   moved_slot b slots n = if b then (if same_text (folded new) n then slots (folded old) else (if same_text (folded old) n then None else slots n)) else slots n
@@ -248,63 +248,63 @@ module _ (w : World) (wf : IsWellFormed w) (x : ObjNo) (old new : Name) (xo : is
   abbrev whose : Option Slot → Option ObjNo
   whose o = option_map (λ (k : Slot). k.definer) o
 
-  abbrev by_whom : Option Pair → Option ObjNo
-  by_whom o = option_map (λ (p : Pair). p.0) o
+  abbrev by_whom : Option Property → Option ObjNo
+  by_whom o = option_map (λ (p : Property). p.0) o
 
   module _ (y : ObjNo) (l : List ObjNo) (c : Chain w y l) (u : is_among x l ≡ true) where
-    abbrev at_l : Replaced (x, old) (x, new) (owed_by w l) (owed_by v l)
+    abbrev at_l : Replaced (x, old) (x, new) (defined_by_any w l) (defined_by_any v l)
     at_l = replaced y l c u
 
-    abbrev d : NamesDiffer (owed_by w l)
+    abbrev d : NamesDiffer (defined_by_any w l)
     d = wf.names y l c
 
-    was_named : (n : Name) → pair_named (owed_by w l) n ≡ (if same_text (folded old) n then Some (x, old) else pair_named at_l.rest n)
-    was_named n = named_old (x, old) (x, new) (owed_by w l) (owed_by v l) at_l d (none_of_name y l c u) n
+    was_named : (n : Name) → property_named (defined_by_any w l) n ≡ (if same_text (folded old) n then Some (x, old) else property_named at_l.rest n)
+    was_named n = named_old (x, old) (x, new) (defined_by_any w l) (defined_by_any v l) at_l d (none_of_name y l c u) n
 
-    is_named : (n : Name) → pair_named (owed_by v l) n ≡ (if same_text (folded new) n then Some (x, new) else pair_named at_l.rest n)
-    is_named n = named_now (x, old) (x, new) (owed_by w l) (owed_by v l) at_l d (none_of_name y l c u) n
+    is_named : (n : Name) → property_named (defined_by_any v l) n ≡ (if same_text (folded new) n then Some (x, new) else property_named at_l.rest n)
+    is_named n = named_now (x, old) (x, new) (defined_by_any w l) (defined_by_any v l) at_l d (none_of_name y l c u) n
 
-    under_slots : (slots : Name → Option Slot) → ((n : Name) → whose (slots n) ≡ by_whom (pair_named (owed_by w l) n)) → (n : Name) → whose (moved_slot true slots n) ≡ by_whom (pair_named (owed_by v l) n)
+    under_slots : (slots : Name → Option Slot) → ((n : Name) → whose (slots n) ≡ by_whom (property_named (defined_by_any w l) n)) → (n : Name) → whose (moved_slot true slots n) ≡ by_whom (property_named (defined_by_any v l) n)
     under_slots slots was n = by (same_text (folded new) n) (same_text (folded old) n) refl ∙ ap by_whom (sym (is_named n))
       where
-        by : (a b : Bool) → same_text (folded old) n ≡ b → whose (if a then slots (folded old) else (if b then None else slots n)) ≡ by_whom (if a then Some (x, new) else pair_named at_l.rest n)
+        by : (a b : Bool) → same_text (folded old) n ≡ b → whose (if a then slots (folded old) else (if b then None else slots n)) ≡ by_whom (if a then Some (x, new) else property_named at_l.rest n)
         by true b e =
-            was (folded old) ∙ ap by_whom (was_named (folded old)) ∙ ap (λ k. by_whom (if k then Some (x, old) else pair_named at_l.rest (folded old))) ((same_text-Decides (folded old) (folded old)).1 refl)
-        by false true e = ap by_whom (sym (ap (pair_named at_l.rest) (sym ((same_text-Decides (folded old) n).0 e)) ∙ none_old (x, old) (x, new) (owed_by w l) (owed_by v l) at_l d))
-        by false false e = was n ∙ ap by_whom (was_named n) ∙ ap (λ k. by_whom (if k then Some (x, old) else pair_named at_l.rest n)) e
+            was (folded old) ∙ ap by_whom (was_named (folded old)) ∙ ap (λ k. by_whom (if k then Some (x, old) else property_named at_l.rest (folded old))) ((same_text-Decides (folded old) (folded old)).1 refl)
+        by false true e = ap by_whom (sym (ap (property_named at_l.rest) (sym ((same_text-Decides (folded old) n).0 e)) ∙ none_old (x, old) (x, new) (defined_by_any w l) (defined_by_any v l) at_l d))
+        by false false e = was n ∙ ap by_whom (was_named n) ∙ ap (λ k. by_whom (if k then Some (x, old) else property_named at_l.rest n)) e
 
-  slots : (y : ObjNo) (l : List ObjNo) (n : Name) → is_object v y ≡ true → Chain v y l → whose (slot_of v y n) ≡ by_whom (pair_named (owed_by v l) n)
+  slots : (y : ObjNo) (l : List ObjNo) (n : Name) → is_object v y ≡ true → Chain v y l → whose (slot_of v y n) ≡ by_whom (property_named (defined_by_any v l) n)
   slots y l n o c =
       let yo : is_object w y ≡ true = sym (objects y) ∙ o in
       let r = some_record (w.object y) yo in
-      let was : (k : Name) → whose (r.0.slot k) ≡ by_whom (pair_named (owed_by w l) k) = λ k. ap (λ o. whose (option_and_then (λ (z : Record). z.slot k) o)) (sym r.1) ∙ wf.slots y l k yo (back y l c) in
+      let was : (k : Name) → whose (r.0.slot k) ≡ by_whom (property_named (defined_by_any w l) k) = λ k. ap (λ o. whose (option_and_then (λ (z : WorldObject). z.slot k) o)) (sym r.1) ∙ wf.slots y l k yo (back y l c) in
       ap whose (slot_now y n r.0 r.1) ∙ ap (λ b. whose (moved_slot b r.0.slot n)) (ap (is_among x) (chain_is w wf.tree y l (back y l c))) ∙ by r.0.slot was (is_among x l) refl
     where
-      by : (slots : Name → Option Slot) → ((k : Name) → whose (slots k) ≡ by_whom (pair_named (owed_by w l) k)) → (b : Bool) → is_among x l ≡ b → whose (moved_slot b slots n) ≡ by_whom (pair_named (owed_by v l) n)
-      by slots was false e = was n ∙ ap (λ k. by_whom (pair_named k n)) (sym (owed_beside l e))
+      by : (slots : Name → Option Slot) → ((k : Name) → whose (slots k) ≡ by_whom (property_named (defined_by_any w l) k)) → (b : Bool) → is_among x l ≡ b → whose (moved_slot b slots n) ≡ by_whom (property_named (defined_by_any v l) n)
+      by slots was false e = was n ∙ ap (λ k. by_whom (property_named k n)) (sym (owed_beside l e))
       by slots was true e = under_slots y l (back y l c) e slots was n
 
   -- each slot was there, under some name
   was_there : (y : ObjNo) (n : Name) (k : Slot) → slot_of v y n ≡ Some k → (m : Name) × (slot_of w y m ≡ Some k)
   was_there y n k e = by (w.object y) refl e
     where
-      was : (m : Name) (r : Record) → w.object y ≡ Some r → r.slot m ≡ Some k → (m : Name) × (slot_of w y m ≡ Some k)
-      was m r g h = (m, ap (option_and_then (λ (z : Record). z.slot m)) g ∙ h)
+      was : (m : Name) (r : WorldObject) → w.object y ≡ Some r → r.slot m ≡ Some k → (m : Name) × (slot_of w y m ≡ Some k)
+      was m r g h = (m, ap (option_and_then (λ (z : WorldObject). z.slot m)) g ∙ h)
 
-      test : (r : Record) → w.object y ≡ Some r → (a b c : Bool) → (if a then (if b then r.slot (folded old) else (if c then None else r.slot n)) else r.slot n) ≡ Some k → (m : Name) × (slot_of w y m ≡ Some k)
+      test : (r : WorldObject) → w.object y ≡ Some r → (a b c : Bool) → (if a then (if b then r.slot (folded old) else (if c then None else r.slot n)) else r.slot n) ≡ Some k → (m : Name) × (slot_of w y m ≡ Some k)
       test r g false b c h = was n r g h
       test r g true true c h = was (folded old) r g h
       test r g true false true h = absurd (none-some k h)
       test r g true false false h = was n r g h
 
-      by : (o : Option Record) → w.object y ≡ o → option_and_then (λ (z : Record). z.slot n) (option_map (new_record y) o) ≡ Some k → (m : Name) × (slot_of w y m ≡ Some k)
+      by : (o : Option WorldObject) → w.object y ≡ o → option_and_then (λ (z : WorldObject). z.slot n) (option_map (new_record y) o) ≡ Some k → (m : Name) × (slot_of w y m ≡ Some k)
       by None g h = absurd (none-some k h)
       by (Some r) g h = test r g (is_among x (chain w y)) (same_text (folded new) n) (same_text (folded old) n) h
 
   -- ---- limits
 
   module _ (good_name : is_property_name new ≡ true) where
-    all_names : (y : ObjNo) → list_all is_property_name (names_of v y) ≡ true
+    all_names : (y : ObjNo) → list_all is_property_name (property_names_of v y) ≡ true
     all_names y = ap (list_all is_property_name) (names_now y) ∙ by (same_object x y)
       where
         each : (l : List Name) → list_all is_property_name l ≡ true → list_all is_property_name (map (renames old new) l) ≡ true
@@ -315,12 +315,12 @@ module _ (w : World) (wf : IsWellFormed w) (x : ObjNo) (old new : Name) (xo : is
             one true k r = λ i. good_name i && r i
             one false k r = λ i. k i && r i
 
-        by : (b : Bool) → list_all is_property_name (if b then map (renames old new) (names_of w y) else names_of w y) ≡ true
+        by : (b : Bool) → list_all is_property_name (if b then map (renames old new) (property_names_of w y) else property_names_of w y) ≡ true
         by false = names_fit w wf.limits y
-        by true = each (names_of w y) (names_fit w wf.limits y)
+        by true = each (property_names_of w y) (names_fit w wf.limits y)
 
-    pub IsWellFormed-renamed : IsWellFormed v
-    IsWellFormed-renamed = record {
+    pub IsWellFormed-property_renamed : IsWellFormed v
+    IsWellFormed-property_renamed = record {
       tree = tree_alike w v new_record (λ y. refl) (λ y r. refl) refl wf.tree;
       names = names;
       slots = slots;

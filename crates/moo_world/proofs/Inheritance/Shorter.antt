@@ -1,5 +1,5 @@
 -- A property taken from a well formed world.
-use Rattle.moo_world.proofs.Lemmas.{◌≡◌, Bool, true, false, cond, ◌||◌, Option, None, Some, List, [], ◌∷◌, ◌++◌, map, refl, sym, ap, ◌∙◌, subst, ◌&&◌, not, unwrap_or, if◌then◌else◌, option_map, filter, list_any, list_all, IsDistinct, AllByRecursion, both_ways, or_right, and_parts, none-some, same_Some, ObjNo, undefined, Name, Pair, nothing, same_object, same_text, same_pair, folded, same_object-Decides, same_text-Decides, World, Record, Slot, IsWellFormed, Climbs, Chain, NamesDiffer, is_object, parent_of, chain, climb, numbers_to, names_of, defined_by, owed_by, owes, owner_of, pair_named, slot_of, slot_for, fresh, with_record, is_property_name, MayBeRebuilt, IsWellFormed-rebuilt, named_owed, named_so, none_named, slot_of-rebuilt, Chain-chain, parents_alike, objects_alike, tree_alike, limits_alike, names_fit, own_owed}
+use Rattle.moo_world.proofs.Lemmas.{◌≡◌, Bool, true, false, cond, ◌||◌, Option, None, Some, List, [], ◌∷◌, ◌++◌, map, refl, sym, ap, ◌∙◌, subst, ◌&&◌, not, unwrap_or, if◌then◌else◌, option_map, filter, list_any, list_all, IsDistinct, AllByRecursion, both_ways, or_right, and_parts, none-some, same_Some, ObjNo, property_removed, Name, Property, nothing, same_object, same_text, same_property, folded, same_object-Decides, same_text-Decides, World, WorldObject, Slot, IsWellFormed, Climbs, Chain, NamesDiffer, is_object, parent_of, chain, climb, numbers_to, property_names_of, defined_by, defined_by_any, has_property, owner_of, property_named, slot_of, slot_for, fresh, object_changed, is_property_name, MayBeRebuilt, IsWellFormed-rebuilt, named_owed, named_so, none_named, slot_of-rebuilt, Chain-chain, parents_alike, objects_alike, tree_alike, limits_alike, names_fit, own_owed}
 
 -- ---- lists
 
@@ -31,7 +31,7 @@ any_of_filter t test (a ∷ l) h = by (test a) h (any_of_filter t test l)
         both true e = refl
         both false e = r e
 
-fewer_differ : (test : Pair → Bool) (l : List Pair) → NamesDiffer l → NamesDiffer (filter test l)
+fewer_differ : (test : Property → Bool) (l : List Property) → NamesDiffer l → NamesDiffer (filter test l)
 unfolding IsDistinct
 fewer_differ test [] d = d
 fewer_differ test (p ∷ l) d = by (test p) (fewer_differ test l d.1)
@@ -40,46 +40,46 @@ fewer_differ test (p ∷ l) d = by (test p) (fewer_differ test l d.1)
     by true r = (all_of_filter (λ y. same_text (folded p.1) (folded y.1) ≡ false) test l d.0, r)
     by false r = r
 
-abbrev pub kept_pair : (Pair → Bool) → Option Pair → Option Pair
+abbrev pub kept_pair : (Property → Bool) → Option Property → Option Property
 kept_pair test None = None
 kept_pair test (Some p) = if test p then Some p else None
 
-none_of_filter : (test : Pair → Bool) (n : Name) (l : List Pair) → pair_named l n ≡ None → pair_named (filter test l) n ≡ None
+none_of_filter : (test : Property → Bool) (n : Name) (l : List Property) → property_named l n ≡ None → property_named (filter test l) n ≡ None
 none_of_filter test n [] e = refl
 none_of_filter test n (p ∷ l) e = by (same_text (folded p.1) n) refl e (test p) (none_of_filter test n l)
   where
-    by : (b : Bool) → same_text (folded p.1) n ≡ b → cond b (Some p) (pair_named l n) ≡ None → (c : Bool) → (pair_named l n ≡ None → pair_named (filter test l) n ≡ None) → pair_named (cond c (p ∷ filter test l) (filter test l)) n ≡ None
+    by : (b : Bool) → same_text (folded p.1) n ≡ b → cond b (Some p) (property_named l n) ≡ None → (c : Bool) → (property_named l n ≡ None → property_named (filter test l) n ≡ None) → property_named (cond c (p ∷ filter test l) (filter test l)) n ≡ None
     by true f g c r = absurd (none-some p (sym g))
-    by false f g true r = ap (λ b. cond b (Some p) (pair_named (filter test l) n)) f ∙ r g
+    by false f g true r = ap (λ b. cond b (Some p) (property_named (filter test l) n)) f ∙ r g
     by false f g false r = r g
 
-named_in_filter : (test : Pair → Bool) (n : Name) (l : List Pair) → NamesDiffer l → pair_named (filter test l) n ≡ kept_pair test (pair_named l n)
+named_in_filter : (test : Property → Bool) (n : Name) (l : List Property) → NamesDiffer l → property_named (filter test l) n ≡ kept_pair test (property_named l n)
 unfolding IsDistinct
 named_in_filter test n [] d = refl
 named_in_filter test n (p ∷ l) d = by (test p) refl (same_text (folded p.1) n) refl (named_in_filter test n l d.1)
   where
-    by : (c : Bool) → test p ≡ c → (b : Bool) → same_text (folded p.1) n ≡ b → pair_named (filter test l) n ≡ kept_pair test (pair_named l n) → pair_named (cond c (p ∷ filter test l) (filter test l)) n ≡ kept_pair test (cond b (Some p) (pair_named l n))
-    by true f true g r = ap (λ b. cond b (Some p) (pair_named (filter test l) n)) g ∙ sym (ap (λ b. if b then Some p else None) f)
-    by true f false g r = ap (λ b. cond b (Some p) (pair_named (filter test l) n)) g ∙ r
+    by : (c : Bool) → test p ≡ c → (b : Bool) → same_text (folded p.1) n ≡ b → property_named (filter test l) n ≡ kept_pair test (property_named l n) → property_named (cond c (p ∷ filter test l) (filter test l)) n ≡ kept_pair test (cond b (Some p) (property_named l n))
+    by true f true g r = ap (λ b. cond b (Some p) (property_named (filter test l) n)) g ∙ sym (ap (λ b. if b then Some p else None) f)
+    by true f false g r = ap (λ b. cond b (Some p) (property_named (filter test l) n)) g ∙ r
     by false f true g r = none_of_filter test n l (none_named p l n d.0 ((same_text-Decides (folded p.1) n).0 g)) ∙ sym (ap (λ b. if b then Some p else None) f)
     by false f false g r = r
 
 module _ (w : World) (wf : IsWellFormed w) (x : ObjNo) (name : Name) where
   abbrev pub s : World
-  s = with_record w x (λ r. record r { defines = filter (λ m. not (same_text (folded m) (folded name))) r.defines })
+  s = object_changed w x (λ r. record r { defines = filter (λ m. not (same_text (folded m) (folded name))) r.defines })
 
   -- all but the property that goes
-  abbrev pub stays : Pair → Bool
+  abbrev pub stays : Property → Bool
   stays p = not (same_object p.0 x && same_text (folded p.1) (folded name))
 
   -- the names but that one
   abbrev fewer : List Name → List Name
   fewer names = filter (λ m. not (same_text (folded m) (folded name))) names
 
-  abbrev less : ObjNo → Record → Record
+  abbrev less : ObjNo → WorldObject → WorldObject
   less y r = if same_object x y then record r { defines = fewer r.defines } else r
 
-  kept : {A : Type 0} (g : Record → A) → ((r : Record) → g (record r { defines = fewer r.defines }) ≡ g r) → (y : ObjNo) (r : Record) → g (less y r) ≡ g r
+  kept : {A : Type 0} (g : WorldObject → A) → ((r : WorldObject) → g (record r { defines = fewer r.defines }) ≡ g r) → (y : ObjNo) (r : WorldObject) → g (less y r) ≡ g r
   kept g e y r = by (same_object x y)
     where
       by : (b : Bool) → g (if b then record r { defines = fewer r.defines } else r) ≡ g r
@@ -96,10 +96,10 @@ module _ (w : World) (wf : IsWellFormed w) (x : ObjNo) (name : Name) where
   unfolding chain
   same_chain y = λ i. climb (numbers_to w.top) (parents i) y
 
-  names_now : (y : ObjNo) → names_of s y ≡ (if same_object x y then filter (λ m. not (same_text (folded m) (folded name))) (names_of w y) else names_of w y)
+  names_now : (y : ObjNo) → property_names_of s y ≡ (if same_object x y then filter (λ m. not (same_text (folded m) (folded name))) (property_names_of w y) else property_names_of w y)
   names_now y = by (same_object x y) (w.object y)
     where
-      by : (b : Bool) (o : Option Record) → unwrap_or (option_map (λ r. r.defines) (option_map (λ r. if b then record r { defines = filter (λ m. not (same_text (folded m) (folded name))) r.defines } else r) o)) [] ≡ (if b then filter (λ m. not (same_text (folded m) (folded name))) (unwrap_or (option_map (λ r. r.defines) o) []) else unwrap_or (option_map (λ r. r.defines) o) [])
+      by : (b : Bool) (o : Option WorldObject) → unwrap_or (option_map (λ r. r.defines) (option_map (λ r. if b then record r { defines = filter (λ m. not (same_text (folded m) (folded name))) r.defines } else r) o)) [] ≡ (if b then filter (λ m. not (same_text (folded m) (folded name))) (unwrap_or (option_map (λ r. r.defines) o) []) else unwrap_or (option_map (λ r. r.defines) o) [])
       by true None = refl
       by false None = refl
       by true (Some r) = refl
@@ -115,33 +115,33 @@ module _ (w : World) (wf : IsWellFormed w) (x : ObjNo) (name : Name) where
       by false e true f = absurd (both_ways (same_object a b) e ((same_object-Decides a b).1 (sym ((same_object-Decides b a).0 f))))
 
   defined_now : (y : ObjNo) → defined_by s y ≡ filter stays (defined_by w y)
-  defined_now y = ap (map {B = Pair} (λ n. (y, n))) (names_now y) ∙ by (same_object x y) refl (names_of w y)
+  defined_now y = ap (map {B = Property} (λ n. (y, n))) (names_now y) ∙ by (same_object x y) refl (property_names_of w y)
     where
-      by : (b : Bool) → same_object x y ≡ b → (l : List Name) → map {B = Pair} (λ n. (y, n)) (if b then filter (λ m. not (same_text (folded m) (folded name))) l else l) ≡ filter stays (map {B = Pair} (λ n. (y, n)) l)
+      by : (b : Bool) → same_object x y ≡ b → (l : List Name) → map {B = Property} (λ n. (y, n)) (if b then filter (λ m. not (same_text (folded m) (folded name))) l else l) ≡ filter stays (map {B = Property} (λ n. (y, n)) l)
       by true e [] = refl
       by false e [] = refl
       by true e (n ∷ l) =
           one (same_text (folded n) (folded name)) (by true e l)
-          ∙ ap (λ b. cond (not (b && same_text (folded n) (folded name))) ((y, n) ∷ filter stays (map {B = Pair} (λ n. (y, n)) l)) (filter stays (map {B = Pair} (λ n. (y, n)) l))) (sym (sym (turned x y) ∙ e))
+          ∙ ap (λ b. cond (not (b && same_text (folded n) (folded name))) ((y, n) ∷ filter stays (map {B = Property} (λ n. (y, n)) l)) (filter stays (map {B = Property} (λ n. (y, n)) l))) (sym (sym (turned x y) ∙ e))
         where
-          one : (c : Bool) → map {B = Pair} (λ n. (y, n)) (filter (λ m. not (same_text (folded m) (folded name))) l) ≡ filter stays (map {B = Pair} (λ n. (y, n)) l) → map {B = Pair} (λ n. (y, n)) (cond (not c) (n ∷ filter (λ m. not (same_text (folded m) (folded name))) l) (filter (λ m. not (same_text (folded m) (folded name))) l)) ≡ cond (not c) ((y, n) ∷ filter stays (map {B = Pair} (λ n. (y, n)) l)) (filter stays (map {B = Pair} (λ n. (y, n)) l))
+          one : (c : Bool) → map {B = Property} (λ n. (y, n)) (filter (λ m. not (same_text (folded m) (folded name))) l) ≡ filter stays (map {B = Property} (λ n. (y, n)) l) → map {B = Property} (λ n. (y, n)) (cond (not c) (n ∷ filter (λ m. not (same_text (folded m) (folded name))) l) (filter (λ m. not (same_text (folded m) (folded name))) l)) ≡ cond (not c) ((y, n) ∷ filter stays (map {B = Property} (λ n. (y, n)) l)) (filter stays (map {B = Property} (λ n. (y, n)) l))
           one true r = r
           one false r = ap (λ k. (y, n) ∷ k) r
       by false e (n ∷ l) =
           ap (λ k. (y, n) ∷ k) (by false e l)
-          ∙ ap (λ b. cond (not (b && same_text (folded n) (folded name))) ((y, n) ∷ filter stays (map {B = Pair} (λ n. (y, n)) l)) (filter stays (map {B = Pair} (λ n. (y, n)) l))) (sym (sym (turned x y) ∙ e))
+          ∙ ap (λ b. cond (not (b && same_text (folded n) (folded name))) ((y, n) ∷ filter stays (map {B = Property} (λ n. (y, n)) l)) (filter stays (map {B = Property} (λ n. (y, n)) l))) (sym (sym (turned x y) ∙ e))
 
-  owed_now : (l : List ObjNo) → owed_by s l ≡ filter stays (owed_by w l)
+  owed_now : (l : List ObjNo) → defined_by_any s l ≡ filter stays (defined_by_any w l)
   owed_now [] = refl
-  owed_now (z ∷ l) = (λ i. defined_now z i ++ owed_now l i) ∙ sym (filter-append stays (defined_by w z) (owed_by w l))
+  owed_now (z ∷ l) = (λ i. defined_now z i ++ owed_now l i) ∙ sym (filter-append stays (defined_by w z) (defined_by_any w l))
 
   back : (y : ObjNo) (l : List ObjNo) → Chain s y l → Chain w y l
   back y l c = subst (λ link. Climbs link y l) parents c
 
-  was_owed : (y : ObjNo) (n : Name) (p : Pair) → pair_named (owed_by s (chain s y)) n ≡ Some p → owes w y p ≡ true
-  was_owed y n p e = any_of_filter (same_pair p) stays (owed_by w (chain w y)) (ap (list_any (same_pair p)) (sym (ap (owed_by s) (same_chain y) ∙ owed_now (chain w y))) ∙ named_owed s (chain s y) n p e)
+  was_owed : (y : ObjNo) (n : Name) (p : Property) → property_named (defined_by_any s (chain s y)) n ≡ Some p → has_property w y p ≡ true
+  was_owed y n p e = any_of_filter (same_property p) stays (defined_by_any w (chain w y)) (ap (list_any (same_property p)) (sym (ap (defined_by_any s) (same_chain y) ∙ owed_now (chain w y))) ∙ named_owed s (chain s y) n p e)
 
-  all_names : (y : ObjNo) → list_all is_property_name (names_of s y) ≡ true
+  all_names : (y : ObjNo) → list_all is_property_name (property_names_of s y) ≡ true
   all_names y = ap (list_all is_property_name) (names_now y) ∙ by (same_object x y)
     where
       each : (l : List Name) → list_all is_property_name l ≡ true → list_all is_property_name (fewer l) ≡ true
@@ -152,21 +152,21 @@ module _ (w : World) (wf : IsWellFormed w) (x : ObjNo) (name : Name) where
           one true k r = λ i. k.0 i && r k.1 i
           one false k r = r k.1
 
-      by : (b : Bool) → list_all is_property_name (if b then fewer (names_of w y) else names_of w y) ≡ true
-      by true = each (names_of w y) (names_fit w wf.limits y)
+      by : (b : Bool) → list_all is_property_name (if b then fewer (property_names_of w y) else property_names_of w y) ≡ true
+      by true = each (property_names_of w y) (names_fit w wf.limits y)
       by false = names_fit w wf.limits y
 
   may : MayBeRebuilt w s nothing
   may = record {
     tree = tree_alike w s less (λ y. refl) (kept (λ r. r.row) (λ r. refl)) refl wf.tree;
-    names = λ y l c. subst NamesDiffer (sym (owed_now l)) (fewer_differ stays (owed_by w l) (wf.names y l (back y l c)));
-    new = λ y n p o e h. absurd (both_ways (owes w y p) h (was_owed y n p e));
-    own = λ y p o h. own_owed w wf.tree y p (sym (objects y) ∙ o) (any_of_filter (same_pair p) stays (defined_by w y) (ap (list_any (same_pair p)) (sym (defined_now y)) ∙ h));
+    names = λ y l c. subst NamesDiffer (sym (owed_now l)) (fewer_differ stays (defined_by_any w l) (wf.names y l (back y l c)));
+    new = λ y n p o e h. absurd (both_ways (has_property w y p) h (was_owed y n p e));
+    own = λ y p o h. own_owed w wf.tree y p (sym (objects y) ∙ o) (any_of_filter (same_property p) stays (defined_by w y) (ap (list_any (same_property p)) (sym (defined_now y)) ∙ h));
     limits = limits_alike w s less (λ y. refl) (kept (λ r. r.row) (λ r. refl)) refl wf.limits.props refl (kept (λ r. r.verbs) (λ r. refl)) all_names wf.limits;
   }
 
-  pub IsWellFormed-undefined : IsWellFormed (undefined w x name)
-  IsWellFormed-undefined = IsWellFormed-rebuilt w s nothing wf may
+  pub IsWellFormed-property_removed : IsWellFormed (property_removed w x name)
+  IsWellFormed-property_removed = IsWellFormed-rebuilt w s nothing wf may
 
   -- ---- the slots
 
@@ -175,23 +175,23 @@ module _ (w : World) (wf : IsWellFormed w) (x : ObjNo) (name : Name) where
   kept_slot n None = None
   kept_slot n (Some z) = if same_object z.definer x && same_text n (folded name) then None else Some z
 
-  pub undefined_law : (y : ObjNo) (n : Name) → is_object w y ≡ true → slot_of (undefined w x name) y n ≡ kept_slot n (slot_of w y n)
+  pub undefined_law : (y : ObjNo) (n : Name) → is_object w y ≡ true → slot_of (property_removed w x name) y n ≡ kept_slot n (slot_of w y n)
   undefined_law y n o =
       slot_of-rebuilt w s nothing y n
-      ∙ ap (slot_for w s nothing y n) (ap (λ k. pair_named k n) (ap (owed_by s) (same_chain y) ∙ owed_now (chain w y)) ∙ named_in_filter stays n (owed_by w (chain w y)) (wf.names y (chain w y) (Chain-chain w wf.tree y o)))
-      ∙ by (pair_named (owed_by w (chain w y)) n) refl (slot_of w y n) refl (wf.slots y (chain w y) n o (Chain-chain w wf.tree y o))
+      ∙ ap (slot_for w s nothing y n) (ap (λ k. property_named k n) (ap (defined_by_any s) (same_chain y) ∙ owed_now (chain w y)) ∙ named_in_filter stays n (defined_by_any w (chain w y)) (wf.names y (chain w y) (Chain-chain w wf.tree y o)))
+      ∙ by (property_named (defined_by_any w (chain w y)) n) refl (slot_of w y n) refl (wf.slots y (chain w y) n o (Chain-chain w wf.tree y o))
     where
-      by : (a : Option Pair) → pair_named (owed_by w (chain w y)) n ≡ a → (b : Option Slot) → slot_of w y n ≡ b → option_map (λ k. k.definer) (slot_of w y n) ≡ option_map (λ p. p.0) (pair_named (owed_by w (chain w y)) n) → slot_for w s nothing y n (kept_pair stays a) ≡ kept_slot n b
+      by : (a : Option Property) → property_named (defined_by_any w (chain w y)) n ≡ a → (b : Option Slot) → slot_of w y n ≡ b → option_map (λ k. k.definer) (slot_of w y n) ≡ option_map (λ p. p.0) (property_named (defined_by_any w (chain w y)) n) → slot_for w s nothing y n (kept_pair stays a) ≡ kept_slot n b
       by None e None f h = refl
-      by None e (Some z) f h = absurd (none-some z.definer (sym (sym (ap (option_map (λ (k : Slot). k.definer)) f) ∙ h ∙ ap (option_map (λ (p : Pair). p.0)) e)))
-      by (Some p) e None f h = absurd (none-some p.0 (sym (ap (option_map (λ (k : Slot). k.definer)) f) ∙ h ∙ ap (option_map (λ (p : Pair). p.0)) e))
+      by None e (Some z) f h = absurd (none-some z.definer (sym (sym (ap (option_map (λ (k : Slot). k.definer)) f) ∙ h ∙ ap (option_map (λ (p : Property). p.0)) e)))
+      by (Some p) e None f h = absurd (none-some p.0 (sym (ap (option_map (λ (k : Slot). k.definer)) f) ∙ h ∙ ap (option_map (λ (p : Property). p.0)) e))
       by (Some p) e (Some z) f h = tested (same_object p.0 x && same_text (folded p.1) (folded name)) refl
         where
           mine : z.definer ≡ p.0
-          mine = same_Some z.definer p.0 (sym (ap (option_map (λ (k : Slot). k.definer)) f) ∙ h ∙ ap (option_map (λ (p : Pair). p.0)) e)
+          mine = same_Some z.definer p.0 (sym (ap (option_map (λ (k : Slot). k.definer)) f) ∙ h ∙ ap (option_map (λ (p : Property). p.0)) e)
 
           called : folded p.1 ≡ n
-          called = named_so (owed_by w (chain w y)) n p e
+          called = named_so (defined_by_any w (chain w y)) n p e
 
           alike : (same_object z.definer x && same_text n (folded name)) ≡ (same_object p.0 x && same_text (folded p.1) (folded name))
           alike = λ i. same_object (mine i) x && same_text (sym called i) (folded name)

@@ -1,5 +1,5 @@
 -- Nobody's ownership changes by a field, a quota, or a property that is added or has another name.
-use Rattle.moo_world.proofs.Lemmas.{◌≡◌, Bool, true, false, List, [], ◌∷◌, ◌++◌, map, refl, sym, ◌∙◌, ap, Option, Some, None, ℤ, pos, negsuc, ◌+ℤ◌, ◌&&◌, if◌then◌else◌, option_map, option_and_then, false≢true, none-some, same_Some, ObjNo, Int, Bits, SlotState, Set, Change, clashes, defined, renamed, info_set, changed, field_changed, Name, Pair, nothing, same_object, same_text, folded, is_among, same_text-Decides, KeepsOwnership, name_changed, quota_name, quota_of, quota_moved, set_slot, charged, quota_returned, World, Record, Slot, IsWellFormed, is_object, chain, slot_of, fresh, with_record, same_links, rank, face, faced, on_record, on_slot, unchanged, slotted, Chain-chain}
+use Rattle.moo_world.proofs.Lemmas.{◌≡◌, Bool, true, false, List, [], ◌∷◌, ◌++◌, map, refl, sym, ◌∙◌, ap, Option, Some, None, ℤ, pos, negsuc, ◌+ℤ◌, ◌&&◌, if◌then◌else◌, option_map, option_and_then, false≢true, none-some, same_Some, ObjNo, Int, Bits, SlotState, Set, Change, clashes, property_added, property_renamed, info_set, changed, field_changed, Name, Property, nothing, same_object, same_text, folded, is_among, same_text-Decides, KeepsOwnership, name_changed, quota_name, quota_of, quota_changed, set_slot, charged, quota_returned, World, WorldObject, Slot, IsWellFormed, is_object, chain, slot_of, fresh, object_changed, same_links, rank, face, faced, on_record, on_slot, unchanged, slotted, Chain-chain}
 use Rattle.moo_world.specs.declared.change.Change.TheVariants as to
 use Rattle.moo_world.proofs.Inheritance.Insertion.{none_owed}
 use Rattle.moo_world.proofs.Ownership.Created.{chains_same}
@@ -13,7 +13,7 @@ is_modest (to.Programmer a) = false
 is_modest (to.Wizard a) = false
 is_modest change = true
 
-modest_rank : (c : Change) (r : Record) → is_modest c ≡ true → rank (record r { row = changed c r.row }) ≡ rank r
+modest_rank : (c : Change) (r : WorldObject) → is_modest c ≡ true → rank (record r { row = changed c r.row }) ≡ rank r
 modest_rank (to.Name a) r e = refl
 modest_rank (to.Owner a) r e = absurd (false≢true e)
 modest_rank (to.Location a) r e = refl
@@ -25,7 +25,7 @@ modest_rank (to.Writable a) r e = refl
 modest_rank (to.Fertile a) r e = refl
 modest_rank (to.Accept a) r e = refl
 
-ranks_still : (f : Record → List Name) (g : Record → Name → Option Slot) (o : Option Record) → option_map rank (option_map (λ (r : Record). record r { defines = f r; slot = g r }) o) ≡ option_map rank o
+ranks_still : (f : WorldObject → List Name) (g : WorldObject → Name → Option Slot) (o : Option WorldObject) → option_map rank (option_map (λ (r : WorldObject). record r { defines = f r; slot = g r }) o) ≡ option_map rank o
 ranks_still f g None = refl
 ranks_still f g (Some r) = refl
 
@@ -35,7 +35,7 @@ module _ (w : World) (p : ObjNo) where
 
   -- ---- quotas
 
-  pub by_quota : (v : World) (o : ObjNo) (more : ℤ) → KeepsOwnership w v p (λ y n. n) → KeepsOwnership w (quota_moved v o more) p (λ y n. n)
+  pub by_quota : (v : World) (o : ObjNo) (more : ℤ) → KeepsOwnership w v p (λ y n. n) → KeepsOwnership w (quota_changed v o more) p (λ y n. n)
   by_quota v o more k = by (quota_of v o)
     where
       kept : (state : SlotState) (b : Bool) (s : Option Slot) → option_map face (if b then option_map (λ (z : Slot). record z { state = state }) s else s) ≡ option_map face s
@@ -47,21 +47,21 @@ module _ (w : World) (p : ObjNo) where
       kept state true (Some s) = refl
       kept state false (Some s) = refl
 
-      by : (q : Option ℤ) → KeepsOwnership w (elim q [ None ↦ v | Some had ↦ with_record v o (set_slot quota_name (Set (Int (had +ℤ more)))) ]) p (λ y n. n)
+      by : (q : Option ℤ) → KeepsOwnership w (elim q [ None ↦ v | Some had ↦ object_changed v o (set_slot quota_name (Set (Int (had +ℤ more)))) ]) p (λ y n. n)
       by None = k
       by (Some had) = on_record w p v o (set_slot quota_name (Set (Int (had +ℤ more)))) (λ r. refl) (λ r n e. kept (Set (Int (had +ℤ more))) (same_text quota_name n) (r.slot n)) k
 
   pub by_charge : (v : World) (o : ObjNo) → KeepsOwnership w v p (λ y n. n) → KeepsOwnership w (charged v o) p (λ y n. n)
   by_charge v o k = by (same_object nothing o)
     where
-      by : (b : Bool) → KeepsOwnership w (if b then v else quota_moved v o (negsuc 0)) p (λ y n. n)
+      by : (b : Bool) → KeepsOwnership w (if b then v else quota_changed v o (negsuc 0)) p (λ y n. n)
       by true = k
       by false = by_quota v o (negsuc 0) k
 
   pub by_return : (v : World) (o : ObjNo) → KeepsOwnership w v p (λ y n. n) → KeepsOwnership w (quota_returned v o) p (λ y n. n)
   by_return v o k = by _
     where
-      by : (b : Bool) → KeepsOwnership w (if b then quota_moved v o (pos 1) else v) p (λ y n. n)
+      by : (b : Bool) → KeepsOwnership w (if b then quota_changed v o (pos 1) else v) p (λ y n. n)
       by false = k
       by true = by_quota v o (pos 1) k
 
@@ -78,53 +78,53 @@ module _ (w : World) (p : ObjNo) where
         let yo = slotted w y (folded name) s e in
         let c = Chain-chain w wf.tree y yo in
         none-some s.definer (
-        ap (option_map (λ (k : Pair). k.0)) (sym (none_owed w wf x name s xo free y (chain w y) c u))
+        ap (option_map (λ (k : Property). k.0)) (sym (none_owed w wf x name s xo free y (chain w y) c u))
         ∙ sym (wf.slots y (chain w y) (folded name) yo c) ∙ ap (option_map (λ (k : Slot). k.definer)) e)
 
-    pub by_defining : (s : Slot) → KeepsOwnership w (defined w x name s) p (λ y n. n)
-    by_defining s = after w p w (defined w x name s) (λ y n. n) (λ y n. n) (λ y. ranks_still _ _ (w.object y)) faces (unchanged w p)
+    pub by_defining : (s : Slot) → KeepsOwnership w (property_added w x name s) p (λ y n. n)
+    by_defining s = after w p w (property_added w x name s) (λ y n. n) (λ y n. n) (λ y. ranks_still _ _ (w.object y)) faces (unchanged w p)
       where
-        faces : (y : ObjNo) (n : Name) (a : Slot) → slot_of w y n ≡ Some a → faced (defined w x name s) y n ≡ faced w y n
+        faces : (y : ObjNo) (n : Name) (a : Slot) → slot_of w y n ≡ Some a → faced (property_added w x name s) y n ≡ faced w y n
         faces y n a e = by (w.object y) refl
           where
-            test : (r : Record) → slot_of w y n ≡ r.slot n → (under : Bool) → is_among x (chain w y) ≡ under → (b : Bool) → same_text (folded name) n ≡ b
+            test : (r : WorldObject) → slot_of w y n ≡ r.slot n → (under : Bool) → is_among x (chain w y) ≡ under → (b : Bool) → same_text (folded name) n ≡ b
                 → option_map face (if under then (if b then Some (if same_object x y then s else fresh r.row.owner s) else r.slot n) else r.slot n) ≡ option_map face (r.slot n)
             test r f false u b g = refl
             test r f true u false g = refl
             test r f true u true g = absurd (unnamed y a u (ap (slot_of w y) ((same_text-Decides (folded name) n).0 g) ∙ e))
 
-            by : (o : Option Record) → w.object y ≡ o → option_map face (option_and_then (λ (r : Record). r.slot n) (option_map (λ (r : Record). record r {
+            by : (o : Option WorldObject) → w.object y ≡ o → option_map face (option_and_then (λ (r : WorldObject). r.slot n) (option_map (λ (r : WorldObject). record r {
               defines = if same_object x y then r.defines ++ name ∷ [] else r.defines;
               slot = λ m. if is_among x (chain w y) then (if same_text (folded name) m then Some (if same_object x y then s else fresh r.row.owner s) else r.slot m) else r.slot m;
-            }) o)) ≡ option_map face (option_and_then (λ (r : Record). r.slot n) o)
+            }) o)) ≡ option_map face (option_and_then (λ (r : WorldObject). r.slot n) o)
             by None f = refl
-            by (Some r) f = test r (ap (option_and_then (λ (k : Record). k.slot n)) f) (is_among x (chain w y)) refl (same_text (folded name) n) refl
+            by (Some r) f = test r (ap (option_and_then (λ (k : WorldObject). k.slot n)) f) (is_among x (chain w y)) refl (same_text (folded name) n) refl
 
     -- a new name for a property of x, once its slot has been changed
-    pub by_renaming : (old : Name) (owner : ObjNo) (bits : Bits) → KeepsOwnership w (info_set w x old owner bits) p (λ y n. n) → KeepsOwnership w (renamed (info_set w x old owner bits) x old name) p (name_changed w x old name)
-    by_renaming old owner bits k = after w p (info_set w x old owner bits) (renamed (info_set w x old owner bits) x old name) (λ y n. n) (name_changed w x old name) (λ y. ranks_still _ _ ((info_set w x old owner bits).object y)) faces k
+    pub by_renaming : (old : Name) (owner : ObjNo) (bits : Bits) → KeepsOwnership w (info_set w x old owner bits) p (λ y n. n) → KeepsOwnership w (property_renamed (info_set w x old owner bits) x old name) p (name_changed w x old name)
+    by_renaming old owner bits k = after w p (info_set w x old owner bits) (property_renamed (info_set w x old owner bits) x old name) (λ y n. n) (name_changed w x old name) (λ y. ranks_still _ _ ((info_set w x old owner bits).object y)) faces k
       where
         moved : (Name → Option Slot) → Bool → Name → Option Slot
         moved slots under m = if under then (if same_text (folded name) m then slots (folded old) else (if same_text (folded old) m then None else slots m)) else slots m
 
-        faces : (y : ObjNo) (n : Name) (a : Slot) → slot_of w y n ≡ Some a → faced (renamed (info_set w x old owner bits) x old name) y (name_changed w x old name y n) ≡ faced (info_set w x old owner bits) y n
+        faces : (y : ObjNo) (n : Name) (a : Slot) → slot_of w y n ≡ Some a → faced (property_renamed (info_set w x old owner bits) x old name) y (name_changed w x old name y n) ≡ faced (info_set w x old owner bits) y n
         faces y n a e = by ((info_set w x old owner bits).object y)
           where
-            inner : (r : Record) → is_among x (chain w y) ≡ true → same_text (folded old) n ≡ false → (c : Bool) → same_text (folded name) n ≡ c → (if c then r.slot (folded old) else (if same_text (folded old) n then None else r.slot n)) ≡ r.slot n
+            inner : (r : WorldObject) → is_among x (chain w y) ≡ true → same_text (folded old) n ≡ false → (c : Bool) → same_text (folded name) n ≡ c → (if c then r.slot (folded old) else (if same_text (folded old) n then None else r.slot n)) ≡ r.slot n
             inner r u g true h = absurd (unnamed y a u (ap (slot_of w y) ((same_text-Decides (folded name) n).0 h) ∙ e))
             inner r u g false h = ap (λ c. if c then None else r.slot n) g
 
-            test : (r : Record) (under : Bool) → is_among x (chain w y) ≡ under → (b : Bool) → same_text (folded old) n ≡ b → moved r.slot under (if under && b then folded name else n) ≡ r.slot n
+            test : (r : WorldObject) (under : Bool) → is_among x (chain w y) ≡ under → (b : Bool) → same_text (folded old) n ≡ b → moved r.slot under (if under && b then folded name else n) ≡ r.slot n
             test r false u b g = refl
             test r true u true g =
                 ap (λ c. if c then r.slot (folded old) else (if same_text (folded old) (folded name) then None else r.slot (folded name))) ((same_text-Decides (folded name) (folded name)).1 refl)
                 ∙ ap r.slot ((same_text-Decides (folded old) n).0 g)
             test r true u false g = inner r u g (same_text (folded name) n) refl
 
-            by : (o : Option Record) → option_map face (option_and_then (λ (r : Record). r.slot (name_changed w x old name y n)) (option_map (λ (r : Record). record r {
+            by : (o : Option WorldObject) → option_map face (option_and_then (λ (r : WorldObject). r.slot (name_changed w x old name y n)) (option_map (λ (r : WorldObject). record r {
               defines = if same_object x y then map (λ m. if same_text (folded m) (folded old) then name else m) r.defines else r.defines;
               slot = λ m. moved r.slot (is_among x (chain (info_set w x old owner bits) y)) m;
-            }) o)) ≡ option_map face (option_and_then (λ (r : Record). r.slot n) o)
+            }) o)) ≡ option_map face (option_and_then (λ (r : WorldObject). r.slot n) o)
             by None = refl
             by (Some r) =
                 ap (λ c. option_map face (moved r.slot c (name_changed w x old name y n))) (ap (is_among x) (chains_same (info_set w x old owner bits) w (same_links w x old (λ z. record z { owner = owner; bits = bits })) y))

@@ -1,5 +1,5 @@
 -- What quotas count.
-use Rattle.moo_world.proofs.Lemmas.{◌≡◌, true, false, ◌||◌, refl, sym, ◌∙◌, ap, subst, inl, inr, Some, ℤ, pos, negsuc, ◌+ℤ◌, int_lt, unwrap_or, if◌then◌else◌, option_map, both_ways, or_cases, or_right, and_parts, ObjNo, Value, Obj, create, recycle, next_object, owner_or_self, created, nothing, same_object, CreateTakesOne, RecycleGivesOne, quota_name, quota_in, quota_of, quota_moved, quota_returned, charged, may_afford, recycled, may_be_parent, is_fertile, controls, may_own, World, IsWellFormed, is_object, owner_of, known_numbered, Holds, on_check, on_next, on_done, of_done}
+use Rattle.moo_world.proofs.Lemmas.{◌≡◌, true, false, ◌||◌, refl, sym, ◌∙◌, ap, subst, inl, inr, Some, ℤ, pos, negsuc, ◌+ℤ◌, int_lt, unwrap_or, if◌then◌else◌, option_map, both_ways, or_cases, or_right, and_parts, ObjNo, Value, Obj, create, recycle, next_object, owner_or_self, created, nothing, same_object, CreateTakesOne, RecycleGivesOne, quota_name, quota_in, quota_of, quota_changed, quota_returned, charged, may_afford, recycled, may_be_parent, is_fertile, controls, may_make_owner, World, IsWellFormed, is_object, owner_of, known_numbered, Holds, on_check, on_next, on_done, of_done}
 use Rattle.moo_world.specs.Answers.{zero}
 use Rattle.moo_world.proofs.Ownership.Created.{free, formed, objects_now, owner_new, owner_old, read_old}
 use Rattle.moo_world.proofs.Ownership.Quotas.{quota_read, objects_stay, owners_stay}
@@ -14,11 +14,11 @@ parent_known w p q h = elim (or_cases _ _ h) [
 
 -- what holds of the world that create leaves, by what its checks say
 pub on_create : (w : World) (p q owner : ObjNo) (P : Value → World → Type 0)
-    → ((x : ObjNo) → (is_object w q || same_object nothing q) ≡ true → may_own w p owner ≡ true → (is_object w owner || same_object nothing owner) ≡ true → may_afford w owner ≡ true → next_object w ≡ Some x → P (Obj x) (charged (created w x q (owner_or_self x owner)) owner))
+    → ((x : ObjNo) → (is_object w q || same_object nothing q) ≡ true → may_make_owner w p owner ≡ true → (is_object w owner || same_object nothing owner) ≡ true → may_afford w owner ≡ true → next_object w ≡ Some x → P (Obj x) (charged (created w x q (owner_or_self x owner)) owner))
     → Holds P (create w p q owner)
 on_create w p q owner P left =
     on_check P (may_be_parent w p q) _ _ (λ parent.
-    on_check P (may_own w p owner) _ _ (λ own.
+    on_check P (may_make_owner w p owner) _ _ (λ own.
     on_check P (is_object w owner || same_object nothing owner) _ _ (λ known.
     on_check P (may_afford w owner) _ _ (λ can.
     on_next P (next_object w) _ (λ x is_next.
@@ -44,7 +44,7 @@ module _ (w : World) (owner : ObjNo) (k : ℤ) where
     is_there : is_object w owner ≡ true
     is_there = elim (or_cases _ _ known) [ inl h ↦ h | inr h ↦ absurd (both_ways (same_object nothing owner) some h) ]
 
-    moved : TakesOne (Obj x) (quota_moved (created w x q owner) owner (negsuc 0))
+    moved : TakesOne (Obj x) (quota_changed (created w x q owner) owner (negsuc 0))
     moved =
         let v = created w x q owner in
         let f = formed w x q owner wf is_next parent (known_numbered w wf owner known) in (
@@ -60,7 +60,7 @@ module _ (w : World) (owner : ObjNo) (k : ℤ) where
         )
 
     pub taken : TakesOne (Obj x) (charged (created w x q (owner_or_self x owner)) owner)
-    taken = subst (λ b. TakesOne (Obj x) (if b then created w x q (if b then x else owner) else quota_moved (created w x q (if b then x else owner)) owner (negsuc 0))) (sym some) moved
+    taken = subst (λ b. TakesOne (Obj x) (if b then created w x q (if b then x else owner) else quota_changed (created w x q (if b then x else owner)) owner (negsuc 0))) (sym some) moved
 
 pub create_takes_one : CreateTakesOne
 create_takes_one w next p q owner v k wf some had h =
@@ -72,6 +72,6 @@ pub recycle_gives_one : RecycleGivesOne
 recycle_gives_one w next p x v k wf h had small =
     of_done (λ _ left. quota_of left (owner_of w x) ≡ Some (k +ℤ pos 1)) (recycle w p x) v next
     (on_recycle w p x (λ _ left. quota_of left (owner_of w x) ≡ Some (k +ℤ pos 1)) (λ xo.
-    ap (λ b. quota_of (if b then quota_moved (recycled w x) (owner_of w x) (pos 1) else recycled w x) (owner_of w x)) (ap (λ o. unwrap_or (option_map (λ n. int_lt n (pos 9223372036854775807)) o) false) had ∙ small)
+    ap (λ b. quota_of (if b then quota_changed (recycled w x) (owner_of w x) (pos 1) else recycled w x) (owner_of w x)) (ap (λ o. unwrap_or (option_map (λ n. int_lt n (pos 9223372036854775807)) o) false) had ∙ small)
     ∙ quota_read (recycled w x) (IsWellFormed-recycled w x wf xo).tree (owner_of w x) k (pos 1) had))
     h

@@ -1,8 +1,8 @@
 -- What a change of the world has to keep for nobody's ownership to change.
-use Rattle.moo_world.proofs.Words.{◌≡◌, Bool, true, false, refl, sym, ◌∙◌, ap, Option, Some, None, is_some, unwrap_or, if◌then◌else◌, option_map, option_and_then, both_ways, none-some, same_Some, ObjNo, ObjRow, Name, nothing, same_object, same_text, folded, same_object-Decides, same_text-Decides, with_slot_of, SameRights, KeepsOwnership, World, Record, Slot, is_object, slot_of, with_record, with_slots, rebuilt_slot, rebuilt}
+use Rattle.moo_world.proofs.Words.{◌≡◌, Bool, true, false, refl, sym, ◌∙◌, ap, Option, Some, None, is_some, unwrap_or, if◌then◌else◌, option_map, option_and_then, both_ways, none-some, same_Some, ObjNo, ObjRow, Name, nothing, same_object, same_text, folded, same_object-Decides, same_text-Decides, with_slot_of, SameRights, KeepsOwnership, World, WorldObject, Slot, is_object, slot_of, object_changed, with_slots, rebuilt_slot, rebuilt}
 
 -- whose an object is and what its bits let it do
-abbrev pub rank : Record → ObjNo × Bool × Bool × Bool
+abbrev pub rank : WorldObject → ObjNo × Bool × Bool × Bool
 rank r = (r.row.owner, r.row.player, r.row.programmer, r.row.wizard)
 
 -- whose a slot is
@@ -15,19 +15,19 @@ ranked w y = option_map rank (w.object y)
 abbrev pub faced : World → ObjNo → Name → Option (ObjNo × ObjNo)
 faced w y n = option_map face (slot_of w y n)
 
-abbrev passes : (ObjRow → Bool) → Option Record → Bool
-passes test o = unwrap_or (option_map test (option_map (λ (r : Record). r.row) o)) false
+abbrev passes : (ObjRow → Bool) → Option WorldObject → Bool
+passes test o = unwrap_or (option_map test (option_map (λ (r : WorldObject). r.row) o)) false
 
-abbrev owner_in : Option Record → ObjNo
-owner_in o = unwrap_or (option_map (λ (r : Record). r.row.owner) o) nothing
+abbrev owner_in : Option WorldObject → ObjNo
+owner_in o = unwrap_or (option_map (λ (r : WorldObject). r.row.owner) o) nothing
 
-rights_in : (a b : Option Record) → option_map rank a ≡ option_map rank b → (owner_in a ≡ owner_in b) × (passes (λ r. r.player) a ≡ passes (λ r. r.player) b) × (passes (λ r. r.programmer) a ≡ passes (λ r. r.programmer) b) × (passes (λ r. r.wizard) a ≡ passes (λ r. r.wizard) b)
+rights_in : (a b : Option WorldObject) → option_map rank a ≡ option_map rank b → (owner_in a ≡ owner_in b) × (passes (λ r. r.player) a ≡ passes (λ r. r.player) b) × (passes (λ r. r.programmer) a ≡ passes (λ r. r.programmer) b) × (passes (λ r. r.wizard) a ≡ passes (λ r. r.wizard) b)
 rights_in None None e = (refl, refl, refl, refl)
 rights_in None (Some r) e = absurd (none-some (rank r) e)
 rights_in (Some r) None e = absurd (none-some (rank r) (sym e))
 rights_in (Some r) (Some s) e = let h = same_Some (rank r) (rank s) e in (λ i. (h i).0, λ i. (h i).1, λ i. (h i).2, λ i. (h i).3)
 
-pub some_in : (a b : Option Record) → option_map rank a ≡ option_map rank b → is_some a ≡ is_some b
+pub some_in : (a b : Option WorldObject) → option_map rank a ≡ option_map rank b → is_some a ≡ is_some b
 some_in None None e = refl
 some_in None (Some r) e = absurd (none-some (rank r) e)
 some_in (Some r) None e = absurd (none-some (rank r) (sym e))
@@ -45,7 +45,7 @@ same_face (Some s) (Some u) t e h = (u, refl, ap face (sym (same_Some s t h)) �
 pub slotted : (w : World) (y : ObjNo) (n : Name) (s : Slot) → slot_of w y n ≡ Some s → is_object w y ≡ true
 slotted w y n s e = by (w.object y) e
   where
-    by : (o : Option Record) → option_and_then (λ (r : Record). r.slot n) o ≡ Some s → is_some o ≡ true
+    by : (o : Option WorldObject) → option_and_then (λ (r : WorldObject). r.slot n) o ≡ Some s → is_some o ≡ true
     by None h = absurd (none-some s h)
     by (Some r) h = refl
 
@@ -57,7 +57,7 @@ pub ranked_rebuilt : (w s : World) (q y : ObjNo) → ranked (rebuilt w s q) y �
 unfolding rebuilt
 ranked_rebuilt w s q y = by (s.object y)
   where
-    by : (o : Option Record) → option_map rank (option_map (with_slots (rebuilt_slot w s q y)) o) ≡ option_map rank o
+    by : (o : Option WorldObject) → option_map rank (option_map (with_slots (rebuilt_slot w s q y)) o) ≡ option_map rank o
     by None = refl
     by (Some r) = refl
 
@@ -93,15 +93,15 @@ module _ (w : World) (p : ObjNo) where
       there y f = sym (some_in (next.object y) (v.object y) (ranks y)) ∙ f
 
   -- a change of one record
-  pub on_record : (v : World) (x : ObjNo) (change : Record → Record) → ((r : Record) → rank (change r) ≡ rank r) → ((r : Record) (n : Name) → v.object x ≡ Some r → option_map face ((change r).slot n) ≡ option_map face (r.slot n)) → KeepsOwnership w v p (λ y n. n) → KeepsOwnership w (with_record v x change) p (λ y n. n)
-  on_record v x change ranks faces k = after v (with_record v x change) (λ y n. n) (λ y n. n) (λ y. of_rank (same_object x y) (v.object y)) (λ y n s e. of_face y n (same_object x y) refl (v.object y) refl) k
+  pub on_record : (v : World) (x : ObjNo) (change : WorldObject → WorldObject) → ((r : WorldObject) → rank (change r) ≡ rank r) → ((r : WorldObject) (n : Name) → v.object x ≡ Some r → option_map face ((change r).slot n) ≡ option_map face (r.slot n)) → KeepsOwnership w v p (λ y n. n) → KeepsOwnership w (object_changed v x change) p (λ y n. n)
+  on_record v x change ranks faces k = after v (object_changed v x change) (λ y n. n) (λ y n. n) (λ y. of_rank (same_object x y) (v.object y)) (λ y n s e. of_face y n (same_object x y) refl (v.object y) refl) k
     where
-      of_rank : (b : Bool) (o : Option Record) → option_map rank (option_map (λ (r : Record). if b then change r else r) o) ≡ option_map rank o
+      of_rank : (b : Bool) (o : Option WorldObject) → option_map rank (option_map (λ (r : WorldObject). if b then change r else r) o) ≡ option_map rank o
       of_rank b None = refl
       of_rank true (Some r) = ap Some (ranks r)
       of_rank false (Some r) = refl
 
-      of_face : (y : ObjNo) (n : Name) (b : Bool) → same_object x y ≡ b → (o : Option Record) → v.object y ≡ o → option_map face (option_and_then (λ (r : Record). r.slot n) (option_map (λ (r : Record). if b then change r else r) o)) ≡ option_map face (option_and_then (λ (r : Record). r.slot n) o)
+      of_face : (y : ObjNo) (n : Name) (b : Bool) → same_object x y ≡ b → (o : Option WorldObject) → v.object y ≡ o → option_map face (option_and_then (λ (r : WorldObject). r.slot n) (option_map (λ (r : WorldObject). if b then change r else r) o)) ≡ option_map face (option_and_then (λ (r : WorldObject). r.slot n) o)
       of_face y n b e None f = refl
       of_face y n false e (Some r) f = refl
       of_face y n true e (Some r) f = faces r n (ap v.object ((same_object-Decides x y).0 e) ∙ f)
@@ -110,7 +110,7 @@ module _ (w : World) (p : ObjNo) where
   pub on_slot : (v : World) (x : ObjNo) (m : Name) (change : Slot → Slot) → ((s : Slot) → slot_of v x (folded m) ≡ Some s → face (change s) ≡ face s) → KeepsOwnership w v p (λ y n. n) → KeepsOwnership w (with_slot_of v x m change) p (λ y n. n)
   on_slot v x m change keeps k = on_record v x (λ r. record r { slot = λ n. if same_text (folded m) n then option_map change (r.slot n) else r.slot n }) (λ r. refl) (λ r n e. by r n e (same_text (folded m) n) refl (r.slot n) refl) k
     where
-      by : (r : Record) (n : Name) → v.object x ≡ Some r → (b : Bool) → same_text (folded m) n ≡ b → (o : Option Slot) → r.slot n ≡ o → option_map face (if b then option_map change o else o) ≡ option_map face o
+      by : (r : WorldObject) (n : Name) → v.object x ≡ Some r → (b : Bool) → same_text (folded m) n ≡ b → (o : Option Slot) → r.slot n ≡ o → option_map face (if b then option_map change o else o) ≡ option_map face o
       by r n e false f o g = refl
       by r n e true f None g = refl
-      by r n e true f (Some s) g = ap Some (keeps s (ap (option_and_then (λ (z : Record). z.slot (folded m))) e ∙ ap r.slot ((same_text-Decides (folded m) n).0 f) ∙ g))
+      by r n e true f (Some s) g = ap Some (keeps s (ap (option_and_then (λ (z : WorldObject). z.slot (folded m))) e ∙ ap r.slot ((same_text-Decides (folded m) n).0 f) ∙ g))

@@ -1,17 +1,17 @@
 -- What a quota reads as after it is moved, and what stays.
-use Rattle.moo_world.proofs.Lemmas.{◌≡◌, Bool, true, false, refl, sym, ◌∙◌, ap, Option, Some, None, ℤ, ◌+ℤ◌, is_some, unwrap_or, if◌then◌else◌, option_map, option_and_then, none-some, ObjNo, Int, SlotState, Set, nothing, same_object, same_object-Decides, same_text-Decides, quota_name, quota_in, quota_of, quota_moved, set_slot, World, Record, Slot, IsTree, is_object, owner_of, parent_of, chain, climb, numbers_to, read_in, read_along, read_of, slot_of, with_record, chain-step, chain_of_none}
+use Rattle.moo_world.proofs.Lemmas.{◌≡◌, Bool, true, false, refl, sym, ◌∙◌, ap, Option, Some, None, ℤ, ◌+ℤ◌, is_some, unwrap_or, if◌then◌else◌, option_map, option_and_then, none-some, ObjNo, Int, SlotState, Set, nothing, same_object, same_object-Decides, same_text-Decides, quota_name, quota_in, quota_of, quota_changed, set_slot, World, WorldObject, Slot, IsTree, is_object, owner_of, parent_of, chain, climb, numbers_to, read_in, read_along, read_of, slot_of, object_changed, chain-step, chain_of_none}
 
 module _ (w : World) (o : ObjNo) (state : SlotState) where
   abbrev v : World
-  v = with_record w o (set_slot quota_name state)
+  v = object_changed w o (set_slot quota_name state)
 
-  abbrev put : ObjNo → Record → Record
+  abbrev put : ObjNo → WorldObject → WorldObject
   put y r = if same_object o y then set_slot quota_name state r else r
 
   parents : parent_of v ≡ parent_of w
   parents = λ i y. by (same_object o y) (w.object y) i
     where
-      by : (b : Bool) (k : Option Record) → option_map (λ (r : Record). r.row.parent) (option_map (λ (r : Record). if b then set_slot quota_name state r else r) k) ≡ option_map (λ (r : Record). r.row.parent) k
+      by : (b : Bool) (k : Option WorldObject) → option_map (λ (r : WorldObject). r.row.parent) (option_map (λ (r : WorldObject). if b then set_slot quota_name state r else r) k) ≡ option_map (λ (r : WorldObject). r.row.parent) k
       by b None = refl
       by true (Some r) = refl
       by false (Some r) = refl
@@ -20,52 +20,52 @@ module _ (w : World) (o : ObjNo) (state : SlotState) where
   unfolding chain
   same_chain y = λ i. climb (numbers_to w.top) (parents i) y
 
-  slot_here : (r : Record) (s : Slot) → w.object o ≡ Some r → r.slot quota_name ≡ Some s → slot_of v o quota_name ≡ Some (record s { state = state })
+  slot_here : (r : WorldObject) (s : Slot) → w.object o ≡ Some r → r.slot quota_name ≡ Some s → slot_of v o quota_name ≡ Some (record s { state = state })
   slot_here r s e f =
-      ap (λ k. option_and_then (λ (z : Record). z.slot quota_name) (option_map (put o) k)) e
+      ap (λ k. option_and_then (λ (z : WorldObject). z.slot quota_name) (option_map (put o) k)) e
       ∙ ap (λ b. (if b then set_slot quota_name state r else r).slot quota_name) ((same_object-Decides o o).1 refl)
       ∙ ap (λ b. if b then option_map (λ (z : Slot). record z { state = state }) (r.slot quota_name) else r.slot quota_name) ((same_text-Decides quota_name quota_name).1 refl)
       ∙ ap (option_map (λ (z : Slot). record z { state = state })) f
 
 -- where a quota is read, it is read as what it is moved to
-pub quota_read : (w : World) → IsTree w → (o : ObjNo) (had more : ℤ) → quota_of w o ≡ Some had → quota_of (quota_moved w o more) o ≡ Some (had +ℤ more)
+pub quota_read : (w : World) → IsTree w → (o : ObjNo) (had more : ℤ) → quota_of w o ≡ Some had → quota_of (quota_changed w o more) o ≡ Some (had +ℤ more)
 quota_read w t o had more e =
-    ap (λ q. quota_of (elim q [ None ↦ w | Some k ↦ with_record w o (set_slot quota_name (Set (Int (k +ℤ more)))) ]) o) e
+    ap (λ q. quota_of (elim q [ None ↦ w | Some k ↦ object_changed w o (set_slot quota_name (Set (Int (k +ℤ more)))) ]) o) e
     ∙ by (w.object o) refl
   where
-    by : (k : Option Record) → w.object o ≡ k → quota_of (with_record w o (set_slot quota_name (Set (Int (had +ℤ more))))) o ≡ Some (had +ℤ more)
+    by : (k : Option WorldObject) → w.object o ≡ k → quota_of (object_changed w o (set_slot quota_name (Set (Int (had +ℤ more))))) o ≡ Some (had +ℤ more)
     by None h = absurd (none-some had (sym (ap (λ l. quota_in (read_along w quota_name l)) (chain_of_none w o (ap is_some h))) ∙ e))
     by (Some r) h = slotted (r.slot quota_name) refl
       where
-        slotted : (k : Option Slot) → r.slot quota_name ≡ k → quota_of (with_record w o (set_slot quota_name (Set (Int (had +ℤ more))))) o ≡ Some (had +ℤ more)
+        slotted : (k : Option Slot) → r.slot quota_name ≡ k → quota_of (object_changed w o (set_slot quota_name (Set (Int (had +ℤ more))))) o ≡ Some (had +ℤ more)
         slotted None f =
             absurd (none-some had (
-            sym (ap (λ l. quota_in (read_along w quota_name l)) (chain-step w t o r h) ∙ ap (λ z. quota_in (read_in z (read_of w r.row.parent quota_name))) (ap (option_and_then (λ (z : Record). z.slot quota_name)) h ∙ f))
+            sym (ap (λ l. quota_in (read_along w quota_name l)) (chain-step w t o r h) ∙ ap (λ z. quota_in (read_in z (read_of w r.row.parent quota_name))) (ap (option_and_then (λ (z : WorldObject). z.slot quota_name)) h ∙ f))
             ∙ e))
         slotted (Some s) f =
-            ap (λ l. quota_in (read_along (with_record w o (set_slot quota_name (Set (Int (had +ℤ more))))) quota_name l)) (same_chain w o (Set (Int (had +ℤ more))) o ∙ chain-step w t o r h)
-            ∙ ap (λ z. quota_in (read_in z (read_along (with_record w o (set_slot quota_name (Set (Int (had +ℤ more))))) quota_name (chain w r.row.parent)))) (slot_here w o (Set (Int (had +ℤ more))) r s h f)
+            ap (λ l. quota_in (read_along (object_changed w o (set_slot quota_name (Set (Int (had +ℤ more))))) quota_name l)) (same_chain w o (Set (Int (had +ℤ more))) o ∙ chain-step w t o r h)
+            ∙ ap (λ z. quota_in (read_in z (read_along (object_changed w o (set_slot quota_name (Set (Int (had +ℤ more))))) quota_name (chain w r.row.parent)))) (slot_here w o (Set (Int (had +ℤ more))) r s h f)
 
 -- objects and their owners stay
-pub objects_stay : (w : World) (o : ObjNo) (more : ℤ) (y : ObjNo) → is_object (quota_moved w o more) y ≡ is_object w y
+pub objects_stay : (w : World) (o : ObjNo) (more : ℤ) (y : ObjNo) → is_object (quota_changed w o more) y ≡ is_object w y
 objects_stay w o more y = by (quota_of w o)
   where
-    one : (b : Bool) (state : SlotState) (k : Option Record) → is_some (option_map (λ (r : Record). if b then set_slot quota_name state r else r) k) ≡ is_some k
+    one : (b : Bool) (state : SlotState) (k : Option WorldObject) → is_some (option_map (λ (r : WorldObject). if b then set_slot quota_name state r else r) k) ≡ is_some k
     one b state None = refl
     one b state (Some r) = refl
 
-    by : (q : Option ℤ) → is_object (elim q [ None ↦ w | Some k ↦ with_record w o (set_slot quota_name (Set (Int (k +ℤ more)))) ]) y ≡ is_object w y
+    by : (q : Option ℤ) → is_object (elim q [ None ↦ w | Some k ↦ object_changed w o (set_slot quota_name (Set (Int (k +ℤ more)))) ]) y ≡ is_object w y
     by None = refl
     by (Some k) = one (same_object o y) (Set (Int (k +ℤ more))) (w.object y)
 
-pub owners_stay : (w : World) (o : ObjNo) (more : ℤ) (y : ObjNo) → owner_of (quota_moved w o more) y ≡ owner_of w y
+pub owners_stay : (w : World) (o : ObjNo) (more : ℤ) (y : ObjNo) → owner_of (quota_changed w o more) y ≡ owner_of w y
 owners_stay w o more y = by (quota_of w o)
   where
-    one : (b : Bool) (state : SlotState) (k : Option Record) → unwrap_or (option_map (λ (r : Record). r.row.owner) (option_map (λ (r : Record). if b then set_slot quota_name state r else r) k)) nothing ≡ unwrap_or (option_map (λ (r : Record). r.row.owner) k) nothing
+    one : (b : Bool) (state : SlotState) (k : Option WorldObject) → unwrap_or (option_map (λ (r : WorldObject). r.row.owner) (option_map (λ (r : WorldObject). if b then set_slot quota_name state r else r) k)) nothing ≡ unwrap_or (option_map (λ (r : WorldObject). r.row.owner) k) nothing
     one b state None = refl
     one true state (Some r) = refl
     one false state (Some r) = refl
 
-    by : (q : Option ℤ) → owner_of (elim q [ None ↦ w | Some k ↦ with_record w o (set_slot quota_name (Set (Int (k +ℤ more)))) ]) y ≡ owner_of w y
+    by : (q : Option ℤ) → owner_of (elim q [ None ↦ w | Some k ↦ object_changed w o (set_slot quota_name (Set (Int (k +ℤ more)))) ]) y ≡ owner_of w y
     by None = refl
     by (Some k) = one (same_object o y) (Set (Int (k +ℤ more))) (w.object y)

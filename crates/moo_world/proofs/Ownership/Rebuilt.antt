@@ -1,28 +1,28 @@
 -- Nobody's ownership changes where slots are rebuilt, and by a new object, the loss of one, or a change of parent.
-use Rattle.moo_world.proofs.Lemmas.{◌≡◌, Bool, true, false, ◌||◌, [], ◌∷◌, map, refl, sym, ◌∙◌, ap, ◌⊎◌, inl, inr, Option, Some, None, ◌&&◌, not, is_some, unwrap_or, if◌then◌else◌, option_map, filter, list_any, false≢true, both_ways, or_cases, none-some, same_Some, ObjNo, undefined, born, next_object, with_new_record, created, kept_from, Name, Pair, nothing, same_object, same_text, same_pair, folded, is_among, KeepsOwnership, released, without_record, recycled, World, Record, Slot, IsWellFormed, is_object, parent_of, owner_of, chain, slot_of, defined_by, owed_by, owes, pair_named, slot_for, fresh, rebuilt, with_parent, reparented, MayBeRebuilt, NoClash, definer_among, named_owed, rank, ranked, from_slots, rights_from, same_owner, slotted, ranked_rebuilt, SameButSlots-rebuilt, objects_same, slot_of-rebuilt, owed_listed, Chain-chain}
+use Rattle.moo_world.proofs.Lemmas.{◌≡◌, Bool, true, false, ◌||◌, [], ◌∷◌, map, refl, sym, ◌∙◌, ap, ◌⊎◌, inl, inr, Option, Some, None, ◌&&◌, not, is_some, unwrap_or, if◌then◌else◌, option_map, filter, list_any, false≢true, both_ways, or_cases, none-some, same_Some, ObjNo, property_removed, plain_object, next_object, object_added, created, unless_defined_by, Name, Property, nothing, same_object, same_text, same_property, folded, is_among, KeepsOwnership, released, object_removed, recycled, World, WorldObject, Slot, IsWellFormed, is_object, parent_of, owner_of, chain, slot_of, defined_by, defined_by_any, has_property, property_named, slot_for, fresh, rebuilt, with_parent, reparented, MayBeRebuilt, NoClash, definer_among, named_owed, rank, ranked, from_slots, rights_from, same_owner, slotted, ranked_rebuilt, SameButSlots-rebuilt, objects_same, slot_of-rebuilt, owed_listed, Chain-chain}
 use Rattle.moo_world.proofs.Ownership.Created.{record_old, slot_old, objects_now}
 use Rattle.moo_world.proofs.Inheritance.Recycling.{recycle_law}
 use Rattle.moo_world.proofs.Inheritance.Reparenting.{MayBeRebuilt-moved}
 use Rattle.moo_world.proofs.Inheritance.Shorter.{s as less, kept_slot, undefined_law}
 
 -- what defines is an object
-definer_exists : (w : World) (d : ObjNo) (p : Pair) → list_any (same_pair p) (defined_by w d) ≡ true → is_object w d ≡ true
+definer_exists : (w : World) (d : ObjNo) (p : Property) → list_any (same_property p) (defined_by w d) ≡ true → is_object w d ≡ true
 definer_exists w d p h = by (is_object w d) refl
   where
-    none : (o : Option Record) → is_some o ≡ false → unwrap_or (option_map (λ (r : Record). r.defines) o) [] ≡ []
+    none : (o : Option WorldObject) → is_some o ≡ false → unwrap_or (option_map (λ (r : WorldObject). r.defines) o) [] ≡ []
     none None e = refl
     none (Some r) e = absurd (false≢true (sym e))
 
     by : (b : Bool) → is_object w d ≡ b → b ≡ true
     by true e = refl
-    by false e = absurd (false≢true (sym (ap (λ names. list_any (same_pair p) (map (λ n. (d, n)) names)) (none (w.object d) e)) ∙ h))
+    by false e = absurd (false≢true (sym (ap (λ names. list_any (same_property p) (map (λ n. (d, n)) names)) (none (w.object d) e)) ∙ h))
 
 -- a slot that is there before and after, with its definer, has its owner
 module _ (w s : World) (q : ObjNo) (wf : IsWellFormed w) (may : MayBeRebuilt w s q) (y : ObjNo) (n : Name) (a b : Slot) (had : slot_of w y n ≡ Some a) (has : slot_of (rebuilt w s q) y n ≡ Some b) (same : a.definer ≡ b.definer) where
   old_among : is_among a.definer (chain w y) ≡ true
-  old_among = by (pair_named (owed_by w (chain w y)) n) refl (sym (ap (option_map (λ (k : Slot). k.definer)) had) ∙ wf.slots y (chain w y) n (slotted w y n a had) (Chain-chain w wf.tree y (slotted w y n a had)))
+  old_among = by (property_named (defined_by_any w (chain w y)) n) refl (sym (ap (option_map (λ (k : Slot). k.definer)) had) ∙ wf.slots y (chain w y) n (slotted w y n a had) (Chain-chain w wf.tree y (slotted w y n a had)))
     where
-      by : (o : Option Pair) → pair_named (owed_by w (chain w y)) n ≡ o → Some a.definer ≡ option_map (λ (p : Pair). p.0) o → is_among a.definer (chain w y) ≡ true
+      by : (o : Option Property) → property_named (defined_by_any w (chain w y)) n ≡ o → Some a.definer ≡ option_map (λ (p : Property). p.0) o → is_among a.definer (chain w y) ≡ true
       by None e f = absurd (none-some a.definer (sym f))
       by (Some p) e f = ap (λ d. is_among d (chain w y)) (same_Some a.definer p.0 f) ∙ (definer_among w p (chain w y) (named_owed w (chain w y) n p e)).0
 
@@ -34,22 +34,22 @@ module _ (w s : World) (q : ObjNo) (wf : IsWellFormed w) (may : MayBeRebuilt w s
   fresh_definer owner d (Some k) e f = ap (λ (z : Slot). z.definer) (sym (same_Some (fresh owner k) b e)) ∙ same_Some k.definer d f
 
   -- what was owed by its definer was owed to y
-  was_owed : (p : Pair) → pair_named (owed_by s (chain s y)) n ≡ Some p → b.definer ≡ p.0 → owes w y p ≡ true
+  was_owed : (p : Property) → property_named (defined_by_any s (chain s y)) n ≡ Some p → b.definer ≡ p.0 → has_property w y p ≡ true
   was_owed p e f =
       let mine = definer_among s p (chain s y) (named_owed s (chain s y) n p e) in
       let before = may.own p.0 p (definer_exists s p.0 p mine.1) mine.1 in
       owed_listed w (chain w y) p.0 p (ap (λ d. is_among d (chain w y)) (sym (same ∙ f)) ∙ old_among) (definer_among w p (chain w p.0) before).1
 
   pub owner_kept : b.owner ≡ a.owner
-  owner_kept = by (pair_named (owed_by s (chain s y)) n) refl (sym (slot_of-rebuilt w s q y n) ∙ has)
+  owner_kept = by (property_named (defined_by_any s (chain s y)) n) refl (sym (slot_of-rebuilt w s q y n) ∙ has)
     where
-      test : (p : Pair) → pair_named (owed_by s (chain s y)) n ≡ Some p → (c : Bool) → owes w y p ≡ c → (if c then slot_of w y n else option_map (fresh (owner_of s y)) (slot_of w q n)) ≡ Some b → b.owner ≡ a.owner
+      test : (p : Property) → property_named (defined_by_any s (chain s y)) n ≡ Some p → (c : Bool) → has_property w y p ≡ c → (if c then slot_of w y n else option_map (fresh (owner_of s y)) (slot_of w q n)) ≡ Some b → b.owner ≡ a.owner
       test p e true h g = same_owner a b (slot_of w y n) had g
-      test p e false h g = absurd (both_ways (owes w y p) h (was_owed p e (fresh_definer (owner_of s y) p.0 (slot_of w q n) g (may.new y n p s_object e h))))
+      test p e false h g = absurd (both_ways (has_property w y p) h (was_owed p e (fresh_definer (owner_of s y) p.0 (slot_of w q n) g (may.new y n p s_object e h))))
 
-      by : (o : Option Pair) → pair_named (owed_by s (chain s y)) n ≡ o → slot_for w s q y n o ≡ Some b → b.owner ≡ a.owner
+      by : (o : Option Property) → property_named (defined_by_any s (chain s y)) n ≡ o → slot_for w s q y n o ≡ Some b → b.owner ≡ a.owner
       by None e g = absurd (none-some b g)
-      by (Some p) e g = test p e (owes w y p) refl g
+      by (Some p) e g = test p e (has_property w y p) refl g
 
 module _ (w : World) (wf : IsWellFormed w) (p : ObjNo) where
   pub by_reparenting : (x q : ObjNo) → is_object w x ≡ true → (is_object w q ≡ true) ⊎ (q ≡ nothing) → is_among x (chain w q) ≡ false → NoClash w x q → KeepsOwnership w (reparented w x q) p (λ y n. n)
@@ -57,7 +57,7 @@ module _ (w : World) (wf : IsWellFormed w) (p : ObjNo) where
       from_slots w p (reparented w x q) (λ y n. n) (λ y f. ranked_rebuilt w (with_parent w x q) q y ∙ by (same_object x y) (w.object y))
       (λ y n a b e f d. owner_kept w (with_parent w x q) q wf (MayBeRebuilt-moved w x q wf xo qo outside apart) y n a b e f d)
     where
-      by : (b : Bool) (o : Option Record) → option_map rank (option_map (λ (r : Record). if b then record r { row = record r.row { parent = q } } else r) o) ≡ option_map rank o
+      by : (b : Bool) (o : Option WorldObject) → option_map rank (option_map (λ (r : WorldObject). if b then record r { row = record r.row { parent = q } } else r) o) ≡ option_map rank o
       by b None = refl
       by true (Some r) = refl
       by false (Some r) = refl
@@ -65,28 +65,28 @@ module _ (w : World) (wf : IsWellFormed w) (p : ObjNo) where
   pub by_recycling : (x : ObjNo) → is_object w x ≡ true → KeepsOwnership w (recycled w x) p (λ y n. n)
   by_recycling x xo = from_slots w p (recycled w x) (λ y n. n) (λ y f. ranks y (here y f)) slots
     where
-      here : (y : ObjNo) → is_object (recycled w x) y ≡ true → is_object (without_record w x) y ≡ true
-      here y f = sym (objects_same (recycled w x) (without_record w x) (SameButSlots-rebuilt w (without_record w x) nothing) y) ∙ f
+      here : (y : ObjNo) → is_object (recycled w x) y ≡ true → is_object (object_removed w x) y ≡ true
+      here y f = sym (objects_same (recycled w x) (object_removed w x) (SameButSlots-rebuilt w (object_removed w x) nothing) y) ∙ f
 
-      by : (b : Bool) (o : Option Record) → is_some (if b then None else option_map (released x (unwrap_or (parent_of w x) nothing)) o) ≡ true → option_map rank (if b then None else option_map (released x (unwrap_or (parent_of w x) nothing)) o) ≡ option_map rank o
+      by : (b : Bool) (o : Option WorldObject) → is_some (if b then None else option_map (released x (unwrap_or (parent_of w x) nothing)) o) ≡ true → option_map rank (if b then None else option_map (released x (unwrap_or (parent_of w x) nothing)) o) ≡ option_map rank o
       by true o h = absurd (false≢true h)
       by false None h = refl
       by false (Some r) h = refl
 
-      ranks : (y : ObjNo) → is_object (without_record w x) y ≡ true → ranked (recycled w x) y ≡ ranked w y
-      ranks y o = ranked_rebuilt w (without_record w x) nothing y ∙ by (same_object x y) (w.object y) o
+      ranks : (y : ObjNo) → is_object (object_removed w x) y ≡ true → ranked (recycled w x) y ≡ ranked w y
+      ranks y o = ranked_rebuilt w (object_removed w x) nothing y ∙ by (same_object x y) (w.object y) o
 
       kept : (a b : Slot) (gone : Bool) → (if gone then None else Some a) ≡ Some b → b.owner ≡ a.owner
       kept a b true g = absurd (none-some b g)
       kept a b false g = same_owner a b (Some a) refl g
 
       slots : (y : ObjNo) (n : Name) (a b : Slot) → slot_of w y n ≡ Some a → slot_of (recycled w x) y n ≡ Some b → a.definer ≡ b.definer → b.owner ≡ a.owner
-      slots y n a b e f d = kept a b (is_among a.definer (x ∷ [])) (sym (recycle_law w x wf xo y n (here y (slotted (recycled w x) y n b f)) ∙ ap (kept_from (x ∷ [])) e) ∙ f)
+      slots y n a b e f d = kept a b (is_among a.definer (x ∷ [])) (sym (recycle_law w x wf xo y n (here y (slotted (recycled w x) y n b f)) ∙ ap (unless_defined_by (x ∷ [])) e) ∙ f)
 
-  pub by_undefining : (x : ObjNo) (name : Name) → KeepsOwnership w (undefined w x name) p (λ y n. n)
-  by_undefining x name = from_slots w p (undefined w x name) (λ y n. n) (λ y f. ranked_rebuilt w (less w wf x name) nothing y ∙ by (same_object x y) (w.object y)) slots
+  pub by_undefining : (x : ObjNo) (name : Name) → KeepsOwnership w (property_removed w x name) p (λ y n. n)
+  by_undefining x name = from_slots w p (property_removed w x name) (λ y n. n) (λ y f. ranked_rebuilt w (less w wf x name) nothing y ∙ by (same_object x y) (w.object y)) slots
     where
-      by : (b : Bool) (o : Option Record) → option_map rank (option_map (λ (r : Record). if b then record r { defines = filter (λ m. not (same_text (folded m) (folded name))) r.defines } else r) o) ≡ option_map rank o
+      by : (b : Bool) (o : Option WorldObject) → option_map rank (option_map (λ (r : WorldObject). if b then record r { defines = filter (λ m. not (same_text (folded m) (folded name))) r.defines } else r) o) ≡ option_map rank o
       by b None = refl
       by true (Some r) = refl
       by false (Some r) = refl
@@ -95,7 +95,7 @@ module _ (w : World) (wf : IsWellFormed w) (p : ObjNo) where
       kept a b true g = absurd (none-some b g)
       kept a b false g = same_owner a b (Some a) refl g
 
-      slots : (y : ObjNo) (n : Name) (a b : Slot) → slot_of w y n ≡ Some a → slot_of (undefined w x name) y n ≡ Some b → a.definer ≡ b.definer → b.owner ≡ a.owner
+      slots : (y : ObjNo) (n : Name) (a b : Slot) → slot_of w y n ≡ Some a → slot_of (property_removed w x name) y n ≡ Some b → a.definer ≡ b.definer → b.owner ≡ a.owner
       slots y n a b e f d = kept a b (same_object a.definer x && same_text n (folded name)) (sym (undefined_law w wf x name y n (slotted w y n a e) ∙ ap (kept_slot w wf x name n) e) ∙ f)
 
   -- a new object of the programmer
@@ -103,11 +103,11 @@ module _ (w : World) (wf : IsWellFormed w) (p : ObjNo) where
   by_creation x q is_next parent = record {
     rights = λ y e f. rights_from w (created w x q p) y (ranked_rebuilt w s q y ∙ ap (option_map rank) (record_old w x q p wf is_next parent y e));
     slots = λ y n a b e f d. same_owner a b (slot_of w y n) e (sym (slot_old w x q p wf is_next parent y n (slotted w y n a e)) ∙ f);
-    made = λ y e f. rights_from (record w { object = λ z. Some (born q p) }) (created w x q p) y (ranked_rebuilt w s q y ∙ ap (λ b. option_map rank (if b then Some (born q p) else w.object y)) (is_new y e f));
+    made = λ y e f. rights_from (record w { object = λ z. Some (plain_object q p) }) (created w x q p) y (ranked_rebuilt w s q y ∙ ap (λ b. option_map rank (if b then Some (plain_object q p) else w.object y)) (is_new y e f));
   }
     where
       s : World
-      s = with_new_record w x (born q p)
+      s = object_added w x (plain_object q p)
 
       is_new : (y : ObjNo) → is_object w y ≡ false → is_object (created w x q p) y ≡ true → same_object x y ≡ true
       is_new y e f = elim (or_cases (same_object x y) (is_object w y) (sym (objects_now w x q p wf is_next parent y) ∙ f)) [ inl h ↦ h | inr h ↦ absurd (both_ways (is_object w y) e h) ]

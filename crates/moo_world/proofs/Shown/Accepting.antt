@@ -1,13 +1,13 @@
 -- What an object takes in: the relation and the test agree.
-use Rattle.moo_world.proofs.Lemmas.{◌≡◌, Bool, true, false, List, [], ◌∷◌, refl, sym, ◌∙◌, ap, subst, Option, Some, None, ◌||◌, unwrap_or, option_map, option_and_then, option_or, list_any, Any, false≢true, Any-from_list_any, list_any-from_Any, none-some, same_Some, ObjNo, ObjRow, nothing, same_object, is_among, same_object-Decides, World, Record, IsTree, Chain, IsUnder, is_object, row_of, chain, accept_along, accepts, HasList, own, inherited, Accepts, anything, listed, AcceptsIsTested, Chain-chain, chain-step, chain_of_none, under_from_among, among_from_under}
+use Rattle.moo_world.proofs.Lemmas.{◌≡◌, Bool, true, false, List, [], ◌∷◌, refl, sym, ◌∙◌, ap, subst, Option, Some, None, ◌||◌, unwrap_or, option_map, option_and_then, option_or, list_any, Any, false≢true, Any-from_list_any, list_any-from_Any, none-some, same_Some, ObjNo, ObjRow, nothing, same_object, is_among, same_object-Decides, World, WorldObject, IsTree, Chain, IsUnder, is_object, row_of, chain, accept_along, accepts, HasList, own, inherited, Accepts, anything, listed, AcceptsIsTested, Chain-chain, chain-step, chain_of_none, under_from_among, among_from_under}
 
-some_parent : (o : Option Record) (next : ObjNo) → option_map (λ r. r.row.parent) o ≡ Some next → (r : Record) × (o ≡ Some r) × (r.row.parent ≡ next)
+some_parent : (o : Option WorldObject) (next : ObjNo) → option_map (λ r. r.row.parent) o ≡ Some next → (r : WorldObject) × (o ≡ Some r) × (r.row.parent ≡ next)
 some_parent None next e = absurd (none-some next e)
 some_parent (Some r) next e = (r, refl, same_Some r.row.parent next e)
 
 module _ (w : World) where
-  accept_at : (x : ObjNo) (r : Record) → w.object x ≡ Some r → option_and_then (λ r. r.accept) (row_of w x) ≡ r.row.accept
-  accept_at x r e = ap (λ o. option_and_then (λ (r : ObjRow). r.accept) (option_map (λ (r : Record). r.row) o)) e
+  accept_at : (x : ObjNo) (r : WorldObject) → w.object x ≡ Some r → option_and_then (λ r. r.accept) (row_of w x) ≡ r.row.accept
+  accept_at x r e = ap (λ o. option_and_then (λ (r : ObjRow). r.accept) (option_map (λ (r : WorldObject). r.row) o)) e
 
   list_along : (l : List ObjNo) (x : ObjNo) (list : List ObjNo) → Chain w x l → accept_along w l ≡ Some list → HasList w x list
   list_along [] x list p e = absurd (none-some list e)
@@ -15,10 +15,10 @@ module _ (w : World) where
       let o = some_parent (w.object x) p.1 p.2 in
       by o.0 o.1 o.2 (list_along l p.1 list p.3) o.0.row.accept refl
     where
-      first : (r : Record) → w.object x ≡ Some r → option_or r.row.accept (accept_along w l) ≡ Some list
+      first : (r : WorldObject) → w.object x ≡ Some r → option_or r.row.accept (accept_along w l) ≡ Some list
       first r g = ap (λ a. option_or a (accept_along w l)) (sym (accept_at x r g) ∙ ap (λ z. option_and_then (λ (r : ObjRow). r.accept) (row_of w z)) p.0) ∙ e
 
-      by : (r : Record) → w.object x ≡ Some r → r.row.parent ≡ p.1 → (accept_along w l ≡ Some list → HasList w p.1 list) → (a : Option (List ObjNo)) → r.row.accept ≡ a → HasList w x list
+      by : (r : WorldObject) → w.object x ≡ Some r → r.row.parent ≡ p.1 → (accept_along w l ≡ Some list → HasList w p.1 list) → (a : Option (List ObjNo)) → r.row.accept ≡ a → HasList w x list
       by r g h up (Some own_list) k = own g (k ∙ ap Some (same_Some own_list list (ap (λ a. option_or a (accept_along w l)) (sym k) ∙ first r g)))
       by r g h up None k = inherited g k (subst (λ z. HasList w z list) (sym h) (up (ap (λ a. option_or a (accept_along w l)) (sym k) ∙ first r g)))
 

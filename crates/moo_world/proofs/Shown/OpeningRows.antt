@@ -1,5 +1,5 @@
 -- The opening rows are sound, and their world is well formed.
-use Rattle.moo_world.proofs.Words.{◌≡◌, ◌≢◌, ℕ, pos, Bool, true, false, cond, List, [], ◌∷◌, ◌++◌, map, Option, Some, None, is_some, Less, Equal, Greater, Ordering, refl, sym, ap, ◌∙◌, subst, arith, ◌≤ℤ◌, unwrap_or, option_map, option_and_then, list_all, IsDistinct, eq_by_cmp, is_eq, get, get-insert, get-empty, empty, ObjNo, ObjRow, object_cmp, prop_cmp, slot_cmp, verb_cmp, petition_cmp, object_exact, object_total, Name, Pair, nothing, World, Record, Slot, IsTree, IsWellFormed, KeepsLimits, Chain, Places, is_object, slot_of, names_of, owed_by, pair_named, is_property_name, verb_fits, row_fits, without_slots, with_slots, NamesDiffer, PetitionsStand, IsGood, LookUps, AreSound, world_shown, look_ups, prop_id, verb_id, record_of}
+use Rattle.moo_world.proofs.Words.{◌≡◌, ◌≢◌, ℕ, pos, Bool, true, false, cond, List, [], ◌∷◌, ◌++◌, map, Option, Some, None, is_some, Less, Equal, Greater, Ordering, refl, sym, ap, ◌∙◌, subst, arith, ◌≤ℤ◌, unwrap_or, option_map, option_and_then, list_all, IsDistinct, eq_by_cmp, is_eq, get, get-insert, get-empty, empty, ObjNo, ObjRow, object_cmp, prop_cmp, slot_cmp, verb_cmp, petition_cmp, object_exact, object_total, Name, Property, nothing, World, WorldObject, Slot, IsTree, IsWellFormed, KeepsLimits, Chain, LocationChain, is_object, slot_of, property_names_of, defined_by_any, property_named, is_property_name, verb_fits, row_fits, without_slots, with_slots, NamesDiffer, PetitionsStand, IsGood, LookUps, AreSound, world_shown, look_ups, prop_id, verb_id, object_shown}
 use Rattle.moo_rows.specs.Opening.{opening_maps, system_object, root_class, first_room, wizard}
 
 abbrev no : ℕ → ObjNo
@@ -55,7 +55,7 @@ sound = record {
 abbrev world : World
 world = world_shown opening_look_ups
 
-of_row : (x : ObjNo) (o : Option ObjRow) → is_some (option_map (record_of opening_look_ups x) o) ≡ true → is_some o ≡ true
+of_row : (x : ObjNo) (o : Option ObjRow) → is_some (option_map (object_shown opening_look_ups x) o) ≡ true → is_some o ≡ true
 of_row x None h = h
 of_row x (Some row) h = refl
 
@@ -86,7 +86,7 @@ tree = record {
       (no 1 ∷ [], (refl, nothing, refl, refl))
       (no 2 ∷ no 1 ∷ [], (refl, no 1, refl, (refl, nothing, refl, refl)))
       (no 3 ∷ no 1 ∷ [], (refl, no 1, refl, (refl, nothing, refl, refl)));
-  places = each (λ x. (l : List ObjNo) × Places world x l)
+  locations = each (λ x. (l : List ObjNo) × LocationChain world x l)
       (no 0 ∷ [], (refl, nothing, refl, refl))
       (no 1 ∷ [], (refl, nothing, refl, refl))
       (no 2 ∷ [], (refl, nothing, refl, refl))
@@ -94,19 +94,19 @@ tree = record {
 }
 
 -- no names, no slots, no verbs
-no_names_by : (x : ObjNo) (o : Option ObjRow) → unwrap_or (option_map (λ (r : Record). r.defines) (option_map (record_of opening_look_ups x) o)) [] ≡ []
+no_names_by : (x : ObjNo) (o : Option ObjRow) → unwrap_or (option_map (λ (r : WorldObject). r.defines) (option_map (object_shown opening_look_ups x) o)) [] ≡ []
 no_names_by x None = refl
 no_names_by x (Some row) = refl
 
-no_names : (x : ObjNo) → names_of world x ≡ []
+no_names : (x : ObjNo) → property_names_of world x ≡ []
 unfolding world_shown
 no_names x = no_names_by x (row_at x)
 
-none_owed : (l : List ObjNo) → owed_by world l ≡ []
+none_owed : (l : List ObjNo) → defined_by_any world l ≡ []
 none_owed [] = refl
 none_owed (d ∷ l) = λ i. map (λ n. (d, n)) (no_names d i) ++ none_owed l i
 
-no_slot_by : (x : ObjNo) (n : Name) (o : Option ObjRow) → option_and_then (λ (r : Record). r.slot n) (option_map (record_of opening_look_ups x) o) ≡ None
+no_slot_by : (x : ObjNo) (n : Name) (o : Option ObjRow) → option_and_then (λ (r : WorldObject). r.slot n) (option_map (object_shown opening_look_ups x) o) ≡ None
 no_slot_by x n None = refl
 no_slot_by x n (Some row) = refl
 
@@ -125,15 +125,15 @@ limits = record {
   rows = λ x. rows_by x (eq_by_cmp object_cmp x (no 3)) (eq_by_cmp object_cmp x (no 2)) (eq_by_cmp object_cmp x (no 1)) (eq_by_cmp object_cmp x (no 0));
 }
   where
-    names_by : (x : ObjNo) (o : Option ObjRow) → list_all is_property_name (unwrap_or (option_map (λ (r : Record). r.defines) (option_map (with_slots (λ n. None)) (option_map (record_of opening_look_ups x) o))) []) ≡ true
+    names_by : (x : ObjNo) (o : Option ObjRow) → list_all is_property_name (unwrap_or (option_map (λ (r : WorldObject). r.defines) (option_map (with_slots (λ n. None)) (option_map (object_shown opening_look_ups x) o))) []) ≡ true
     names_by x None = refl
     names_by x (Some row) = refl
 
-    directories_by : (x : ObjNo) (o : Option ObjRow) → list_all verb_fits (unwrap_or (option_map (λ (r : Record). r.verbs) (option_map (with_slots (λ n. None)) (option_map (record_of opening_look_ups x) o))) []) ≡ true
+    directories_by : (x : ObjNo) (o : Option ObjRow) → list_all verb_fits (unwrap_or (option_map (λ (r : WorldObject). r.verbs) (option_map (with_slots (λ n. None)) (option_map (object_shown opening_look_ups x) o))) []) ≡ true
     directories_by x None = refl
     directories_by x (Some row) = refl
 
-    rows_by : (x : ObjNo) (b3 b2 b1 b0 : Bool) → unwrap_or (option_map row_fits (option_map (λ (r : Record). r.row) (option_map (with_slots (λ n. None)) (option_map (record_of opening_look_ups x) (row_by b3 b2 b1 b0))))) true ≡ true
+    rows_by : (x : ObjNo) (b3 b2 b1 b0 : Bool) → unwrap_or (option_map row_fits (option_map (λ (r : WorldObject). r.row) (option_map (with_slots (λ n. None)) (option_map (object_shown opening_look_ups x) (row_by b3 b2 b1 b0))))) true ≡ true
     rows_by x true b2 b1 b0 = refl
     rows_by x false true b1 b0 = refl
     rows_by x false false true b0 = refl
@@ -148,7 +148,7 @@ well_formed : IsWellFormed world
 well_formed = record {
   tree = tree;
   names = λ x l c. subst NamesDiffer (sym (none_owed l)) none_differ;
-  slots = λ x l n is c. ap (option_map (λ (s : Slot). s.definer)) (no_slot x n) ∙ sym (ap (λ owed. option_map (λ (p : Pair). p.0) (pair_named owed n)) (none_owed l));
+  slots = λ x l n is c. ap (option_map (λ (s : Slot). s.definer)) (no_slot x n) ∙ sym (ap (λ owed. option_map (λ (p : Property). p.0) (property_named owed n)) (none_owed l));
   set = λ x n s e d c. none_some s (sym (no_slot x n) ∙ e);
   fit = λ x n s e. absurd (none_some s (sym (no_slot x n) ∙ e));
   limits = limits;

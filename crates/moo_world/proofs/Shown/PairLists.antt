@@ -1,5 +1,5 @@
 -- Lists of properties, and of other things.
-use Rattle.moo_world.proofs.Words.{◌≡◌, Bool, true, false, ◌||◌, Option, None, Some, List, [], ◌∷◌, ◌++◌, map, refl, ap, is_some, list_any, IsDistinct, AllByRecursion, false≢true, Pair, same_text, folded, NamesDiffer}
+use Rattle.moo_world.proofs.Words.{◌≡◌, Bool, true, false, ◌||◌, Option, None, Some, List, [], ◌∷◌, ◌++◌, map, refl, ap, is_some, list_any, IsDistinct, AllByRecursion, false≢true, Property, same_text, folded, NamesDiffer}
 
 pub some_of : {A : Type 0} (o : Option A) → is_some o ≡ true → (a : A) × (o ≡ Some a)
 some_of None e = absurd (false≢true e)
@@ -18,11 +18,11 @@ distinct_map differ f (a ∷ l) d = (all l d.0, distinct_map differ f l d.1)
     all [] h = tt
     all (b ∷ l) h = (h.0, all l h.1)
 
-pub pairs_left : (l m : List Pair) → NamesDiffer (l ++ m) → NamesDiffer l
+pub pairs_left : (l m : List Property) → NamesDiffer (l ++ m) → NamesDiffer l
 unfolding IsDistinct
 pairs_left [] m d = tt
 pairs_left (p ∷ l) m d = (first l d.0, pairs_left l m d.1)
   where
-    first : (l : List Pair) → AllByRecursion (λ y. same_text (folded p.1) (folded y.1) ≡ false) (l ++ m) → AllByRecursion (λ y. same_text (folded p.1) (folded y.1) ≡ false) l
+    first : (l : List Property) → AllByRecursion (λ y. same_text (folded p.1) (folded y.1) ≡ false) (l ++ m) → AllByRecursion (λ y. same_text (folded p.1) (folded y.1) ≡ false) l
     first [] a = tt
     first (y ∷ l) a = (a.0, first l a.1)

@@ -1,5 +1,5 @@
 -- What rows say of the world that they show, and what one more row says.
-use Rattle.moo_world.proofs.Words.{◌≡◌, ◌≢◌, ℕ, zero, suc, ◌<◌, ◌+◌, Bool, true, false, eqb, [], ◌∷◌, ◌++◌, refl, sym, ◌∙◌, ap, subst, ◌⊎◌, inl, inr, Option, Some, None, arith, append-nil, add-one, ◌&&◌, is_some, unwrap_or, slice_get, if◌then◌else◌, option_map, option_and_then, filter_map, cons_option, and_parts, eqb-true, cases_eq, eq-eqb, ne_eqb, filter_map-append, none-some, same_Some, ObjNo, ObjRow, PropRow, SlotRow, Name, same_object, same_text, folded, same_object-Decides, same_text-Decides, Record, slot_of, names_of, with_record, LookUps, AreSound, with_object_row, with_slot_row, numbers_below, name_on, slot_on, slot_seen, record_of, world_shown}
+use Rattle.moo_world.proofs.Words.{◌≡◌, ◌≢◌, ℕ, zero, suc, ◌<◌, ◌+◌, Bool, true, false, eqb, [], ◌∷◌, ◌++◌, refl, sym, ◌∙◌, ap, subst, ◌⊎◌, inl, inr, Option, Some, None, arith, append-nil, add-one, ◌&&◌, is_some, unwrap_or, slice_get, if◌then◌else◌, option_map, option_and_then, filter_map, cons_option, and_parts, eqb-true, cases_eq, eq-eqb, ne_eqb, filter_map-append, none-some, same_Some, ObjNo, ObjRow, PropRow, SlotRow, Name, same_object, same_text, folded, same_object-Decides, same_text-Decides, WorldObject, slot_of, property_names_of, object_changed, LookUps, AreSound, with_object_row, with_slot_row, numbers_below, name_on, slot_on, slot_seen, object_shown, world_shown}
 
 module _ {X : Type 0} (h : ℕ → Option X) where
   none_below : (n : ℕ) → ((j : ℕ) → j < n → h j ≡ None) → filter_map h (numbers_below n) ≡ []
@@ -55,7 +55,7 @@ module _ (m : LookUps) (sound : AreSound m) (x : ObjNo) (row : ObjRow) (here : m
   pub slot_shown : (id : ℕ) (p : PropRow) (k : SlotRow) → m.prop id ≡ Some p → m.slot x id ≡ Some k → slot_of (world_shown m) x (folded p.name) ≡ Some (slot_seen p.definer k)
   unfolding world_shown
   slot_shown id p k e f =
-      subst (λ o. option_and_then (λ r. r.slot (folded p.name)) (option_map (record_of m x) o) ≡ Some (slot_seen p.definer k)) (sym here)
+      subst (λ o. option_and_then (λ r. r.slot (folded p.name)) (option_map (object_shown m x) o) ≡ Some (slot_seen p.definer k)) (sym here)
       (ap (λ l. slice_get l 0) (one_below (slot_on m x (folded p.name)) m.head.next_prop id (slot_seen p.definer k) (sound.props_below id (ap is_some e)).1 (found id p k e f) (λ j l ne. other id j p e (ap is_some f) ne)))
 
 -- rows with one more property, under the next number
@@ -69,9 +69,9 @@ same_below h g (suc n) e =
     ∙ (λ i. same_below h g n (λ j l. e j (omega arith)) i ++ cons_option (e n (omega arith) i) [])
     ∙ sym (filter_map-append g (numbers_below n) (n ∷ []))
 
-pub names_shown : (m : LookUps) (x : ObjNo) (row : ObjRow) → m.object x ≡ Some row → names_of (world_shown m) x ≡ filter_map (name_on m x) (numbers_below m.head.next_prop)
+pub names_shown : (m : LookUps) (x : ObjNo) (row : ObjRow) → m.object x ≡ Some row → property_names_of (world_shown m) x ≡ filter_map (name_on m x) (numbers_below m.head.next_prop)
 unfolding world_shown
-names_shown m x row e = ap (λ o. unwrap_or (option_map (λ (r : Record). r.defines) (option_map (record_of m x) o)) []) e
+names_shown m x row e = ap (λ o. unwrap_or (option_map (λ (r : WorldObject). r.defines) (option_map (object_shown m x) o)) []) e
 
 module _ (m : LookUps) (p : PropRow) where
   name_before : (x : ObjNo) (j : ℕ) → j < m.head.next_prop → name_on (with_prop m p) x j ≡ name_on m x j
@@ -80,7 +80,7 @@ module _ (m : LookUps) (p : PropRow) where
   name_new : (x : ObjNo) → name_on (with_prop m p) x m.head.next_prop ≡ (if same_object p.definer x then Some p.name else None)
   name_new x = ap (λ b. option_and_then (λ (r : PropRow). if same_object r.definer x then Some r.name else None) (if b then Some p else m.prop m.head.next_prop)) (eq-eqb m.head.next_prop m.head.next_prop refl)
 
-  names_after : (x : ObjNo) (row : ObjRow) (b : Bool) → m.object x ≡ Some row → same_object p.definer x ≡ b → names_of (world_shown (with_prop m p)) x ≡ names_of (world_shown m) x ++ (if b then p.name ∷ [] else [])
+  names_after : (x : ObjNo) (row : ObjRow) (b : Bool) → m.object x ≡ Some row → same_object p.definer x ≡ b → property_names_of (world_shown (with_prop m p)) x ≡ property_names_of (world_shown m) x ++ (if b then p.name ∷ [] else [])
   names_after x row b e f =
       names_shown (with_prop m p) x row e
       ∙ ap (λ n. filter_map (name_on (with_prop m p) x) (numbers_below n)) (add-one m.head.next_prop)
@@ -93,24 +93,24 @@ module _ (m : LookUps) (p : PropRow) where
       one false = refl
 
   -- its definer has its name last
-  pub names_with_prop : (row : ObjRow) → m.object p.definer ≡ Some row → names_of (world_shown (with_prop m p)) p.definer ≡ names_of (world_shown m) p.definer ++ p.name ∷ []
+  pub names_with_prop : (row : ObjRow) → m.object p.definer ≡ Some row → property_names_of (world_shown (with_prop m p)) p.definer ≡ property_names_of (world_shown m) p.definer ++ p.name ∷ []
   names_with_prop row e = names_after p.definer row true e ((same_object-Decides p.definer p.definer).1 refl)
 
   -- the others define what they did
-  pub other_names_with_prop : (x : ObjNo) (row : ObjRow) → m.object x ≡ Some row → same_object p.definer x ≡ false → names_of (world_shown (with_prop m p)) x ≡ names_of (world_shown m) x
-  other_names_with_prop x row e f = names_after x row false e f ∙ append-nil (names_of (world_shown m) x)
+  pub other_names_with_prop : (x : ObjNo) (row : ObjRow) → m.object x ≡ Some row → same_object p.definer x ≡ false → property_names_of (world_shown (with_prop m p)) x ≡ property_names_of (world_shown m) x
+  other_names_with_prop x row e f = names_after x row false e f ∙ append-nil (property_names_of (world_shown m) x)
 
 -- ---- a row put
 
 -- the row of an object changed and put: the world with that object's row changed
-pub world_shown-with_object_row : (m : LookUps) (x : ObjNo) (row : ObjRow) (f : ObjRow → ObjRow) → m.object x ≡ Some row → world_shown (with_object_row m x (f row)) ≡ with_record (world_shown m) x (λ r. record r { row = f r.row })
+pub world_shown-with_object_row : (m : LookUps) (x : ObjNo) (row : ObjRow) (f : ObjRow → ObjRow) → m.object x ≡ Some row → world_shown (with_object_row m x (f row)) ≡ object_changed (world_shown m) x (λ r. record r { row = f r.row })
 unfolding world_shown
 world_shown-with_object_row m x row f e = λ i. record (world_shown m) { object = λ y. at y (same_object x y) refl (m.object y) refl i }
   where
-    at : (y : ObjNo) (b : Bool) → same_object x y ≡ b → (o : Option ObjRow) → m.object y ≡ o → option_map (record_of m y) (if b then Some (f row) else o) ≡ option_map (λ r. if b then (record r { row = f r.row }) else r) (option_map (record_of m y) o)
+    at : (y : ObjNo) (b : Bool) → same_object x y ≡ b → (o : Option ObjRow) → m.object y ≡ o → option_map (object_shown m y) (if b then Some (f row) else o) ≡ option_map (λ r. if b then (record r { row = f r.row }) else r) (option_map (object_shown m y) o)
     at y true g (Some r) h =
         let same : row ≡ r = same_Some row r (sym e ∙ ap m.object ((same_object-Decides x y).0 g) ∙ h) in
-        ap (λ k. Some (record_of m y (f k))) same
+        ap (λ k. Some (object_shown m y (f k))) same
     at y true g None h = absurd (none-some row (sym h ∙ ap m.object (sym ((same_object-Decides x y).0 g)) ∙ e))
     at y false g None h = refl
     at y false g (Some r) h = refl
@@ -172,11 +172,11 @@ module _ (m : LookUps) (x : ObjNo) (id : ℕ) (k : SlotRow) (p : PropRow) (there
   slot_there : (y : ObjNo) (n : Name) → same_object x y ≡ false → slice_get (filter_map (slot_on put y n) (numbers_below m.head.next_prop)) 0 ≡ slice_get (filter_map (slot_on m y n) (numbers_below m.head.next_prop)) 0
   slot_there y n e = ap (λ l. slice_get l 0) (same_below (slot_on put y n) (slot_on m y n) m.head.next_prop (λ j l. put_other y n j (ap (λ b. b && eqb id j) e)))
 
-  pub world_shown-with_slot_row : world_shown put ≡ with_record (world_shown m) x (λ r. record r { slot = λ n. if same_text (folded p.name) n then Some (slot_seen p.definer k) else r.slot n })
+  pub world_shown-with_slot_row : world_shown put ≡ object_changed (world_shown m) x (λ r. record r { slot = λ n. if same_text (folded p.name) n then Some (slot_seen p.definer k) else r.slot n })
   unfolding world_shown
   world_shown-with_slot_row = λ i. record (world_shown m) { object = λ y. at y (same_object x y) refl (m.object y) i }
     where
-      at : (y : ObjNo) (b : Bool) → same_object x y ≡ b → (o : Option ObjRow) → option_map (record_of put y) o ≡ option_map (λ r. if b then (record r { slot = λ n. if same_text (folded p.name) n then Some (slot_seen p.definer k) else r.slot n }) else r) (option_map (record_of m y) o)
+      at : (y : ObjNo) (b : Bool) → same_object x y ≡ b → (o : Option ObjRow) → option_map (object_shown put y) o ≡ option_map (λ r. if b then (record r { slot = λ n. if same_text (folded p.name) n then Some (slot_seen p.definer k) else r.slot n }) else r) (option_map (object_shown m y) o)
       at y b e None = refl
-      at y true e (Some row) = subst (λ z. Some (record_of put z row) ≡ Some (record (record_of m z row) { slot = λ n. if same_text (folded p.name) n then Some (slot_seen p.definer k) else (record_of m z row).slot n })) ((same_object-Decides x y).0 e) (λ i. Some (record (record_of m x row) { slot = λ n. slot_here n i }))
-      at y false e (Some row) = λ i. Some (record (record_of m y row) { slot = λ n. slot_there y n e i })
+      at y true e (Some row) = subst (λ z. Some (object_shown put z row) ≡ Some (record (object_shown m z row) { slot = λ n. if same_text (folded p.name) n then Some (slot_seen p.definer k) else (object_shown m z row).slot n })) ((same_object-Decides x y).0 e) (λ i. Some (record (object_shown m x row) { slot = λ n. slot_here n i }))
+      at y false e (Some row) = λ i. Some (record (object_shown m y row) { slot = λ n. slot_there y n e i })

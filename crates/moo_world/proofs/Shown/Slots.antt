@@ -1,5 +1,5 @@
 -- The slots of the world that rows show, one by one.
-use Rattle.moo_world.proofs.Words.{◌≡◌, ℕ, ◌<◌, Bool, true, false, Option, None, Some, refl, sym, ap, ◌∙◌, slice_get, if◌then◌else◌, option_map, option_and_then, filter_map, none-some, same_Some, ObjNo, ObjRow, PropRow, SlotRow, Name, same_text, folded, same_text-Decides, Slot, slot_of, LookUps, numbers_below, slot_on, slot_seen, record_of, world_shown}
+use Rattle.moo_world.proofs.Words.{◌≡◌, ℕ, ◌<◌, Bool, true, false, Option, None, Some, refl, sym, ap, ◌∙◌, slice_get, if◌then◌else◌, option_map, option_and_then, filter_map, none-some, same_Some, ObjNo, ObjRow, PropRow, SlotRow, Name, same_text, folded, same_text-Decides, Slot, slot_of, LookUps, numbers_below, slot_on, slot_seen, object_shown, world_shown}
 use Rattle.moo_world.proofs.Shown.Numbered.{first_from, none_from}
 
 -- the property under a number, of this folded name, with its slot on y
@@ -13,7 +13,7 @@ pub record SlotHere (m : LookUps) (y : ObjNo) (n : Name) (id : ℕ) : Type 0 whe
 module _ (m : LookUps) (y : ObjNo) (n : Name) where
   pub slots_shown : (row : ObjRow) → m.object y ≡ Some row → slot_of (world_shown m) y n ≡ slice_get (filter_map (slot_on m y n) (numbers_below m.head.next_prop)) 0
   unfolding world_shown
-  slots_shown row e = ap (λ o. option_and_then (λ r. r.slot n) (option_map (record_of m y) o)) e
+  slots_shown row e = ap (λ o. option_and_then (λ r. r.slot n) (option_map (object_shown m y) o)) e
 
   pub slot_on-here : (id : ℕ) (h : SlotHere m y n id) → slot_on m y n id ≡ Some (slot_seen h.prop.definer h.row)
   slot_on-here id h =

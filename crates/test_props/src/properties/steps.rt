@@ -7,8 +7,8 @@ ghost use Rattle.moo_world.specs.Rows.{world_of, IsGood};
 ghost use Rattle.moo_world.specs.World.{is_property_name};
 
 use moo_props::{
-    Dropped, Touched, clashes, define, drop_object, find, make, meets, reparent, set_info,
-    set_value, slot_of, value_of,
+    Dropped, Touched, clashes, define, drop_object, find, make, reparent, set_info, set_value,
+    shares_property_name, slot_of, value_of,
 };
 use moo_rows::{Bits, PropId, Rows, SlotState};
 use moo_tree::{is_under, valid};
@@ -110,7 +110,7 @@ fn reads<R: Rows>(rows: &R, x: ObjNo, name: &MooStr, want: Option<i64>) -> bool
     }
 }
 
-/// An object, a name, and the integer that the object reads for it; none if it has no property of that name.
+/// An object, a name, and the integer that the object reads for it, or None if it has no property of that name.
 pub(super) type Reading = (i32, &'static str, Option<i64>);
 
 /// Whether objects read these integers.
@@ -197,7 +197,7 @@ pub(super) fn moved<R: Rows>(
     assert!(rt; valid(rows, ObjNo(x)));
     assert!(rt; valid(rows, ObjNo(new)));
     assert!(rt; !is_under(rows, ObjNo(new), ObjNo(x)));
-    assert!(rt; !meets(rows, ObjNo(x), ObjNo(new)));
+    assert!(rt; !shares_property_name(rows, ObjNo(x), ObjNo(new)));
     Ok(reparent(alloc, rows, ObjNo(x), ObjNo(new))?)
 }
 

@@ -5,37 +5,37 @@ use Rattle.moo_cells.proofs.object.read_object.Goals as goal
 pub returns-in_err-number-clause-err : goal.returns-in_err-number-clause-err
 returns-in_err-number-clause-err c =
     let p = err_from_is_err_and c.from_residual.result c.from_residual.ensures.1 in
-    rw p.1 (λ fault read. c.in_err-number.ensures.err read.0 read.2.1.number (columns_read c.args.cells.now read).number)
+    rw p.1 (λ fault read. c.in_err-number.ensures.err read.0 read.2.1.number (columns_read c.args.version c.args.cells.now read).number)
 
 pub returns-in_err-name-clause-err : goal.returns-in_err-name-clause-err
 returns-in_err-name-clause-err c =
     let p = err_from_is_err_and c.from_residual-in_err-name.result c.from_residual-in_err-name.ensures.1 in
-    rw p.1 (λ fault read. c.in_err-name.ensures.err (sym p.2 ∙ fault) read.1.name (and_parts _ _ read.2.1.fits).0 (columns_read c.args.cells.now read).name)
+    rw p.1 (λ fault read. c.in_err-name.ensures.err (sym p.2 ∙ fault) read.1.name (and_parts _ _ read.2.1.fits).0 (columns_read c.args.version c.args.cells.now read).name)
 
 pub returns-in_err-owner-clause-err : goal.returns-in_err-owner-clause-err
 returns-in_err-owner-clause-err c =
     let p = err_from_is_err_and c.from_residual-in_err-owner.result c.from_residual-in_err-owner.ensures.1 in
-    rw p.1 (λ fault read. c.in_err-owner.ensures.err read.1.owner (and_parts _ _ (and_parts _ _ read.2.1.fits).1).0 (columns_read c.args.cells.now read).owner)
+    rw p.1 (λ fault read. c.in_err-owner.ensures.err read.1.owner (and_parts _ _ (and_parts _ _ read.2.1.fits).1).0 (columns_read c.args.version c.args.cells.now read).owner)
 
 pub returns-in_err-parent-clause-err : goal.returns-in_err-parent-clause-err
 returns-in_err-parent-clause-err c =
     let p = err_from_is_err_and c.from_residual-in_err-parent.result c.from_residual-in_err-parent.ensures.1 in
-    rw p.1 (λ fault read. c.in_err-parent.ensures.err read.1.parent read.2.1.parent (columns_read c.args.cells.now read).parent)
+    rw p.1 (λ fault read. c.in_err-parent.ensures.err read.1.parent read.2.1.parent (columns_read c.args.version c.args.cells.now read).parent)
 
 pub returns-in_err-location-clause-err : goal.returns-in_err-location-clause-err
 returns-in_err-location-clause-err c =
     let p = err_from_is_err_and c.from_residual-in_err-location.result c.from_residual-in_err-location.ensures.1 in
-    rw p.1 (λ fault read. c.in_err-location.ensures.err read.1.location read.2.1.location (columns_read c.args.cells.now read).location)
+    rw p.1 (λ fault read. c.in_err-location.ensures.err read.1.location read.2.1.location (columns_read c.args.version c.args.cells.now read).location)
 
 pub returns-in_err-flags-clause-err : goal.returns-in_err-flags-clause-err
 returns-in_err-flags-clause-err c =
     let p = err_from_is_err_and c.from_residual-in_err-flags.result c.from_residual-in_err-flags.ensures.1 in
-    rw p.1 (λ fault read. c.in_err-flags.ensures.err (flags_in read.1) (columns_read c.args.cells.now read).flags)
+    rw p.1 (λ fault read. c.in_err-flags.ensures.err (flags_in read.1) (columns_read c.args.version c.args.cells.now read).flags)
 
 pub returns-in_err-accept-clause-err : goal.returns-in_err-accept-clause-err
 returns-in_err-accept-clause-err c =
     let p = err_from_is_err_and c.from_residual-in_err-accept.result c.from_residual-in_err-accept.ensures.1 in
-    rw p.1 (λ fault read. c.in_err-accept.ensures.err (sym p.2 ∙ fault) read.2.0.0 read.1.accept read.2.0.1 (and_parts _ _ (and_parts _ _ read.2.1.fits).1).1 (columns_read c.args.cells.now read).accept)
+    rw p.1 (λ fault read. c.in_err-accept.ensures.err (sym p.2 ∙ fault) read.2.0.0 read.1.accept read.2.0.1 (and_parts _ _ (and_parts _ _ read.2.1.fits).1).1 (columns_read c.args.version c.args.cells.now read).accept)
 
 pub returns-clause-ok : goal.returns-clause-ok
 returns-clause-ok c =

@@ -26,7 +26,7 @@ returns-in_err-read_props-clause-fault c =
     subst (λ (rows : List Row). (cells : Row) × HeadIs (λ n. find (has_rowid n) rows) cells × ReadsHead (version_number c.args.lists.version) c.in_ok-head.head cells) c.deref.ensures.value c.in_ok-head.ensures.ok in
     let counter : ReadsCounter c.args.lists.version (λ n. find (has_rowid n) c.args.lists.petition_head.items) c.in_ok-head.head.next_petition =
     subst (λ (rows : List Row). ReadsCounter c.args.lists.version (λ n. find (has_rowid n) rows) c.in_ok-head.head.next_petition) c.deref-2.ensures.value c.in_ok-head.ensures.counter in
-    let objects : HoldsTable has_rowid object_number ReadsObject c.args.lists.object.items c.read_objects.new.rows.maps.objects =
+    let objects : HoldsTable has_rowid object_number (ReadsObject c.args.lists.version) c.args.lists.object.items c.read_objects.new.rows.maps.objects =
     c.in_ok-read_objects.ensures.holds in
     let says = c.in_err-read_props.ensures.fault in
     rw p.1 (subst (SaysOfCells (tables_of c.args.lists)) (sym p.2) (says_prop c.args.lists c.in_ok-head.head head.0 head.1 head.2 counter objects.read c.in_err-read_props.field-0.0 says))
@@ -38,9 +38,9 @@ returns-in_err-read_slots-clause-fault c =
     subst (λ (rows : List Row). (cells : Row) × HeadIs (λ n. find (has_rowid n) rows) cells × ReadsHead (version_number c.args.lists.version) c.in_ok-head.head cells) c.deref.ensures.value c.in_ok-head.ensures.ok in
     let counter : ReadsCounter c.args.lists.version (λ n. find (has_rowid n) c.args.lists.petition_head.items) c.in_ok-head.head.next_petition =
     subst (λ (rows : List Row). ReadsCounter c.args.lists.version (λ n. find (has_rowid n) rows) c.in_ok-head.head.next_petition) c.deref-2.ensures.value c.in_ok-head.ensures.counter in
-    let objects : HoldsTable has_rowid object_number ReadsObject c.args.lists.object.items c.read_objects.new.rows.maps.objects =
+    let objects : HoldsTable has_rowid object_number (ReadsObject c.args.lists.version) c.args.lists.object.items c.read_objects.new.rows.maps.objects =
     c.in_ok-read_objects.ensures.holds in
-    let props : HoldsTable has_rowid prop_number ReadsProp c.args.lists.prop.items c.read_props.new.rows.maps.props =
+    let props : HoldsTable has_rowid prop_number (ReadsProp c.args.lists.version) c.args.lists.prop.items c.read_props.new.rows.maps.props =
     c.in_ok-read_props.ensures.holds in
     let says = c.in_err-read_slots.ensures.fault in
     rw p.1 (subst (SaysOfCells (tables_of c.args.lists)) (sym p.2) (says_slot c.args.lists c.in_ok-head.head head.0 head.1 head.2 counter objects.read props.read c.in_err-read_slots.field-0.0 says))
@@ -52,9 +52,9 @@ returns-in_err-read_verbs-clause-fault c =
     subst (λ (rows : List Row). (cells : Row) × HeadIs (λ n. find (has_rowid n) rows) cells × ReadsHead (version_number c.args.lists.version) c.in_ok-head.head cells) c.deref.ensures.value c.in_ok-head.ensures.ok in
     let counter : ReadsCounter c.args.lists.version (λ n. find (has_rowid n) c.args.lists.petition_head.items) c.in_ok-head.head.next_petition =
     subst (λ (rows : List Row). ReadsCounter c.args.lists.version (λ n. find (has_rowid n) rows) c.in_ok-head.head.next_petition) c.deref-2.ensures.value c.in_ok-head.ensures.counter in
-    let objects : HoldsTable has_rowid object_number ReadsObject c.args.lists.object.items c.read_objects.new.rows.maps.objects =
+    let objects : HoldsTable has_rowid object_number (ReadsObject c.args.lists.version) c.args.lists.object.items c.read_objects.new.rows.maps.objects =
     c.in_ok-read_objects.ensures.holds in
-    let props : HoldsTable has_rowid prop_number ReadsProp c.args.lists.prop.items c.read_props.new.rows.maps.props =
+    let props : HoldsTable has_rowid prop_number (ReadsProp c.args.lists.version) c.args.lists.prop.items c.read_props.new.rows.maps.props =
     c.in_ok-read_props.ensures.holds in
     let slots : HoldsTable has_key_pair slot_number (ReadsSlot c.args.lists.version) c.args.lists.slot.items c.read_slots.new.rows.maps.slots =
     c.in_ok-read_slots.ensures.holds in
@@ -68,13 +68,13 @@ returns-in_err-read_petitions-clause-fault c =
     subst (λ (rows : List Row). (cells : Row) × HeadIs (λ n. find (has_rowid n) rows) cells × ReadsHead (version_number c.args.lists.version) c.in_ok-head.head cells) c.deref.ensures.value c.in_ok-head.ensures.ok in
     let counter : ReadsCounter c.args.lists.version (λ n. find (has_rowid n) c.args.lists.petition_head.items) c.in_ok-head.head.next_petition =
     subst (λ (rows : List Row). ReadsCounter c.args.lists.version (λ n. find (has_rowid n) rows) c.in_ok-head.head.next_petition) c.deref-2.ensures.value c.in_ok-head.ensures.counter in
-    let objects : HoldsTable has_rowid object_number ReadsObject c.args.lists.object.items c.read_objects.new.rows.maps.objects =
+    let objects : HoldsTable has_rowid object_number (ReadsObject c.args.lists.version) c.args.lists.object.items c.read_objects.new.rows.maps.objects =
     c.in_ok-read_objects.ensures.holds in
-    let props : HoldsTable has_rowid prop_number ReadsProp c.args.lists.prop.items c.read_props.new.rows.maps.props =
+    let props : HoldsTable has_rowid prop_number (ReadsProp c.args.lists.version) c.args.lists.prop.items c.read_props.new.rows.maps.props =
     c.in_ok-read_props.ensures.holds in
     let slots : HoldsTable has_key_pair slot_number (ReadsSlot c.args.lists.version) c.args.lists.slot.items c.read_slots.new.rows.maps.slots =
     c.in_ok-read_slots.ensures.holds in
-    let verbs : HoldsTable has_key_pair verb_number ReadsVerb c.args.lists.verb.items c.read_verbs.new.rows.maps.verbs =
+    let verbs : HoldsTable has_key_pair verb_number (ReadsVerb c.args.lists.version) c.args.lists.verb.items c.read_verbs.new.rows.maps.verbs =
     c.in_ok-read_verbs.ensures.holds in
     let says = c.in_err-read_petitions.ensures.fault in
     rw p.1 (subst (SaysOfCells (tables_of c.args.lists)) (sym p.2) (says_petition c.args.lists c.in_ok-head.head head.0 head.1 head.2 counter objects.read props.read slots.read verbs.read c.in_err-read_petitions.field-0.0 says))
@@ -85,15 +85,15 @@ returns-clause-shown c =
     subst (λ (rows : List Row). (cells : Row) × HeadIs (λ n. find (has_rowid n) rows) cells × ReadsHead (version_number c.args.lists.version) c.in_ok-head.head cells) c.deref.ensures.value c.in_ok-head.ensures.ok in
     let counter : ReadsCounter c.args.lists.version (λ n. find (has_rowid n) c.args.lists.petition_head.items) c.in_ok-head.head.next_petition =
     subst (λ (rows : List Row). ReadsCounter c.args.lists.version (λ n. find (has_rowid n) rows) c.in_ok-head.head.next_petition) c.deref-2.ensures.value c.in_ok-head.ensures.counter in
-    let objects : HoldsTable has_rowid object_number ReadsObject c.args.lists.object.items c.read_objects.new.rows.maps.objects =
+    let objects : HoldsTable has_rowid object_number (ReadsObject c.args.lists.version) c.args.lists.object.items c.read_objects.new.rows.maps.objects =
     c.in_ok-read_objects.ensures.holds in
-    let props : HoldsTable has_rowid prop_number ReadsProp c.args.lists.prop.items c.read_props.new.rows.maps.props =
+    let props : HoldsTable has_rowid prop_number (ReadsProp c.args.lists.version) c.args.lists.prop.items c.read_props.new.rows.maps.props =
     c.in_ok-read_props.ensures.holds in
     let slots : HoldsTable has_key_pair slot_number (ReadsSlot c.args.lists.version) c.args.lists.slot.items c.read_slots.new.rows.maps.slots =
     c.in_ok-read_slots.ensures.holds in
-    let verbs : HoldsTable has_key_pair verb_number ReadsVerb c.args.lists.verb.items c.read_verbs.new.rows.maps.verbs =
+    let verbs : HoldsTable has_key_pair verb_number (ReadsVerb c.args.lists.version) c.args.lists.verb.items c.read_verbs.new.rows.maps.verbs =
     c.in_ok-read_verbs.ensures.holds in
-    let petitions : HoldsTable has_rowid petition_number ReadsPetition c.args.lists.petition.items c.read_petitions.new.rows.maps.petitions =
+    let petitions : HoldsTable has_rowid petition_number (ReadsPetition c.args.lists.version) c.args.lists.petition.items c.read_petitions.new.rows.maps.petitions =
     c.in_ok-read_petitions.ensures.holds in
     let same : c.under-rows.result.maps.head ≡ c.in_ok-head.head = ap (λ (m : Maps). m.head) c.under-rows.ensures in
     let reads = subst (λ (h : Head). ReadsHead (version_number c.args.lists.version) h head.0) (sym same) head.2 in
@@ -108,15 +108,15 @@ returns-clause-within c =
     subst (λ (rows : List Row). (cells : Row) × HeadIs (λ n. find (has_rowid n) rows) cells × ReadsHead (version_number c.args.lists.version) c.in_ok-head.head cells) c.deref.ensures.value c.in_ok-head.ensures.ok in
     let counter : ReadsCounter c.args.lists.version (λ n. find (has_rowid n) c.args.lists.petition_head.items) c.in_ok-head.head.next_petition =
     subst (λ (rows : List Row). ReadsCounter c.args.lists.version (λ n. find (has_rowid n) rows) c.in_ok-head.head.next_petition) c.deref-2.ensures.value c.in_ok-head.ensures.counter in
-    let objects : HoldsTable has_rowid object_number ReadsObject c.args.lists.object.items c.read_objects.new.rows.maps.objects =
+    let objects : HoldsTable has_rowid object_number (ReadsObject c.args.lists.version) c.args.lists.object.items c.read_objects.new.rows.maps.objects =
     c.in_ok-read_objects.ensures.holds in
-    let props : HoldsTable has_rowid prop_number ReadsProp c.args.lists.prop.items c.read_props.new.rows.maps.props =
+    let props : HoldsTable has_rowid prop_number (ReadsProp c.args.lists.version) c.args.lists.prop.items c.read_props.new.rows.maps.props =
     c.in_ok-read_props.ensures.holds in
     let slots : HoldsTable has_key_pair slot_number (ReadsSlot c.args.lists.version) c.args.lists.slot.items c.read_slots.new.rows.maps.slots =
     c.in_ok-read_slots.ensures.holds in
-    let verbs : HoldsTable has_key_pair verb_number ReadsVerb c.args.lists.verb.items c.read_verbs.new.rows.maps.verbs =
+    let verbs : HoldsTable has_key_pair verb_number (ReadsVerb c.args.lists.version) c.args.lists.verb.items c.read_verbs.new.rows.maps.verbs =
     c.in_ok-read_verbs.ensures.holds in
-    let petitions : HoldsTable has_rowid petition_number ReadsPetition c.args.lists.petition.items c.read_petitions.new.rows.maps.petitions =
+    let petitions : HoldsTable has_rowid petition_number (ReadsPetition c.args.lists.version) c.args.lists.petition.items c.read_petitions.new.rows.maps.petitions =
     c.in_ok-read_petitions.ensures.holds in
     let same : c.under-rows.result.maps.head ≡ c.in_ok-head.head = ap (λ (m : Maps). m.head) c.under-rows.ensures in
     let reads = subst (λ (h : Head). ReadsHead (version_number c.args.lists.version) h head.0) (sym same) head.2 in
@@ -131,14 +131,14 @@ returns-clause-read c =
     subst (λ (rows : List Row). (cells : Row) × HeadIs (λ n. find (has_rowid n) rows) cells × ReadsHead (version_number c.args.lists.version) c.in_ok-head.head cells) c.deref.ensures.value c.in_ok-head.ensures.ok in
     let counter : ReadsCounter c.args.lists.version (λ n. find (has_rowid n) c.args.lists.petition_head.items) c.in_ok-head.head.next_petition =
     subst (λ (rows : List Row). ReadsCounter c.args.lists.version (λ n. find (has_rowid n) rows) c.in_ok-head.head.next_petition) c.deref-2.ensures.value c.in_ok-head.ensures.counter in
-    let objects : HoldsTable has_rowid object_number ReadsObject c.args.lists.object.items c.read_objects.new.rows.maps.objects =
+    let objects : HoldsTable has_rowid object_number (ReadsObject c.args.lists.version) c.args.lists.object.items c.read_objects.new.rows.maps.objects =
     c.in_ok-read_objects.ensures.holds in
-    let props : HoldsTable has_rowid prop_number ReadsProp c.args.lists.prop.items c.read_props.new.rows.maps.props =
+    let props : HoldsTable has_rowid prop_number (ReadsProp c.args.lists.version) c.args.lists.prop.items c.read_props.new.rows.maps.props =
     c.in_ok-read_props.ensures.holds in
     let slots : HoldsTable has_key_pair slot_number (ReadsSlot c.args.lists.version) c.args.lists.slot.items c.read_slots.new.rows.maps.slots =
     c.in_ok-read_slots.ensures.holds in
-    let verbs : HoldsTable has_key_pair verb_number ReadsVerb c.args.lists.verb.items c.read_verbs.new.rows.maps.verbs =
+    let verbs : HoldsTable has_key_pair verb_number (ReadsVerb c.args.lists.version) c.args.lists.verb.items c.read_verbs.new.rows.maps.verbs =
     c.in_ok-read_verbs.ensures.holds in
-    let petitions : HoldsTable has_rowid petition_number ReadsPetition c.args.lists.petition.items c.read_petitions.new.rows.maps.petitions =
+    let petitions : HoldsTable has_rowid petition_number (ReadsPetition c.args.lists.version) c.args.lists.petition.items c.read_petitions.new.rows.maps.petitions =
     c.in_ok-read_petitions.ensures.holds in
     none_met c.args.lists c.in_ok-head.head head.0 head.1 head.2 counter objects.read props.read slots.read verbs.read petitions.read

@@ -9,7 +9,7 @@ pub loop-row-preserved : goal.loop-row-preserved
 loop-row-preserved g c = λ rest gives.
     let within : c.loop-row.row-index < length c.args.cells.now = omega arith in
     let shown = c.in_ok-shows-in-Some.ensures c.if-not-branch.false in
-    one_more (g.R.TableRow.reads c.args.version) c.args.cells.now c.loop-row.row-index c.row-item.result within c.row-item.is _ _ _ (c.in-Some.key, c.in-Some.held.now) (gives _ _ (Some (c.in-Some.key, c.in-Some.held)) c.in-Some.ensures.steps) (search (rules, shown)) (c.loop-row.invariant rest gives)
+    one_more (g.R.ReadRow.reads c.args.version) c.args.cells.now c.loop-row.row-index c.row-item.result within c.row-item.is _ _ _ (c.in-Some.key, c.in-Some.held.now) (gives _ _ (Some (c.in-Some.key, c.in-Some.held)) c.in-Some.ensures.steps) (search (rules, shown)) (c.loop-row.invariant rest gives)
 
 -- an iterator that ends had nothing left
 ended : {S A B : Type 0} (view : A → B) (rest : S → List B) (s t : S) (r : Option A) (b : Bool) → is_some r ≡ not b → b ≡ true → YieldsFirstBy view rest s r t → rest s ≡ []
@@ -19,4 +19,4 @@ ended view rest s t (Some x) b some none gave = absurd (let e : true ≡ false =
 pub returns : goal.returns
 returns g c = λ none rest gives.
     let over = ended (λ e. (e.0, e.1.now)) rest c.loop-row.left c.next-2.new.self c.next-2.result c.is_none.result c.is_none.ensures none (gives _ _ _ c.next-2.ensures.steps) in
-    c.loop-row.invariant rest gives (subst₂ (ShowEach (g.R.TableRow.reads c.args.version)) (sym (drop_all c.loop-row.row-index c.args.cells.now c.loop-row-test.false)) (sym over) tt)
+    c.loop-row.invariant rest gives (subst₂ (ShowEach (g.R.ReadRow.reads c.args.version)) (sym (drop_all c.loop-row.row-index c.args.cells.now c.loop-row-test.false)) (sym over) tt)

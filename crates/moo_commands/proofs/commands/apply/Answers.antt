@@ -1,8 +1,4 @@
-use Rattle.std.proofs.Common.{IfOk, inr, refl, sym, subst, ◌∙◌}
-use Rattle.moo_store.specs.Stand.{Works}
-use Rattle.moo_commands.specs.declared.failure.Failure.TheVariants.{NoBatches}
-use Rattle.moo_commands.specs.Given.{texts_by}
-use Rattle.moo_commands.specs.Run.{AppliesText, StopsApplying, MayLead, EndsTask}
+use Rattle.moo_commands.proofs.Words.{IfOk, inr, refl, sym, subst, ◌∙◌, Works, NoBatches, texts_by, AppliesText, StopsApplying, MayLead, EndsTask}
 use Rattle.moo_commands.proofs.Tasks.{given_input, given_file, text_stops, unchanged, unmoved}
 use Rattle.moo_commands.proofs.commands.apply.Goals as goal
 

@@ -1,6 +1,4 @@
-use Rattle.std.proofs.Common.{refl, sym, inl, inr}
-use Rattle.std.proofs.lemmas.Bool.{true≢false}
-use Rattle.moo_store.specs.Stand.{Works}
+use Rattle.moo_commands.proofs.Words.{refl, sym, inl, inr, true≢false, Works}
 use Rattle.moo_commands.proofs.Tasks.{unchanged, stays_at, on_ok, both_ok, on_err}
 use Rattle.moo_commands.proofs.commands.do_task.Goals as goal
 

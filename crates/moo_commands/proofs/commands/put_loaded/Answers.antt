@@ -1,5 +1,4 @@
-use Rattle.std.proofs.Common.{IfErr, subst, ◌∙◌}
-use Rattle.moo_commands.specs.Run.{StopsIn}
+use Rattle.moo_commands.proofs.Words.{IfErr, subst, ◌∙◌, StopsIn}
 use Rattle.moo_commands.proofs.commands.put_loaded.Goals as goal
 
 pub returns-in-Ok-clause-stops : goal.returns-in-Ok-clause-stops

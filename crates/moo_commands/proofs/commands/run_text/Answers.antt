@@ -1,4 +1,4 @@
-use Rattle.moo_store.specs.Stand.{Works}
+use Rattle.moo_commands.proofs.Words.{Works}
 use Rattle.moo_commands.proofs.Tasks.{done_text, stops_text}
 use Rattle.moo_commands.proofs.commands.run_text.Goals as goal
 

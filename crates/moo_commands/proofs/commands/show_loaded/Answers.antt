@@ -1,7 +1,5 @@
-use Rattle.std.proofs.Common.{◌≡◌, IfErr, refl, subst₂}
+use Rattle.moo_commands.proofs.Words.{◌≡◌, IfErr, refl, subst₂, loaded_line, StopsIn}
 use Rattle.std.proofs.lemmas.Result.{IfOk-at_ok}
-use Rattle.moo_commands.specs.Lines.{loaded_line}
-use Rattle.moo_commands.specs.Run.{StopsIn}
 use Rattle.moo_commands.proofs.commands.show_loaded.Goals as goal
 
 pub returns-clause-stops : goal.returns-clause-stops

@@ -1,13 +1,6 @@
-use Rattle.std.proofs.Common.{inl, true, false, refl, sym, subst}
-use Rattle.sqlite.specs.Files.{over_files}
-use Rattle.sqlite.specs.WalFiles.{image_at}
-use Rattle.moo_rows.specs.Opening.{opening_maps}
-use Rattle.moo_world.specs.Judge.{state_of}
-use Rattle.moo_store.specs.World.{StandsFor}
-use Rattle.moo_commands.specs.Given.{given_to}
-use Rattle.moo_commands.specs.Run.{BeginsWith}
+use Rattle.moo_commands.proofs.Words.{inl, true, false, refl, sym, subst, over_files, image_at, opening_maps, state_of, StandsFor, given_to, BeginsWith}
 use Rattle.moo_commands.proofs.Held.{rows_are, rows_state, runs_rows}
-use Rattle.moo_commands.proofs.Beginning.{begins_opening, fails_to_begin, unmade_begins, fresh_begins}
+use Rattle.moo_commands.proofs.Beginning.{begins_opening, numbered_opening, fails_to_begin, unmade_begins, fresh_begins}
 use Rattle.moo_commands.proofs.Connections.{surely, surely_ends, unseen}
 use Rattle.moo_commands.proofs.Refusals.{fails_at_once, refuses_file, tells_fault}
 use Rattle.moo_commands.proofs.files.run_begun.Goals as goal
@@ -23,8 +16,11 @@ returns-in-Ok-clause-runs g c =
           let stands = c.in-Ok.ensures.anew anew in
           let same = stands.is_at.rows stands.works in (
             world.rows.maps,
-            ran.good stands.works,
-            subst (BeginsWith c.args.task _) (sym same) (begins_opening c.args.task _ c.requires.load),
+            record {
+              good = ran.good stands.works;
+              world = subst (BeginsWith c.args.task.action _) (sym same) (begins_opening c.args.task.action _ c.requires.load);
+              numbers = numbered_opening c.args.task.action world.rows.maps c.requires.load (c.in-Ok.ensures.rows anew);
+            },
             surely _ _ _ _ _ _ _ _ _ _ (ran.runs true here (subst (StandsFor over_files true world) (sym same) stands)),
           );
       taken = λ s anew holds clean. c.in-Ok.ensures.taken anew s holds (ran.clean true (state_of opening_maps) (c.in-Ok.ensures.anew anew) clean);
@@ -89,12 +85,12 @@ returns-in-Err-clause-runs g c =
       trees = λ trees other holds. c.in-Err.ensures.trees other trees holds;
       spared = λ trees anew holds any. c.in-Err.ensures.spared anew trees holds any;
       unmade = λ trees anew holds clean.
-          unmade_begins c.args.task given (state_of opening_maps) (begins_opening c.args.task given c.requires.load) trees (image_at g.T.Start) c.in-Err.remains (c.in-Err.ensures.unmade anew trees holds clean);
+          unmade_begins c.args.task.action given (state_of opening_maps) (begins_opening c.args.task.action given c.requires.load) trees (image_at g.T.Start) c.in-Err.remains (c.in-Err.ensures.unmade anew trees holds clean);
       spares = c.in-Err.ensures.spares;
       fresh = λ anew none clean.
-          fresh_begins c.args.task given (state_of opening_maps) (begins_opening c.args.task given c.requires.load) (image_at g.T.Start) c.in-Err.remains (c.in-Err.ensures.fresh anew none clean);
+          fresh_begins c.args.task.action given (state_of opening_maps) (begins_opening c.args.task.action given c.requires.load) (image_at g.T.Start) c.in-Err.remains (c.in-Err.ensures.fresh anew none clean);
       begun = λ anew half clean.
-          fresh_begins c.args.task given (state_of opening_maps) (begins_opening c.args.task given c.requires.load) (image_at g.T.Start) c.in-Err.remains (c.in-Err.ensures.begun anew half clean);
+          fresh_begins c.args.task.action given (state_of opening_maps) (begins_opening c.args.task.action given c.requires.load) (image_at g.T.Start) c.in-Err.remains (c.in-Err.ensures.begun anew half clean);
       blank = λ other none. c.in-Err.ensures.blank other none;
       rests = refl;
       told = inl (fault, c.in-Err.ensures.stopped, reports);

@@ -1,6 +1,4 @@
-use Rattle.std.proofs.Common.{inl, refl}
-use Rattle.moo_commands.specs.declared.failure.Failure.TheVariants.{NoMemory}
-use Rattle.moo_commands.specs.Given.{given_to}
+use Rattle.moo_commands.proofs.Words.{inl, refl, NoMemory, given_to}
 use Rattle.moo_commands.proofs.Beginning.{new_unseen}
 use Rattle.moo_commands.proofs.files.run_in_memory.Goals as goal
 

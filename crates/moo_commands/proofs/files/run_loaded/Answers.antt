@@ -1,11 +1,6 @@
-use Rattle.std.proofs.Common.{inl, inr, refl, true, sym, subst, ◌∙◌}
-use Rattle.sqlite.specs.Files.{over_files}
-use Rattle.sqlite.specs.WalFiles.{image_at}
-use Rattle.moo_world.specs.Judge.{state_of}
-use Rattle.moo_commands.specs.Given.{given_to}
-use Rattle.moo_store.specs.World.{StandsFor}
-use Rattle.moo_commands.specs.Run.{BeginsWith}
-use Rattle.moo_commands.proofs.Beginning.{begins_dumped, held_rows, refuses_dump, reads_dump, keeps_input, of_other_texts, fails_to_begin, unmade_begins, fresh_begins, load_begins, never_other}
+use Rattle.moo_commands.proofs.Words.{inl, inr, refl, true, sym, subst, ◌∙◌, over_files, image_at, state_of, given_to, StandsFor, BeginsWith}
+use Rattle.moo_load.specs.RowsOf.{AreRowsOf}
+use Rattle.moo_commands.proofs.Beginning.{begins_dumped, numbered_dumped, held_rows, refuses_dump, reads_dump, keeps_input, of_other_texts, fails_to_begin, unmade_begins, fresh_begins, load_begins, never_other}
 use Rattle.moo_commands.proofs.Connections.{surely}
 use Rattle.moo_commands.proofs.Refusals.{fails_at_once, tells_fault}
 use Rattle.moo_commands.proofs.files.run_loaded.Goals as goal
@@ -14,7 +9,7 @@ use Rattle.moo_commands.proofs.files.run_loaded.Goals as goal
 pub returns-in-Err-clause-runs : goal.returns-in-Err-clause-runs
 returns-in-Err-clause-runs g c =
     let given = given_to g.R.Read g.H.BatchFiles g.H.Ports g.H.Source.Arrivals g.H.Source.Reader.Read g.H.Source.Writer.Write c.args.input.now c.args.host.now c.args.host.now in
-    let told = refuses_dump c.args.task given c.args.dump.now c.in-Err.failure c.requires.word c.in-Err.ensures.failure in
+    let told = refuses_dump c.args.task.action given c.args.dump.now c.in-Err.failure c.requires.word c.in-Err.ensures.failure in
     record {
       anew = λ anew. (c.in-Err.failure, inr (c.requires.load, told), c.report.ensures);
       taken = λ s anew holds. tt;
@@ -53,8 +48,11 @@ returns-in-Ok-load_from-clause-runs g c =
     record {
       anew = λ anew. (
         world.rows.maps,
-        ran.good stands.works,
-        subst (BeginsWith c.args.task given) (sym same) (begins_dumped c.args.task given c.args.dump.now s c.requires.load c.requires.word c.in-Ok.ensures.dumped (held_rows c.in-Ok.rows.maps c.in-Ok.ensures.good c.in-Ok.ensures.limit)),
+        record {
+          good = ran.good stands.works;
+          world = subst (BeginsWith c.args.task.action given) (sym same) (begins_dumped c.args.task.action given c.args.dump.now s c.requires.load c.requires.word c.in-Ok.ensures.dumped (held_rows c.in-Ok.rows.maps c.in-Ok.ensures.good c.in-Ok.ensures.limit));
+          numbers = numbered_dumped c.args.task.action world.rows.maps c.requires.load (subst (λ rows. AreRowsOf (state_of rows) rows) (sym c.in-Ok-load_from.ensures.rows) c.in-Ok.ensures.numbered);
+        },
         of_other_texts c.args.task c.requires.load (state_of world.rows.maps) _ given _ _ _ _ _ _ _ (surely _ _ _ _ _ _ _ _ _ _ (ran.runs true (state_of world.rows.maps) (subst (StandsFor over_files true world) (sym same) stands))) (λ rests. rests),
       );
       taken = λ t anew holds clean. c.in-Ok-load_from.ensures.taken t holds (ran.clean true s stands clean);
@@ -88,7 +86,7 @@ returns-in-Err-load_from-clause-runs g c =
     let image = image_at g.T.Start in
     let given = given_to g.R.Read g.H.BatchFiles g.H.Ports g.H.Source.Arrivals g.H.Source.Reader.Read g.H.Source.Writer.Write c.args.input.now c.args.host.now c.args.host.now in
     let s = state_of c.in-Ok.rows.maps in
-    let begins = begins_dumped c.args.task given c.args.dump.now s c.requires.load c.requires.word c.in-Ok.ensures.dumped (held_rows c.in-Ok.rows.maps c.in-Ok.ensures.good c.in-Ok.ensures.limit) in
+    let begins = begins_dumped c.args.task.action given c.args.dump.now s c.requires.load c.requires.word c.in-Ok.ensures.dumped (held_rows c.in-Ok.rows.maps c.in-Ok.ensures.good c.in-Ok.ensures.limit) in
     let old = g.W.Write.contents c.args.output.now in
     let new = g.W.Write.contents c.report-in-Err-load_from.new.output in
     let status = c.report-in-Err-load_from.result in
@@ -111,10 +109,10 @@ returns-in-Err-load_from-clause-runs g c =
       left = c.in-Err-load_from.ensures.refused;
       trees = λ trees other holds. never_other c.args.task c.requires.load other;
       spared = λ trees anew holds any. c.in-Err-load_from.ensures.kept trees holds any;
-      unmade = λ trees anew holds clean. unmade_begins c.args.task given s begins trees image c.in-Err-load_from.remains (c.in-Err-load_from.ensures.trees trees holds clean);
+      unmade = λ trees anew holds clean. unmade_begins c.args.task.action given s begins trees image c.in-Err-load_from.remains (c.in-Err-load_from.ensures.trees trees holds clean);
       spares = λ some whole. c.in-Err-load_from.ensures.spared some (whole (load_begins c.args.task c.requires.load));
-      fresh = λ anew none clean. fresh_begins c.args.task given s begins image c.in-Err-load_from.remains (c.in-Err-load_from.ensures.blank none clean);
-      begun = λ anew half clean. fresh_begins c.args.task given s begins image c.in-Err-load_from.remains (c.in-Err-load_from.ensures.begun half clean);
+      fresh = λ anew none clean. fresh_begins c.args.task.action given s begins image c.in-Err-load_from.remains (c.in-Err-load_from.ensures.blank none clean);
+      begun = λ anew half clean. fresh_begins c.args.task.action given s begins image c.in-Err-load_from.remains (c.in-Err-load_from.ensures.begun half clean);
       blank = λ other none. never_other c.args.task c.requires.load other;
       rests = refl;
       told = inl (fault, c.in-Err-load_from.ensures.stopped, reports);

@@ -1,4 +1,4 @@
-use Rattle.std.proofs.Common.{sym, ◌∙◌}
+use Rattle.moo_commands.proofs.Words.{sym, ◌∙◌}
 use Rattle.moo_commands.proofs.files.world_of.Goals as goal
 
 pub returns-then-begins_anew-clause-spares : goal.returns-then-begins_anew-clause-spares

@@ -1,5 +1,4 @@
-use Rattle.std.proofs.Common.{IfErr, sym, subst, ◌∙◌}
-use Rattle.moo_commands.specs.Run.{RefusesDump}
+use Rattle.moo_commands.proofs.Words.{IfErr, sym, subst, ◌∙◌, RefusesDump}
 use Rattle.moo_commands.proofs.Dumps.{no_file}
 use Rattle.moo_commands.proofs.Tasks.{given_input, given_file}
 use Rattle.moo_commands.proofs.loading.read_world.Goals as goal

@@ -1,8 +1,6 @@
-use Rattle.std.proofs.Common.{◌≢◌, ◌<◌, length, subst}
+use Rattle.moo_commands.proofs.Words.{◌≢◌, ◌<◌, length, subst, State, IsHeld}
 use Rattle.std.proofs.lemmas.Result.{err_from_is_err_and}
-use Rattle.moo_world.specs.Judge.{State}
 use Rattle.moo_dump.specs.Dump.{dump as dump_of}
-use Rattle.moo_load.specs.OneState.{IsHeld}
 use Rattle.moo_load.specs.declared.fault.LoadFault.TheVariants.{OutOfMemory}
 use Rattle.moo_commands.proofs.Dumps.{unread, no_dump}
 use Rattle.moo_commands.proofs.loading.rows_of.Goals as goal

@@ -1,4 +1,4 @@
-use Rattle.moo_commands.specs.Lines.{damaged_line}
+use Rattle.moo_commands.proofs.Words.{damaged_line}
 use Rattle.moo_commands.proofs.Reporting.{writes_made}
 use Rattle.moo_commands.proofs.output.put_damage.Goals as goal
 

@@ -1,4 +1,4 @@
-use Rattle.moo_commands.specs.Lines.{not_a_dump_line}
+use Rattle.moo_commands.proofs.Words.{not_a_dump_line}
 use Rattle.moo_commands.proofs.Reporting.{writes_made}
 use Rattle.moo_commands.proofs.output.put_not_a_dump.Goals as goal
 

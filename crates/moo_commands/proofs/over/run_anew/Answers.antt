@@ -1,7 +1,4 @@
-use Rattle.std.proofs.Common.{inl, inr, true, refl}
-use Rattle.moo_rows.specs.Opening.{opening_maps}
-use Rattle.moo_world.specs.Judge.{state_of}
-use Rattle.moo_commands.specs.Given.{given_to}
+use Rattle.moo_commands.proofs.Words.{inl, inr, true, refl, opening_maps, state_of, given_to}
 use Rattle.moo_commands.proofs.Beginning.{begins_opening}
 use Rattle.moo_commands.proofs.Connections.{of_making, surely_ends}
 use Rattle.moo_commands.proofs.over.run_anew.Goals as goal
@@ -9,7 +6,7 @@ use Rattle.moo_commands.proofs.over.run_anew.Goals as goal
 pub returns-in-Ok-clause-runs : goal.returns-in-Ok-clause-runs
 returns-in-Ok-clause-runs g c =
     let s = state_of opening_maps in
-    inr (s, begins_opening c.args.task (given_to g.R.Read g.H.BatchFiles g.H.Ports g.H.Source.Arrivals g.H.Source.Reader.Read g.H.Source.Writer.Write c.args.input.now c.args.host.now c.run_in.new.host) c.requires.load, surely_ends _ _ _ _ _ _ _ _ _ _ (c.run_in.ensures.runs true s c.in-Ok.ensures.stands))
+    inr (s, begins_opening c.args.task.action (given_to g.R.Read g.H.BatchFiles g.H.Ports g.H.Source.Arrivals g.H.Source.Reader.Read g.H.Source.Writer.Write c.args.input.now c.args.host.now c.run_in.new.host) c.requires.load, surely_ends _ _ _ _ _ _ _ _ _ _ (c.run_in.ensures.runs true s c.in-Ok.ensures.stands))
 
 pub returns-in-Err-clause-runs : goal.returns-in-Err-clause-runs
 returns-in-Err-clause-runs g c = inl (refl, (c.from.result, inl (of_making c.in-Err.fault c.from.result c.from.ensures c.in-Err.ensures.fault), c.report.ensures))

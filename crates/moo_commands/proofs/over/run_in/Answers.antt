@@ -1,8 +1,4 @@
-use Rattle.std.proofs.Common.{sym, subst}
-use Rattle.sqlite.specs.Held.{state}
-use Rattle.moo_store.specs.World.{store_of}
-use Rattle.moo_commands.specs.Given.{given_to}
-use Rattle.moo_commands.specs.Run.{LeavesNothingNew}
+use Rattle.moo_commands.proofs.Words.{sym, subst, state, store_of, given_to, LeavesNothingNew}
 use Rattle.moo_commands.proofs.Tasks.{unmoved}
 use Rattle.moo_commands.proofs.Connections.{runs_to, late_clean_of}
 use Rattle.moo_commands.proofs.over.run_in.Goals as goal

@@ -1,6 +1,4 @@
-use Rattle.std.proofs.Common.{inl, inr, true, refl, ◌∙◌}
-use Rattle.moo_world.specs.Judge.{state_of}
-use Rattle.moo_commands.specs.Given.{given_to}
+use Rattle.moo_commands.proofs.Words.{inl, inr, true, refl, ◌∙◌, state_of, given_to}
 use Rattle.moo_commands.proofs.Beginning.{begins_dumped, held_rows, refuses_dump, reads_dump, keeps_input, of_other_texts}
 use Rattle.moo_commands.proofs.Connections.{of_making, surely_ends}
 use Rattle.moo_commands.proofs.over.run_loaded.Goals as goal
@@ -11,7 +9,7 @@ returns-in-Ok-load_in-clause-runs g c =
     let s = state_of c.in-Ok.rows.maps in
     inr (
       s,
-      begins_dumped c.args.task given c.args.dump.now s c.requires.load c.requires.word c.in-Ok.ensures.dumped (held_rows c.in-Ok.rows.maps c.in-Ok.ensures.good c.in-Ok.ensures.limit),
+      begins_dumped c.args.task.action given c.args.dump.now s c.requires.load c.requires.word c.in-Ok.ensures.dumped (held_rows c.in-Ok.rows.maps c.in-Ok.ensures.good c.in-Ok.ensures.limit),
       of_other_texts c.args.task c.requires.load s _ given _ _ _ _ _ _ _ (surely_ends _ _ _ _ _ _ _ _ _ _ (c.run_in.ensures.runs true s c.in-Ok-load_in.ensures.stands)) (λ rests. rests),
     )
 
@@ -25,7 +23,7 @@ read_world-requires g c = record { read = λ other. c.requires.read c.args.dump.
 pub returns-in-Err-clause-runs : goal.returns-in-Err-clause-runs
 returns-in-Err-clause-runs g c =
     let given = given_to g.R.Read g.H.BatchFiles g.H.Ports g.H.Source.Arrivals g.H.Source.Reader.Read g.H.Source.Writer.Write c.args.input.now c.args.host.now c.args.host.now in
-    inl (refl, (c.in-Err.failure, inr (c.requires.load, refuses_dump c.args.task given c.args.dump.now c.in-Err.failure c.requires.word c.in-Err.ensures.failure), c.report.ensures))
+    inl (refl, (c.in-Err.failure, inr (c.requires.load, refuses_dump c.args.task.action given c.args.dump.now c.in-Err.failure c.requires.word c.in-Err.ensures.failure), c.report.ensures))
 
 pub returns-in-Err-clause-input : goal.returns-in-Err-clause-input
 returns-in-Err-clause-input g c other = c.in-Err.ensures.input (keeps_input c.args.task c.args.dump.now c.requires.load c.requires.word other)

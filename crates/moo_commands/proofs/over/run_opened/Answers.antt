@@ -1,7 +1,4 @@
-use Rattle.std.proofs.Common.{inl, inr, true, false, refl, subst}
-use Rattle.sqlite.specs.Held.{state}
-use Rattle.moo_world.specs.Judge.{state_of}
-use Rattle.moo_commands.specs.Lines.{Reports}
+use Rattle.moo_commands.proofs.Words.{inl, inr, true, false, refl, subst, state, state_of, Reports}
 use Rattle.moo_commands.proofs.Connections.{of_opening, of_refusal, as_before, surely_ends, unseen}
 use Rattle.moo_commands.proofs.over.run_opened.Goals as goal
 

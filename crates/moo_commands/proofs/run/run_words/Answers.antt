@@ -1,4 +1,4 @@
-use Rattle.std.proofs.Common.{map, inr, refl, sym, subst, ◌<◌}
+use Rattle.moo_commands.proofs.Words.{map, inr, refl, sym, subst, ◌<◌}
 use Rattle.std.proofs.lemmas.List.{length-map}
 use Rattle.moo_commands.proofs.run.run_words.Goals as goal
 

@@ -1,4 +1,4 @@
-use Rattle.std.proofs.Common.{◌≡◌, map, take, string_bytes}
+use Rattle.moo_commands.proofs.Words.{◌≡◌, map, take, string_bytes}
 use Rattle.moo_commands.proofs.standard.borrowed.Given as goal
 
 abbrev pub invariant-loop-word : goal.invariant-loop-word

@@ -1,10 +1,5 @@
-use Rattle.std.proofs.Common.{List, ℕ, Bor, map, string_bytes, inr, IfOk, ap, subst, ◌∙◌}
-use Rattle.sqlite.specs.WalFiles.{image_at}
-use Rattle.moo_words.specs.declared.task.Task.{Task}
+use Rattle.moo_commands.proofs.Words.{List, ℕ, Bor, map, string_bytes, inr, IfOk, ap, subst, ◌∙◌, image_at, Task, given_to, ReadsFile, KeepsInput, RunsClosed}
 use Rattle.moo_words.specs.Tasks.{NamesTask}
-use Rattle.moo_commands.specs.Given.{given_to}
-use Rattle.moo_commands.specs.Run.{file_of, ReadsFile, KeepsInput}
-use Rattle.moo_commands.specs.Ends.{RunsClosed}
 use Rattle.moo_commands.proofs.standard.run_given.Goals as goal
 
 pub run_to_end-closed-requires-clause-read : goal.run_to_end-closed-requires-clause-read
@@ -27,5 +22,5 @@ returns-clause-input g c =
 pub run_to_end-closed-requires-clause-may : goal.run_to_end-closed-requires-clause-may
 run_to_end-closed-requires-clause-may g c task names =
     let same = ap (λ (words : List (Bor (List ℕ))). map (λ word. word.now) words) c.deref-2.ensures.value ∙ (c.in-Ok-borrowed.ensures ∙ ap (map string_bytes) c.deref.ensures.value) in
-    let may = subst (λ r. IfOk r (λ words. (task : Task) → NamesTask (map string_bytes words.items) task → g.H.WorldFiles.may_open c.args.host.now (file_of task))) c.in-Ok.is c.requires.may in
+    let may = subst (λ r. IfOk r (λ words. (task : Task) → NamesTask (map string_bytes words.items) task → g.H.WorldFiles.may_open c.args.host.now task.file.now)) c.in-Ok.is c.requires.may in
     may task (subst (λ words. NamesTask words task) same names)

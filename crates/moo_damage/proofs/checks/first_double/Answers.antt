@@ -1,7 +1,6 @@
-use Rattle.moo_damage.proofs.Words.{rules, ◌≡◌, option_map, prop_exact, props_left, prop_total, is_double}
+use Rattle.moo_damage.proofs.Words.{rules, ◌≡◌, option_map, prop_exact, props_left, prop_total, is_double, tests}
 use Rattle.moo_damage.proofs.Found.{first_failing}
 use Rattle.moo_damage.proofs.checks.first_double.Goals as goal
-use borrow.Author.Tests.{tests}
 
 pub returns : goal.returns
 returns g c =

@@ -1,7 +1,6 @@
-use Rattle.moo_damage.proofs.Words.{rules, ◌≡◌, option_map, object_exact, objects_left, object_total, is_lost}
+use Rattle.moo_damage.proofs.Words.{rules, ◌≡◌, option_map, object_exact, objects_left, object_total, is_lost, tests}
 use Rattle.moo_damage.proofs.Found.{first_failing}
 use Rattle.moo_damage.proofs.checks.first_lost.Goals as goal
-use borrow.Author.Tests.{tests}
 
 pub returns : goal.returns
 returns g c =

@@ -1,7 +1,6 @@
-use Rattle.moo_damage.proofs.Words.{rules, ◌≡◌, true, false, subst, option_map, prop_exact, props_left, prop_total, is_prop_past, IsLeastBad}
+use Rattle.moo_damage.proofs.Words.{rules, ◌≡◌, true, false, subst, option_map, prop_exact, props_left, prop_total, is_prop_past, IsLeastBad, tests}
 use Rattle.moo_damage.proofs.Found.{first_failing}
 use Rattle.moo_damage.proofs.checks.first_prop_past.Goals as goal
-use borrow.Author.Tests.{tests}
 
 pub returns : goal.returns
 returns g c =

@@ -1,7 +1,6 @@
-use Rattle.moo_damage.proofs.Words.{rules, ◌≡◌, option_map, slot_exact, slots_left, slot_total, is_strange}
+use Rattle.moo_damage.proofs.Words.{rules, ◌≡◌, option_map, slot_exact, slots_left, slot_total, is_strange, tests}
 use Rattle.moo_damage.proofs.Found.{first_failing}
 use Rattle.moo_damage.proofs.checks.first_strange.Goals as goal
-use borrow.Author.Tests.{tests}
 
 pub returns : goal.returns
 returns g c =

@@ -1,7 +1,6 @@
-use Rattle.moo_damage.proofs.Words.{rules, ◌≡◌, option_map, verb_exact, verbs_left, verb_total, is_strange_verb}
+use Rattle.moo_damage.proofs.Words.{rules, ◌≡◌, option_map, verb_exact, verbs_left, verb_total, is_strange_verb, tests}
 use Rattle.moo_damage.proofs.Found.{first_failing}
 use Rattle.moo_damage.proofs.checks.first_strange_verb.Goals as goal
-use borrow.Author.Tests.{tests}
 
 pub returns : goal.returns
 returns g c =

@@ -1,7 +1,6 @@
-use Rattle.moo_damage.proofs.Words.{rules, ◌≡◌, option_map, slot_exact, slots_left, slot_total, is_clear_definer}
+use Rattle.moo_damage.proofs.Words.{rules, ◌≡◌, option_map, slot_exact, slots_left, slot_total, is_clear_definer, tests}
 use Rattle.moo_damage.proofs.Found.{first_failing}
 use Rattle.moo_damage.proofs.checks.search_clear.Goals as goal
-use borrow.Author.Tests.{tests}
 
 pub returns : goal.returns
 returns g c =

@@ -1,4 +1,4 @@
-use Rattle.moo_damage.proofs.Words.{Option, None, Some, subst, IfNone, Parent, Place, LinksEnd, InRows}
+use Rattle.moo_damage.proofs.Words.{Option, None, Some, subst, IfNone, Parent, Location, LinksEnd, InRows}
 use Rattle.moo_damage.proofs.Good.{tree_of, good}
 use Rattle.moo_damage.proofs.InTurn.{first_told}
 use Rattle.moo_damage.proofs.damage.damage_of.Goals as goal
@@ -11,19 +11,19 @@ pub slots_hold-requires-clause-tree : goal.slots_hold-requires-clause-tree
 slots_hold-requires-clause-tree g c =
     let m = (g.R.Rows.held c.args.rows.now).maps in
     tree_of m c.in_default.ensures.given (subst (λ o. IfNone o (LinksEnd Parent m)) c.in_default-2.is c.in_ok-damage.ensures.ends)
-    (subst (λ o. IfNone o (LinksEnd Place m)) c.in_default-3.is c.in_ok-damage-2.ensures.ends)
+    (subst (λ o. IfNone o (LinksEnd Location m)) c.in_default-3.is c.in_ok-damage-2.ensures.ends)
 
 pub wrong_prop-requires-clause-tree : goal.wrong_prop-requires-clause-tree
 wrong_prop-requires-clause-tree g c =
     let m = (g.R.Rows.held c.args.rows.now).maps in
     tree_of m c.in_default.ensures.given (subst (λ o. IfNone o (LinksEnd Parent m)) c.in_default-2.is c.in_ok-damage.ensures.ends)
-    (subst (λ o. IfNone o (LinksEnd Place m)) c.in_default-3.is c.in_ok-damage-2.ensures.ends)
+    (subst (λ o. IfNone o (LinksEnd Location m)) c.in_default-3.is c.in_ok-damage-2.ensures.ends)
 
 pub wrong_slot-requires-clause-tree : goal.wrong_slot-requires-clause-tree
 wrong_slot-requires-clause-tree g c =
     let m = (g.R.Rows.held c.args.rows.now).maps in
     tree_of m c.in_default.ensures.given (subst (λ o. IfNone o (LinksEnd Parent m)) c.in_default-2.is c.in_ok-damage.ensures.ends)
-    (subst (λ o. IfNone o (LinksEnd Place m)) c.in_default-3.is c.in_ok-damage-2.ensures.ends)
+    (subst (λ o. IfNone o (LinksEnd Location m)) c.in_default-3.is c.in_ok-damage-2.ensures.ends)
 
 pub slots_hold-requires-clause-numbered : goal.slots_hold-requires-clause-numbered
 slots_hold-requires-clause-numbered g c id p e = (c.requires.props id p e).0
@@ -35,7 +35,7 @@ returns-clause-good g c =
     (λ slots. good m c.requires (record {
       numbers = c.in_default.ensures.given;
       chains = subst (λ o. IfNone o (LinksEnd Parent m)) c.in_default-2.is c.in_ok-damage.ensures.ends;
-      places = subst (λ o. IfNone o (LinksEnd Place m)) c.in_default-3.is c.in_ok-damage-2.ensures.ends;
+      locations = subst (λ o. IfNone o (LinksEnd Location m)) c.in_default-3.is c.in_ok-damage-2.ensures.ends;
       props = c.in_default-wrong_prop.ensures.right;
       slots = slots;
     })) c.wrong_slot.ensures.right

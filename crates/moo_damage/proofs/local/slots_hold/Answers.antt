@@ -1,5 +1,4 @@
-use Rattle.moo_damage.proofs.Words.{Bool, true, false, Some, sym, ◌∙◌, ◌≡◌, get, both_ways, PropId, PropRow, NamesApart, SlotsHold}
-use Rattle.std.proofs.Common.{Ok, Err, IfOk}
+use Rattle.moo_damage.proofs.Words.{Bool, true, false, Some, sym, ◌∙◌, ◌≡◌, get, both_ways, PropId, PropRow, NamesApart, SlotsHold, Ok, Err, IfOk}
 use Rattle.moo_damage.proofs.Locally.{slots_hold}
 use Rattle.moo_damage.proofs.Nearby.{local}
 use Rattle.moo_damage.proofs.Soundly.{each_has_own, each_comes_down, none_lacks_one}

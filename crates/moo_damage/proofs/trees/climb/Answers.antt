@@ -1,5 +1,4 @@
-use Rattle.moo_damage.proofs.Words.{◌≡◌, true, Some, ◌⊎◌, sym, subst, arith, is_some, AllByRecursion, get, nothing, Climbs, next_of, HasEnd}
-use Rattle.moo_world.proofs.Shown.EntriesInOrder.{all_then}
+use Rattle.moo_damage.proofs.Words.{◌≡◌, true, Some, ◌⊎◌, sym, subst, arith, is_some, AllByRecursion, get, nothing, Climbs, next_of, HasEnd, all_then}
 use Rattle.moo_damage.proofs.Ending.{ends_here, step_up, step_down, bound}
 use Rattle.moo_damage.proofs.trees.climb.Goals as goal
 

@@ -25,5 +25,5 @@ pub returns : goal.returns
 returns g c =
     let P = λ (e : g.row.K.Denot × Option g.row.V.Denot). g.B.Base.row_at c.args.base e.0 ≡ e.1 in
     let all = all-seen P c.args.changes.entries c.loop-key.changed.items c.loop-key.key-iterator c.in-None.ensures.steps.0 c.loop-key.invariant in
-    without-changes g.met.K.Ord.total g.met.K.Key.exact (g.B.Base.row_at c.args.base) c.args.changes c.from_vec.result c.into_iter-key-iterator.ensures.into_iter_gives.5
+    without-changes g.met.K.Ord.total g.met.K.OrderedKey.exact (g.B.Base.row_at c.args.base) c.args.changes c.from_vec.result c.into_iter-key-iterator.ensures.into_iter_gives.5
     (subst (Without P c.args.changes.entries) (sym c.from_vec.ensures) all)

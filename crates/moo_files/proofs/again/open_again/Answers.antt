@@ -1,8 +1,4 @@
-use Rattle.sqlite.specs.Files.{over_files}
-use Rattle.sqlite.specs.State.{HasCleanDisk}
-use Rattle.moo_cells.specs.Shows.{ShowsRows}
-use Rattle.moo_store.specs.World.{store_of}
-use Rattle.moo_files.specs.Contents.{HoldsTables}
+use Rattle.moo_files.proofs.Words.{over_files, HasCleanDisk, ShowsRows, store_of, HoldsTables}
 use Rattle.moo_files.proofs.AgainLemmas.{held_after, led_again, each_ok}
 use Rattle.moo_files.proofs.again.open_again.Goals as goal
 

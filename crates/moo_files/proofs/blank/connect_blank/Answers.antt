@@ -1,15 +1,6 @@
-use Rattle.std.proofs.Common.{◌≡◌, ◌∙◌, false, ap, sym, subst, subst₂, inl, inr, arith}
-use Rattle.sqlite_wal.specs.Files.{seen_image, outcomes}
-use Rattle.sqlite_wal.specs.PageSize.{bytes_of, IsPageSize}
-use Rattle.sqlite_wal.specs.Reads.{are_clean, AreClean}
-use Rattle.sqlite_pool.specs.Opening.{IsBlankFile}
-use Rattle.sqlite_pool.specs.Stored.{stored_size}
+use Rattle.moo_files.proofs.Words.{◌≡◌, ◌∙◌, false, ap, sym, subst, subst₂, inl, inr, arith, seen_image, outcomes, bytes_of, IsPageSize, are_clean, AreClean, IsBlankFile, stored_size, state_of, image, clean_of, no_doubt, IsEmpty, image_of, stored_used}
 use Rattle.sqlite_store.specs.FileStore.{view}
 use Rattle.sqlite_store.specs.Laws.{settled_at}
-use Rattle.sqlite_store.specs.Unopened.{state_of, image}
-use Rattle.sqlite_trees.proofs.Doubt.{clean_of, no_doubt}
-use Rattle.sqlite.specs.Files.{IsEmpty, image_of}
-use Rattle.sqlite.proofs.FileLemmas.{stored_used}
 use Rattle.sqlite.proofs.OpenLemmas.{pool_files}
 use Rattle.moo_files.proofs.BlankLemmas.{on_the_way}
 use Rattle.moo_files.proofs.blank.connect_blank.Goals as goal

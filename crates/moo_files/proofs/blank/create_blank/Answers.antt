@@ -1,7 +1,4 @@
-use Rattle.std.proofs.Common.{ap, ◌∙◌, arith}
-use Rattle.sqlite_store.specs.Listing.{listed_from}
-use Rattle.sqlite_store.specs.Listed.{catalog_rows}
-use Rattle.sqlite_trees.proofs.Doubt.{no_doubt}
+use Rattle.moo_files.proofs.Words.{ap, ◌∙◌, arith, listed_from, catalog_rows, no_doubt}
 use Rattle.moo_files.proofs.blank.create_blank.Goals as goal
 
 pub returns-in-Ok-clause-made : goal.returns-in-Ok-clause-made

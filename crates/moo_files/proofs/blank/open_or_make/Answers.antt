@@ -1,9 +1,4 @@
-use Rattle.std.proofs.Common.{◌≡◌, ◌∙◌, sym, subst, inl, inr, rules, true, false}
-use Rattle.sqlite_wal.specs.PageSize.{bytes_of}
-use Rattle.sqlite_pool.specs.Opening.{IsBlankFile}
-use Rattle.sqlite.specs.Files.{HoldsDatabase, image_of}
-use Rattle.sqlite.proofs.FileLemmas.{same_image}
-use Rattle.moo_files.specs.Blank.{IsBlank}
+use Rattle.moo_files.proofs.Words.{◌≡◌, ◌∙◌, sym, subst, inl, inr, rules, true, false, bytes_of, IsBlankFile, HoldsDatabase, image_of, same_image, IsBlank}
 use Rattle.moo_files.proofs.BlankLemmas.{holds_none, blank_earlier, files_earlier, finds_earlier, each_ok, both_ok, each_err, both_err}
 use Rattle.moo_files.proofs.blank.open_or_make.Goals as goal
 

@@ -1,18 +1,82 @@
-use Rattle.sqlite_trees.proofs.Doubt.{no_doubt}
+use Rattle.std.proofs.Common.{◌≡◌, IsTrue, arith, sym, ap, subst, ◌∙◌}
+use Rattle.sqlite_wal.specs.Files.{outcomes}
+use Rattle.sqlite_wal.specs.Reads.{AreClean}
+use Rattle.sqlite_wal.specs.Recovery.{Image}
+use Rattle.sqlite_wal.proofs.StateLemmas.{open_from}
+use Rattle.sqlite_pool.proofs.StateLemmas.{clean_is, may_leave_is}
+use Rattle.sqlite_store.specs.FileStore.{state, view}
+use Rattle.sqlite_trees.specs.View.{View, IsClean}
+use Rattle.sqlite_trees.proofs.Doubt.{clean_of as sure, no_doubt}
+use Rattle.sqlite.specs.Closing.{HoldsAlone}
+use Rattle.sqlite.proofs.Theorems.{copied}
+use Rattle.moo_files.proofs.ClosingLemmas.{quiet_then}
 use Rattle.moo_files.proofs.ContentsLemmas.{none_below}
 use Rattle.moo_files.proofs.closing.close_connection.Goals as goal
 
+-- ---- the log was copied
+
+pub returns-in-Ok-clause-copied : goal.returns-in-Ok-clause-copied
+returns-in-Ok-clause-copied g c honest =
+    let back = c.into_store-store.result in
+    let before = c.rollback.new.self in
+    let last = c.checkpoint.new.self in
+    let q = c.checkpoint.ensures.quiet in
+    let stays = g.met.D.Disk.seen_may_stay in
+    let sure_now = subst (λ p. AreClean g.D.Disk p.0 p.1) c.close.ensures honest in
+    let none : IsClean (view last) = no_doubt _ (clean_is last.pool ∙ sure_now) in
+    let clean : IsClean (view before) = omega (arith, q.clean) in
+    let early : IsClean (view back) = omega (arith, c.rollback.ensures.quiet.clean) in
+    let h = open_from (state before) c.in-Ok.ensures.ready (sure (view before).is_clean clean) in
+    let second = c.rollback.ensures.undone.kept clean in
+    let first = c.into_store-store.ensures.undone.kept early in
+    let on = c.in-Ok.ensures.open none in
+    let same = c.checkpoint.ensures.same on in
+    let numbered : IsTrue (view last).is_numbered = ap (λ (v : View). v.is_numbered) same ∙ second.numbered ∙ c.into_store-store.ensures.numbered early in
+    let committed : (view last).committed ≡ (view c.args.conn.store).committed = ap (λ (v : View). v.committed) same ∙ second.committed h ∙ first.committed (second.was_open h) in
+    let each = λ (image : Image) (may : outcomes g.D.Disk c.close.result.log c.close.result.db image).
+    subst (HoldsAlone image) committed (copied last stays on numbered
+    (λ db found. c.into_store-store.ensures.sound early db (c.rollback.ensures.quiet.outcomes db (q.outcomes db found)))
+    (c.in-Ok.ensures.moved (c.rollback.ensures.logged (second.was_open h))) image
+    (may_leave_is last.pool image sure_now (subst (λ p. outcomes g.D.Disk p.0 p.1 image) c.close.ensures may))) in
+    record {
+      was_clean = omega (arith, c.into_store-store.ensures.quiet.clean);
+      was_open = first.was_open (second.was_open h);
+      seen = each _ (stays _, stays _);
+      left = each;
+    }
+
 pub returns-in-Ok-clause-clean : goal.returns-in-Ok-clause-clean
-returns-in-Ok-clause-clean g c clean = (c.in-Ok.ensures.copied clean).was_clean
+returns-in-Ok-clause-clean g c clean = (returns-in-Ok-clause-copied g c clean).was_clean
 
 pub returns-in-Ok-clause-left : goal.returns-in-Ok-clause-left
 returns-in-Ok-clause-left g c clean =
-    let it = c.in-Ok.ensures.copied clean in
+    let it = returns-in-Ok-clause-copied g c clean in
     let stays = c.leave_commit.ensures.stays it.was_open in
     (record { trees = _; holds = it.seen.both; such = stays }, λ found lies. record { trees = _; holds = (it.left found lies).both; such = stays })
 
+pub returns-in-Ok-clause-numbered : goal.returns-in-Ok-clause-numbered
+returns-in-Ok-clause-numbered g c honest =
+    let last = c.checkpoint.new.self in
+    let none : IsClean (view last) = no_doubt _ (clean_is last.pool ∙ subst (λ p. AreClean g.D.Disk p.0 p.1) c.close.ensures honest) in
+    let early : IsClean (view c.into_store-store.result) = omega (arith, c.rollback.ensures.quiet.clean, c.checkpoint.ensures.quiet.clean) in
+    sym c.into_store-store.ensures.undone.numbered ∙ c.into_store-store.ensures.numbered early
+
+-- ---- closing failed
+
+pub returns-in-Err-clause-copied : goal.returns-in-Err-clause-copied
+returns-in-Err-clause-copied g c = record {
+  quiet = quiet_then (quiet_then c.into_store-store.ensures.quiet c.rollback.ensures.quiet) c.checkpoint.ensures.quiet;
+  sound = λ none db may.
+      c.into_store-store.ensures.sound (omega (arith, none, c.checkpoint.ensures.quiet.clean, c.rollback.ensures.quiet.clean)) db (c.rollback.ensures.quiet.outcomes db (c.checkpoint.ensures.quiet.outcomes db may));
+}
+
 pub returns-in-Err-clause-clean : goal.returns-in-Err-clause-clean
-returns-in-Err-clause-clean g c clean = none_below _ _ c.in-Err.ensures.err.0.quiet.clean (no_doubt _ clean)
+returns-in-Err-clause-clean g c clean = none_below _ _ (returns-in-Err-clause-copied g c).quiet.clean (no_doubt _ clean)
 
 pub returns-in-Err-clause-left : goal.returns-in-Err-clause-left
-returns-in-Err-clause-left g c clean = λ trees lies. c.in-Err.ensures.err.0.quiet.outcomes trees lies
+returns-in-Err-clause-left g c clean = λ trees lies. (returns-in-Err-clause-copied g c).quiet.outcomes trees lies
+
+pub returns-in-Err-clause-numbered : goal.returns-in-Err-clause-numbered
+returns-in-Err-clause-numbered g c clean =
+    let early : IsClean (view c.into_store-store.result) = none_below _ _ (quiet_then c.rollback.ensures.quiet c.checkpoint.ensures.quiet).clean (no_doubt _ clean) in
+    sym c.into_store-store.ensures.undone.numbered ∙ c.into_store-store.ensures.numbered early

@@ -1,10 +1,4 @@
-use Rattle.std.proofs.Common.{inl, ◌≡◌, refl, sym, subst}
-use Rattle.sqlite.specs.Files.{over_files, file_state}
-use Rattle.sqlite.specs.WalFiles.{image_at}
-use Rattle.moo_store.specs.Opening.{Adopts}
-use Rattle.moo_store.specs.States.{LeavesState}
-use Rattle.moo_store.specs.World.{store_of}
-use Rattle.moo_files.specs.Contents.{IsKept}
+use Rattle.moo_files.proofs.Words.{inl, ◌≡◌, refl, sym, subst, over_files, file_state, image_at, Adopts, LeavesState, store_of, IsKept}
 use Rattle.moo_files.proofs.ContentsLemmas.{was_clean, rests_held, shows_held, left_held, left_none, empty_other, foreign_other, unsound_other, reads_ours, reads_something, own_tables, kept_or_migrated, kept_state}
 use Rattle.moo_files.proofs.RefusalLemmas.{takes_for_ours, unfit_sound}
 use Rattle.moo_files.proofs.RemainsLemmas.{keeps_more}
@@ -25,6 +19,13 @@ returns-in-Ok-adopt_files-clause-only g c tables holds clean =
     let early = was_clean (file_state conn) (store_of over_files c.in-Ok-adopt_files.world) (Adopts (file_state conn)) c.in-Ok-adopt_files.ensures.crash clean in
     let opened = c.in-Ok.ensures.opened early in
     (c.in-Ok-adopt_files.ensures.shown clean tables (rests_held (image_at g.T.Start) (file_state conn) tables opened.0 opened.1 (c.in-Ok.ensures.found early) holds)).0
+
+pub returns-in-Ok-adopt_files-clause-rests : goal.returns-in-Ok-adopt_files-clause-rests
+returns-in-Ok-adopt_files-clause-rests g c tables holds clean =
+    let conn = c.in-Ok.conn in
+    let early = was_clean (file_state conn) (store_of over_files c.in-Ok-adopt_files.world) (Adopts (file_state conn)) c.in-Ok-adopt_files.ensures.crash clean in
+    let opened = c.in-Ok.ensures.opened early in
+    c.in-Ok-adopt_files.ensures.rests clean tables (rests_held (image_at g.T.Start) (file_state conn) tables opened.0 opened.1 (c.in-Ok.ensures.found early) holds)
 
 pub returns-in-Ok-adopt_files-clause-crash : goal.returns-in-Ok-adopt_files-clause-crash
 returns-in-Ok-adopt_files-clause-crash g c s holds clean =

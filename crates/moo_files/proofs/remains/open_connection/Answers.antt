@@ -1,6 +1,4 @@
-use Rattle.std.proofs.Common.{sym, subst, inl}
-use Rattle.sqlite.specs.Files.{HoldsDatabase, AreFoundIn, file_state}
-use Rattle.sqlite.specs.WalFiles.{image_at}
+use Rattle.moo_files.proofs.Words.{sym, subst, inl, HoldsDatabase, AreFoundIn, file_state, image_at}
 use Rattle.moo_files.proofs.RefusalLemmas.{opened_own, opened_malformed, unopened_malformed}
 use Rattle.moo_files.proofs.RemainsLemmas.{leftover_keeps, leftover_blank, leftover_spares, unopened_keeps, unopened_blank, unopened_spares}
 use Rattle.moo_files.proofs.remains.open_connection.Goals as goal

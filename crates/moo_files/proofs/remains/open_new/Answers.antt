@@ -1,7 +1,4 @@
-use Rattle.std.proofs.Common.{sym, subst, inl, inr}
-use Rattle.sqlite.specs.Files.{HoldsDatabase, AreFoundIn, file_state}
-use Rattle.sqlite.specs.WalFiles.{image_at}
-use Rattle.moo_files.specs.Blank.{IsBlank}
+use Rattle.moo_files.proofs.Words.{sym, subst, inl, inr, HoldsDatabase, AreFoundIn, file_state, image_at, IsBlank}
 use Rattle.moo_files.proofs.RemainsLemmas.{spared_keeps, spared_blank, spared_begun, spared_spares, unopened_keeps, unopened_blank, unopened_spares}
 use Rattle.moo_files.proofs.remains.open_new.Goals as goal
 

@@ -1,5 +1,4 @@
-use Rattle.std.proofs.Common.{◌+◌, ◌&&◌, ap₂, Bool, List, cond}
-use Rattle.sqlite_disk.specs.Events.{Event, replay}
+use Rattle.moo_files.proofs.Words.{◌+◌, ◌&&◌, ap₂, Bool, List, cond, Event, replay}
 use Rattle.moo_files.proofs.StartLemmas.{left_fresh}
 use Rattle.moo_files.proofs.start.fresh_files_hold_start.Goals as goal
 

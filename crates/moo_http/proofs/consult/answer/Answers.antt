@@ -1,5 +1,4 @@
-use Rattle.std.proofs.Common.{refl, inl}
-use Rattle.moo_store.proofs.Untouched.{written_none}
+use Rattle.moo_http.proofs.Words.{refl, inl, written_none}
 use Rattle.moo_http.proofs.consult.answer.Goals as goal
 
 pub returns-in-Refused-clause-comes : goal.returns-in-Refused-clause-comes

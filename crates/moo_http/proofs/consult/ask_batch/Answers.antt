@@ -1,7 +1,4 @@
-use Rattle.std.proofs.Common.{sym, subst}
-use Rattle.moo_request.specs.declared.asked.Asked.TheVariants.{Calls}
-use Rattle.moo_request.specs.declared.asked.Mode.TheVariants.{Ask}
-use Rattle.moo_http.specs.Answers.{MayAnswer}
+use Rattle.moo_http.proofs.Words.{sym, subst, Calls, Ask, MayAnswer}
 use Rattle.moo_http.proofs.Consulting.{asked, came_of}
 use Rattle.moo_http.proofs.consult.ask_batch.Goals as goal
 

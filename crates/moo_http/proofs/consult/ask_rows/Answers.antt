@@ -1,4 +1,4 @@
-use Rattle.std.proofs.Common.{inl, inr, refl, ap}
+use Rattle.moo_http.proofs.Words.{inl, inr, refl, ap}
 use Rattle.moo_responses.specs.declared.outcome.Outcome.TheVariants.{Told}
 use Rattle.moo_http.proofs.consult.ask_rows.Goals as goal
 

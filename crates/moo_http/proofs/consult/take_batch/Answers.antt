@@ -1,4 +1,4 @@
-use Rattle.moo_store.proofs.Untouched.{written_none}
+use Rattle.moo_http.proofs.Words.{written_none}
 use Rattle.moo_http.proofs.consult.take_batch.Goals as goal
 
 pub returns-in-Run-clause-comes : goal.returns-in-Run-clause-comes

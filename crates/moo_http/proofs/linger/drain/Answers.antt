@@ -1,4 +1,4 @@
-use Rattle.std.proofs.Common.{arith}
+use Rattle.moo_http.proofs.Words.{arith}
 use Rattle.moo_http.proofs.Draining.{takes_more}
 use Rattle.moo_http.proofs.linger.drain.Goals as goal
 

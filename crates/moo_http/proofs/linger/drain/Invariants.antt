@@ -1,5 +1,4 @@
-use Rattle.std.proofs.Common.{◌-◌, ◌≤◌}
-use Rattle.moo_http.specs.Linger.{DrainsAtMost}
+use Rattle.moo_http.proofs.Words.{◌-◌, ◌≤◌, DrainsAtMost}
 use Rattle.moo_http.proofs.linger.drain.Given as goal
 
 abbrev pub invariant-pieces : goal.invariant-pieces

@@ -1,6 +1,4 @@
-use Rattle.std.proofs.Common.{[], false}
-use Rattle.moo_http.specs.Turns.{Visited}
-use Rattle.moo_store.proofs.Untouched.{written_none}
+use Rattle.moo_http.proofs.Words.{[], false, Visited, written_none}
 use Rattle.moo_http.proofs.Connections.{connected, stood}
 use Rattle.moo_http.proofs.Turns.{visited, unvisited}
 use Rattle.moo_http.proofs.listen.serve_connection.Goals as goal

@@ -1,8 +1,4 @@
-use Rattle.std.proofs.Common.{◌≡◌, Bool, [], true, false, true≢false, inl, inr, refl, sym, subst, ◌∙◌}
-use Rattle.moo_store.specs.Stand.{Stand}
-use Rattle.moo_http.specs.Connections.{StandsAtEnd}
-use Rattle.moo_http.specs.Turns.{Visited, Visit}
-use Rattle.moo_store.proofs.Untouched.{written_none}
+use Rattle.moo_http.proofs.Words.{◌≡◌, Bool, [], true, false, true≢false, inl, inr, refl, sym, subst, ◌∙◌, Stand, StandsAtEnd, Visited, Visit, written_none}
 use Rattle.moo_http.proofs.Connections.{stood}
 use Rattle.moo_http.proofs.Turns.{ends_as, unvisited}
 use Rattle.moo_http.proofs.listen.serve_next.Goals as goal

@@ -1,7 +1,5 @@
-use Rattle.std.proofs.Common.{◌≡◌, ◌+◌, ◌∷◌, ◌++◌, [], refl, sym, subst, rules}
+use Rattle.moo_http.proofs.Words.{◌≡◌, ◌+◌, ◌∷◌, ◌++◌, [], refl, sym, subst, rules, Visit, AfterTurns, Attended, written_none, moved_then}
 use Rattle.moo_http.specs.declared.listen.Served.{Served}
-use Rattle.moo_http.specs.Turns.{Visit, AfterTurns, Attended}
-use Rattle.moo_store.proofs.Untouched.{written_none, moved_then}
 use Rattle.moo_http.proofs.Turns.{Counted, none_counted, one_answered, one_failed, ends_as, leads_nowhere, leads_on}
 use Rattle.moo_http.proofs.listen.serve_on.Goals as goal
 use Rattle.moo_http.proofs.listen.serve_on.Goals.{then-serve_next, else-serve_next}

@@ -1,7 +1,4 @@
-use Rattle.std.proofs.Common.{Bool, List}
-use Rattle.moo_world.specs.declared.call.Batch.{Batch}
-use Rattle.moo_store.specs.Untouched.{IsMovedBy}
-use Rattle.moo_http.specs.Turns.{AfterTurns}
+use Rattle.moo_http.proofs.Words.{Bool, List, Batch, IsMovedBy, AfterTurns}
 use Rattle.moo_http.proofs.Turns.{Counted, Leads}
 use Rattle.moo_http.proofs.listen.serve_on.Given as goal
 

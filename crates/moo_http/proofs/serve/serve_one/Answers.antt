@@ -1,6 +1,4 @@
-use Rattle.std.proofs.Common.{[], refl, subst}
-use Rattle.moo_request.specs.Request.{Takes}
-use Rattle.moo_store.proofs.Untouched.{written_none}
+use Rattle.moo_http.proofs.Words.{[], refl, subst, Takes, written_none}
 use Rattle.moo_http.proofs.Serving.{unread_at, nothing, served}
 use Rattle.moo_http.proofs.serve.serve_one.Goals as goal
 

@@ -1,5 +1,4 @@
-use Rattle.std.proofs.Common.{subst}
-use Rattle.std.specs.Io.KnownBytes.{Appends}
+use Rattle.moo_http.proofs.Words.{subst, Appends}
 use Rattle.moo_store.proofs.Running.{when_ok}
 use Rattle.moo_http.proofs.Connections.{appends_kept, whole_front}
 use Rattle.moo_http.proofs.service.say.Goals as goal

@@ -1,9 +1,5 @@
-use Rattle.std.proofs.Common.{◌≡◌, [], refl}
-use Rattle.moo_http.specs.Connections.{AfterConnections, ServesPort}
-use Rattle.moo_http.specs.Turns.{Attended, ServesFrom}
-use Rattle.moo_http.specs.Lines.{listening_line}
+use Rattle.moo_http.proofs.Words.{◌≡◌, [], refl, AfterConnections, ServesPort, Attended, ServesFrom, listening_line, written_none}
 use Rattle.moo_http.specs.declared.service.ServiceFault.TheVariants.{OutOfMemory}
-use Rattle.moo_store.proofs.Untouched.{written_none}
 use Rattle.moo_http.proofs.Connections.{stood, no_front, fails_early, says_all}
 use Rattle.moo_http.proofs.Turns.{attended_moves}
 use Rattle.moo_http.proofs.service.serve_from.Goals as goal

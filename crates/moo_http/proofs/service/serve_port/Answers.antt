@@ -1,6 +1,4 @@
-use Rattle.std.proofs.Common.{[], refl}
-use Rattle.moo_http.specs.Turns.{ServesFrom, attended_between, ServesOn}
-use Rattle.moo_store.proofs.Untouched.{written_none}
+use Rattle.moo_http.proofs.Words.{[], refl, ServesFrom, attended_between, ServesOn, written_none}
 use Rattle.moo_http.proofs.Connections.{stood}
 use Rattle.moo_http.proofs.Turns.{ends_as, serves_on}
 use Rattle.moo_http.proofs.service.serve_port.Goals as goal

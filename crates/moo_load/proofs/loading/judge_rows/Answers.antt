@@ -1,6 +1,4 @@
-use Rattle.moo_load.proofs.Words.{Option, subst, ◌∙◌, state_of}
-use Rattle.std.specs.Prelude.{IfSome}
-use Rattle.std.proofs.lemmas.Result.{IfErr-weaker}
+use Rattle.moo_load.proofs.Words.{Option, subst, ◌∙◌, state_of, IfSome, IfErr-weaker}
 use Rattle.moo_damage.specs.declared.kind.Key.{Key}
 use Rattle.moo_damage.specs.declared.kind.Kind.{Kind}
 use Rattle.moo_damage.specs.Kinds.{IsFirstInRows}

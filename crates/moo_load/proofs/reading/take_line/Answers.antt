@@ -1,4 +1,4 @@
-use Rattle.moo_load.proofs.Words.{rules, ◌≡◌, sym, ap, ◌∙◌, err_from_is_err_and, print, Held, list_of, Object, Property, Verb, Petition, entry_values, refl, IfErr-weaker, NumberIsLeft, entry_taken, on_ok_weaker}
+use Rattle.moo_load.proofs.Words.{rules, ◌≡◌, sym, ap, ◌∙◌, err_from_is_err_and, print, Held, list_of, Object, PropertyWord, Verb, Petition, entry_values, refl, IfErr-weaker, NumberIsLeft, entry_taken, on_ok_weaker}
 use Rattle.moo_load.specs.declared.line.Word.TheVariants.{Slot}
 use Rattle.moo_load.proofs.Taken.{word_of, line_is, split_is, of_values, of_word, of_line}
 use Rattle.moo_load.proofs.reading.take_line.Goals as goal
@@ -21,19 +21,30 @@ returns-in_err-values-clause-err c =
 
 pub returns-in-Object-clause-put : goal.returns-in-Object-clause-put
 returns-in-Object-clause-put c =
-    on_ok_weaker c.take_object.result (λ put. of_line c.args.line.now c.in_ok-word.literal.now c.in_ok-word.word Object c.in_ok-values.values.items c.deref.result.now (λ e. c.take_object.new.rows.maps ≡ entry_taken e c.args.rows.now.maps) c.in_ok-word.ensures.ok (search rules) c.deref.ensures.value c.in_ok-values.ensures.ok (λ x row within is. ap (λ (h : Held). h.maps) (put x row is))) c.take_object.ensures.put
+    on_ok_weaker c.take_object.result (λ put. of_line c.args.line.now c.in_ok-word.literal.now c.in_ok-word.word Object c.in_ok-values.values.items
+    c.deref.result.now (λ e. c.take_object.new.rows.maps ≡ entry_taken e c.args.rows.now.maps) c.in_ok-word.ensures.ok
+    (search rules) c.deref.ensures.value c.in_ok-values.ensures.ok (λ x row within is. ap (λ (h : Held). h.maps) (put x row is))) c.take_object.ensures.put
 
 pub returns-in-Object-clause-err : goal.returns-in-Object-clause-err
 returns-in-Object-clause-err c =
-    IfErr-weaker c.take_object.result _ _ (λ fault none unreadable e within room same. of_line c.args.line.now c.in_ok-word.literal.now c.in_ok-word.word Object c.in_ok-values.values.items c.deref.result.now (λ e. NumberIsLeft e c.args.rows.now.maps → ⊥) c.in_ok-word.ensures.ok (search rules) c.deref.ensures.value c.in_ok-values.ensures.ok (λ x row within is room. none unreadable x row within.row is) e within same room) c.take_object.ensures.err
+    IfErr-weaker c.take_object.result _ _ (λ fault none unreadable e within room same.
+    of_line c.args.line.now c.in_ok-word.literal.now c.in_ok-word.word Object c.in_ok-values.values.items c.deref.result.now
+    (λ e. NumberIsLeft e c.args.rows.now.maps → ⊥) c.in_ok-word.ensures.ok (search rules) c.deref.ensures.value c.in_ok-values.ensures.ok
+    (λ x row within is room. none unreadable x row within.row is) e within same room) c.take_object.ensures.err
 
 pub returns-in-Property-clause-put : goal.returns-in-Property-clause-put
 returns-in-Property-clause-put c =
-    on_ok_weaker c.take_property.result (λ put. of_line c.args.line.now c.in_ok-word.literal.now c.in_ok-word.word Property c.in_ok-values.values.items c.deref-in-Property.result.now (λ e. c.take_property.new.rows.maps ≡ entry_taken e c.args.rows.now.maps) c.in_ok-word.ensures.ok (search rules) c.deref-in-Property.ensures.value c.in_ok-values.ensures.ok (λ x n within is. put (record { definer = x; name = n }) is)) c.take_property.ensures.put
+    on_ok_weaker c.take_property.result (λ put. of_line c.args.line.now c.in_ok-word.literal.now c.in_ok-word.word PropertyWord c.in_ok-values.values.items
+    c.deref-in-Property.result.now (λ e. c.take_property.new.rows.maps ≡ entry_taken e c.args.rows.now.maps) c.in_ok-word.ensures.ok
+    (search rules) c.deref-in-Property.ensures.value c.in_ok-values.ensures.ok (λ x n within is. put (record { definer = x; name = n }) is))
+    c.take_property.ensures.put
 
 pub returns-in-Property-clause-err : goal.returns-in-Property-clause-err
 returns-in-Property-clause-err c =
-    IfErr-weaker c.take_property.result _ _ (λ fault none unreadable e within room same. of_line c.args.line.now c.in_ok-word.literal.now c.in_ok-word.word Property c.in_ok-values.values.items c.deref-in-Property.result.now (λ e. NumberIsLeft e c.args.rows.now.maps → ⊥) c.in_ok-word.ensures.ok (search rules) c.deref-in-Property.ensures.value c.in_ok-values.ensures.ok (λ x n within is room. none unreadable room (record { definer = x; name = n }) within.row is) e within same room) c.take_property.ensures.err
+    IfErr-weaker c.take_property.result _ _ (λ fault none unreadable e within room same.
+    of_line c.args.line.now c.in_ok-word.literal.now c.in_ok-word.word PropertyWord c.in_ok-values.values.items c.deref-in-Property.result.now
+    (λ e. NumberIsLeft e c.args.rows.now.maps → ⊥) c.in_ok-word.ensures.ok (search rules) c.deref-in-Property.ensures.value c.in_ok-values.ensures.ok
+    (λ x n within is room. none unreadable room (record { definer = x; name = n }) within.row is) e within same room) c.take_property.ensures.err
 
 pub returns-in-Verb-clause-put : goal.returns-in-Verb-clause-put
 returns-in-Verb-clause-put c =
@@ -41,12 +52,20 @@ returns-in-Verb-clause-put c =
 
 pub returns-in-Verb-clause-err : goal.returns-in-Verb-clause-err
 returns-in-Verb-clause-err c =
-    IfErr-weaker c.take_verb.result _ _ (λ fault none unreadable e within room same. of_line c.args.line.now c.in_ok-word.literal.now c.in_ok-word.word Verb c.in_ok-values.values.items c.deref-in-Verb.result.now (λ e. NumberIsLeft e c.args.rows.now.maps → ⊥) c.in_ok-word.ensures.ok (search rules) c.deref-in-Verb.ensures.value c.in_ok-values.ensures.ok (λ x v within is room. none unreadable room x v within.row is) e within same room) c.take_verb.ensures.err
+    IfErr-weaker c.take_verb.result _ _ (λ fault none unreadable e within room same.
+    of_line c.args.line.now c.in_ok-word.literal.now c.in_ok-word.word Verb c.in_ok-values.values.items c.deref-in-Verb.result.now
+    (λ e. NumberIsLeft e c.args.rows.now.maps → ⊥) c.in_ok-word.ensures.ok (search rules) c.deref-in-Verb.ensures.value c.in_ok-values.ensures.ok
+    (λ x v within is room. none unreadable room x v within.row is) e within same room) c.take_verb.ensures.err
 
 pub returns-in-Petition-clause-put : goal.returns-in-Petition-clause-put
 returns-in-Petition-clause-put c =
-    on_ok_weaker c.take_petition.result (λ put. of_line c.args.line.now c.in_ok-word.literal.now c.in_ok-word.word Petition c.in_ok-values.values.items c.deref-in-Petition.result.now (λ e. c.take_petition.new.rows.maps ≡ entry_taken e c.args.rows.now.maps) c.in_ok-word.ensures.ok (search rules) c.deref-in-Petition.ensures.value c.in_ok-values.ensures.ok (λ e within is. put e.0 e.1 is)) c.take_petition.ensures.put
+    on_ok_weaker c.take_petition.result (λ put. of_line c.args.line.now c.in_ok-word.literal.now c.in_ok-word.word Petition c.in_ok-values.values.items
+    c.deref-in-Petition.result.now (λ e. c.take_petition.new.rows.maps ≡ entry_taken e c.args.rows.now.maps) c.in_ok-word.ensures.ok
+    (search rules) c.deref-in-Petition.ensures.value c.in_ok-values.ensures.ok (λ e within is. put e.0 e.1 is)) c.take_petition.ensures.put
 
 pub returns-in-Petition-clause-err : goal.returns-in-Petition-clause-err
 returns-in-Petition-clause-err c =
-    IfErr-weaker c.take_petition.result _ _ (λ fault none unreadable e within room same. of_line c.args.line.now c.in_ok-word.literal.now c.in_ok-word.word Petition c.in_ok-values.values.items c.deref-in-Petition.result.now (λ e. NumberIsLeft e c.args.rows.now.maps → ⊥) c.in_ok-word.ensures.ok (search rules) c.deref-in-Petition.ensures.value c.in_ok-values.ensures.ok (λ e within is room. none unreadable e.0 e.1 within.row.0 within.row.1 within.row.2 is) e within same room) c.take_petition.ensures.err
+    IfErr-weaker c.take_petition.result _ _ (λ fault none unreadable e within room same.
+    of_line c.args.line.now c.in_ok-word.literal.now c.in_ok-word.word Petition c.in_ok-values.values.items c.deref-in-Petition.result.now
+    (λ e. NumberIsLeft e c.args.rows.now.maps → ⊥) c.in_ok-word.ensures.ok (search rules) c.deref-in-Petition.ensures.value c.in_ok-values.ensures.ok
+    (λ e within is room. none unreadable e.0 e.1 within.row.0 within.row.1 within.row.2 is) e within same room) c.take_petition.ensures.err

@@ -21,8 +21,16 @@ returns-in_err-values-clause-err c =
 
 pub returns-in_ok-values-clause-put : goal.returns-in_ok-values-clause-put
 returns-in_ok-values-clause-put c =
-    IfOk-weaker c.take_slot.result _ _ (λ last put number e within next same. of_line c.args.line.now c.in_ok-word.literal.now c.in_ok-word.word Slot c.in_ok-values.values.items c.deref.result.now (λ e. SlotIsNext number e (c.args.last, c.args.rows.now.maps) → (last, c.take_slot.new.rows.maps) ≡ slot_line_put number e (c.args.last, c.args.rows.now.maps)) c.in_ok-word.ensures.ok (search rules) c.deref.ensures.value c.in_ok-values.ensures.ok (λ x p k within is next. let o = put x p k (number p) is next in λ i. (o.0 i, (o.1 i).maps)) e within same next) c.take_slot.ensures.put
+    IfOk-weaker c.take_slot.result _ _ (λ last put number e within next same.
+    of_line c.args.line.now c.in_ok-word.literal.now c.in_ok-word.word Slot c.in_ok-values.values.items c.deref.result.now
+    (λ e. SlotIsNext number e (c.args.last, c.args.rows.now.maps) → (last, c.take_slot.new.rows.maps)
+    ≡ slot_line_put number e (c.args.last, c.args.rows.now.maps)) c.in_ok-word.ensures.ok (search rules) c.deref.ensures.value c.in_ok-values.ensures.ok
+    (λ x p k within is next. let o = put x p k (number p) is next in λ i. (o.0 i, (o.1 i).maps)) e within same next) c.take_slot.ensures.put
 
 pub returns-in_ok-values-clause-err : goal.returns-in_ok-values-clause-err
 returns-in_ok-values-clause-err c =
-    IfErr-weaker c.take_slot.result _ _ (λ fault none unreadable number e within next same. of_line c.args.line.now c.in_ok-word.literal.now c.in_ok-word.word Slot c.in_ok-values.values.items c.deref.result.now (λ e. SlotIsNext number e (c.args.last, c.args.rows.now.maps) → ⊥) c.in_ok-word.ensures.ok (search rules) c.deref.ensures.value c.in_ok-values.ensures.ok (λ x p k within is next. none unreadable x p k (number p) within.row next is) e within same next) c.take_slot.ensures.err
+    IfErr-weaker c.take_slot.result _ _ (λ fault none unreadable number e within next same.
+    of_line c.args.line.now c.in_ok-word.literal.now c.in_ok-word.word Slot c.in_ok-values.values.items c.deref.result.now
+    (λ e. SlotIsNext number e (c.args.last, c.args.rows.now.maps) → ⊥) c.in_ok-word.ensures.ok
+    (search rules) c.deref.ensures.value c.in_ok-values.ensures.ok (λ x p k within is next. none unreadable x p k (number p) within.row next is) e within
+    same next) c.take_slot.ensures.err

@@ -1,4 +1,4 @@
-use Rattle.moo_load.proofs.Words.{◌≡◌, refl, sym, ap, subst, ◌∙◌, none-some, same_Some, err_from_is_err_and, ObjNo, PropId, SlotRow, Held, Maps, with_slot, Name, Pair, Slot, LastSlot, slot_values, AreRead, dumped_slot, IsNextProperty}
+use Rattle.moo_load.proofs.Words.{◌≡◌, refl, sym, ap, subst, ◌∙◌, none-some, same_Some, err_from_is_err_and, ObjNo, PropId, SlotRow, Held, Maps, with_slot, Name, Property, Slot, LastSlot, slot_values, AreRead, dumped_slot, IsNextProperty}
 use Rattle.moo_load.proofs.One.Values.{one_slot}
 use Rattle.moo_load.proofs.Within.{slot_put}
 use Rattle.moo_load.proofs.taking.take_slot.Goals as goal
@@ -7,14 +7,14 @@ as_slot : ObjNo → SlotRow → Slot
 as_slot definer row = record { definer = definer; owner = row.owner; bits = row.bits; state = row.state }
 
 -- the values of a slot's line tell its object, its property and its row
-told : (x definer : ObjNo) (name : Name) (row : SlotRow) (y : ObjNo) (p : Pair) (k : Slot) → slot_values x definer name row ≡ slot_values y p.0 p.1 (dumped_slot k) → (x ≡ y) × ((definer, name) ≡ p) × (row ≡ dumped_slot k)
+told : (x definer : ObjNo) (name : Name) (row : SlotRow) (y : ObjNo) (p : Property) (k : Slot) → slot_values x definer name row ≡ slot_values y p.0 p.1 (dumped_slot k) → (x ≡ y) × ((definer, name) ≡ p) × (row ≡ dumped_slot k)
 unfolding as_slot
 told x definer name row y p k e =
     let o = one_slot x y (definer, name) p (as_slot definer row) (as_slot p.0 (dumped_slot k)) refl refl e in
     (o.0, o.1, ap dumped_slot o.2)
 
-moved : (m : Maps) (last : LastSlot) (x y : ObjNo) (p q : Pair) (id : PropId) → x ≡ y → p ≡ q → IsNextProperty m last y q id → IsNextProperty m last x p id
-moved m last x y p q id e f next = subst (λ (z : ObjNo). IsNextProperty m last z p id) (sym e) (subst (λ (r : Pair). IsNextProperty m last y r id) (sym f) next)
+moved : (m : Maps) (last : LastSlot) (x y : ObjNo) (p q : Property) (id : PropId) → x ≡ y → p ≡ q → IsNextProperty m last y q id → IsNextProperty m last x p id
+moved m last x y p q id e f next = subst (λ (z : ObjNo). IsNextProperty m last z p id) (sym e) (subst (λ (r : Property). IsNextProperty m last y r id) (sym f) next)
 
 pub returns-clause-read : goal.returns-clause-read
 returns-clause-read c = subst (λ (h : Held). AreRead h.maps) (sym c.in_ok-put_slot.ensures.ok) (slot_put c.args.rows.now (c.in_ok-slot.slot.object, c.in-Some.id) c.in_ok-slot.slot.row c.requires c.in_ok-slot.ensures.fits)

@@ -3,7 +3,7 @@ use Rattle.std.specs.List.{list_all}
 use Rattle.moo_value.specs.Value.{spread}
 use Rattle.moo_world.specs.Outcomes.{given as given_to}
 use Rattle.moo_world.specs.Petitions.{is_named, are_few, are_shallow}
-use Rattle.moo_world.specs.Requests.{are_on_world, ask, petition}
+use Rattle.moo_world.specs.Requests.{are_on_world, petition_filed, petition}
 use Rattle.moo_call_parts.proofs.Passed.{check_passed}
 use Rattle.moo_petitions.specs.Outcomes.{state_in, Reaches}
 use Rattle.moo_petitions.proofs.asking.petition.Goals as goal
@@ -24,5 +24,5 @@ returns-clause-reaches g c =
     ∙ check_passed (are_few calls) _ _ few
     ∙ check_passed (are_on_world calls) _ _ on_world
     ∙ check_passed (are_shallow calls) _ _ shallow
-    ∙ ap (ask s p) (sym same)))
+    ∙ ap (petition_filed s p) (sym same)))
     c.ask.ensures.reaches

@@ -1,5 +1,5 @@
 use Rattle.std.proofs.Common.{rules, ◌≡◌, ◌∙◌}
-use Rattle.moo_world.specs.Changes.{undefined}
+use Rattle.moo_world.specs.Changes.{property_removed}
 use Rattle.moo_call_parts.specs.Outcomes.{world_in}
 use Rattle.moo_props.specs.Names.{spelling_of}
 use Rattle.moo_props.proofs.Quotas.{folded_spelling}
@@ -10,7 +10,7 @@ pub returns-clause-comes : goal.returns-clause-comes
 returns-clause-comes g c =
     let m = (g.R.Rows.held c.args.rows.now).maps in
     let w = world_in (g.R.Rows.held c.args.rows.now) in
-    let left : world_in (g.R.Rows.held c.undefine.new.rows) ≡ undefined w c.args.x c.args.name.now =
+    let left : world_in (g.R.Rows.held c.undefine.new.rows) ≡ property_removed w c.args.x c.args.name.now =
     c.in_ok-undefine.ensures.world
     ∙ undefined_named w c.args.x (spelling_of m c.in-Some.id) c.args.name.now (folded_spelling m c.in-Some.id ∙ c.in-Some.ensures.named)
     in search rules

@@ -1,8 +1,7 @@
 use Rattle.moo_props.proofs.Words.{FitsSigned, w32, rules, ◌≡◌, refl, sym, ap, ◌∙◌, subst, Maps, Held, created, LookUps, AreSound, look_ups, world_of, world_shown, World, IsWellFormed, read_of, number_within, with_new_row, origins_among, with_fresh, numbers_same, beside_world, petitions_stay}
+use Rattle.moo_props.proofs.Shared.{good_by, keeps-fresh, same_base, same_maps, walk}
 use Rattle.moo_props.proofs.NewSlots.{with_new, look_ups-new}
-use Rattle.moo_props.proofs.Moved.{base-fresh, only-fresh}
 use Rattle.moo_props.proofs.NewObject.{world_new, formed_new, sound_new, reads_new, no_row}
-use Rattle.moo_props.proofs.Walked.{walk}
 use Rattle.moo_props.proofs.birth.make.Goals as goal
 
 abbrev t : (g : _) → goal.After-drop-inherited-2 g → Maps
@@ -28,15 +27,11 @@ returns-clause-kept g c =
     let owner : FitsSigned w32 c.args.owner.0 = search rules in
     let os = origins_among (walk (t g c) c.args.parent) in
     let held1 = with_new_row c.args.x c.args.parent c.args.owner (g.R.Rows.held c.args.rows.now) in
-    let rest = ap (λ (h : Held). h.maps) (ends g c) ∙ only-fresh c.args.x c.args.owner os held1 in
+    let rest = ap (λ (h : Held). h.maps) (ends g c) ∙ same_maps (keeps-fresh c.args.x c.args.owner os held1) (with_fresh c.args.x c.args.owner os held1).maps.slots in
     record {
-      good = record {
-        sound = subst AreSound (sym (shown g c)) (sound_new m c.requires.good.sound c.requires.good.formed c.args.x c.args.parent c.args.owner c.requires.next c.requires.parent);
-        formed = subst (λ (k : LookUps). IsWellFormed (world_shown k)) (sym (shown g c)) (formed_new m c.requires.good.sound c.requires.good.formed c.args.x c.args.parent c.args.owner c.requires.next c.requires.parent (number_within c.args.owner owner));
-        petitions = petitions_stay (t g c) (g.R.Rows.held c.put_fresh.new.rows).maps (ap beside_world rest) c.requires.good;
-      };
+      good = good_by (t g c) (g.R.Rows.held c.put_fresh.new.rows).maps c.requires.good (with_new m c.args.x c.args.parent c.args.owner) (shown g c) (sound_new m c.requires.good.sound c.requires.good.formed c.args.x c.args.parent c.args.owner c.requires.next c.requires.parent) (world_shown (with_new m c.args.x c.args.parent c.args.owner)) (ap world_shown (shown g c)) (formed_new m c.requires.good.sound c.requires.good.formed c.args.x c.args.parent c.args.owner c.requires.next c.requires.parent (number_within c.args.owner owner)) (ap beside_world rest);
       beside = ap beside_world rest;
-      base = ap (λ (h : Held). h.base) (ends g c) ∙ base-fresh c.args.x c.args.owner os held1;
+      base = ap (λ (h : Held). h.base) (ends g c) ∙ same_base (keeps-fresh c.args.x c.args.owner os held1);
       numbers = numbers_same (t g c) (g.R.Rows.held c.put_fresh.new.rows).maps (ap (λ (m : Maps). m.props) rest) (ap (λ (m : Maps). m.verbs) rest) (ap (λ (m : Maps). m.head.next_prop) rest) (ap (λ (m : Maps). m.head.next_verb) rest);
     }
 

@@ -1,6 +1,7 @@
-use Rattle.moo_props.proofs.Words.{FitsSigned, w32, rules, ◌≡◌, ◌+◌, refl, sym, ap, ◌∙◌, subst, Maps, Held, wrote, PropId, SlotRow, Set, defined, AreSound, look_ups, world_of, world_shown, prop_id, IsWellFormed, number_within, slot_within, insert, Origin, fresh_over, with_definition, owners_under, verbs_stay, as_high, beside_world, petitions_stay}
+use Rattle.moo_props.proofs.Words.{FitsSigned, w32, rules, ◌≡◌, ◌+◌, refl, sym, ap, ◌∙◌, subst, Maps, Held, wrote, PropId, SlotRow, Set, property_added, AreSound, look_ups, world_of, world_shown, prop_id, IsWellFormed, number_within, slot_within, insert, Origin, fresh_over, with_definition, owners_under, verbs_stay, as_high, beside_world, petitions_stay}
+use Rattle.moo_props.proofs.Shared.{good_by, same_base}
 use Rattle.moo_props.proofs.NewProp.{sound_with, world_with, formed_with, with_property}
-use Rattle.moo_props.proofs.NewPropRows.{base-over, look_ups-with, held2, only2}
+use Rattle.moo_props.proofs.NewPropRows.{keeps-over, look_ups-with, held2, only2}
 use Rattle.moo_world.specs.Numbers.{prop_added}
 use Rattle.moo_world.proofs.Shown.NumbersKept.{one_higher}
 use Rattle.moo_props.proofs.defining.define.Goals as goal
@@ -25,7 +26,7 @@ ends g c =
 shown : (g : _) (c : goal.After-drop-under-2 g) → look_ups (g.R.Rows.held c.put_slot.new.self).maps ≡ with_property (look_ups (t g c)) c.args.x c.args.name (row g c)
 shown g c = ap (λ (h : Held). look_ups h.maps) (ends g c) ∙ look_ups-with (t g c) c.requires.good.formed.tree c.args.x c.requires.object c.args.name (row g c) (prop_id (t g c).head.next_prop) refl (g.R.Rows.held c.args.rows.now) refl
 
-world : (g : _) (c : goal.After-drop-under-2 g) → world_of (g.R.Rows.held c.put_slot.new.self).maps ≡ defined (world_of (t g c)) c.args.x c.args.name (record { definer = c.args.x; owner = c.args.owner; bits = c.args.bits; state = Set c.args.value })
+world : (g : _) (c : goal.After-drop-under-2 g) → world_of (g.R.Rows.held c.put_slot.new.self).maps ≡ property_added (world_of (t g c)) c.args.x c.args.name (record { definer = c.args.x; owner = c.args.owner; bits = c.args.bits; state = Set c.args.value })
 world g c = ap world_shown (shown g c) ∙ world_with (look_ups (t g c)) c.requires.good.sound c.requires.good.formed c.args.x c.args.name c.args.owner c.args.bits c.args.value c.requires.object c.requires.free
 
 -- all but the slots
@@ -46,13 +47,9 @@ returns-clause-kept g c =
     let under = owners_under (t g c) c.args.x in
     let first = with_definition c.args.x c.args.name (g.R.Rows.held c.args.rows.now) in
     record {
-      good = record {
-        sound = subst AreSound (sym (shown g c)) (sound_with m c.requires.good.sound c.requires.good.formed c.args.x c.args.name c.args.owner c.args.bits c.args.value c.requires.object c.requires.free);
-        formed = subst IsWellFormed (sym (world g c)) (formed_with m c.requires.good.sound c.requires.good.formed c.args.x c.args.name c.args.owner c.args.bits c.args.value c.requires.object c.requires.free c.requires.name c.requires.left (slot_within (record { definer = c.args.x; owner = c.args.owner; bits = c.args.bits; state = Set c.args.value }) (number_within c.args.owner owner) c.requires.fit));
-        petitions = petitions_stay (t g c) (g.R.Rows.held c.put_slot.new.self).maps (ap beside_world (rest g c)) c.requires.good;
-      };
+      good = good_by (t g c) (g.R.Rows.held c.put_slot.new.self).maps c.requires.good (with_property (look_ups (t g c)) c.args.x c.args.name (row g c)) (shown g c) (sound_with m c.requires.good.sound c.requires.good.formed c.args.x c.args.name c.args.owner c.args.bits c.args.value c.requires.object c.requires.free) (property_added (world_of (t g c)) c.args.x c.args.name (record { definer = c.args.x; owner = c.args.owner; bits = c.args.bits; state = Set c.args.value })) (world g c) (formed_with m c.requires.good.sound c.requires.good.formed c.args.x c.args.name c.args.owner c.args.bits c.args.value c.requires.object c.requires.free c.requires.name c.requires.left (slot_within (record { definer = c.args.x; owner = c.args.owner; bits = c.args.bits; state = Set c.args.value }) (number_within c.args.owner owner) c.requires.fit)) (ap beside_world (rest g c));
       beside = ap beside_world (rest g c);
-      base = ap (λ (h : Held). h.base) (ends g c) ∙ base-over o under first;
+      base = ap (λ (h : Held). h.base) (ends g c) ∙ same_base (keeps-over o under first);
       numbers = record {
         props = prop_added (record { definer = c.args.x; name = c.args.name }) (ap (λ (m : Maps). m.props) (rest g c));
         verbs = verbs_stay (ap (λ (m : Maps). m.verbs) (rest g c));

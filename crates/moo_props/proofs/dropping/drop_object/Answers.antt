@@ -1,4 +1,5 @@
 use Rattle.moo_props.proofs.Words.{◌≡◌, refl, sym, ap, ◌∙◌, subst, [], ◌∷◌, ◌++◌, length, arith, Some, is_some, get, entries, remove, false≢true, Held, wrote, object_cmp, prop_cmp, slot_cmp, verb_cmp, recycled, AreSound, look_ups, world_of, world_shown, IsWellFormed, is_object_seen, dropped_keys, linked_among, dropped_over, slots_dropped, props_removed, verbs_removed, rows_released, ArePresent, AreAbsent, AreAscending, props_of, as_high, beside_world, petitions_stay}
+use Rattle.moo_props.proofs.Kept.{good_by}
 use Rattle.moo_props.proofs.Lessened.{world_less, sound_less, formed_less, less_object}
 use Rattle.moo_props.proofs.LessRows.{look_ups-less, held1, held2, held3, held4, held5, only5, base5}
 use Rattle.moo_props.proofs.Ascending.{ascend, props_rise, verbs_ascend, linked_ascend}
@@ -45,33 +46,11 @@ unreachable-requires g c =
     let m = look_ups (g.R.Rows.held c.args.rows.now).maps in
     false≢true (ap is_some c.in-None.ensures ∙ sym (is_object_seen m c.args.x) ∙ c.requires.object)
 
-pub returns-clause-world : goal.returns-clause-world
-returns-clause-world g c = world g c
-
 head_is : (g : _) (c : goal.After-drop-under-2 g) → (g.R.Rows.held c.remove_object.new.self).maps.head ≡ (before g c).maps.head
 head_is g c = ap (λ (h : Held). h.maps.head) (ends g c) ∙ head5 (before g c).maps c.requires.good c.args.x c.in-Some.row.now (here g c) (before g c) refl
 
 beside : (g : _) (c : goal.After-drop-under-2 g) → beside_world (g.R.Rows.held c.remove_object.new.self).maps ≡ beside_world (before g c).maps
 beside g c = ap (λ (h : Held). beside_world h.maps) (ends g c) ∙ ap beside_world (only5 (before g c).maps c.requires.good c.args.x c.in-Some.row.now (here g c) (before g c) refl)
-
-pub returns-clause-kept : goal.returns-clause-kept
-returns-clause-kept g c = record {
-  good = record {
-    sound = subst AreSound (sym (shown g c)) (sound_less (look_ups (before g c).maps) c.requires.good.sound c.requires.good.formed c.args.x c.in-Some.row.now (here g c));
-    formed = subst IsWellFormed (sym (world g c)) (formed_less (look_ups (before g c).maps) c.requires.good.sound c.requires.good.formed c.args.x c.in-Some.row.now (here g c));
-    petitions = petitions_stay (before g c).maps (g.R.Rows.held c.remove_object.new.self).maps (beside g c) c.requires.good;
-  };
-  beside = beside g c;
-  base = ap (λ (h : Held). h.base) (ends g c) ∙ base5 (before g c).maps c.requires.good c.args.x c.in-Some.row.now (here g c) (before g c) refl;
-  numbers = record {
-    props = props_dropped c.args.x (λ id. ap (λ (h : Held). get h.maps.props id) (ends g c) ∙ props_left (before g c).maps c.requires.good c.args.x c.in-Some.row.now (here g c) (before g c) refl id ∙ left_is (before g c).maps c.args.x id);
-    verbs = verbs_dropped c.args.x (λ key. ap (λ (h : Held). get h.maps.verbs key) (ends g c) ∙ verbs_left (before g c).maps c.requires.good c.args.x c.in-Some.row.now (here g c) (before g c) refl key);
-    next_prop = as_high (before g c).maps.head.next_prop (g.R.Rows.held c.remove_object.new.self).maps.head.next_prop (ap (λ (h : Head). h.next_prop) (head_is g c));
-    next_verb = as_high (before g c).maps.head.next_verb (g.R.Rows.held c.remove_object.new.self).maps.head.next_verb (ap (λ (h : Head). h.next_verb) (head_is g c));
-  };
-}
-
--- ---- what is listed
 
 removed_is : (g : _) (c : goal.After-drop-under-2 g) → c.from_vec.result ≡ dropped_keys (before g c).maps c.args.x
 removed_is g c =
@@ -83,63 +62,43 @@ removed_is g c =
 relinked_is : (g : _) (c : goal.After-drop-under-2 g) → c.from_vec-2.result ≡ linked_among c.args.x (entries (before g c).maps.objects)
 relinked_is g c = c.from_vec-2.ensures ∙ c.in_ok-relinked.ensures
 
-pub returns-clause-removed : goal.returns-clause-removed
-returns-clause-removed g c = removed_is g c
-
-pub returns-clause-props : goal.returns-clause-props
-returns-clause-props g c = own_is g c
-
-pub returns-clause-verbs : goal.returns-clause-verbs
-returns-clause-verbs g c = c.in_ok-verbs.ensures
-
-pub returns-clause-relinked : goal.returns-clause-relinked
-returns-clause-relinked g c = relinked_is g c
-
-pub returns-clause-removed_order : goal.returns-clause-removed_order
-returns-clause-removed_order g c = subst (AreAscending slot_cmp) (sym (removed_is g c)) (dropped_ascend (before g c).maps c.requires.good c.args.x c.in-Some.row.now (here g c))
-
-pub returns-clause-props_order : goal.returns-clause-props_order
-returns-clause-props_order g c = subst (AreAscending prop_cmp) (sym (own_is g c)) (ascend prop_cmp (props_of (c.args.x ∷ []) (before g c).maps.props) (props_rise (before g c).maps (c.args.x ∷ [])))
-
-pub returns-clause-verbs_order : goal.returns-clause-verbs_order
-returns-clause-verbs_order g c = subst (AreAscending verb_cmp) (sym c.in_ok-verbs.ensures) (verbs_ascend (before g c).maps c.args.x)
-
-pub returns-clause-relinked_order : goal.returns-clause-relinked_order
-returns-clause-relinked_order g c = subst (AreAscending object_cmp) (sym (relinked_is g c)) (linked_ascend (before g c).maps c.args.x)
-
-pub returns-clause-had : goal.returns-clause-had
-returns-clause-had g c = dropped_had (before g c).maps c.requires.good c.args.x c.in-Some.row.now (here g c)
-
--- ---- the rows that are left
-
-pub returns-clause-gone : goal.returns-clause-gone
-returns-clause-gone g c = subst (λ (h : Held). AreAbsent h.maps.slots (dropped_keys (before g c).maps c.args.x)) (sym (ends g c)) (dropped_gone (before g c).maps c.requires.good c.args.x c.in-Some.row.now (here g c) (before g c) refl)
-
-pub returns-clause-stay : goal.returns-clause-stay
-returns-clause-stay g c = subst (λ (h : Held). ArePresent h.maps.objects (linked_among c.args.x (entries (before g c).maps.objects))) (sym (ends g c)) (relinked_there (before g c).maps c.requires.good c.args.x c.in-Some.row.now (here g c) (before g c) refl)
-
-pub returns-clause-slots_left : goal.returns-clause-slots_left
-returns-clause-slots_left g c key = ap (λ (h : Held). get h.maps.slots key) (ends g c) ∙ slots_left (before g c).maps c.requires.good c.args.x c.in-Some.row.now (here g c) (before g c) refl key
-
-pub returns-clause-props_left : goal.returns-clause-props_left
-returns-clause-props_left g c id = ap (λ (h : Held). get h.maps.props id) (ends g c) ∙ props_left (before g c).maps c.requires.good c.args.x c.in-Some.row.now (here g c) (before g c) refl id
-
-pub returns-clause-verbs_left : goal.returns-clause-verbs_left
-returns-clause-verbs_left g c key = ap (λ (h : Held). get h.maps.verbs key) (ends g c) ∙ verbs_left (before g c).maps c.requires.good c.args.x c.in-Some.row.now (here g c) (before g c) refl key
-
-pub returns-clause-objects_left : goal.returns-clause-objects_left
-returns-clause-objects_left g c y = ap (λ (h : Held). get h.maps.objects y) (ends g c) ∙ objects_left (before g c).maps c.requires.good c.args.x c.in-Some.row.now (here g c) (before g c) refl y
-
-pub returns-clause-head : goal.returns-clause-head
-returns-clause-head g c = head_is g c
-
-pub returns-clause-writes : goal.returns-clause-writes
-returns-clause-writes g c =
-    let t = (before g c).maps in
-    let total = ap (λ (h : Held). h.writes) (ends g c) in
-    let most = writes5 t c.requires.good c.args.x c.in-Some.row.now (here g c) (before g c) refl in
-    let removed = ap length (removed_is g c ∙ sym (dropped_list t c.requires.good c.args.x c.in-Some.row.now (here g c))) in
-    let props = ap length (own_is g c) in
-    let verbs = ap length c.in_ok-verbs.ensures in
-    let relinked = ap length (relinked_is g c) in
-    omega (arith, total, most, removed, props, verbs, relinked)
+pub returns : goal.returns
+returns g c = record {
+  removed = removed_is g c;
+  props = own_is g c;
+  verbs = c.in_ok-verbs.ensures;
+  relinked = relinked_is g c;
+  removed_order = subst (AreAscending slot_cmp) (sym (removed_is g c)) (dropped_ascend (before g c).maps c.requires.good c.args.x c.in-Some.row.now (here g c));
+  props_order = subst (AreAscending prop_cmp) (sym (own_is g c)) (ascend prop_cmp (props_of (c.args.x ∷ []) (before g c).maps.props) (props_rise (before g c).maps (c.args.x ∷ [])));
+  verbs_order = subst (AreAscending verb_cmp) (sym c.in_ok-verbs.ensures) (verbs_ascend (before g c).maps c.args.x);
+  relinked_order = subst (AreAscending object_cmp) (sym (relinked_is g c)) (linked_ascend (before g c).maps c.args.x);
+  had = dropped_had (before g c).maps c.requires.good c.args.x c.in-Some.row.now (here g c);
+  gone = subst (λ (h : Held). AreAbsent h.maps.slots (dropped_keys (before g c).maps c.args.x)) (sym (ends g c)) (dropped_gone (before g c).maps c.requires.good c.args.x c.in-Some.row.now (here g c) (before g c) refl);
+  stay = subst (λ (h : Held). ArePresent h.maps.objects (linked_among c.args.x (entries (before g c).maps.objects))) (sym (ends g c)) (relinked_there (before g c).maps c.requires.good c.args.x c.in-Some.row.now (here g c) (before g c) refl);
+  slots_left = λ key. ap (λ (h : Held). get h.maps.slots key) (ends g c) ∙ slots_left (before g c).maps c.requires.good c.args.x c.in-Some.row.now (here g c) (before g c) refl key;
+  props_left = λ id. ap (λ (h : Held). get h.maps.props id) (ends g c) ∙ props_left (before g c).maps c.requires.good c.args.x c.in-Some.row.now (here g c) (before g c) refl id;
+  verbs_left = λ key. ap (λ (h : Held). get h.maps.verbs key) (ends g c) ∙ verbs_left (before g c).maps c.requires.good c.args.x c.in-Some.row.now (here g c) (before g c) refl key;
+  objects_left = λ y. ap (λ (h : Held). get h.maps.objects y) (ends g c) ∙ objects_left (before g c).maps c.requires.good c.args.x c.in-Some.row.now (here g c) (before g c) refl y;
+  head = head_is g c;
+  world = world g c;
+  kept = record {
+    good = good_by (before g c).maps (g.R.Rows.held c.remove_object.new.self).maps c.requires.good (less_object (look_ups (before g c).maps) c.args.x c.in-Some.row.now.parent) (shown g c) (sound_less (look_ups (before g c).maps) c.requires.good.sound c.requires.good.formed c.args.x c.in-Some.row.now (here g c)) (recycled (world_of (before g c).maps) c.args.x) (world g c) (formed_less (look_ups (before g c).maps) c.requires.good.sound c.requires.good.formed c.args.x c.in-Some.row.now (here g c)) (beside g c);
+    beside = beside g c;
+    base = ap (λ (h : Held). h.base) (ends g c) ∙ base5 (before g c).maps c.requires.good c.args.x c.in-Some.row.now (here g c) (before g c) refl;
+    numbers = record {
+      props = props_dropped c.args.x (λ id. ap (λ (h : Held). get h.maps.props id) (ends g c) ∙ props_left (before g c).maps c.requires.good c.args.x c.in-Some.row.now (here g c) (before g c) refl id ∙ left_is (before g c).maps c.args.x id);
+      verbs = verbs_dropped c.args.x (λ key. ap (λ (h : Held). get h.maps.verbs key) (ends g c) ∙ verbs_left (before g c).maps c.requires.good c.args.x c.in-Some.row.now (here g c) (before g c) refl key);
+      next_prop = as_high (before g c).maps.head.next_prop (g.R.Rows.held c.remove_object.new.self).maps.head.next_prop (ap (λ (h : Head). h.next_prop) (head_is g c));
+      next_verb = as_high (before g c).maps.head.next_verb (g.R.Rows.held c.remove_object.new.self).maps.head.next_verb (ap (λ (h : Head). h.next_verb) (head_is g c));
+    };
+  };
+  writes =
+      let t = (before g c).maps in
+      let total = ap (λ (h : Held). h.writes) (ends g c) in
+      let most = writes5 t c.requires.good c.args.x c.in-Some.row.now (here g c) (before g c) refl in
+      let removed = ap length (removed_is g c ∙ sym (dropped_list t c.requires.good c.args.x c.in-Some.row.now (here g c))) in
+      let props = ap length (own_is g c) in
+      let verbs = ap length c.in_ok-verbs.ensures in
+      let relinked = ap length (relinked_is g c) in
+      omega (arith, total, most, removed, props, verbs, relinked);
+}

@@ -1,6 +1,6 @@
 use Rattle.moo_props.proofs.Words.{◌≡◌, ◌++◌, map, length, Some, sym, ap, subst, ◌∙◌, arith, is_some, unwrap_or, [], option_map, get, entries, false≢true, or_right, ObjNo, PropId, Maps, Held, slot_cmp, lost, gained, same_object, is_among, IsWellFormed, chain, look_ups, world_of, IsSound, chain_of_row, is_object_seen, owners_under, props_only_of, slots_moved, relinked, relinked_list, props_of, removed_keys, added_keys, slot_after, IsSameButSlotsAndObjects, AreAscending, id_of, origins, keys_over, numbers_same, beside_world, petitions_stay}
+use Rattle.moo_props.proofs.Shared.{new_is, no_clash}
 use Rattle.moo_world.proofs.Inheritance.Reparenting.{IsWellFormed-reparented}
-use Rattle.moo_props.proofs.Definers.{new_is, no_clash}
 use Rattle.moo_props.proofs.Moved.{lost_list, gained_list, all_on_new, slots2, objects2, rest2, world2, sound2, base2, writes2}
 use Rattle.moo_props.proofs.Ascending.{removed_ascend, added_ascend}
 use Rattle.moo_props.proofs.Presence.{removed_had, added_had, removed_gone, added_there}
@@ -63,67 +63,44 @@ props_among-requires-clause-within g c d h =
     ap (is_among d) (chain_of_row (look_ups t) c.requires.good.formed.tree c.args.x row here)
     ∙ or_right (same_object d c.args.x) (is_among d (chain (world_of t) row.parent)) (ap (is_among d) (sym above) ∙ h)
 
-pub returns-clause-removed : goal.returns-clause-removed
-returns-clause-removed g c = removed_is g c
-
-pub returns-clause-added : goal.returns-clause-added
-returns-clause-added g c = added_is g c
-
-pub returns-clause-relinked : goal.returns-clause-relinked
-returns-clause-relinked g c =
-    c.in_ok-relinked.ensures.list
-    ∙ ap (λ o. unwrap_or (option_map (λ row. relinked_list c.args.x row c.args.new) o) []) (sym (here g c))
-
-pub returns-clause-removed_order : goal.returns-clause-removed_order
-returns-clause-removed_order g c = subst (AreAscending slot_cmp) (sym (removed_is g c)) (removed_ascend (before g c).maps c.args.x c.args.new)
-
-pub returns-clause-added_order : goal.returns-clause-added_order
-returns-clause-added_order g c = subst (AreAscending slot_cmp) (sym (added_is g c)) (added_ascend (before g c).maps c.args.x c.args.new)
-
-pub returns-clause-had : goal.returns-clause-had
-returns-clause-had g c = removed_had (before g c).maps c.requires.good.sound c.args.x c.args.new c.requires.may
-
-pub returns-clause-lacked : goal.returns-clause-lacked
-returns-clause-lacked g c = added_had (before g c).maps c.requires.good.sound c.args.x c.args.new c.requires.may
-
 slots_are : (g : _) (c : goal.After-drop-above-2 g) → (key : ObjNo × PropId) → get (g.R.Rows.held c.relink.new.rows).maps.slots key ≡ slot_after (before g c).maps c.args.x c.args.new key
 slots_are g c key = ap (λ (h : Held). get h.maps.slots key) (ends g c) ∙ slots2 (before g c).maps c.requires.good.sound c.args.x c.args.new c.requires.may c.in_ok-row-in-Some.row (here g c) (before g c) (λ i. (before g c).maps) key
 
-pub returns-clause-gone : goal.returns-clause-gone
-returns-clause-gone g c = removed_gone (before g c).maps c.requires.good.sound c.args.x c.args.new c.requires.may (g.R.Rows.held c.relink.new.rows).maps.slots (slots_are g c)
+rest_is : (g : _) (c : goal.After-drop-above-2 g) → IsSameButSlotsAndObjects (before g c).maps (g.R.Rows.held c.relink.new.rows).maps
+rest_is g c = subst (λ (h : Held). IsSameButSlotsAndObjects (before g c).maps h.maps) (sym (ends g c)) (rest2 (before g c).maps c.requires.good.sound c.args.x c.args.new c.requires.may c.in_ok-row-in-Some.row (here g c) (before g c) (λ i. (before g c).maps))
 
-pub returns-clause-came : goal.returns-clause-came
-returns-clause-came g c = added_there (before g c).maps c.requires.good.sound c.args.x c.args.new c.requires.may (g.R.Rows.held c.relink.new.rows).maps.slots (slots_are g c)
-
-pub returns-clause-slots : goal.returns-clause-slots
-returns-clause-slots g c key = slots_are g c key
-
-pub returns-clause-objects : goal.returns-clause-objects
-returns-clause-objects g c y = ap (λ (h : Held). get h.maps.objects y) (ends g c) ∙ objects2 (before g c).maps c.requires.good.sound c.args.x c.args.new c.requires.may c.in_ok-row-in-Some.row (here g c) (before g c) (λ i. (before g c).maps) y
-
-pub returns-clause-rest : goal.returns-clause-rest
-returns-clause-rest g c = subst (λ (h : Held). IsSameButSlotsAndObjects (before g c).maps h.maps) (sym (ends g c)) (rest2 (before g c).maps c.requires.good.sound c.args.x c.args.new c.requires.may c.in_ok-row-in-Some.row (here g c) (before g c) (λ i. (before g c).maps))
-
-pub returns-clause-world : goal.returns-clause-world
-returns-clause-world g c = ap (λ (h : Held). world_of h.maps) (ends g c) ∙ world2 (before g c).maps c.requires.good.sound c.args.x c.args.new c.requires.may c.in_ok-row-in-Some.row (here g c) (before g c) (λ i. (before g c).maps)
-
-pub returns-clause-kept : goal.returns-clause-kept
-returns-clause-kept g c =
-    let w = world_of (before g c).maps in
-    let world = ap (λ (h : Held). world_of h.maps) (ends g c) ∙ world2 (before g c).maps c.requires.good.sound c.args.x c.args.new c.requires.may c.in_ok-row-in-Some.row (here g c) (before g c) (λ i. (before g c).maps) in
-    let rest = returns-clause-rest g c in
-    record {
-      good = record {
-        sound = subst (λ (h : Held). IsSound h.maps) (sym (ends g c)) (sound2 (before g c).maps c.requires.good.sound c.args.x c.args.new c.requires.may c.in_ok-row-in-Some.row (here g c) (before g c) (λ i. (before g c).maps));
-        formed = subst IsWellFormed (sym world) (IsWellFormed-reparented w c.args.x c.args.new c.requires.may.well_formed c.requires.may.object (new_is w c.args.x c.args.new c.requires.may) c.requires.may.outside (no_clash w c.args.x c.args.new c.requires.may));
-        petitions = petitions_stay (before g c).maps (g.R.Rows.held c.relink.new.rows).maps (ap beside_world rest) c.requires.good;
+pub returns : goal.returns
+returns g c = record {
+  removed = removed_is g c;
+  added = added_is g c;
+  relinked =
+      c.in_ok-relinked.ensures.list
+      ∙ ap (λ o. unwrap_or (option_map (λ row. relinked_list c.args.x row c.args.new) o) []) (sym (here g c));
+  removed_order = subst (AreAscending slot_cmp) (sym (removed_is g c)) (removed_ascend (before g c).maps c.args.x c.args.new);
+  added_order = subst (AreAscending slot_cmp) (sym (added_is g c)) (added_ascend (before g c).maps c.args.x c.args.new);
+  had = removed_had (before g c).maps c.requires.good.sound c.args.x c.args.new c.requires.may;
+  gone = removed_gone (before g c).maps c.requires.good.sound c.args.x c.args.new c.requires.may (g.R.Rows.held c.relink.new.rows).maps.slots (slots_are g c);
+  lacked = added_had (before g c).maps c.requires.good.sound c.args.x c.args.new c.requires.may;
+  came = added_there (before g c).maps c.requires.good.sound c.args.x c.args.new c.requires.may (g.R.Rows.held c.relink.new.rows).maps.slots (slots_are g c);
+  slots = λ key. slots_are g c key;
+  objects = λ y. ap (λ (h : Held). get h.maps.objects y) (ends g c) ∙ objects2 (before g c).maps c.requires.good.sound c.args.x c.args.new c.requires.may c.in_ok-row-in-Some.row (here g c) (before g c) (λ i. (before g c).maps) y;
+  rest = rest_is g c;
+  world = ap (λ (h : Held). world_of h.maps) (ends g c) ∙ world2 (before g c).maps c.requires.good.sound c.args.x c.args.new c.requires.may c.in_ok-row-in-Some.row (here g c) (before g c) (λ i. (before g c).maps);
+  kept =
+      let w = world_of (before g c).maps in
+      let world = ap (λ (h : Held). world_of h.maps) (ends g c) ∙ world2 (before g c).maps c.requires.good.sound c.args.x c.args.new c.requires.may c.in_ok-row-in-Some.row (here g c) (before g c) (λ i. (before g c).maps) in
+      let rest = rest_is g c in
+      record {
+        good = record {
+          sound = subst (λ (h : Held). IsSound h.maps) (sym (ends g c)) (sound2 (before g c).maps c.requires.good.sound c.args.x c.args.new c.requires.may c.in_ok-row-in-Some.row (here g c) (before g c) (λ i. (before g c).maps));
+          formed = subst IsWellFormed (sym world) (IsWellFormed-reparented w c.args.x c.args.new c.requires.may.well_formed c.requires.may.object (new_is w c.args.x c.args.new c.requires.may) c.requires.may.outside (no_clash w c.args.x c.args.new c.requires.may));
+          petitions = petitions_stay (before g c).maps (g.R.Rows.held c.relink.new.rows).maps (ap beside_world rest) c.requires.good;
+        };
+        beside = ap beside_world rest;
+        base = ap (λ (h : Held). h.base) (ends g c) ∙ base2 (before g c).maps c.requires.good.sound c.args.x c.args.new c.requires.may c.in_ok-row-in-Some.row (here g c) (before g c) (λ i. (before g c).maps);
+        numbers = numbers_same (before g c).maps (g.R.Rows.held c.relink.new.rows).maps (ap (λ (m : Maps). m.props) rest) (ap (λ (m : Maps). m.verbs) rest) (ap (λ (m : Maps). m.head.next_prop) rest) (ap (λ (m : Maps). m.head.next_verb) rest);
       };
-      beside = ap beside_world rest;
-      base = ap (λ (h : Held). h.base) (ends g c) ∙ base2 (before g c).maps c.requires.good.sound c.args.x c.args.new c.requires.may c.in_ok-row-in-Some.row (here g c) (before g c) (λ i. (before g c).maps);
-      numbers = numbers_same (before g c).maps (g.R.Rows.held c.relink.new.rows).maps (ap (λ (m : Maps). m.props) rest) (ap (λ (m : Maps). m.verbs) rest) (ap (λ (m : Maps). m.head.next_prop) rest) (ap (λ (m : Maps). m.head.next_verb) rest);
-    }
-
-pub returns-clause-writes : goal.returns-clause-writes
-returns-clause-writes g c =
-    let total = ap (λ (h : Held). h.writes) (ends g c) ∙ writes2 (before g c).maps c.requires.good.sound c.args.x c.args.new c.requires.may c.in_ok-row-in-Some.row (here g c) (before g c) (λ i. (before g c).maps) in
-    omega (arith, total, ap length (removed_is g c), ap length (added_is g c), ap length c.in_ok-relinked.ensures.list)
+  writes =
+      let total = ap (λ (h : Held). h.writes) (ends g c) ∙ writes2 (before g c).maps c.requires.good.sound c.args.x c.args.new c.requires.may c.in_ok-row-in-Some.row (here g c) (before g c) (λ i. (before g c).maps) in
+      omega (arith, total, ap length (removed_is g c), ap length (added_is g c), ap length c.in_ok-relinked.ensures.list);
+}

@@ -18,19 +18,18 @@ stays_set g c e = clear_inherited (g.R.Rows.held c.args.rows.now).maps c.require
 rest : (g : _) (c : goal.In_ok-put_slot g) → IsSameButSlots (g.R.Rows.held c.args.rows.now).maps (g.R.Rows.held c.put_slot.new.self).maps
 rest g c = subst (λ (h : Held). IsSameButSlots (g.R.Rows.held c.args.rows.now).maps h.maps) (sym c.in_ok-put_slot.ensures.ok) refl
 
-pub returns-clause-rest : goal.returns-clause-rest
-returns-clause-rest g c = rest g c
-
-pub returns-clause-world : goal.returns-clause-world
-returns-clause-world g c =
-    ap (λ (h : Held). world_of h.maps) c.in_ok-put_slot.ensures.ok
-    ∙ put_slot_world (g.R.Rows.held c.args.rows.now).maps c.requires.good.sound c.args.x c.args.id c.in-Some.row.now (sym c.in-Some.ensures) (next g c) (change g c) (agrees g c)
-
-pub returns-clause-kept : goal.returns-clause-kept
-returns-clause-kept g c = let owner : FitsSigned w32 c.args.owner.0 = search rules in record {
-  good = subst (λ (h : Held). IsGood h.maps) (sym c.in_ok-put_slot.ensures.ok)
-      (put_slot_good (g.R.Rows.held c.args.rows.now).maps c.requires.good.sound c.args.x c.args.id c.in-Some.row.now (sym c.in-Some.ensures) (next g c) (change g c) (agrees g c) c.requires.good.formed (λ s. refl) (stays_set g c) (λ s h. slot_within (change g c s) (number_within c.args.owner owner) (slot_state s h)) c.requires.good.petitions);
-  beside = ap (λ (h : Held). beside_world h.maps) c.in_ok-put_slot.ensures.ok;
-  base = ap (λ (h : Held). h.base) c.in_ok-put_slot.ensures.ok;
-  numbers = slots_only (g.R.Rows.held c.args.rows.now).maps (g.R.Rows.held c.put_slot.new.self).maps (rest g c);
+pub returns : goal.returns
+returns g c = record {
+  world =
+      ap (λ (h : Held). world_of h.maps) c.in_ok-put_slot.ensures.ok
+      ∙ put_slot_world (g.R.Rows.held c.args.rows.now).maps c.requires.good.sound c.args.x c.args.id c.in-Some.row.now (sym c.in-Some.ensures) (next g c) (change g c) (agrees g c);
+  kept =
+      let owner : FitsSigned w32 c.args.owner.0 = search rules in record {
+        good = subst (λ (h : Held). IsGood h.maps) (sym c.in_ok-put_slot.ensures.ok)
+            (put_slot_good (g.R.Rows.held c.args.rows.now).maps c.requires.good.sound c.args.x c.args.id c.in-Some.row.now (sym c.in-Some.ensures) (next g c) (change g c) (agrees g c) c.requires.good.formed (λ s. refl) (stays_set g c) (λ s h. slot_within (change g c s) (number_within c.args.owner owner) (slot_state s h)) c.requires.good.petitions);
+        beside = ap (λ (h : Held). beside_world h.maps) c.in_ok-put_slot.ensures.ok;
+        base = ap (λ (h : Held). h.base) c.in_ok-put_slot.ensures.ok;
+        numbers = slots_only (g.R.Rows.held c.args.rows.now).maps (g.R.Rows.held c.put_slot.new.self).maps (rest g c);
+      };
+  rest = rest g c;
 }

@@ -1,5 +1,6 @@
-use Rattle.moo_props.proofs.Words.{◌≡◌, Some, refl, sym, ap, ◌∙◌, subst, get, remove, ObjRow, PropRow, Maps, Held, wrote, undefined, AreSound, look_ups, world_of, world_shown, IsWellFormed, less_over, some_of, owners_under, verbs_stay, as_high, beside_world, petitions_stay}
-use Rattle.moo_props.proofs.ShorterRows.{own_row, spelled, world_shorter, sound_shorter, formed_shorter, less_property, look_ups-shorter, only2, held1, held2, base-over}
+use Rattle.moo_props.proofs.Words.{◌≡◌, Some, refl, sym, ap, ◌∙◌, subst, get, remove, ObjRow, PropRow, Maps, Held, wrote, property_removed, AreSound, look_ups, world_of, world_shown, IsWellFormed, less_over, some_of, owners_under, verbs_stay, as_high, beside_world, petitions_stay}
+use Rattle.moo_props.proofs.Shared.{good_by, same_base}
+use Rattle.moo_props.proofs.ShorterRows.{own_row, spelled, world_shorter, sound_shorter, formed_shorter, less_property, look_ups-shorter, only2, held1, held2, keeps-over}
 use Rattle.moo_world.specs.Numbers.{prop_removed}
 use Rattle.moo_props.proofs.undefining.undefine.Goals as goal
 
@@ -23,32 +24,26 @@ ends g c =
 shown : (g : _) (c : goal.After-drop-under-2 g) → look_ups (g.R.Rows.held c.remove_prop.new.self).maps ≡ less_property (look_ups (t g c)) c.args.id.0
 shown g c = ap (λ (h : Held). look_ups h.maps) (ends g c) ∙ look_ups-shorter (t g c) c.requires.good c.args.x c.args.id.0 (prop g c).0 (prop g c).1 (prop g c).2 (row g c).0 (row g c).1 (g.R.Rows.held c.args.rows.now) refl
 
-world : (g : _) (c : goal.After-drop-under-2 g) → world_of (g.R.Rows.held c.remove_prop.new.self).maps ≡ undefined (world_of (t g c)) c.args.x (prop g c).0.name
+world : (g : _) (c : goal.After-drop-under-2 g) → world_of (g.R.Rows.held c.remove_prop.new.self).maps ≡ property_removed (world_of (t g c)) c.args.x (prop g c).0.name
 world g c = ap world_shown (shown g c) ∙ world_shorter (t g c) c.requires.good c.args.x c.args.id.0 (prop g c).0 (prop g c).1 (prop g c).2
 
 -- all but the slots
 rest : (g : _) (c : goal.After-drop-under-2 g) → (g.R.Rows.held c.remove_prop.new.self).maps ≡ record (t g c) { slots = (held1 (t g c) c.requires.good c.args.x c.args.id.0 (prop g c).0 (prop g c).1 (prop g c).2 (row g c).0 (row g c).1 (g.R.Rows.held c.args.rows.now) refl).maps.slots; props = remove (t g c).props c.args.id }
 rest g c = ap (λ (h : Held). h.maps) (ends g c) ∙ only2 (t g c) c.requires.good c.args.x c.args.id.0 (prop g c).0 (prop g c).1 (prop g c).2 (row g c).0 (row g c).1 (g.R.Rows.held c.args.rows.now) refl
 
-pub returns-clause-props : goal.returns-clause-props
-returns-clause-props g c = ap (λ (k : Maps). k.props) (rest g c)
-
-pub returns-clause-world : goal.returns-clause-world
-returns-clause-world g c = world g c ∙ ap (undefined (world_of (t g c)) c.args.x) (sym (spelled (t g c) c.args.id (prop g c).0 (prop g c).1))
-
-pub returns-clause-kept : goal.returns-clause-kept
-returns-clause-kept g c = record {
-  good = record {
-    sound = subst AreSound (sym (shown g c)) (sound_shorter (t g c) c.requires.good c.args.x c.args.id.0 (prop g c).0 (prop g c).1 (prop g c).2);
-    formed = subst IsWellFormed (sym (world g c)) (formed_shorter (t g c) c.requires.good c.args.x c.args.id.0 (prop g c).0 (prop g c).1 (prop g c).2);
-    petitions = petitions_stay (t g c) (g.R.Rows.held c.remove_prop.new.self).maps (ap beside_world (rest g c)) c.requires.good;
+pub returns : goal.returns
+returns g c = record {
+  world = world g c ∙ ap (property_removed (world_of (t g c)) c.args.x) (sym (spelled (t g c) c.args.id (prop g c).0 (prop g c).1));
+  kept = record {
+    good = good_by (t g c) (g.R.Rows.held c.remove_prop.new.self).maps c.requires.good (less_property (look_ups (t g c)) c.args.id.0) (shown g c) (sound_shorter (t g c) c.requires.good c.args.x c.args.id.0 (prop g c).0 (prop g c).1 (prop g c).2) (property_removed (world_of (t g c)) c.args.x (prop g c).0.name) (world g c) (formed_shorter (t g c) c.requires.good c.args.x c.args.id.0 (prop g c).0 (prop g c).1 (prop g c).2) (ap beside_world (rest g c));
+    beside = ap beside_world (rest g c);
+    base = ap (λ (h : Held). h.base) (ends g c) ∙ same_base (keeps-over (t g c) c.requires.good c.args.x c.args.id.0 (prop g c).0 (prop g c).1 (prop g c).2 (row g c).0 (row g c).1 (g.R.Rows.held c.args.rows.now) refl (owners_under (t g c) c.args.x) (g.R.Rows.held c.args.rows.now));
+    numbers = record {
+      props = prop_removed c.args.id (ap (λ (k : Maps). k.props) (rest g c));
+      verbs = verbs_stay (ap (λ (k : Maps). k.verbs) (rest g c));
+      next_prop = as_high (t g c).head.next_prop (g.R.Rows.held c.remove_prop.new.self).maps.head.next_prop (ap (λ (k : Maps). k.head.next_prop) (rest g c));
+      next_verb = as_high (t g c).head.next_verb (g.R.Rows.held c.remove_prop.new.self).maps.head.next_verb (ap (λ (k : Maps). k.head.next_verb) (rest g c));
+    };
   };
-  beside = ap beside_world (rest g c);
-  base = ap (λ (h : Held). h.base) (ends g c) ∙ base-over (t g c) c.requires.good c.args.x c.args.id.0 (prop g c).0 (prop g c).1 (prop g c).2 (row g c).0 (row g c).1 (g.R.Rows.held c.args.rows.now) refl (owners_under (t g c) c.args.x) (g.R.Rows.held c.args.rows.now);
-  numbers = record {
-    props = prop_removed c.args.id (ap (λ (k : Maps). k.props) (rest g c));
-    verbs = verbs_stay (ap (λ (k : Maps). k.verbs) (rest g c));
-    next_prop = as_high (t g c).head.next_prop (g.R.Rows.held c.remove_prop.new.self).maps.head.next_prop (ap (λ (k : Maps). k.head.next_prop) (rest g c));
-    next_verb = as_high (t g c).head.next_verb (g.R.Rows.held c.remove_prop.new.self).maps.head.next_verb (ap (λ (k : Maps). k.head.next_verb) (rest g c));
-  };
+  props = ap (λ (k : Maps). k.props) (rest g c);
 }

@@ -1,4 +1,4 @@
-use Rattle.serde_json.specs.View.{view}
+use Rattle.moo_request.proofs.Words.{view}
 use Rattle.moo_request.proofs.RequestLemmas.{json_asks}
 use Rattle.moo_request.proofs.body.ask_body.Goals as goal
 

@@ -1,5 +1,4 @@
-use Rattle.std.proofs.Common.{arith, map}
-use Rattle.std.proofs.lemmas.List.{length-map}
+use Rattle.moo_request.proofs.Words.{arith, map, length-map}
 use Rattle.moo_request.proofs.CallLemmas.{calls-few}
 use Rattle.moo_request.proofs.body.ask_shape.Goals as goal
 

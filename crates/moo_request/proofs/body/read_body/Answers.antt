@@ -1,4 +1,4 @@
-use Rattle.std.proofs.Common.{rules}
+use Rattle.moo_request.proofs.Words.{rules}
 use Rattle.moo_request.proofs.RequestLemmas.{body_whole}
 use Rattle.moo_request.proofs.body.read_body.Goals as goal
 

@@ -1,6 +1,4 @@
-use Rattle.std.proofs.Common.{◌+◌, ◌∙◌, ap, sym}
-use Rattle.moo_text.specs.LineReading.{call_of}
-use Rattle.moo_request.specs.Calls.{Bad, calls_from}
+use Rattle.moo_request.proofs.Words.{◌+◌, ◌∙◌, ap, sym, call_of, Bad, calls_from}
 use Rattle.moo_request.proofs.CallLemmas.{before_calls, texts_from, calls-more, calls-bad, calls-all}
 use Rattle.moo_request.proofs.body.read_calls.Goals as goal
 

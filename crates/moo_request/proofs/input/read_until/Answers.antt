@@ -1,4 +1,4 @@
-use Rattle.std.proofs.Common.{rules}
+use Rattle.moo_request.proofs.Words.{rules}
 use Rattle.moo_request.proofs.Giving.{taken_then, on_err}
 use Rattle.moo_request.proofs.input.read_until.Goals as goal
 

@@ -1,6 +1,5 @@
-use Rattle.std.proofs.Common.{refl}
+use Rattle.moo_request.proofs.Words.{refl, service_rows}
 use Rattle.matchit.proofs.OnLiterals.{matchit_on_literals}
-use Rattle.moo_request.specs.Routes.{service_rows}
 use Rattle.moo_request.proofs.laws.routes_are_known.Goals as goal
 
 pub returns : goal.returns

@@ -1,6 +1,4 @@
-use Rattle.std.proofs.Common.{◌≡◌, drop}
-use Rattle.moo_request.specs.Questions.{all_topics}
-use Rattle.moo_request.specs.Routes.{with_topics}
+use Rattle.moo_request.proofs.Words.{◌≡◌, drop, all_topics, with_topics}
 use Rattle.moo_request.proofs.routes.add_topics.Given as goal
 
 -- the topics that are left come to the same rows

@@ -1,5 +1,4 @@
-use Rattle.std.proofs.Common.{ap, ◌∙◌}
-use Rattle.serde_json.specs.Written.{has_float}
+use Rattle.moo_responses.proofs.Words.{ap, ◌∙◌, has_float}
 use Rattle.moo_responses.proofs.BodyLemmas.{no_float-accepted}
 use Rattle.moo_responses.proofs.bodies.accepted_text.Goals as goal
 

@@ -1,6 +1,4 @@
-use Rattle.std.proofs.Common.{◌++◌, sym, ap, ◌∙◌, subst}
-use Rattle.std.specs.Str.{IsUtf8}
-use Rattle.moo_value.specs.Literal.{print}
+use Rattle.moo_responses.proofs.Words.{◌++◌, sym, ap, ◌∙◌, subst, IsUtf8, print}
 use Rattle.moo_responses.proofs.Ascii.{print_utf8}
 use Rattle.moo_responses.proofs.bodies.literal_text.Goals as goal
 

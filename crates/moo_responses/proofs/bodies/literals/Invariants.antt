@@ -1,7 +1,4 @@
-use Rattle.std.proofs.Common.{◌≡◌, map, take}
-use Rattle.serde_json.specs.Data.{string}
-use Rattle.serde_json.specs.View.{view}
-use Rattle.moo_value.specs.Literal.{print}
+use Rattle.moo_responses.proofs.Words.{◌≡◌, map, take, string, view, print}
 use Rattle.moo_responses.proofs.bodies.literals.Given as goal
 
 abbrev pub invariant-loop-answer : goal.invariant-loop-answer

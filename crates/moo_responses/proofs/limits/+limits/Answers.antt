@@ -1,5 +1,4 @@
-use Rattle.std.proofs.Common.{arith, ap}
-use Rattle.moo_value.specs.Values.{levels}
+use Rattle.moo_responses.proofs.Words.{arith, ap, levels}
 use Rattle.moo_responses.proofs.Nesting.{nesting_le}
 use Rattle.moo_responses.proofs.limits.+limits.Goals as goal
 

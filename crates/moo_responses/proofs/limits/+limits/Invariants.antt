@@ -1,8 +1,4 @@
-use Rattle.std.proofs.Common.{◌+◌, ◌*◌, drop}
-use Rattle.moo_value.specs.Text.{IsText}
-use Rattle.moo_value.specs.Literal.{HoldInside, InRange}
-use Rattle.moo_value.specs.Values.{levels}
-use Rattle.moo_value.specs.Value.{gather, nesting}
+use Rattle.moo_responses.proofs.Words.{◌+◌, ◌*◌, drop, IsText, HoldInside, InRange, levels, gather, nesting}
 use Rattle.moo_responses.proofs.limits.+limits.Given as goal
 
 abbrev pub decreases-read_limits : goal.decreases-read_limits

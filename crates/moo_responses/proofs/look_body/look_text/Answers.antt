@@ -1,5 +1,4 @@
-use Rattle.std.proofs.Common.{ap, ◌∙◌}
-use Rattle.serde_json.specs.Written.{has_float}
+use Rattle.moo_responses.proofs.Words.{ap, ◌∙◌, has_float}
 use Rattle.moo_responses.proofs.BodyLemmas.{no_float-look}
 use Rattle.moo_responses.proofs.look_body.look_text.Goals as goal
 

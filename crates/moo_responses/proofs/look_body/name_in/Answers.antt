@@ -1,5 +1,4 @@
-use Rattle.std.proofs.Common.{sym, ◌∙◌, subst}
-use Rattle.std.specs.Str.{IsUtf8}
+use Rattle.moo_responses.proofs.Words.{sym, ◌∙◌, subst, IsUtf8}
 use Rattle.moo_responses.proofs.Ascii.{text_utf8}
 use Rattle.moo_responses.proofs.look_body.name_in.Goals as goal
 

@@ -1,7 +1,4 @@
-use Rattle.std.proofs.Common.{◌≡◌, map, take}
-use Rattle.serde_json.specs.Data.{string}
-use Rattle.serde_json.specs.View.{view}
-use Rattle.moo_responses.specs.Bodies.{object_text}
+use Rattle.moo_responses.proofs.Words.{◌≡◌, map, take, string, view, object_text}
 use Rattle.moo_responses.proofs.look_body.objects_in.Given as goal
 
 abbrev pub invariant-loop-x : goal.invariant-loop-x

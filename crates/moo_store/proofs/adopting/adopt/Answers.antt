@@ -1,4 +1,5 @@
-use Rattle.moo_store.proofs.Words.{◌≡◌, true, false, sym, ap, ◌∙◌, subst, HasCleanDisk, state, IsGood, state_of, ShowsRows, Tables, schema_of, second_schema, Rests, HasTables, store_of, StandsFor}
+use Rattle.moo_store.proofs.Words.{◌≡◌, true, false, sym, ap, ◌∙◌, subst, subst₂, HasCleanDisk, state, IsGood, state_of, ShowsRows, Tables, schema_of, present_schema, Rests, HasTables, store_of, StandsFor}
+use Rattle.moo_store.specs.Current.{RestsCurrent}
 use Rattle.moo_store.proofs.AdoptLemmas.{stands, clean_at, survives_at, left_still}
 use Rattle.moo_store.proofs.adopting.adopt.Goals as goal
 
@@ -18,8 +19,12 @@ returns-in-Ok-clause-shown g c clean tables rests =
 
 pub returns-in-Ok-clause-current : goal.returns-in-Ok-clause-current
 returns-in-Ok-clause-current g c =
-    subst (λ h. HasCleanDisk (state g.S.Store h) → (tables : Tables) → Rests (state g.S.Store c.args.conn) tables → HasTables second_schema (state g.S.Store h)) (sym c.over.ensures.connection)
+    subst (λ h. HasCleanDisk (state g.S.Store h) → (tables : Tables) → Rests (state g.S.Store c.args.conn) tables → HasTables present_schema (state g.S.Store h)) (sym c.over.ensures.connection)
     (λ clean tables rests. let kept = c.in-Ok.ensures.keeps clean tables rests in kept.rests.holds.schema ∙ ap schema_of kept.current)
+
+pub returns-in-Ok-clause-rests : goal.returns-in-Ok-clause-rests
+returns-in-Ok-clause-rests g c =
+    subst₂ (λ h m. HasCleanDisk (state g.S.Store h) → (tables : Tables) → Rests (state g.S.Store c.args.conn) tables → RestsCurrent (state g.S.Store h) tables m) (sym c.over.ensures.connection) (sym c.over.ensures.rows) c.in-Ok.ensures.rests
 
 pub returns-in-Ok-clause-crash : goal.returns-in-Ok-clause-crash
 returns-in-Ok-clause-crash g c =

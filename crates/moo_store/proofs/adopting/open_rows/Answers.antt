@@ -31,6 +31,15 @@ returns-in-Ok-make_current-clause-keeps g c clean tables rests =
     (version_of_old g.S.Store c.args.conn.now c.read_rows.new.conn c.in-Ok.read.0 c.in-Ok.read.1.maps c.in-Ok.ensures.read.0 c.in-Ok.ensures.read.1 tables rests)
     (c.in-Ok.ensures.rows early tables rests)
 
+pub returns-in-Ok-make_current-clause-rests : goal.returns-in-Ok-make_current-clause-rests
+returns-in-Ok-make_current-clause-rests g c clean tables rests =
+    let took = c.make_current.ensures.crash (has_still g.S.Store c.args.conn.now c.read_rows.new.conn c.in-Ok.read.0 c.in-Ok.read.1.maps c.in-Ok.ensures.read.0 c.in-Ok.ensures.read.1) in
+    let early = clean_before (state g.S.Store c.read_rows.new.conn) (state g.S.Store c.make_current.new.conn) _ took clean in
+    c.in-Ok-make_current.ensures.rests clean tables
+    (rests_still g.S.Store c.args.conn.now c.read_rows.new.conn c.in-Ok.read.0 c.in-Ok.read.1.maps c.in-Ok.ensures.read.0 c.in-Ok.ensures.read.1 early tables rests)
+    (version_of_old g.S.Store c.args.conn.now c.read_rows.new.conn c.in-Ok.read.0 c.in-Ok.read.1.maps c.in-Ok.ensures.read.0 c.in-Ok.ensures.read.1 tables rests)
+    (c.in-Ok.ensures.rows early tables rests)
+
 pub returns-in-Ok-make_current-clause-other : goal.returns-in-Ok-make_current-clause-other
 returns-in-Ok-make_current-clause-other g c none = none c.in-Ok.read.0 c.in-Ok.ensures.read.0
 

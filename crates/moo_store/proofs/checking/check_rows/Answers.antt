@@ -1,4 +1,4 @@
-use Rattle.moo_store.proofs.Words.{subst, state, Second, Rests, ShowsRows}
+use Rattle.moo_store.proofs.Words.{subst, state, present, Rests, ShowsRows}
 use Rattle.std.proofs.lemmas.Result.{on_ok_weaker}
 use Rattle.moo_tables.specs.Listing.{tables_of}
 use Rattle.moo_store.specs.Checked.{SaysInCheck}
@@ -10,16 +10,16 @@ use Rattle.moo_store.proofs.checking.check_rows.Goals as goal
 pub returns-in-Ok-read_lists-clause-shown : goal.returns-in-Ok-read_lists-clause-shown
 returns-in-Ok-read_lists-clause-shown g c =
     on_ok_weaker c.compare_lists.result (λ shows clean tables rests.
-    let is = version_is (state g.S.Store c.args.conn.now) Second tables c.in-Ok.ensures.ours rests in
+    let is = version_is (state g.S.Store c.args.conn.now) present tables c.in-Ok.ensures.ours rests in
     subst (λ t. ShowsRows t c.args.own.now.maps) (c.in-Ok-read_lists.ensures.listed clean tables is rests) shows) c.compare_lists.ensures.shown
 
 pub returns-in-Ok-read_lists-clause-fault : goal.returns-in-Ok-read_lists-clause-fault
 returns-in-Ok-read_lists-clause-fault g c clean =
     on_each_err _ _ c.compare_lists.result (λ fault says tables rests.
-    let is = version_is (state g.S.Store c.args.conn.now) Second tables c.in-Ok.ensures.ours rests in
+    let is = version_is (state g.S.Store c.args.conn.now) present tables c.in-Ok.ensures.ours rests in
     subst (λ t. SaysInCheck c.args.own.now.maps t fault) (c.in-Ok-read_lists.ensures.listed clean tables is rests) says) c.compare_lists.ensures.fault
 
 pub returns-in-Ok-read_lists-clause-whole : goal.returns-in-Ok-read_lists-clause-whole
 returns-in-Ok-read_lists-clause-whole g c clean =
     whole_here (tables_of c.in-Ok-read_lists.lists) (Rests (state g.S.Store c.args.conn.now)) c.args.own.now.maps c.compare_lists.result c.compare_lists.ensures.whole
-    (λ tables rests. c.in-Ok-read_lists.ensures.listed clean tables (version_is (state g.S.Store c.args.conn.now) Second tables c.in-Ok.ensures.ours rests) rests)
+    (λ tables rests. c.in-Ok-read_lists.ensures.listed clean tables (version_is (state g.S.Store c.args.conn.now) present tables c.in-Ok.ensures.ours rests) rests)

@@ -14,3 +14,6 @@ returns-clause-crash g c =
 pub returns-clause-crash_refused : goal.returns-clause-crash_refused
 returns-clause-crash_refused g c =
     subst (λ m. IfErr c.load_in.result (λ e. (e.1 ≡ c.args.conn) ⊎ Survives (state g.S.Store c.args.conn) (state g.S.Store e.1) (λ trees. LeavesState trees (state_of m)))) c.in-Ok.ensures c.load_in.ensures.crash_refused
+
+pub returns-clause-rows : goal.returns-clause-rows
+returns-clause-rows g c = subst (λ m. IfOk c.load_in.result (λ world. world.rows.maps ≡ m)) c.in-Ok.ensures c.load_in.ensures.rows

@@ -1,17 +1,19 @@
-use Rattle.moo_tables.proofs.Words.{◌≡◌, state, Second, second_schema, petition_table, select_text, ListsNumbers}
+use Rattle.moo_tables.proofs.Words.{state, schema_of, IsTrue, has_petitions, petition_table, select_text, ListsNumbers, refl}
 use Rattle.moo_tables.proofs.SelectLemmas.{select_petition}
 use Rattle.moo_tables.proofs.ReadLemmas.{reads, fails, lists, plain_of, petition_lists}
 use Rattle.moo_tables.proofs.petition.petition_cells_of.Goals as goal
 
 pub returns-clause-read : goal.returns-clause-read
-returns-clause-read g c =
-    reads second_schema (select_text petition_table) select_petition.plain (state g.S.Store c.args.conn.now) (state g.S.Store c.all_rows.new.conn) c.all_rows.result c.all_rows.ensures.survives c.all_rows.ensures.shown
+returns-clause-read g c version has =
+    reads (schema_of version) (select_text petition_table) (select_petition version has).plain (state g.S.Store c.args.conn.now) (state g.S.Store c.all_rows.new.conn) c.all_rows.result c.all_rows.ensures.survives c.all_rows.ensures.shown
 
 pub returns-clause-listed : goal.returns-clause-listed
 returns-clause-listed g c =
-    lists (select_text petition_table) (state g.S.Store c.args.conn.now) (state g.S.Store c.all_rows.new.conn) c.all_rows.result
-    (λ rows tables. tables.version ≡ Second → ListsNumbers rows tables.petition) (λ rows tables holds shown at. petition_lists (state g.S.Store c.args.conn.now) (state g.S.Store c.all_rows.new.conn) rows tables holds (shown (plain_of (select_text petition_table) (state g.S.Store c.args.conn.now) tables Second holds at select_petition.plain)) at) c.all_rows.ensures.shown
+    let old = state g.S.Store c.args.conn.now in
+    let new = state g.S.Store c.all_rows.new.conn in
+    lists (select_text petition_table) old new c.all_rows.result (λ rows tables. IsTrue (has_petitions tables.version) → ListsNumbers rows tables.petition)
+    (λ rows tables holds shown has. petition_lists old new rows tables holds (shown (plain_of (select_text petition_table) old tables tables.version holds refl (select_petition tables.version has).plain)) has) c.all_rows.ensures.shown
 
 pub returns-clause-failed : goal.returns-clause-failed
-returns-clause-failed g c =
-    fails second_schema (select_text petition_table) select_petition.plain (state g.S.Store c.args.conn.now) (state g.S.Store c.all_rows.new.conn) c.all_rows.result c.all_rows.ensures.survives c.all_rows.ensures.kept
+returns-clause-failed g c version has =
+    fails (schema_of version) (select_text petition_table) (select_petition version has).plain (state g.S.Store c.args.conn.now) (state g.S.Store c.all_rows.new.conn) c.all_rows.result c.all_rows.ensures.survives c.all_rows.ensures.kept

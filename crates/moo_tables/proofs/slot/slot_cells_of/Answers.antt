@@ -1,37 +1,50 @@
-use Rattle.moo_tables.proofs.Words.{◌≡◌, sym, subst, ◌∙◌, state, understood, IsPlain, Version, First, Second, schema_of, select_text, ListsPairs}
+use Rattle.moo_tables.proofs.Words.{◌≡◌, Bool, if◌then◌else◌, [], sym, ap, subst, ◌∙◌, state, State, Row, Table, Shown, understood, IsPlain, Version, has_lettered_bits, Tables, slot_table, slot2_table, schema_of, Holds, select_text, ListsPairs, List}
 use Rattle.moo_tables.proofs.SelectLemmas.{slots_table, select_slot}
 use Rattle.moo_tables.proofs.ReadLemmas.{reads, fails, lists, plain_of, slot_lists}
 use Rattle.moo_tables.proofs.slot.slot_cells_of.Goals as goal
 
-plain_at : (arm version : Version) → version ≡ arm → IsPlain (understood (schema_of version) (select_text (slots_table arm)))
-plain_at arm version is = subst (λ v. IsPlain (understood (schema_of v) (select_text (slots_table arm)))) (sym is) (select_slot arm).plain
+plain_at : (version : Version) (t : Table) → slots_table version ≡ t → IsPlain (understood (schema_of version) (select_text t))
+plain_at version t is = subst (λ table. IsPlain (understood (schema_of version) (select_text table))) is (select_slot version).plain
 
-pub returns-in-First-clause-read : goal.returns-in-First-clause-read
-returns-in-First-clause-read g c =
-    reads (schema_of c.args.version) (select_text (slots_table First)) (plain_at First _ c.in-First.is) (state g.S.Store c.args.conn.now) (state g.S.Store c.all_rows.new.conn) c.all_rows.result c.all_rows.ensures.survives c.all_rows.ensures.shown
+lists_at : (version : Version) (t : Table) → slots_table version ≡ t → (old new : State) (rows : List Row) (tables : Tables) → Holds old.now tables
+    → (IsPlain (understood old.now.schema (select_text t)) → Shown (select_text t) [] old new rows) → tables.version ≡ version → ListsPairs rows tables.slot
+lists_at version t is old new rows tables holds shown at =
+    let asked = shown (plain_of (select_text t) old tables version holds at (plain_at version t is)) in
+    slot_lists version old new rows tables holds (subst (λ table. Shown (select_text table) [] old new rows) (sym is) asked) at
 
-pub returns-in-First-clause-listed : goal.returns-in-First-clause-listed
-returns-in-First-clause-listed g c =
+table_is : (version : Version) (lettered : Bool) → has_lettered_bits version ≡ lettered → slots_table version ≡ (if lettered then slot_table else slot2_table)
+table_is version lettered is = ap (λ b. if b then slot_table else slot2_table) is
+
+pub returns-then-has_lettered_bits-clause-read : goal.returns-then-has_lettered_bits-clause-read
+returns-then-has_lettered_bits-clause-read g c =
+    let is = table_is c.args.version _ (sym c.has_lettered_bits.ensures ∙ c.if-has_lettered_bits.true) in
+    reads (schema_of c.args.version) (select_text slot_table) (plain_at c.args.version slot_table is) (state g.S.Store c.args.conn.now) (state g.S.Store c.all_rows.new.conn) c.all_rows.result c.all_rows.ensures.survives c.all_rows.ensures.shown
+
+pub returns-then-has_lettered_bits-clause-listed : goal.returns-then-has_lettered_bits-clause-listed
+returns-then-has_lettered_bits-clause-listed g c =
+    let is = table_is c.args.version _ (sym c.has_lettered_bits.ensures ∙ c.if-has_lettered_bits.true) in
     let old = state g.S.Store c.args.conn.now in
     let new = state g.S.Store c.all_rows.new.conn in
-    lists (select_text (slots_table First)) old new c.all_rows.result (λ rows tables. tables.version ≡ c.args.version → ListsPairs rows tables.slot)
-    (λ rows tables holds shown at. slot_lists First old new rows tables holds (shown (plain_of (select_text (slots_table First)) old tables First holds (at ∙ c.in-First.is) (select_slot First).plain)) (at ∙ c.in-First.is)) c.all_rows.ensures.shown
+    lists (select_text slot_table) old new c.all_rows.result (λ rows tables. tables.version ≡ c.args.version → ListsPairs rows tables.slot) (lists_at c.args.version slot_table is old new) c.all_rows.ensures.shown
 
-pub returns-in-First-clause-failed : goal.returns-in-First-clause-failed
-returns-in-First-clause-failed g c =
-    fails (schema_of c.args.version) (select_text (slots_table First)) (plain_at First _ c.in-First.is) (state g.S.Store c.args.conn.now) (state g.S.Store c.all_rows.new.conn) c.all_rows.result c.all_rows.ensures.survives c.all_rows.ensures.kept
+pub returns-then-has_lettered_bits-clause-failed : goal.returns-then-has_lettered_bits-clause-failed
+returns-then-has_lettered_bits-clause-failed g c =
+    let is = table_is c.args.version _ (sym c.has_lettered_bits.ensures ∙ c.if-has_lettered_bits.true) in
+    fails (schema_of c.args.version) (select_text slot_table) (plain_at c.args.version slot_table is) (state g.S.Store c.args.conn.now) (state g.S.Store c.all_rows.new.conn) c.all_rows.result c.all_rows.ensures.survives c.all_rows.ensures.kept
 
-pub returns-in-Second-clause-read : goal.returns-in-Second-clause-read
-returns-in-Second-clause-read g c =
-    reads (schema_of c.args.version) (select_text (slots_table Second)) (plain_at Second _ c.in-Second.is) (state g.S.Store c.args.conn.now) (state g.S.Store c.all_rows-in-Second.new.conn) c.all_rows-in-Second.result c.all_rows-in-Second.ensures.survives c.all_rows-in-Second.ensures.shown
+pub returns-clause-read : goal.returns-clause-read
+returns-clause-read g c =
+    let is = table_is c.args.version _ (sym c.has_lettered_bits.ensures ∙ c.if-has_lettered_bits.false) in
+    reads (schema_of c.args.version) (select_text slot2_table) (plain_at c.args.version slot2_table is) (state g.S.Store c.args.conn.now) (state g.S.Store c.all_rows-2.new.conn) c.all_rows-2.result c.all_rows-2.ensures.survives c.all_rows-2.ensures.shown
 
-pub returns-in-Second-clause-listed : goal.returns-in-Second-clause-listed
-returns-in-Second-clause-listed g c =
+pub returns-clause-listed : goal.returns-clause-listed
+returns-clause-listed g c =
+    let is = table_is c.args.version _ (sym c.has_lettered_bits.ensures ∙ c.if-has_lettered_bits.false) in
     let old = state g.S.Store c.args.conn.now in
-    let new = state g.S.Store c.all_rows-in-Second.new.conn in
-    lists (select_text (slots_table Second)) old new c.all_rows-in-Second.result (λ rows tables. tables.version ≡ c.args.version → ListsPairs rows tables.slot)
-    (λ rows tables holds shown at. slot_lists Second old new rows tables holds (shown (plain_of (select_text (slots_table Second)) old tables Second holds (at ∙ c.in-Second.is) (select_slot Second).plain)) (at ∙ c.in-Second.is)) c.all_rows-in-Second.ensures.shown
+    let new = state g.S.Store c.all_rows-2.new.conn in
+    lists (select_text slot2_table) old new c.all_rows-2.result (λ rows tables. tables.version ≡ c.args.version → ListsPairs rows tables.slot) (lists_at c.args.version slot2_table is old new) c.all_rows-2.ensures.shown
 
-pub returns-in-Second-clause-failed : goal.returns-in-Second-clause-failed
-returns-in-Second-clause-failed g c =
-    fails (schema_of c.args.version) (select_text (slots_table Second)) (plain_at Second _ c.in-Second.is) (state g.S.Store c.args.conn.now) (state g.S.Store c.all_rows-in-Second.new.conn) c.all_rows-in-Second.result c.all_rows-in-Second.ensures.survives c.all_rows-in-Second.ensures.kept
+pub returns-clause-failed : goal.returns-clause-failed
+returns-clause-failed g c =
+    let is = table_is c.args.version _ (sym c.has_lettered_bits.ensures ∙ c.if-has_lettered_bits.false) in
+    fails (schema_of c.args.version) (select_text slot2_table) (plain_at c.args.version slot2_table is) (state g.S.Store c.args.conn.now) (state g.S.Store c.all_rows-2.new.conn) c.all_rows-2.result c.all_rows-2.ensures.survives c.all_rows-2.ensures.kept

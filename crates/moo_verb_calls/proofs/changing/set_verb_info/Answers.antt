@@ -6,7 +6,7 @@ use Rattle.moo_world.specs.Answers.{zero}
 use Rattle.moo_world.specs.Descriptors.{found_verb}
 use Rattle.moo_world.specs.Directories.{verb_info_set}
 use Rattle.moo_world.specs.VerbCalls.{set_verb_info}
-use Rattle.moo_world.specs.Rights.{may_write_verb, may_own}
+use Rattle.moo_world.specs.Rights.{may_write_verb, may_make_owner}
 use Rattle.moo_verbs.specs.Places.{verb_place}
 use Rattle.moo_call_parts.specs.Outcomes.{world_in}
 use Rattle.moo_call_parts.proofs.Passed.{check_passed, found_passed}
@@ -40,6 +40,6 @@ returns-clause-comes g c =
     ∙ found_passed read c.in_ok-bits.bits _ _ c.in_ok-bits.ensures.bits
     ∙ check_passed (has_word c.args.verb.names.now) _ _ c.in_ok-bits.ensures.names
     ∙ check_passed (may_write_verb w c.args.programmer verb.row.now) _ _ (sym c.may_write_verb.ensures ∙ c.if-not-may_write_verb.false)
-    ∙ check_passed (may_own w c.args.programmer info.owner) _ _ (sym c.may_own.ensures ∙ c.if-not-may_own.false)
+    ∙ check_passed (may_make_owner w c.args.programmer info.owner) _ _ (sym c.may_make_owner.ensures ∙ c.if-not-may_make_owner.false)
     ∙ ap (λ names. Done zero (verb_info_set w c.args.x place info.owner c.in_ok-bits.bits names)) (sym c.in_ok-names.ensures)
     ∙ ap (Done zero) (sym c.in_ok-set_info.ensures.world)

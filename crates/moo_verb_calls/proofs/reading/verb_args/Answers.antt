@@ -2,7 +2,7 @@ use Rattle.std.proofs.Common.{rules, ◌≡◌, [], ◌∷◌, ap, sym, ◌∙�
 use Rattle.moo_value.specs.declared.value.Value.TheVariants.{Str}
 use Rattle.moo_world.specs.Answers.{list_of}
 use Rattle.moo_world.specs.Outcomes.{Done, Failed}
-use Rattle.moo_world.specs.Prepositions.{prep_text, place_text}
+use Rattle.moo_world.specs.Prepositions.{prep_text, object_spec_text}
 use Rattle.moo_world.specs.VerbCalls.{verb_args}
 use Rattle.moo_call_parts.specs.Outcomes.{world_in}
 use Rattle.moo_verb_calls.proofs.reading.verb_args.Goals as goal
@@ -16,5 +16,5 @@ returns-in_err-verb g c =
 pub returns : goal.returns
 returns g c =
     let w = world_in (g.R.Rows.held c.args.rows.now) in
-    c.in_ok-verb.ensures.ok (λ verb. Done (list_of (Str (place_text verb.args.dobj) ∷ Str (prep_text verb.args.prep) ∷ Str (place_text verb.args.iobj) ∷ [])) w)
+    c.in_ok-verb.ensures.ok (λ verb. Done (list_of (Str (object_spec_text verb.args.dobj) ∷ Str (prep_text verb.args.prep) ∷ Str (object_spec_text verb.args.iobj) ∷ [])) w)
     ∙ ap (λ args. Done args w) (sym c.in_ok-answer.ensures)

@@ -2,7 +2,7 @@ use Rattle.std.proofs.Common.{ap, ap₂, ◌∙◌}
 use Rattle.std.specs.Prelude.{codes}
 use Rattle.std.proofs.lemmas.Result.{IfOk-weaker}
 use Rattle.clap.specs.Simple.{App, with_subcommand}
-use Rattle.moo_words.specs.Commands.{file_app, batches_app, load_app}
+use Rattle.moo_words.specs.Commands.{file_app, batches_app}
 use Rattle.moo_words.proofs.commands.moo_command.Goals as goal
 
 abbrev with_command : App → App → App

@@ -7,7 +7,7 @@ pub loop-row-init : goal.loop-row-init
 loop-row-init c =
     let it = c.into_iter-row-iterator.result in
     let left : into_iter_len it ≡ length (into_iter_items it) = search rules in
-    record { whole = c.into_iter-row-iterator.ensures.into_iter_gives.0; left = left; holds = held_none petitions_bear c.args.rows.now.maps.petitions c.requires.none; kept = refl }
+    record { whole = c.into_iter-row-iterator.ensures.into_iter_gives.0; left = left; holds = held_none (petitions_bear c.args.version) c.args.rows.now.maps.petitions c.requires.none; kept = refl }
 
 pub loop-row-preserved : goal.loop-row-preserved
 loop-row-preserved c =
@@ -22,7 +22,7 @@ loop-row-preserved c =
     let short = ap length steps in record {
       whole = takes_on cells at.yielded left rest row at.invariant.whole steps;
       left = omega arith;
-      holds = held_more petitions_bear cells at.yielded row rest (takes_next cells at.yielded left rest row at.invariant.whole steps) c.requires.listed.0 petition_total petition_exact at.rows.maps.petitions c.take_petition.new.rows.maps.petitions at.invariant.holds c.in-Ok.ensures.ok;
+      holds = held_more (petitions_bear c.args.version) cells at.yielded row rest (takes_next cells at.yielded left rest row at.invariant.whole steps) c.requires.listed.0 petition_total petition_exact at.rows.maps.petitions c.take_petition.new.rows.maps.petitions at.invariant.holds c.in-Ok.ensures.ok;
       kept = c.in-Ok.ensures.kept ∙ ap (λ (m : Maps). record m { petitions = c.take_petition.new.rows.maps.petitions }) at.invariant.kept;
     }
 
@@ -45,5 +45,5 @@ returns-in-Err-Unreadable-clause-fault c =
       c.int_in.result,
       refl,
       λ i. Petition (one i),
-      held_first petitions_bear cells at.yielded row rest (takes_next cells at.yielded left rest row at.invariant.whole steps) c.requires.listed.0 at.rows.maps.petitions at.invariant.holds (c.in-Err-Unreadable.ensures.err c.in-Err-Unreadable.field-0-is) c.int_in.result (self_tied (column row 0) c.int_in.result c.int_in.ensures.value),
+      held_first (petitions_bear c.args.version) cells at.yielded row rest (takes_next cells at.yielded left rest row at.invariant.whole steps) c.requires.listed.0 at.rows.maps.petitions at.invariant.holds (c.in-Err-Unreadable.ensures.err c.in-Err-Unreadable.field-0-is) c.int_in.result (self_tied (column row 0) c.int_in.result c.int_in.ensures.value),
     )

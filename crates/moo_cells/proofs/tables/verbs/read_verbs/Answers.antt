@@ -7,7 +7,7 @@ pub loop-row-init : goal.loop-row-init
 loop-row-init c =
     let it = c.into_iter-row-iterator.result in
     let left : into_iter_len it ≡ length (into_iter_items it) = search rules in
-    record { whole = c.into_iter-row-iterator.ensures.into_iter_gives.0; left = left; holds = held_none verbs_bear c.args.rows.now.maps.verbs c.requires.none; kept = refl }
+    record { whole = c.into_iter-row-iterator.ensures.into_iter_gives.0; left = left; holds = held_none (verbs_bear c.args.version) c.args.rows.now.maps.verbs c.requires.none; kept = refl }
 
 pub loop-row-preserved : goal.loop-row-preserved
 loop-row-preserved c =
@@ -22,7 +22,7 @@ loop-row-preserved c =
     let short = ap length steps in record {
       whole = takes_on cells at.yielded left rest row at.invariant.whole steps;
       left = omega arith;
-      holds = held_more verbs_bear cells at.yielded row rest (takes_next cells at.yielded left rest row at.invariant.whole steps) c.requires.listed.rise verb_total verb_exact at.rows.maps.verbs c.take_verb.new.rows.maps.verbs at.invariant.holds c.in-Ok.ensures.ok;
+      holds = held_more (verbs_bear c.args.version) cells at.yielded row rest (takes_next cells at.yielded left rest row at.invariant.whole steps) c.requires.listed.rise verb_total verb_exact at.rows.maps.verbs c.take_verb.new.rows.maps.verbs at.invariant.holds c.in-Ok.ensures.ok;
       kept = c.in-Ok.ensures.kept ∙ ap (λ (m : Maps). record m { verbs = c.take_verb.new.rows.maps.verbs }) at.invariant.kept;
     }
 
@@ -46,5 +46,5 @@ returns-in-Err-Unreadable-clause-fault c =
       (c.int_in.result, c.int_in-in-Err-Unreadable.result),
       refl,
       λ i. Verb (one i) (two i),
-      held_first verbs_bear cells at.yielded row rest (takes_next cells at.yielded left rest row at.invariant.whole steps) c.requires.listed.rise at.rows.maps.verbs at.invariant.holds (c.in-Err-Unreadable.ensures.err c.in-Err-Unreadable.field-0-is) (c.int_in.result, c.int_in-in-Err-Unreadable.result) (pair_mine row c.int_in.result c.int_in-in-Err-Unreadable.result c.int_in.ensures.value c.int_in-in-Err-Unreadable.ensures.value),
+      held_first (verbs_bear c.args.version) cells at.yielded row rest (takes_next cells at.yielded left rest row at.invariant.whole steps) c.requires.listed.rise at.rows.maps.verbs at.invariant.holds (c.in-Err-Unreadable.ensures.err c.in-Err-Unreadable.field-0-is) (c.int_in.result, c.int_in-in-Err-Unreadable.result) (pair_mine row c.int_in.result c.int_in-in-Err-Unreadable.result c.int_in.ensures.value c.int_in-in-Err-Unreadable.ensures.value),
     )

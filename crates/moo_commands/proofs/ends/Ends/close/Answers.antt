@@ -1,4 +1,4 @@
-use Rattle.std.proofs.Common.{refl}
+use Rattle.moo_commands.proofs.Words.{refl}
 use Rattle.moo_commands.proofs.ends.Ends.close.Goals as goal
 
 pub returns-in-Ran : goal.returns-in-Ran

@@ -1,12 +1,10 @@
-use Rattle.std.proofs.Common.{refl}
-use Rattle.moo_store.specs.States.{LeavesState}
-use Rattle.moo_files.specs.Contents.{IsKept}
+use Rattle.moo_files.proofs.Words.{refl, LeavesState, IsKept}
 use Rattle.moo_files.proofs.RemainsLemmas.{keeps_closed, blank_closed, spares_closed}
 use Rattle.moo_files.proofs.remains.Remains.close.Goals as goal
 
 pub returns-in-Connection-clause-closed : goal.returns-in-Connection-clause-closed
 returns-in-Connection-clause-closed g c =
-    rw c.in-Connection.is (c.close_connection.result, refl, c.close_connection.ensures.copied, λ clean. (c.close_connection.ensures.clean clean, c.close_connection.ensures.left clean))
+    rw c.in-Connection.is (c.close_connection.result, refl, c.close_connection.ensures.copied, λ clean. (c.close_connection.ensures.clean clean, c.close_connection.ensures.left clean, c.close_connection.ensures.numbered clean))
 
 pub returns-in-Connection-clause-state : goal.returns-in-Connection-clause-state
 returns-in-Connection-clause-state g c image s = keeps_closed (λ trees. LeavesState trees s) image c.args.self _ (returns-in-Connection-clause-closed g c)

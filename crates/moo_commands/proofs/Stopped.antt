@@ -1,0 +1,101 @@
+-- From what the disk left of a run that was stopped to the next run.
+use Rattle.moo_commands.proofs.Words.{ℕ, List, Option, subst, Ghosts, Image, HasCleanDisk, Held, file_state, Maps, State, CrashLeaves, Stand, Given, HoldsRows, RunsOver, IsClosedEnd, RunsClosed}
+use Rattle.sqlite_store.specs.declared.store.FileStore.{FileStore}
+use Rattle.moo_files.specs.Contents.{HoldsState, IsLeftBy}
+use Rattle.moo_files.specs.Remains.{IsCleanRemains}
+use Rattle.moo_files.specs.Stop.{DiskLeaves, HasNumberedTrees}
+use Rattle.moo_files.specs.Closing.{IsClosedFrom}
+use Rattle.moo_files.specs.declared.remains.Remains.{Remains}
+use Rattle.moo_files.specs.declared.remains.Remains.TheVariants as remains
+use Rattle.moo_files.proofs.StopLemmas.{left_by_disk, states_are_databases}
+use Rattle.moo_commands.specs.Again.{TakesUp, TakesRows, StopsTo, StopsOn}
+use Rattle.moo_commands.proofs.Connections.{runs_when}
+use Rattle.moo_commands.proofs.AgainLemmas.{started_map, started_rows_map, crashes_to, leads_on, takes_up, takes_rows}
+use Rattle.moo_commands.specs.declared.ends.Ends.{Ends}
+use Rattle.moo_commands.specs.declared.ends.Ends.TheVariants as variant
+
+module _ {D : Type 0} {g : Ghosts D} where
+  -- what the disk leaves of a connection whose end is known is a database that it may leave
+  left_at_end : (conn : Held (FileStore D g)) (end : Stand) (next : Image) → HasCleanDisk (file_state conn) → HasNumberedTrees conn → CrashLeaves (file_state conn) end → DiskLeaves conn next → IsLeftBy (file_state conn) next
+  left_at_end conn end next clean numbered leaves lies = left_by_disk conn next clean numbered (states_are_databases (file_state conn) end leaves) lies
+
+module _ {T D : Type 0} {g : Ghosts D} where
+  -- the disk was clean before the closing, if it is after it
+  early_clean : (was now : Remains T D g) → IsClosedFrom was now → IsCleanRemains now → IsCleanRemains was
+  early_clean (remains.Untouched start) now is clean = tt
+  early_clean (remains.NotOpened seal) now is clean = tt
+  early_clean (remains.Leftover rest) now is clean = subst IsCleanRemains is clean
+  early_clean (remains.Connection conn) now (rest, is, copied, closes) clean = (closes (subst IsCleanRemains is clean)).0
+
+  stops_by : (words : List (List ℕ)) (image : Image) (ends : Ends T D g) (closed : Remains T D g) (given : Given) (old new : Option (List ℕ)) (status : ℕ) (next : Image) (Next : State → Type 0)
+      → RunsOver words image ends given old new status → IsClosedEnd ends closed → ((t : State) → HoldsState next t → Next t) → StopsTo words image closed given old new status next Next
+  stops_by words image (variant.Ran conn) closed given old new status next Next over (rest, is, copied, closes) goes = (
+    variant.Ran conn,
+    over,
+    (rest, is, copied, closes),
+    λ clean.
+        let both = closes (subst IsCleanRemains is clean) in
+        let ran = crashes_to words image (variant.Ran conn) given old new status next Next over goes both.0 in (
+          ran.0,
+          ran.1,
+          started_map ran.0 image given _ _ (λ s run. (run.0, λ lies. run.1 (left_at_end conn run.0.end next both.0 both.2 (run.0.crash both.0) lies))) ran.2,
+        ),
+  )
+  stops_by words image (variant.Refused was) closed given old new status next Next over from goes = (
+    variant.Refused was,
+    over,
+    from,
+    λ clean s holds left. crashes_to words image (variant.Refused was) given old new status next Next over goes (early_clean was closed from clean) s holds left,
+  )
+  stops_by words image (variant.NoFile start) closed given old new status next Next over is goes = (
+    variant.NoFile start,
+    over,
+    is,
+    λ clean s holds same. crashes_to words image (variant.NoFile start) given old new status next Next over goes tt s holds same,
+  )
+
+  stops_by_rows : (words : List (List ℕ)) (image : Image) (ends : Ends T D g) (closed : Remains T D g) (given : Given) (old new : Option (List ℕ)) (status : ℕ) (next : Image) (Next : Maps → Type 0)
+      → RunsOver words image ends given old new status → IsClosedEnd ends closed → ((rows : Maps) → HoldsRows next rows → Next rows) → StopsOn words image closed given old new status next Next
+  stops_by_rows words image (variant.Ran conn) closed given old new status next Next over (rest, is, copied, closes) goes = (
+    variant.Ran conn,
+    over,
+    (rest, is, copied, closes),
+    λ clean.
+        let both = closes (subst IsCleanRemains is clean) in
+        let ran = leads_on words image (variant.Ran conn) given old new status next Next over goes both.0 in (
+          ran.0,
+          ran.1,
+          started_rows_map ran.0 image given _ _
+              (λ rows run. runs_when _ _ _ _ _ _ _ _ _ _ _ _ _ (λ clean. clean) (λ end clean crash. crash)
+              (λ batches others clean led lies. led (left_at_end conn run.end next both.0 both.2 (run.crash both.0) lies)) run)
+              ran.2,
+        ),
+  )
+  stops_by_rows words image (variant.Refused was) closed given old new status next Next over from goes = (
+    variant.Refused was,
+    over,
+    from,
+    λ clean rows holds left. leads_on words image (variant.Refused was) given old new status next Next over goes (early_clean was closed from clean) rows holds left,
+  )
+  stops_by_rows words image (variant.NoFile start) closed given old new status next Next over is goes = (
+    variant.NoFile start,
+    over,
+    is,
+    λ clean rows holds same. leads_on words image (variant.NoFile start) given old new status next Next over goes tt rows holds same,
+  )
+
+-- ---- two runs, by what each is given
+
+pub stop_run : {T D U E R H Q G : Type 0} {d : Ghosts D} {e : Ghosts E} (given : R → H → H → Given) (next_given : Q → G → G → Given)
+    (words next_words : List (List ℕ)) (input : R) (host after : H) (next_input : Q) (next_host next_after : G) (image next_image : Image) (closed : Remains T D d) (next_ends : Ends U E e)
+    (old new next_old next_new : Option (List ℕ)) (status next_status : ℕ) → RunsClosed words image closed (given input host after) old new status → RunsOver next_words next_image next_ends (next_given next_input next_host next_after) next_old next_new next_status
+    → StopsTo words image closed (given input host after) old new status next_image (λ t. TakesUp next_words t next_ends (next_given next_input next_host next_after) next_old next_new next_status)
+stop_run given next_given words next_words input host after next_input next_host next_after image next_image closed next_ends old new next_old next_new status next_status over next =
+    stops_by words image over.0 closed (given input host after) old new status next_image _ over.1 over.2 (takes_up next_words next_image next_ends (next_given next_input next_host next_after) next_old next_new next_status next)
+
+pub stop_rows : {T D U E R H Q G : Type 0} {d : Ghosts D} {e : Ghosts E} (given : R → H → H → Given) (next_given : Q → G → G → Given)
+    (words next_words : List (List ℕ)) (input : R) (host after : H) (next_input : Q) (next_host next_after : G) (image next_image : Image) (closed : Remains T D d) (next_ends : Ends U E e)
+    (old new next_old next_new : Option (List ℕ)) (status next_status : ℕ) → RunsClosed words image closed (given input host after) old new status → RunsOver next_words next_image next_ends (next_given next_input next_host next_after) next_old next_new next_status
+    → StopsOn words image closed (given input host after) old new status next_image (λ rows. TakesRows next_words rows next_ends (next_given next_input next_host next_after) next_old next_new next_status)
+stop_rows given next_given words next_words input host after next_input next_host next_after image next_image closed next_ends old new next_old next_new status next_status over next =
+    stops_by_rows words image over.0 closed (given input host after) old new status next_image _ over.1 over.2 (takes_rows next_words next_image next_ends (next_given next_input next_host next_after) next_old next_new next_status next)

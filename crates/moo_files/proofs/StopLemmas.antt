@@ -1,0 +1,79 @@
+-- From what the disk leaves of the bytes of two files to a database that their store may leave.
+use Rattle.std.proofs.Common.{◌≡◌, IsTrue, List, refl, sym, subst, ◌∙◌}
+use Rattle.std.proofs.Math.Logic.{∥∥₁_elim, ∥∥₁_map}
+use mathlib.Core.HLevel.{Σ_prop_path}
+use Rattle.sqlite_disk.specs.declared.Disk.{Ghosts}
+use Rattle.sqlite_wal.specs.Recovery.{Image}
+use Rattle.sqlite_wal.specs.Files.{outcomes}
+use Rattle.sqlite_pages.specs.PageMap.{PageMap}
+use Rattle.sqlite_pool.specs.Stored.{Recovers}
+use Rattle.sqlite_pool.specs.StoredLaws.{recovers_once}
+use Rattle.sqlite_pool.proofs.PoolLemmas.{pages_from}
+use Rattle.sqlite_pool.proofs.ResealLemmas.{adopts_of}
+use Rattle.sqlite_pool.proofs.StateLemmas.{clean_is, may_leave_is, size_is_allowed}
+use Rattle.sqlite_store.specs.Listing.{IsOurs}
+use Rattle.sqlite_store.specs.FileStore.{state, view, files, schema_in, reading, recovers}
+use Rattle.sqlite_store.specs.declared.store.FileStore.{FileStore}
+use Rattle.sqlite_trees.proofs.Doubt.{clean_of}
+use Rattle.sqlite.specs.State.{State as Database, HasCleanDisk}
+use Rattle.sqlite.specs.Held.{Held, AreDatabases}
+use Rattle.sqlite.specs.Files.{file_state}
+use Rattle.moo_rows.specs.Maps.{Maps}
+use Rattle.moo_world.specs.declared.call.Batch.{Batch}
+use Rattle.moo_tables.specs.Tables.{schema_of}
+use Rattle.moo_store.specs.Stand.{Stand}
+use Rattle.moo_store.specs.Led.{LeavesLed}
+use Rattle.moo_store.specs.World.{CrashLeaves}
+use Rattle.moo_files.specs.Contents.{HoldsSuch, HoldsTrees, IsLeftBy}
+use Rattle.moo_files.specs.Stop.{DiskLeaves, HasNumberedTrees}
+
+module _ {D : Type 0} {g : Ghosts D} (it : FileStore D g) (image : Image) where
+  -- the files hold these pages, which are a file of the store's schema
+  abbrev Has : PageMap → Type 0
+  Has pages = Recovers (state it).page_size image pages × ∥ IsOurs (state it).page_size it.is_numbered (schema_in it pages) pages ∥₁
+
+  abbrev HasOne : Type 0
+  HasOne = (pages : PageMap) × ∥ Has pages ∥₁
+
+  -- there are no others, so that they come out of a truncation
+  one_prop : IsProp HasOne
+  one_prop u v = Σ_prop_path (λ pages. squash₁) (pages_from u.0 v.0 u.1 (λ a. pages_from u.0 v.0 v.1 (λ b. recovers_once (state it).page_size image u.0 v.0 a.0 b.0)))
+
+  has_one : (state it).may_leave image → HasOne
+  has_one may = ∥∥₁_elim it.safe one_prop (λ all. let found = all image may in (found.0, ∣ (found.1, found.2) ∣₁))
+
+  left_on_disk : IsTrue (view it).is_clean → IsTrue (view it).is_numbered → AreDatabases (recovers it) → outcomes g (files it).0 (files it).1 image → HoldsSuch (recovers it) image
+  left_on_disk clean numbered sound lies =
+      let may = may_leave_is it.pool image (sym (clean_is it.pool) ∙ clean) lies in
+      let one = has_one may in
+      let trees = reading it one.0 in
+      let allowed : recovers it trees = (image, one.0, may, ∥∥₁_map one.1 (λ has. has.0), refl) in
+      let schema = sound trees allowed in
+      let holds : HoldsTrees image trees = ∥∥₁_elim one.1 squash₁ (λ has. ∥∥₁_elim (size_is_allowed it.pool) squash₁ (λ size. ∥∥₁_map has.1 (λ ours. (
+        (state it).page_size,
+        size,
+        record {
+          pages = one.0;
+          wanted = schema_in it one.0;
+          schema = schema.0;
+          found = adopts_of (state it).page_size image one.0 has.0;
+          reads = refl;
+          sound = schema.1;
+          ours = subst (λ b. IsOurs (state it).page_size b (schema_in it one.0) one.0) numbered ours;
+        },
+      )))) in
+      record { trees = trees; holds = holds; such = allowed }
+
+pub left_by_disk : {D : Type 0} {g : Ghosts D} (conn : Held (FileStore D g)) (image : Image) → HasCleanDisk (file_state conn) → HasNumberedTrees conn → AreDatabases (file_state conn).may_leave → DiskLeaves conn image → IsLeftBy (file_state conn) image
+left_by_disk conn image clean numbered sound lies = left_on_disk conn.store image (clean_of (view conn.store).is_clean clean) numbered sound lies
+
+-- what shows a state, or rows, is a database
+pub states_are_databases : (store : Database) (stand : Stand) → CrashLeaves store stand → AreDatabases store.may_leave
+states_are_databases store stand leaves trees lies =
+    let shown = (leaves trees lies).2.leaves in
+    (schema_of shown.tables.version, shown.leaves.sound)
+
+pub rows_are_databases : (store : Database) (rows : Maps) (batches others : List Batch) → LeavesLed store rows batches others → AreDatabases store.may_leave
+rows_are_databases store rows batches others leaves trees lies =
+    let shown = (leaves trees lies).5 in
+    (schema_of shown.tables.version, shown.leaves.sound)

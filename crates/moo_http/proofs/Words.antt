@@ -1,0 +1,29 @@
+-- The words that most proofs of this crate share.
+pub use Rattle.std.proofs.Common.{Bool, IsTrue, List, None, Option, Some, [], ap, append-nil, append_assoc, arith, false, inl, inr, length, refl, rules, subst, suc, sym, take, true, true≢false, ℕ, ◌++◌, ◌+◌, ◌-◌, ◌<◌, ◌∙◌, ◌∷◌, ◌≡◌, ◌≢◌, ◌≤◌}
+pub use Rattle.std.specs.Io.KnownBytes.{Appends, Consumes, Keeps}
+pub use Rattle.std.specs.Prelude.{Err, IfErr, IfOk, IsErrAnd, IsErrOf, Ok, OnErr, OnOk, Result, is_ok, ⊤, ◌⊎◌}
+pub use Rattle.moo_request.specs.Request.{Takes}
+pub use Rattle.moo_request.specs.declared.asked.Asked.{Asked}
+pub use Rattle.moo_request.specs.declared.asked.Asked.TheVariants.{Calls, Refused}
+pub use Rattle.moo_request.specs.declared.asked.Mode.TheVariants.{Ask, Run}
+pub use Rattle.moo_request.specs.declared.request.Received.TheVariants.{Nothing, Request}
+pub use Rattle.moo_responses.specs.Responses.{response_of, response_text}
+pub use Rattle.moo_responses.specs.declared.outcome.Outcome.{Outcome}
+pub use Rattle.moo_store.proofs.Untouched.{moved_then, written_none}
+pub use Rattle.moo_store.specs.Kept.{World}
+pub use Rattle.moo_store.specs.Stand.{AsksBatch, Failed, RunsBatch, Stand, StoreFailed, VerdictLeaves, Works, state_at}
+pub use Rattle.moo_store.specs.Untouched.{HasWritten, IsKnown, IsMovedBy, StandsOver}
+pub use Rattle.moo_store.specs.World.{CrashLeaves, IsAt, IsOfRun, MatchStore, ShowsItsRows, StandsAt, StandsFor, store_of}
+pub use Rattle.moo_world.specs.Judge.{State, judge, left_by, state_of}
+pub use Rattle.moo_world.specs.declared.call.Batch.{Batch}
+pub use Rattle.sqlite.specs.State.{HasCleanDisk}
+pub use Rattle.sqlite.specs.Store.{Ghosts}
+pub use Rattle.moo_http.specs.Answers.{Comes, Consulted, MayAnswer, answer, failed_by, taken_by}
+pub use Rattle.moo_http.specs.Connections.{AfterConnections, Connected, Moves, SaysByResult, ServesPort, StandsAtEnd, WritesFront}
+pub use Rattle.moo_http.specs.Lines.{listening_line, served_line}
+pub use Rattle.moo_http.specs.Linger.{DrainsAtMost}
+pub use Rattle.moo_http.specs.Serves.{Served, Serves, StandsStill, Written}
+pub use Rattle.moo_http.specs.Turns.{AfterTurns, Attended, Exchanged, ServesFrom, ServesOn, Visit, Visited, Yields, answered_in, attended_between, failed_in}
+pub use Rattle.moo_http.specs.declared.fault.ServeFault.{ServeFault}
+pub use Rattle.moo_http.specs.declared.fault.ServeFault.TheVariants.{OutOfMemory, Read, Write}
+pub use Rattle.moo_http.specs.declared.service.ServiceFault.{ServiceFault}

@@ -1,0 +1,51 @@
+-- What one step for each element of a list changes, and what it leaves as it was.
+use Rattle.moo_props.proofs.Words.{◌≡◌, Bool, true, false, cond, List, [], ◌∷◌, refl, ap, ◌∙◌, ◌||◌, list_any, AllByRecursion, FinMap, Held, Maps, object_cmp, prop_cmp, slot_cmp, verb_cmp, ObjRow, PropRow, SlotRow, VerbRow}
+use Rattle.std.specs.Prelude.{⊤}
+
+-- ---- all but one map
+
+-- the rows by one of the maps, and what they are over
+abbrev pub Rest : Type 0 → Type 0
+Rest X = (X → Maps) × Maps
+
+abbrev pub but_objects : Held → Rest (FinMap object_cmp ObjRow)
+but_objects held = (λ rows. record (held.maps) { objects = rows }, held.base)
+
+abbrev pub but_props : Held → Rest (FinMap prop_cmp PropRow)
+but_props held = (λ rows. record (held.maps) { props = rows }, held.base)
+
+abbrev pub but_slots : Held → Rest (FinMap slot_cmp SlotRow)
+but_slots held = (λ rows. record (held.maps) { slots = rows }, held.base)
+
+abbrev pub but_verbs : Held → Rest (FinMap verb_cmp VerbRow)
+but_verbs held = (λ rows. record (held.maps) { verbs = rows }, held.base)
+
+pub same_maps : {X : Type 0} {a b : Rest X} → a ≡ b → (rows : X) → a.0 rows ≡ b.0 rows
+same_maps {X = X} e rows = ap (λ (r : Rest X). r.0 rows) e
+
+pub same_base : {X : Type 0} {a b : Rest X} → a ≡ b → a.1 ≡ b.1
+same_base {X = X} e = ap (λ (r : Rest X). r.1) e
+
+-- ---- one value
+
+all_any : {Y : Type 0} (ys : List Y) → AllByRecursion (λ (y : Y). ⊤) ys
+all_any [] = tt
+all_any (y ∷ ys) = (tt, all_any ys)
+
+changed_or : {Z : Type 0} (change : Z → Z) → ((v : Z) → change (change v) ≡ change v) → (a b : Bool) (v : Z) → cond b (change (cond a (change v) v)) (cond a (change v) v) ≡ cond (a || b) (change v) v
+changed_or change twice true true v = twice v
+changed_or change twice true false v = refl
+changed_or change twice false b v = refl
+
+module _ {Y : Type 0} (fold : List Y → Held → Held) (step : Y → Held → Held) (over : (held : Held) → fold [] held ≡ held) (more : (y : Y) (ys : List Y) (held : Held) → fold (y ∷ ys) held ≡ fold ys (step y held)) where
+  -- a value that each step changes for what passes a test is changed once if one passes, if a second change does nothing
+  module _ {Z : Type 0} (see : Held → Z) (test : Y → Bool) (change : Z → Z) (twice : (v : Z) → change (change v) ≡ change v) where
+    pub all_of_change : (P : Y → Type 0) → ((y : Y) (held : Held) → P y → see (step y held) ≡ cond (test y) (change (see held)) (see held)) → (ys : List Y) (held : Held) → AllByRecursion P ys → see (fold ys held) ≡ cond (list_any test ys) (change (see held)) (see held)
+    all_of_change P one [] held h = ap see (over held)
+    all_of_change P one (y ∷ ys) held h =
+        ap see (more y ys held) ∙ all_of_change P one ys (step y held) h.1
+        ∙ ap (λ v. cond (list_any test ys) (change v) v) (one y held h.0)
+        ∙ changed_or change twice (test y) (list_any test ys) (see held)
+
+    pub all_change : ((y : Y) (held : Held) → see (step y held) ≡ cond (test y) (change (see held)) (see held)) → (ys : List Y) (held : Held) → see (fold ys held) ≡ cond (list_any test ys) (change (see held)) (see held)
+    all_change one ys held = all_of_change (λ y. ⊤) (λ y held h. one y held) ys held (all_any ys)

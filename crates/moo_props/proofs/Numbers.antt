@@ -1,0 +1,53 @@
+-- What a function gives over numbers, by what it gives at each.
+use Rattle.moo_props.proofs.Words.{◌≡◌, ℕ, zero, suc, ◌<◌, Bool, true, false, cond, Option, None, Some, List, [], ◌∷◌, ◌++◌, map, refl, sym, ap, ◌∙◌, arith, if◌then◌else◌, option_map, filter, filter_map, cons_option, filter_map-append, slice_get, numbers_below, LookUps, AreSound, ObjNo, PropRow, Name, name_on, option_and_then, same_object, same_object-Decides, none-some, false≢true, is_some, cond_some}
+use Rattle.moo_world.proofs.Shown.Numbered.{first_from, no_first}
+use Rattle.moo_props.proofs.Cases.{no_value}
+
+-- what passes a test
+abbrev pub kept : {A : Type 0} → (A → Bool) → Option A → Option A
+kept test None = None
+kept test (Some v) = if test v then Some v else None
+
+-- if at each number it gives what another function gives there, changed or left out, then so it is over all
+module _ {A B : Type 0} (f : List A → List B) (g : Option A → Option B) (nil : f [] ≡ []) (more : (o : Option A) (l : List A) → f (cons_option o l) ≡ cons_option (g o) (f l)) where
+  over_numbers : (h : ℕ → Option A) (k : ℕ → Option B) (l : List ℕ) → ((j : ℕ) → k j ≡ g (h j)) → filter_map k l ≡ f (filter_map h l)
+  over_numbers h k [] e = sym nil
+  over_numbers h k (j ∷ l) e = (λ i. cons_option (e j i) (over_numbers h k l e i)) ∙ sym (more (h j) (filter_map h l))
+
+pub fewer : {A : Type 0} (test : A → Bool) (h k : ℕ → Option A) (l : List ℕ) → ((j : ℕ) → k j ≡ kept test (h j)) → filter_map k l ≡ filter test (filter_map h l)
+fewer {A = A} test = over_numbers (filter test) (kept test) refl by
+  where
+    by : (o : Option A) (l : List A) → filter test (cons_option o l) ≡ cons_option (kept test o) (filter test l)
+    by None l = refl
+    by (Some v) l = one (test v)
+      where
+        one : (b : Bool) → cond b (v ∷ filter test l) (filter test l) ≡ cons_option (if b then Some v else None) (filter test l)
+        one true = refl
+        one false = refl
+
+pub changed : {A B : Type 0} (f : A → B) (h : ℕ → Option A) (k : ℕ → Option B) (l : List ℕ) → ((j : ℕ) → k j ≡ option_map f (h j)) → filter_map k l ≡ map f (filter_map h l)
+changed {A = A} f = over_numbers (map f) (option_map f) refl by
+  where
+    by : (o : Option A) (l : List A) → map f (cons_option o l) ≡ cons_option (option_map f o) (map f l)
+    by None l = refl
+    by (Some v) l = refl
+
+pub same_below : {X : Type 0} (h g : ℕ → Option X) (n : ℕ) → ((j : ℕ) → j < n → h j ≡ g j) → filter_map h (numbers_below n) ≡ filter_map g (numbers_below n)
+same_below h g zero e = refl
+same_below h g (suc n) e =
+    filter_map-append h (numbers_below n) (n ∷ [])
+    ∙ (λ i. same_below h g n (λ j l. e j (omega arith)) i ++ cons_option (e n (omega arith) i) [])
+    ∙ sym (filter_map-append g (numbers_below n) (n ∷ []))
+
+pub nothing_below : {X : Type 0} (h : ℕ → Option X) (n : ℕ) → ((k : ℕ) (v : X) → h k ≡ Some v → ⊥) → filter_map h (numbers_below n) ≡ []
+nothing_below h n none = no_first (filter_map h (numbers_below n)) (no_value (slice_get (filter_map h (numbers_below n)) 0) (λ v e. let k = first_from h n v e in none k.0 v k.2))
+
+-- what isn't an object defines nothing
+pub no_names : (m : LookUps) → AreSound m → (x : ObjNo) → m.object x ≡ None → filter_map (name_on m x) (numbers_below m.head.next_prop) ≡ []
+no_names m sound x none = nothing_below (name_on m x) m.head.next_prop (λ id n e. by id n (m.prop id) refl e)
+  where
+    by : (id : ℕ) (n : Name) (o : Option PropRow) → m.prop id ≡ o → option_and_then (λ (p : PropRow). if same_object p.definer x then Some p.name else None) o ≡ Some n → ⊥
+    by id n None g e = none-some n e
+    by id n (Some p) g e =
+        let own = (same_object-Decides p.definer x).0 (cond_some (same_object p.definer x) p.name n e).0 in
+        false≢true (ap is_some (sym none ∙ ap m.object (sym own)) ∙ sound.definers id p g)

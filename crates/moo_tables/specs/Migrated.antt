@@ -1,0 +1,47 @@
+-- What becomes of the tables of an earlier version.
+use Rattle.std.specs.Prelude.{◌≡◌, IsTrue, ℕ, pos, List, [], ◌∷◌, Option, Some, None}
+use Rattle.std.specs.List.{AllByRecursion}
+use Rattle.sqlite.specs.Schema.{Schema}
+use Rattle.sqlite.specs.Effect.{Database, IsDatabase}
+use Rattle.sqlite.specs.State.{State}
+use Rattle.moo_value.specs.declared.value.ObjNo.{ObjNo}
+use Rattle.moo_rows.specs.declared.row.Head.{Head}
+use Rattle.moo_rows.specs.declared.row.PropId.{PropId}
+use Rattle.moo_tables.specs.declared.slot.SlotCells.{SlotCells}
+use Rattle.moo_tables.specs.declared.version.Version.TheVariants.{First}
+use Rattle.moo_tables.specs.Version.{present}
+use Rattle.moo_tables.specs.Tables.{Tables, numbered_with, slot_tree}
+use Rattle.moo_tables.specs.Cells.{head_cells, petition_head_cells, slots_with}
+
+-- On the way to the present version: the trees of the tables of the base are those that it had, and these have been made since, empty.
+pub record IsGrown (base : Database) (schema : Schema) (made : List ℕ) (db : Database) : Type 0 where
+  pub schema_is : db.schema ≡ schema
+  pub same : AllByRecursion (λ tree. db.trees tree ≡ base.trees tree) (0 ∷ 1 ∷ 2 ∷ 3 ∷ 5 ∷ [])
+  pub empty : AllByRecursion (λ tree. db.trees tree ≡ []) made
+
+-- a transaction is open on a sound database
+pub record IsUnderWay (s : State) : Type 0 where
+  pub is_open : IsTrue s.is_open
+  pub inside : IsTrue s.in_transaction
+  pub sound : IsDatabase s.now
+
+-- the same tables in the present version, in which there is no slot yet, no petition and no number for the next
+abbrev pub grown : Tables → Tables
+grown tables = record tables { version = present; slot = λ _. None; petition = λ _. None; petition_head = λ _. None }
+
+-- the table `slot` of the first version has no row
+abbrev pub HasNoSlot : Database → Type 0
+HasNoSlot db = db.trees (slot_tree First) ≡ []
+
+-- the tables of the present version, with this head and these slots, and with the other rows of these tables: there is no petition yet, and the first has the number 1
+abbrev pub migrated : Head → List ((ObjNo × PropId) × Option SlotCells) → Tables → Tables
+migrated head slots t = record {
+  version = present;
+  head = numbered_with (pos 1) (Some (head_cells present head)) t.head;
+  object = t.object;
+  prop = t.prop;
+  slot = slots_with slots (λ _. None);
+  verb = t.verb;
+  petition = λ _. None;
+  petition_head = numbered_with (pos 1) (Some (petition_head_cells 1)) (λ _. None);
+}
