@@ -24,6 +24,8 @@ MB = 1_000_000
 PAUSE = 6
 # So many batches are in the log of the run that is killed, with three pages of a kilobyte each.
 COMMITTED = 150
+# For so many seconds batches are committed: longer than it waits before it tells.
+COMMITTING = 7
 
 
 def make_large(file):
@@ -96,3 +98,24 @@ class Telling(ProgramTest):
         written, said, seconds = self.check_slowly("world.db", 0.2 * MB)
         self.case("it is sound", re.fullmatch(rf"ok seq \d{{3,}} objects {OBJECTS + 4}\n", written) is not None, True)
         self.tells("the log", said, seconds, 1, "reading the log", "log")
+
+    def test_commits(self):
+        """What is read for commits isn't told of, since a change of the log ends a run of reads of the file too."""
+        make_large("world.db")
+        process = processes.start([MOO, "apply", "world.db", "-"], stdin=subprocess.PIPE, stdout=subprocess.PIPE, stderr=subprocess.PIPE)
+        began, before, given, sent = time.monotonic(), None, 0, 0
+        while time.monotonic() < began + COMMITTING:
+            text = text_of([f'set(#{4 + sent * 7 % OBJECTS}, "name", "thing {sent}")'])
+            process.stdin.write(text.encode())
+            process.stdin.flush()
+            while process.stdout.readline() != b"end\n":
+                pass
+            sent += 1
+            if before is None:
+                before = bytes_read(process)
+            else:
+                given += len(text)
+        read = bytes_read(process) - before - given
+        _, said = process.communicate()
+        self.case("they read the file", read > 0.2 * MB, True)
+        self.case("it says nothing", said.decode(), "")

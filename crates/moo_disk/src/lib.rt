@@ -6,8 +6,6 @@ mod line;
 mod reading;
 mod teller;
 mod telling;
-#[cfg(test)]
-mod tests;
 
 pub use changes::DiskChanges;
 pub use telling::{Telling, telling_files};
