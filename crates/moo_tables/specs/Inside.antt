@@ -8,10 +8,9 @@ use Rattle.sqlite.specs.Effect.{Database, IsDatabase}
 use Rattle.sqlite.specs.declared.error.Error.{Error}
 use Rattle.sqlite.specs.State.{State, HasCleanDisk, Executes, IsUnchanged, IsRolledBack, KeepsCommit, Survives, Opens}
 use Rattle.moo_tables.specs.declared.version.Version.{Version}
-use Rattle.moo_tables.specs.declared.version.Version.TheVariants.{First}
 use Rattle.moo_tables.specs.Version.{present}
-use Rattle.moo_tables.specs.Tables.{Tables, no_schema, schema_of, slot_tree}
-pub use Rattle.moo_tables.specs.Tables.{AreKeyed, Holds}
+use Rattle.moo_tables.specs.Tables.{Tables, no_schema, schema_of}
+pub use Rattle.moo_tables.specs.Tables.{AreKeyed, Holds, KeepsSlot}
 
 -- the tables are of the version that is written
 abbrev pub IsCurrent : Tables → Type 0
@@ -35,10 +34,6 @@ pub record Rests (s : State) (tables : Tables) : Type 0 where
 pub record StaysInside (old new : State) : Type 0 where
   pub kept : HasCleanDisk new → KeepsCommit old new
   pub survives : Survives old new (λ _. ⊥)
-
--- the table `slot` of the first version, which later ones have and don't read, has the rows that it had
-abbrev pub KeepsSlot : Database → Database → Type 0
-KeepsSlot old new = new.trees (slot_tree First) ≡ old.trees (slot_tree First)
 
 -- the transaction goes on, with its tables changed so, and the table that isn't read stays
 abbrev pub Changes : (Tables → Tables) → State → State → Type 0

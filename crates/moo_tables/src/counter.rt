@@ -12,11 +12,11 @@ ghost use Rattle.moo_tables.specs.Listing.{ListsNumbers};
 ghost use Rattle.moo_tables.specs.Migrated.{IsGrown, IsUnderWay};
 ghost use Rattle.moo_tables.specs.Tables.{petition_schema, second_schema, schema_of};
 ghost use Rattle.moo_tables.specs.Version.{has_petitions};
-ghost use Rattle.moo_tables.specs.declared.version.Version.{Version};
 
 use crate::columns::is_number;
 use crate::query::all_rows;
 use crate::statement::{counter_value, run};
+use crate::version::Version;
 use sqlite::{Alter, Connection, Error, Row, Transaction};
 use sqlite_schema::schema::Column;
 use sqlite_value::value::ValueRef;
@@ -75,11 +75,12 @@ pub(crate) fn put_next_petition<S: Alter>(
 pub(crate) fn counter_cells_of<S: Alter>(
     alloc: Global,
     conn: &mut Connection<S>,
+    version: Version,
 ) -> Result<Vec<Row>, Error>
     ensures outside { (state S.Store conn.old).in_transaction ≡ false → (state S.Store conn.new).in_transaction ≡ false }
-    ensures read { (version : Version) → IsTrue (has_petitions version) → OnOk result (ReadsTables (schema_of version) (state S.Store conn.old) (state S.Store conn.new)) }
+    ensures read { IsTrue (has_petitions version) → OnOk result (ReadsTables (schema_of version) (state S.Store conn.old) (state S.Store conn.new)) }
     ensures listed { HasCleanDisk (state S.Store conn.new) → IfOk result (λ rows. (tables : _) → Rests (state S.Store conn.old) tables → IsTrue (has_petitions tables.version) → ListsNumbers rows.items tables.petition_head) }
-    ensures failed { (version : Version) → IsTrue (has_petitions version) → OnErr result (FailsToRead (schema_of version) (state S.Store conn.old) (state S.Store conn.new)) }
+    ensures failed { IsTrue (has_petitions version) → OnErr result (FailsToRead (schema_of version) (state S.Store conn.old) (state S.Store conn.new)) }
 {
     all_rows(
         alloc,

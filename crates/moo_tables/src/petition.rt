@@ -15,12 +15,12 @@ ghost use Rattle.moo_tables.specs.Migrated.{IsGrown};
 ghost use Rattle.moo_tables.specs.Petition.{petition_row, petition_table};
 ghost use Rattle.moo_tables.specs.Tables.{slot2_schema, petition_schema, schema_of};
 ghost use Rattle.moo_tables.specs.Version.{has_petitions};
-ghost use Rattle.moo_tables.specs.declared.version.Version.{Version};
 
 use crate::columns::{is_number, is_text};
 use crate::query::all_rows;
 use crate::statement::{counter_value, object_value, run, text_value};
 use crate::table_row::TableRow;
+use crate::version::Version;
 use moo_rows::PetitionId;
 use moo_value::ObjNo;
 use sqlite::{Alter, Connection, Error, Row, Transaction};
@@ -132,11 +132,12 @@ impl TableRow for PetitionCells {
 pub(crate) fn petition_cells_of<S: Alter>(
     alloc: Global,
     conn: &mut Connection<S>,
+    version: Version,
 ) -> Result<Vec<Row>, Error>
     ensures outside { (state S.Store conn.old).in_transaction ≡ false → (state S.Store conn.new).in_transaction ≡ false }
-    ensures read { (version : Version) → IsTrue (has_petitions version) → OnOk result (ReadsTables (schema_of version) (state S.Store conn.old) (state S.Store conn.new)) }
+    ensures read { IsTrue (has_petitions version) → OnOk result (ReadsTables (schema_of version) (state S.Store conn.old) (state S.Store conn.new)) }
     ensures listed { HasCleanDisk (state S.Store conn.new) → IfOk result (λ rows. (tables : _) → Rests (state S.Store conn.old) tables → IsTrue (has_petitions tables.version) → ListsNumbers rows.items tables.petition) }
-    ensures failed { (version : Version) → IsTrue (has_petitions version) → OnErr result (FailsToRead (schema_of version) (state S.Store conn.old) (state S.Store conn.new)) }
+    ensures failed { IsTrue (has_petitions version) → OnErr result (FailsToRead (schema_of version) (state S.Store conn.old) (state S.Store conn.new)) }
 {
     all_rows(
         alloc,

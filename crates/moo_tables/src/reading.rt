@@ -48,8 +48,8 @@ fn both_petition_cells_of<S: Alter>(
     if !version.has_petitions() {
         return Ok((Vec::new(alloc), Vec::new(alloc)));
     }
-    let petition = petition_cells_of(alloc, conn)?;
-    let petition_head = counter_cells_of(alloc, conn)?;
+    let petition = petition_cells_of(alloc, conn, version)?;
+    let petition_head = counter_cells_of(alloc, conn, version)?;
     Ok((petition, petition_head))
 }
 
@@ -69,11 +69,11 @@ pub fn read_tables<S: Alter>(
     ensures listed { HasCleanDisk (state S.Store conn.new) → IfOk result (λ lists. (tables : _) → tables.version ≡ version → Rests (state S.Store conn.old) tables → ListsTables lists tables) }
     ensures failed { OnErr result (FailsToRead (schema_of version) (state S.Store conn.old) (state S.Store conn.new)) }
 {
-    let head = head_cells_of(alloc, conn)?;
-    let object = object_cells_of(alloc, conn)?;
-    let prop = prop_cells_of(alloc, conn)?;
+    let head = head_cells_of(alloc, conn, version)?;
+    let object = object_cells_of(alloc, conn, version)?;
+    let prop = prop_cells_of(alloc, conn, version)?;
     let slot = slot_cells_of(alloc, conn, version)?;
-    let verb = verb_cells_of(alloc, conn)?;
+    let verb = verb_cells_of(alloc, conn, version)?;
     let (petition, petition_head) = both_petition_cells_of(alloc, conn, version)?;
     Ok(CellLists {
         version,

@@ -1,17 +1,17 @@
-use Rattle.moo_tables.proofs.Words.{refl, state, schema_of, verb_table, select_text, ListsPairs}
+use Rattle.moo_tables.proofs.Words.{◌≡◌, refl, state, schema_of, verb_table, select_text, ListsPairs}
 use Rattle.moo_tables.proofs.SelectLemmas.{select_verb}
 use Rattle.moo_tables.proofs.ReadLemmas.{reads, fails, lists, plain_of, verb_lists}
 use Rattle.moo_tables.proofs.verb.verb_cells_of.Goals as goal
 
 pub returns-clause-read : goal.returns-clause-read
-returns-clause-read g c version =
-    reads (schema_of version) (select_text verb_table) (select_verb version).plain (state g.S.Store c.args.conn.now) (state g.S.Store c.all_rows.new.conn) c.all_rows.result c.all_rows.ensures.survives c.all_rows.ensures.shown
+returns-clause-read g c =
+    reads (schema_of c.args.version) (select_text verb_table) (select_verb c.args.version).plain (state g.S.Store c.args.conn.now) (state g.S.Store c.all_rows.new.conn) c.all_rows.result c.all_rows.ensures.survives c.all_rows.ensures.shown
 
 pub returns-clause-listed : goal.returns-clause-listed
 returns-clause-listed g c =
     lists (select_text verb_table) (state g.S.Store c.args.conn.now) (state g.S.Store c.all_rows.new.conn) c.all_rows.result
-    (λ rows tables. ListsPairs rows tables.verb) (λ rows tables holds shown. verb_lists (state g.S.Store c.args.conn.now) (state g.S.Store c.all_rows.new.conn) rows tables holds (shown (plain_of (select_text verb_table) (state g.S.Store c.args.conn.now) tables tables.version holds refl (select_verb tables.version).plain))) c.all_rows.ensures.shown
+    (λ rows tables. tables.version ≡ c.args.version → ListsPairs rows tables.verb) (λ rows tables holds shown at. verb_lists (state g.S.Store c.args.conn.now) (state g.S.Store c.all_rows.new.conn) rows tables holds (shown (plain_of (select_text verb_table) (state g.S.Store c.args.conn.now) tables tables.version holds refl (select_verb tables.version).plain))) c.all_rows.ensures.shown
 
 pub returns-clause-failed : goal.returns-clause-failed
-returns-clause-failed g c version =
-    fails (schema_of version) (select_text verb_table) (select_verb version).plain (state g.S.Store c.args.conn.now) (state g.S.Store c.all_rows.new.conn) c.all_rows.result c.all_rows.ensures.survives c.all_rows.ensures.kept
+returns-clause-failed g c =
+    fails (schema_of c.args.version) (select_text verb_table) (select_verb c.args.version).plain (state g.S.Store c.args.conn.now) (state g.S.Store c.all_rows.new.conn) c.all_rows.result c.all_rows.ensures.survives c.all_rows.ensures.kept
