@@ -199,7 +199,7 @@ pub fn run_over<
     // A task that begins with a new world runs from that.
     ensures anew { begins_anew task.entry ≡ true → ((host.new ≡ host.old) × FailsToBegin task.entry (given_to R.Read H.BatchFiles H.Ports H.Source.Arrivals H.Source.Reader.Read H.Source.Writer.Write input.old host.old host.new) (W.contents output.old) (W.contents output.new) status.new)
         ⊎ ((s : State) × BeginsWith task.entry.action (given_to R.Read H.BatchFiles H.Ports H.Source.Arrivals H.Source.Reader.Read H.Source.Writer.Write input.old host.old host.new) s × RunsFrom task.entry s (given_to R.Read H.BatchFiles H.Ports H.Source.Arrivals H.Source.Reader.Read H.Source.Writer.Write input.old host.old host.new) (W.contents output.old) (W.contents output.new) status.new (HasCleanDisk (state S.Store result)) (CrashLeaves (state S.Store result)) (λ _ _. ⊤) ⊤) }
-    // Any other runs from the state that the tables of the connection show, of either version, on a disk that returns what was written.
+    // Any other runs from the state that the tables of the connection show, of any version, on a disk that returns what was written.
     ensures kept { (s : State) → begins_anew task.entry ≡ false → ShowsState (state S.Store conn) s → HasCleanDisk (state S.Store result) →
         ((host.new ≡ host.old) × FailsAtOnce (W.contents output.old) (W.contents output.new) status.new × LeavesAsBefore s (state S.Store conn) (state S.Store result))
         ⊎ RunsFrom task.entry s (given_to R.Read H.BatchFiles H.Ports H.Source.Arrivals H.Source.Reader.Read H.Source.Writer.Write input.old host.old host.new) (W.contents output.old) (W.contents output.new) status.new (HasCleanDisk (state S.Store result)) (CrashLeaves (state S.Store result)) (λ _ _. ⊤) ⊤ }

@@ -3,17 +3,16 @@ use Rattle.std.specs.Prelude.{◌≡◌}
 use Rattle.sqlite.specs.State.{State as Database}
 use Rattle.moo_rows.specs.Maps.{Maps}
 use Rattle.moo_tables.specs.Tables.{Tables}
+use Rattle.moo_tables.specs.Migrated.{KeepsOthers}
 use Rattle.moo_tables.specs.Inside.{Rests, IsCurrent}
 use Rattle.moo_cells.specs.Shows.{ShowsRows}
 
--- Tables became these, of the present version. Those that were of that version are the same. Those of an earlier one were migrated:
--- every cell of an object, a property or a verb is as it was.
+-- Tables became these, of the present version. Those that were of that version are the same. Those of an earlier one were migrated, and
+-- keep the cells that a migration leaves as they are.
 pub record BecomesCurrent (old new : Tables) : Type 0 where
   pub current : IsCurrent new
   pub same : IsCurrent old → new ≡ old
-  pub objects : new.object ≡ old.object
-  pub props : new.prop ≡ old.prop
-  pub verbs : new.verb ≡ old.verb
+  pub others : KeepsOthers old new
 
 -- the connection is open and in no transaction, and has what these tables became, which shows these rows
 pub record RestsCurrent (store : Database) (old : Tables) (rows : Maps) : Type 0 where

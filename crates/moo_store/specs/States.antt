@@ -16,7 +16,7 @@ pub record KeepsRows (store : Database) (rows : Maps) : Type 0 where
   pub current : IsCurrent tables
   pub shows : ShowsRows tables rows
 
--- what a crash left, of either version, shows these rows
+-- what a crash left, of any version, shows these rows
 pub record LeavesRows (trees : Trees) (rows : Maps) : Type 0 where
   pub tables : Tables
   pub leaves : Leaves trees tables
@@ -29,7 +29,7 @@ pub record KeepsState (store : Database) (s : State) : Type 0 where
   pub state : state_of rows ≡ s
   pub keeps : KeepsRows store rows
 
--- so do tables of either version
+-- so do tables of any version
 pub record ShowsState (store : Database) (s : State) : Type 0 where
   pub tables : Tables
   pub rests : Rests store tables

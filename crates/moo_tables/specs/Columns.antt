@@ -1,5 +1,5 @@
 -- Tables of the store and their columns, as the schema has them, and the cells of their rows.
-use Rattle.std.specs.Prelude.{Bool, true, false, if◌then◌else◌, map, take, drop, length, ◌-◌, ◌+◌, ◌++◌, [], ◌∷◌, Option, Some, None, option_map, List, ℕ, pos, Vec}
+use Rattle.std.specs.Prelude.{◌≡◌, Bool, true, false, if◌then◌else◌, map, take, drop, length, ◌-◌, ◌+◌, ◌++◌, [], ◌∷◌, Option, Some, None, option_map, List, ℕ, pos, Vec}
 use Rattle.std.specs.List.{range_with_len}
 use Rattle.sqlite.specs.Collation.TheVariants.{Binary}
 use Rattle.sqlite.specs.declared.types.Value.{Value}
@@ -71,3 +71,7 @@ cells_over row place None old = option_map (λ cells. row (column cells place)) 
 -- a list without its element at this place
 abbrev pub all_but : {A : Type 0} → ℕ → List A → List A
 all_but place list = take place list ++ drop (place + 1) list
+
+-- if a value stays, so does the cell of its column
+abbrev pub KeepsCell : {V : Type 0} → V → V → ℕ → Row → Row → Type 0
+KeepsCell value after place old new = value ≡ after → column new place ≡ column old place

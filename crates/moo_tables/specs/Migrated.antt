@@ -45,3 +45,9 @@ migrated head slots t = record {
   petition = λ _. None;
   petition_head = numbered_with (pos 1) (Some (petition_head_cells 1)) (λ _. None);
 }
+
+-- from tables of an earlier version to those that they are migrated to: every cell of an object, a property or a verb is as it was
+pub record KeepsOthers (old new : Tables) : Type 0 where
+  pub objects : new.object ≡ old.object
+  pub props : new.prop ≡ old.prop
+  pub verbs : new.verb ≡ old.verb

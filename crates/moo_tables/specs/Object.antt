@@ -1,13 +1,13 @@
 -- The table `object`: its columns, and the cells of a row.
-use Rattle.std.specs.Prelude.{[], ◌∷◌, codes, List, ℕ, Option}
-use Rattle.sqlite.specs.Order.{Row}
+use Rattle.std.specs.Prelude.{◌≡◌, [], ◌∷◌, codes, List, ℕ, Option}
+use Rattle.sqlite.specs.Order.{Row, column}
 use Rattle.sqlite.specs.Table.{Table}
 use Rattle.sqlite.specs.declared.types.Value.{Value}
 use Rattle.sqlite.specs.declared.types.Value.TheVariants.{Int, Text}
 use Rattle.moo_value.specs.declared.value.ObjNo.{ObjNo}
 use Rattle.moo_rows.specs.declared.row.ObjRow.{ObjRow}
 use Rattle.moo_tables.specs.declared.object.ObjectCells.{ObjectCells}
-use Rattle.moo_tables.specs.Columns.{numbered, number, text, flag_cell, cells_over}
+use Rattle.moo_tables.specs.Columns.{numbered, number, text, flag_cell, cells_over, KeepsCell}
 use Rattle.moo_tables.specs.Texts.{keep_text, put_text, remove_text, update_text}
 
 abbrev pub object_table : Table
@@ -27,6 +27,21 @@ object_row_cells n row accept = object_row n row (Text accept)
 -- a row over the one that is there, if one is
 abbrev pub object_cells : ObjNo → ObjectCells → Option Row → Option Row
 object_cells n cells old = cells_over (object_row n cells.row) 11 cells.accept old
+
+-- what a change of a row keeps, column by column, from a row and its cells to another row and its cells
+pub record ObjectColumns (a b : ObjRow) (old new : Row) : Type 0 where
+  pub n : column new 0 ≡ column old 0
+  pub name : KeepsCell a.name b.name 1 old new
+  pub owner : KeepsCell a.owner b.owner 2 old new
+  pub parent : KeepsCell a.parent b.parent 3 old new
+  pub location : KeepsCell a.location b.location 4 old new
+  pub player : KeepsCell a.player b.player 5 old new
+  pub programmer : KeepsCell a.programmer b.programmer 6 old new
+  pub wizard : KeepsCell a.wizard b.wizard 7 old new
+  pub r : KeepsCell a.r b.r 8 old new
+  pub w : KeepsCell a.w b.w 9 old new
+  pub f : KeepsCell a.f b.f 10 old new
+  pub accept : KeepsCell a.accept b.accept 11 old new
 
 -- the texts that write its rows
 abbrev pub update_object_text : List ℕ

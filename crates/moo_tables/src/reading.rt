@@ -53,8 +53,7 @@ fn both_petition_cells_of<S: Alter>(
     Ok((petition, petition_head))
 }
 
-/// Reads the rows of `head`, `object`, `prop` and `verb`, those of the slots from the table that the version has them in, and
-/// those of `petition` and `petition_head` if it has petitions.
+/// Reads the rows of each table, from the one that the version has them in; those of petitions if it has any.
 ///
 /// The version has to be that of the database (`version_of`): of another one nothing is said. Nothing is written. After
 /// a fault of the store the tables are as they were, unless the fault shut the connection.

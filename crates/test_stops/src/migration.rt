@@ -34,24 +34,34 @@ INSERT INTO slot VALUES (6, 2, 3, 'r', '21');
 INSERT INTO slot VALUES (7, 3, 3, 'r', '30');
 "#;
 
+/// A file of the first version, and what a look at it shows: how many tables there are, before a migration and after one, and the world.
+struct Migration<'a> {
+    kept: &'a Kept,
+    earlier: &'a [u8],
+    present: &'a [u8],
+    dump: &'a [u8],
+}
+
 /// What stops left.
 #[derive(Clone, Copy, Debug, Drop)]
 struct Found {
     /// The tables of the first version, and the world.
-    first: u32,
-    /// Those of the second, and the world.
-    second: u32,
+    earlier: u32,
+    /// Those of the present one, and the world.
+    present: u32,
     /// Anything else.
     wrong: u32,
 }
 
 impl Found {
     /// Notes how many tables were there, and whether the world in them was the one.
-    fn note(&mut self, tables: &[u8], is_same: bool) {
-        let count = match tables {
-            b"5" if is_same => &mut self.first,
-            b"8" if is_same => &mut self.second,
-            _ => &mut self.wrong,
+    fn note(&mut self, migration: &Migration<'_>, tables: &[u8], is_same: bool) {
+        let count = if is_same && tables == migration.earlier {
+            &mut self.earlier
+        } else if is_same && tables == migration.present {
+            &mut self.present
+        } else {
+            &mut self.wrong
         };
         *count = count.saturating_add(1);
     }
@@ -60,13 +70,13 @@ impl Found {
 /// One round: one of the files stops after so many calls. Whether it ended without a stop.
 fn one_round(
     alloc: Global,
-    (kept, dump): (&Kept, &[u8]),
+    migration: &Migration<'_>,
     (which, loss): (Which, Loss),
     calls: u64,
     found: &mut Found,
 ) -> Result<bool, Fail> {
     let mut seen = Seen::new(alloc);
-    let files = stopping(alloc, kept, which, calls)?;
+    let files = stopping(alloc, migration.kept, which, calls)?;
     let files = left(
         alloc,
         visit_fused(alloc, files, Task::Check, &mut seen),
@@ -76,22 +86,20 @@ fn one_round(
     let files = visit_fused(alloc, files, Task::Tables, &mut tables);
     let mut look = Seen::new(alloc);
     let _files = visit_fused(alloc, files, Task::Look, &mut look);
-    found.note(
-        &tables.written,
-        look.is_done && look.written.as_slice() == dump,
-    );
+    let is_same = look.is_done && look.written.as_slice() == migration.dump;
+    found.note(migration, &tables.written, is_same);
     Ok(seen.is_done && seen.is_closed)
 }
 
 /// The rounds of one file and one loss, until one ends without a stop.
 fn each_round(
     alloc: Global,
-    world: (&Kept, &[u8]),
+    migration: &Migration<'_>,
     how: (Which, Loss),
     found: &mut Found,
 ) -> Result<(), Fail> {
     for calls in 0..2000 {
-        if one_round(alloc, world, how, calls, found)? {
+        if one_round(alloc, migration, how, calls, found)? {
             return Ok(());
         }
     }
@@ -99,28 +107,37 @@ fn each_round(
 }
 
 /// The rounds of both files and both losses.
-fn all_rounds(alloc: Global, world: (&Kept, &[u8]), found: &mut Found) -> Result<(), Fail> {
+fn all_rounds(alloc: Global, migration: &Migration<'_>, found: &mut Found) -> Result<(), Fail> {
     for which in [Which::Log, Which::Db] {
-        each_round(alloc, world, (which, Loss::Unsynced), found)?;
-        each_round(alloc, world, (which, Loss::Nothing), found)?;
+        each_round(alloc, migration, (which, Loss::Unsynced), found)?;
+        each_round(alloc, migration, (which, Loss::Nothing), found)?;
     }
     Ok(())
 }
 
-/// The stops of an opening that takes a file over: after each the world is there, in the tables of the first version or of the second.
+/// The stops of an opening that migrates a file: after each the world is there, in the tables of the first version or of the present one.
 #[test]
 fn a_migration_that_stops_left_the_world(rt: HostRuntime) -> Result<(), Fail> {
     let alloc = rt.alloc();
     let kept = tables_of(alloc, FIRST)?;
-    let (dump, _) = done(alloc, &world_of(alloc, TREE.as_bytes())?, Task::Look)?;
+    let world = world_of(alloc, TREE.as_bytes())?;
+    let (earlier, _) = done(alloc, &kept, Task::Tables)?;
+    let (present, _) = done(alloc, &world, Task::Tables)?;
+    let (dump, _) = done(alloc, &world, Task::Look)?;
+    let migration = Migration {
+        kept: &kept,
+        earlier: &earlier,
+        present: &present,
+        dump: &dump,
+    };
     let mut found = Found {
-        first: 0,
-        second: 0,
+        earlier: 0,
+        present: 0,
         wrong: 0,
     };
-    all_rounds(alloc, (&kept, &dump), &mut found)?;
+    all_rounds(alloc, &migration, &mut found)?;
     assert!(rt;
-        found.wrong == 0 && found.first > 0 && found.second > 4,
+        earlier != present && found.wrong == 0 && found.earlier > 0 && found.present > 4,
         "{found:?}"
     );
     Ok(())
