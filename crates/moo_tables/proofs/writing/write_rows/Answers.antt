@@ -1,5 +1,6 @@
-use Rattle.moo_tables.proofs.Words.{◌∙◌, take, subst, sym, take_all, state, with_each, Sees, KeepsSlot}
+use Rattle.moo_tables.proofs.Words.{rules, ◌∙◌, take, subst, sym, take_all, state, with_each, Sees, KeepsSlot}
 use Rattle.moo_tables.proofs.InsideLemmas.{stays_then, changes_then}
+use Rattle.moo_tables.proofs.CauseLemmas.{Reaches, fails_after}
 use Rattle.moo_tables.proofs.ChangeLemmas.{fold_more}
 use Rattle.moo_tables.proofs.writing.write_rows.Goals as goal
 
@@ -23,3 +24,17 @@ returns-clause-written g c clean tables seen =
     let old = state g.S.Store c.args.tx.now.conn.now in
     let new = state g.S.Store c.loop-change.tx.conn.now in
     subst (λ changes. Sees new (with_each g.R.TableRow.with_row changes tables) × KeepsSlot old.now new.now) (take_all c.loop-change.change-index c.args.changes.now c.loop-change-test.false) (c.loop-change.invariant.2 clean tables seen)
+
+pub returns-in_err-expected-clause-inside : goal.returns-in_err-expected-clause-inside
+returns-in_err-expected-clause-inside g c =
+    stays_then (state g.S.Store c.args.tx.now.conn.now) (state g.S.Store c.loop-change.tx.conn.now) (state g.S.Store c.write_row.new.tx.conn.now) c.loop-change.invariant.1 c.write_row.ensures.inside
+
+pub returns-in_err-expected-clause-cause : goal.returns-in_err-expected-clause-cause
+returns-in_err-expected-clause-cause g c clean tables seen =
+    let old = state g.S.Store c.args.tx.now.conn.now in
+    let mid = state g.S.Store c.loop-change.tx.conn.now in
+    let new = state g.S.Store c.write_row.new.tx.conn.now in
+    let was = c.loop-change.invariant in
+    let reached : Reaches old mid = record { inside = was.1; sees = λ clean tables seen. (with_each g.R.TableRow.with_row (take c.loop-change.change-index c.args.changes.now) tables, (was.2 clean tables seen).0) } in
+    let done = fails_after old mid new c.write_row.result reached c.write_row.ensures.inside c.write_row.ensures.cause clean tables seen in
+    search (rules, done)
