@@ -1,5 +1,5 @@
 -- What the statement on petition_head does.
-use Rattle.moo_tables.proofs.Words.{◌≡◌, ◌⊎◌, inl, inr, ℕ, ℤ, pos, List, [], ◌∷◌, ◌++◌, drop, codes, option_map, length, Some, None, Bool, true, false, ◌&&◌, Result, Ok, Err, OnOk, IsTrue, refl, arith, ap, subst, ◌∙◌, list_all, and_parts, Int, Error, Row, column, with_rowid, cast_row, Chosen, Trees, rowid, has_rowid, put_row, holds, shown, Updates, Does, InsertOr, Values, Abort, Column, Enforced, IsDatabase, IsSound, has_computed, differ, Program, Datatype, NotNull, Has, all_has, is_int, understood, everything, State, Executes, mode_of, statement_of, runs_as, AreConflicts, conflicts, petition_head_cells, with_counter, Tables, present_schema, petition_head_table, cells_at, petition_head_places, numbered_in, numbered_with, same_number, put_counter_text, AreKeyed, Sees, Changes, RanStatement, KeepsSlot, HasCauseIn}
+use Rattle.moo_tables.proofs.Words.{◌≡◌, ◌⊎◌, inl, inr, ℕ, ℤ, pos, List, [], ◌∷◌, ◌++◌, drop, codes, option_map, length, Some, None, Bool, true, false, ◌&&◌, Result, Ok, Err, OnOk, IsTrue, refl, arith, ap, subst, ◌∙◌, list_all, and_parts, Int, Error, Row, column, with_rowid, cast_row, Chosen, Trees, rowid, has_rowid, put_row, holds, shown, Updates, Does, InsertOr, Values, Abort, Column, Enforced, IsDatabase, IsSound, has_computed, differ, Program, Datatype, NotNull, Has, all_has, is_int, understood, everything, State, Executes, mode_of, statement_of, runs_as, AreConflicts, conflicts, petition_head_cells, with_counter, Tables, present_schema, petition_head_table, cells_at, petition_head_places, numbered_in, numbered_with, same_number, put_counter_text, AreKeyed, Sees, Changes, RanStatement, KeepsUnread, HasCauseIn}
 use Rattle.sqlite_schema.specs.declared.command.Command.{Command}
 use Rattle.moo_tables.proofs.TextLemmas.{put_counter_is, put_counter_plain, number_terms, number_overwrite, counter_filter, writes_where}
 use Rattle.moo_tables.proofs.RefusalLemmas.{IsAllowed, Upserting, each, halted, concluded, clear_one, update_stops, upsert_stops}
@@ -107,7 +107,7 @@ module _ (next : ℕ) (db after : Trees) (keyed : AreKeyed (db 10)) (sound : IsS
       go true e = rw e (ap (numbered_in petition_head_places rows) (number_exact k (pos 1) e) ∙ there)
       go false e = rw e refl
 
-puts : (old new : State) (next : ℕ) (count : ℕ) (tables : Tables) → Sees old tables → Executes put_counter_text (petition_head_cells next) old new (Ok count) → IsTrue new.in_transaction → Sees new (with_counter next tables) × KeepsSlot old.now new.now
+puts : (old new : State) (next : ℕ) (count : ℕ) (tables : Tables) → Sees old tables → Executes put_counter_text (petition_head_cells next) old new (Ok count) → IsTrue new.in_transaction → Sees new (with_counter next tables) × KeepsUnread old.now new.now
 puts old new next count tables seen h inside =
     let has = schema_seen seen in
     let source = stored next in
@@ -121,7 +121,7 @@ puts old new next count tables seen h inside =
     by it.schema_is w.sound w.shown.is_open (settles next old.now.trees new.now.trees keyed (sound_seen seen) it.found met ends)
   where
     by : new.now.schema ≡ present_schema → IsDatabase new.now → IsTrue new.is_open
-        → StandsAlone (pos 1) (stored next) 10 old.now.trees new.now.trees (counter_seen seen) ⊎ WasSo next old.now.trees new.now.trees (counter_seen seen) (sound_seen seen) → Sees new (with_counter next tables) × KeepsSlot old.now new.now
+        → StandsAlone (pos 1) (stored next) 10 old.now.trees new.now.trees (counter_seen seen) ⊎ WasSo next old.now.trees new.now.trees (counter_seen seen) (sound_seen seen) → Sees new (with_counter next tables) × KeepsUnread old.now new.now
     by schema_is sound is_open (inl put) =
         let source = stored next in
         let old_rows = old.now.trees 10 in

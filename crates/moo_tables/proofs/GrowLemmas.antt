@@ -1,5 +1,5 @@
 -- What the statements do that make the tables of the present version of those of an earlier one.
-use Rattle.moo_tables.proofs.Words.{◌≡◌, ℕ, List, [], ◌∷◌, Ok, Err, Result, OnOk, refl, sym, ap, subst, ◌∙◌, Schema, Database, Error, State, HasCleanDisk, First, Tables, schema_of, first_schema, slot2_schema, petition_schema, second_schema, slot2_table, petition_table, petition_head_table, numbered_in, paired_in, head_places, object_places, prop_places, slot_places, verb_places, petition_places, petition_head_places, with_counter, AreKeyed, Holds, Sees, StaysInside, Changes, RanStatement, IsGrown, grown, no_tables, KeepsSlot, create_text, IsEarlier, IsUnderWay, no_rows, present_schema}
+use Rattle.moo_tables.proofs.Words.{◌≡◌, ℕ, List, [], ◌∷◌, Ok, Err, Result, OnOk, refl, sym, ap, subst, ◌∙◌, Schema, Database, Error, State, HasCleanDisk, First, Tables, schema_of, first_schema, slot2_schema, petition_schema, second_schema, slot2_table, petition_table, petition_head_table, numbered_in, paired_in, head_places, object_places, prop_places, slot_places, verb_places, petition_places, petition_head_places, with_counter, AreKeyed, Holds, Sees, StaysInside, Changes, RanStatement, IsGrown, grown, no_tables, KeepsUnread, create_text, IsEarlier, IsUnderWay, no_rows, present_schema}
 use Rattle.moo_tables.proofs.TextLemmas.{create_slot2_is, create_petition_is, create_petition_head_is}
 use Rattle.moo_tables.proofs.CreateLemmas.{runs_making}
 use Rattle.moo_tables.proofs.InsideLemmas.{of_version, clean_before, only_first}
@@ -45,7 +45,7 @@ makes_petition_head old new (Ok count) ran = λ clean base was.
     )
 
 -- what they have made are the tables of the present version
-sees_grown : (base : Database) (new : State) (tables : Tables) → IsGrown base present_schema (7 ∷ 9 ∷ 10 ∷ []) new.now → IsUnderWay new → Holds base tables → tables.version ≡ First → Sees new (grown tables) × KeepsSlot base new.now
+sees_grown : (base : Database) (new : State) (tables : Tables) → IsGrown base present_schema (7 ∷ 9 ∷ 10 ∷ []) new.now → IsUnderWay new → Holds base tables → tables.version ≡ First → Sees new (grown tables) × KeepsUnread base new.now
 sees_grown base new tables is way holds first =
     let held = of_version First base tables first holds in
     let head = is.same.0 in
@@ -83,11 +83,11 @@ Grows before made after more old new = HasCleanDisk new → (base : Database) �
 
 -- the tables of the first version are there in the present one, and those that it adds are empty
 abbrev Grown : State → State → Type 0
-Grown old new = HasCleanDisk new → (tables : Tables) → Holds old.now tables → tables.version ≡ First → Sees new (grown tables) × KeepsSlot old.now new.now
+Grown old new = HasCleanDisk new → (tables : Tables) → Holds old.now tables → tables.version ≡ First → Sees new (grown tables) × KeepsUnread old.now new.now
 
 -- and the first petition has its number
 abbrev pub Becomes : State → State → Type 0
-Becomes old new = HasCleanDisk new → (tables : Tables) → Holds old.now tables → IsEarlier tables.version → Sees new (with_counter 1 (grown tables)) × KeepsSlot old.now new.now
+Becomes old new = HasCleanDisk new → (tables : Tables) → Holds old.now tables → IsEarlier tables.version → Sees new (with_counter 1 (grown tables)) × KeepsUnread old.now new.now
 
 pub three_made : (a b d z : State) (r : Result ℕ Error) → StaysInside b d → StaysInside d z → Grows first_schema [] slot2_schema (7 ∷ []) a b → Grows slot2_schema (7 ∷ []) petition_schema (7 ∷ 9 ∷ []) b d
     → OnOk r (HasCleanDisk z → (base : Database) → IsGrown base petition_schema (7 ∷ 9 ∷ []) d.now → IsGrown base second_schema (7 ∷ 9 ∷ 10 ∷ []) z.now × IsUnderWay z)

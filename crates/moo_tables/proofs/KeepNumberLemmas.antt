@@ -1,5 +1,5 @@
 -- What an update does by a number that leaves one cell of a row as it is, whichever the table is.
-use Rattle.moo_tables.proofs.Words.{◌≡◌, ◌+◌, ℕ, ℤ, List, [], ◌∷◌, map, drop, option_map, slice_get, Option, Some, None, true, ◌⊎◌, inl, inr, Result, Ok, Err, OnOk, IfOk, IsTrue, refl, sym, ap, subst, ◌∙◌, arith, list_all, IsPermutation, Value, Null, Int, Text, Error, Row, column, holds, eval_all, cast_all, cast_row, Table, Trees, rowid, has_rowid, put_row, overlay, understood, State, Executes, statement_of, runs_as, Has, Column, Tables, present_schema, numbered, number_places, cells_at, numbered_in, numbered_with, same_number, keep_text, AreKeyed, Sees, Changes, RanStatement, KeepsSlot, WritesOver}
+use Rattle.moo_tables.proofs.Words.{◌≡◌, ◌+◌, ℕ, ℤ, List, [], ◌∷◌, map, drop, option_map, slice_get, Option, Some, None, true, ◌⊎◌, inl, inr, Result, Ok, Err, OnOk, IfOk, IsTrue, refl, sym, ap, subst, ◌∙◌, arith, list_all, IsPermutation, Value, Null, Int, Text, Error, Row, column, holds, eval_all, cast_all, cast_row, Table, Trees, rowid, has_rowid, put_row, overlay, understood, State, Executes, statement_of, runs_as, Has, Column, Tables, present_schema, numbered, number_places, cells_at, numbered_in, numbered_with, same_number, keep_text, AreKeyed, Sees, Changes, RanStatement, KeepsUnread, WritesOver}
 use Rattle.moo_tables.proofs.TextLemmas.{KeepsByNumber, number_keep, writes_where, by_number}
 use Rattle.moo_tables.proofs.CastLemmas.{fit, kept_all}
 use Rattle.moo_tables.proofs.StepLemmas.{cast_int, updates}
@@ -51,13 +51,13 @@ module _ {K C : Type 0} (name : List ℕ) (tree : ℕ) (columns : List Column) (
   module _ (at : ℕ) (is : slice_get present_schema.tables at ≡ Some (numbered name tree columns)) (keeps : KeepsByNumber at place (numbered name tree columns)) (With : ℤ → Option Row → Tables → Tables) (of : Tables → ℤ → Option Row) (keyed_seen : (s : State) (tables : Tables) → Sees s tables → AreKeyed (s.now.trees tree))
       (texts_seen : (s : State) (tables : Tables) → Sees s tables → (r : Row) → Has (s.now.trees tree) r → HasText r (place + 1)) (rows_seen : (s : State) (tables : Tables) → Sees s tables → numbered_in places (s.now.trees tree) ≡ of tables)
       (sees : (old new : State) (tables : Tables) (key : ℤ) (shown : Option Row) (rows : List Row) → Sees old tables → SetsTree old new tree rows → AreKeyed rows
-      → ((k : ℤ) → numbered_in places rows k ≡ numbered_with key shown (numbered_in places (old.now.trees tree)) k) → Sees new (With key shown tables) × KeepsSlot old.now new.now) where
+      → ((k : ℤ) → numbered_in places rows k ≡ numbered_with key shown (numbered_in places (old.now.trees tree)) k) → Sees new (With key shown tables) × KeepsUnread old.now new.now) where
     abbrev next : K → C → Tables → Tables
     next key c tables = With (number key) (option_map (over key c) (of tables (number key))) tables
 
     -- one row was written over, or none was there
     abbrev Overs : State → State → K → C → ℕ → Tables → Type 0
-    Overs old new key c count tables = ((Sees new (next key c tables) × KeepsSlot old.now new.now) × (count ≡ 1)) ⊎ ((Sees new tables × KeepsSlot old.now new.now) × (Sees new (next key c tables) × KeepsSlot old.now new.now) × (count ≡ 0))
+    Overs old new key c count tables = ((Sees new (next key c tables) × KeepsUnread old.now new.now) × (count ≡ 1)) ⊎ ((Sees new tables × KeepsUnread old.now new.now) × (Sees new (next key c tables) × KeepsUnread old.now new.now) × (count ≡ 0))
 
     overs : (old new : State) (key : K) (c : C) (count : ℕ) (tables : Tables) → Sees old tables → Executes (keep_text place t) (values key c) old new (Ok count) → IsTrue new.in_transaction → Overs old new key c count tables
     overs old new key c count tables seen h inside =
@@ -83,7 +83,7 @@ module _ {K C : Type 0} (name : List ℕ) (tree : ℕ) (columns : List Column) (
               let found : numbered_in places old_rows n ≡ Some (cells_at places f.row) = ap (option_map (cells_at places)) (find_one (has_rowid n) old_rows f.row f.in_it f.here (λ y in_it here. one y f.row in_it f.in_it here f.here)) in
               let made : Some (row key c (Text text.0)) ≡ option_map (over key c) (of tables n) = ap (λ v. Some (row key c v)) (sym text.1 ∙ sym (it_has.there f.row)) ∙ ap (option_map (over key c)) (sym found ∙ held) in
               inl (
-                subst (λ cells. Sees new (With n cells tables) × KeepsSlot old.now new.now) made (sees old new tables n (Some (row key c (Text text.0))) (put_row source (rest has_rowid n old_rows keyed)) seen (sets _ rows_are)
+                subst (λ cells. Sees new (With n cells tables) × KeepsUnread old.now new.now) made (sees old new tables n (Some (row key c (Text text.0))) (put_row source (rest has_rowid n old_rows keyed)) seen (sets _ rows_are)
                     (put_keyed has_rowid n old_rows keyed source refl)
                     (λ k. after_put same_number has_rowid (cells_at places) number_exact number_apart n source old_rows (has_itself n (drop 1 source)) (number_free n source old_rows refl) k
                     ∙ ap (λ shown. numbered_with n (Some shown) (numbered_in places old_rows) k) (it_has.placed key c (Text text.0)))),
@@ -95,7 +95,7 @@ module _ {K C : Type 0} (name : List ℕ) (tree : ℕ) (columns : List Column) (
               let made : None ≡ option_map (over key c) (of tables n) = ap (option_map (over key c)) (sym (ap (option_map (cells_at places)) none) ∙ held) in
               inr (
                 sees_still same tables seen,
-                subst (λ cells. Sees new (With n cells tables) × KeepsSlot old.now new.now) made
+                subst (λ cells. Sees new (With n cells tables) × KeepsUnread old.now new.now) made
                     (sees old new tables n None old_rows seen same keyed (after_nothing same_number has_rowid (cells_at places) number_exact number_apart n old_rows none)),
                 it.counted ∙ l.count,
               ))

@@ -1,5 +1,5 @@
 -- What the statements do that write a table with a number as its key, whichever it is.
-use Rattle.moo_tables.proofs.Words.{◌≡◌, ◌+◌, ◌/◌, ℕ, ℤ, List, [], ◌∷◌, ◌++◌, drop, map, length, slice_get, Option, Some, None, true, false, ◌&&◌, ◌||◌, ◌⊎◌, inl, inr, Bool, Result, Ok, Err, OnOk, IfOk, IsTrue, refl, sym, ap, subst, ◌∙◌, arith, list_all, IsPermutation, Null, Int, Error, Row, column, binary, is_true, col, holds, eval_all, Binary, Compare, Eq, with_rowid, cast_all, cast_row, Chosen, shown, Table, Trees, rowid, has_rowid, put_row, overlay, value_rows, understood, State, Executes, statement_of, runs_as, AreConflicts, conflicts, agree, Column, first_key, plain, Tables, present_schema, numbered, number_places, cells_at, numbered_in, numbered_with, same_number, update_text, put_text, remove_text, AreKeyed, Sees, Changes, RanStatement, KeepsSlot, WritesOver}
+use Rattle.moo_tables.proofs.Words.{◌≡◌, ◌+◌, ◌/◌, ℕ, ℤ, List, [], ◌∷◌, ◌++◌, drop, map, length, slice_get, Option, Some, None, true, false, ◌&&◌, ◌||◌, ◌⊎◌, inl, inr, Bool, Result, Ok, Err, OnOk, IfOk, IsTrue, refl, sym, ap, subst, ◌∙◌, arith, list_all, IsPermutation, Null, Int, Error, Row, column, binary, is_true, col, holds, eval_all, Binary, Compare, Eq, with_rowid, cast_all, cast_row, Chosen, shown, Table, Trees, rowid, has_rowid, put_row, overlay, value_rows, understood, State, Executes, statement_of, runs_as, AreConflicts, conflicts, agree, Column, first_key, plain, Tables, present_schema, numbered, number_places, cells_at, numbered_in, numbered_with, same_number, update_text, put_text, remove_text, AreKeyed, Sees, Changes, RanStatement, KeepsUnread, WritesOver}
 use Rattle.moo_tables.proofs.TextLemmas.{WritesByNumber, number_terms, number_overwrite, writes_where, written_over, by_number, rowids_where}
 use Rattle.moo_tables.proofs.CastLemmas.{fit, kept_all}
 use Rattle.moo_tables.proofs.StepLemmas.{cast_int, updates, deletes}
@@ -71,8 +71,8 @@ module _ {K C : Type 0} (name : List ℕ) (tree : ℕ) (columns : List Column) (
   -- the table stands at this place of the schema, and a change of its tree changes this one of the tables
   module _ (at : ℕ) (is : slice_get present_schema.tables at ≡ Some (numbered name tree columns)) (writes : WritesByNumber at (numbered name tree columns)) (With : ℤ → Option Row → Tables → Tables) (keyed_seen : (s : State) (tables : Tables) → Sees s tables → AreKeyed (s.now.trees tree))
       (sees : (old new : State) (tables : Tables) (key : ℤ) (shown : Option Row) (rows : List Row) → Sees old tables → SetsTree old new tree rows → AreKeyed rows
-      → ((k : ℤ) → numbered_in places rows k ≡ numbered_with key shown (numbered_in places (old.now.trees tree)) k) → Sees new (With key shown tables) × KeepsSlot old.now new.now) where
-    puts : (old new : State) (key : K) (row : C) (count : ℕ) (tables : Tables) → Sees old tables → Executes (put_text t) (cells key row) old new (Ok count) → IsTrue new.in_transaction → Sees new (With (number key) (Some (cells key row)) tables) × KeepsSlot old.now new.now
+      → ((k : ℤ) → numbered_in places rows k ≡ numbered_with key shown (numbered_in places (old.now.trees tree)) k) → Sees new (With key shown tables) × KeepsUnread old.now new.now) where
+    puts : (old new : State) (key : K) (row : C) (count : ℕ) (tables : Tables) → Sees old tables → Executes (put_text t) (cells key row) old new (Ok count) → IsTrue new.in_transaction → Sees new (With (number key) (Some (cells key row)) tables) × KeepsUnread old.now new.now
     puts old new key row count tables seen h inside =
         let has = schema_seen seen in
         let n = number key in
@@ -95,7 +95,7 @@ module _ {K C : Type 0} (name : List ℕ) (tree : ℕ) (columns : List Column) (
 
     -- one row was written over, or none was there
     abbrev Overs : State → State → K → C → ℕ → Tables → Type 0
-    Overs old new key row count tables = ((Sees new (With (number key) (Some (cells key row)) tables) × KeepsSlot old.now new.now) × (count ≡ 1)) ⊎ ((Sees new tables × KeepsSlot old.now new.now) × (count ≡ 0))
+    Overs old new key row count tables = ((Sees new (With (number key) (Some (cells key row)) tables) × KeepsUnread old.now new.now) × (count ≡ 1)) ⊎ ((Sees new tables × KeepsUnread old.now new.now) × (count ≡ 0))
 
     overs : (old new : State) (key : K) (row : C) (count : ℕ) (tables : Tables) → Sees old tables → Executes (update_text t) (cells key row) old new (Ok count) → IsTrue new.in_transaction → Overs old new key row count tables
     overs old new key row count tables seen h inside =
@@ -125,7 +125,7 @@ module _ {K C : Type 0} (name : List ℕ) (tree : ℕ) (columns : List Column) (
           | inr l ↦ inr (sees_still (sets old_rows (it.edited.applies.rows ∙ l.after_is)) tables seen, it.counted ∙ l.count)
         ]
 
-    removes : (old new : State) (key : K) (count : ℕ) (tables : Tables) → Sees old tables → Executes (remove_text t) (Int (number key) ∷ []) old new (Ok count) → IsTrue new.in_transaction → Sees new (With (number key) None tables) × KeepsSlot old.now new.now
+    removes : (old new : State) (key : K) (count : ℕ) (tables : Tables) → Sees old tables → Executes (remove_text t) (Int (number key) ∷ []) old new (Ok count) → IsTrue new.in_transaction → Sees new (With (number key) None tables) × KeepsUnread old.now new.now
     removes old new key count tables seen h inside =
         let has = schema_seen seen in
         let n = number key in

@@ -1,5 +1,5 @@
 -- What the statements do that write a table with two columns as its key, whichever it is.
-use Rattle.moo_tables.proofs.Words.{◌≡◌, ◌+◌, ◌/◌, ℕ, ℤ, List, [], ◌∷◌, ◌++◌, drop, map, length, slice_get, Option, Some, None, true, false, ◌&&◌, ◌||◌, ◌⊎◌, inl, inr, Bool, Result, Ok, Err, OnOk, IfOk, IsTrue, refl, sym, ap, subst, ◌∙◌, arith, list_all, and_parts, IsPermutation, Null, Int, Error, Row, column, binary, is_true, col, holds, eval_all, Binary, Compare, Eq, with_rowid, next_rowid, cast_all, cast_row, Chosen, shown, Table, Trees, rowid, put_row, overlay, value_rows, understood, State, Executes, statement_of, runs_as, AreConflicts, conflicts, agree, Column, first_key, plain, Tables, present_schema, paired, pair_places, has_pair, cells_at, paired_in, paired_with, same_numbers, update_text, put_text, remove_text, AreKeyed, Sees, Changes, RanStatement, KeepsSlot, WritesOver}
+use Rattle.moo_tables.proofs.Words.{◌≡◌, ◌+◌, ◌/◌, ℕ, ℤ, List, [], ◌∷◌, ◌++◌, drop, map, length, slice_get, Option, Some, None, true, false, ◌&&◌, ◌||◌, ◌⊎◌, inl, inr, Bool, Result, Ok, Err, OnOk, IfOk, IsTrue, refl, sym, ap, subst, ◌∙◌, arith, list_all, and_parts, IsPermutation, Null, Int, Error, Row, column, binary, is_true, col, holds, eval_all, Binary, Compare, Eq, with_rowid, next_rowid, cast_all, cast_row, Chosen, shown, Table, Trees, rowid, put_row, overlay, value_rows, understood, State, Executes, statement_of, runs_as, AreConflicts, conflicts, agree, Column, first_key, plain, Tables, present_schema, paired, pair_places, has_pair, cells_at, paired_in, paired_with, same_numbers, update_text, put_text, remove_text, AreKeyed, Sees, Changes, RanStatement, KeepsUnread, WritesOver}
 use Rattle.moo_tables.proofs.TextLemmas.{WritesByPair, pair_terms, pair_overwrite, writes_where, written_over, by_pair, rowids_where}
 use Rattle.moo_tables.proofs.CastLemmas.{fit, kept_all}
 use Rattle.moo_tables.proofs.StepLemmas.{cast_null, cast_int, updates, deletes}
@@ -83,8 +83,8 @@ module _ {K C : Type 0} (name : List ℕ) (tree : ℕ) (columns : List Column) (
   -- the table stands at this place of the schema, and a change of its tree changes this one of the tables
   module _ (at : ℕ) (is : slice_get present_schema.tables at ≡ Some (paired name tree columns)) (writes : WritesByPair at (paired name tree columns)) (With : ℤ × ℤ → Option Row → Tables → Tables) (keyed_seen : (s : State) (tables : Tables) → Sees s tables → AreKeyed (s.now.trees tree)) (pairs_seen : (s : State) (tables : Tables) → Sees s tables → ArePairs (s.now.trees tree))
       (sees : (old new : State) (tables : Tables) (key : ℤ × ℤ) (shown : Option Row) (rows : List Row) → Sees old tables → SetsTree old new tree rows → AreKeyed rows
-      → ((k : ℤ × ℤ) → paired_in places rows k ≡ paired_with key shown (paired_in places (old.now.trees tree)) k) → Sees new (With key shown tables) × KeepsSlot old.now new.now) where
-    puts : (old new : State) (key : K) (row : C) (count : ℕ) (tables : Tables) → Sees old tables → Executes (put_text t) (cells key row) old new (Ok count) → IsTrue new.in_transaction → Sees new (With (pair key) (Some (cells key row)) tables) × KeepsSlot old.now new.now
+      → ((k : ℤ × ℤ) → paired_in places rows k ≡ paired_with key shown (paired_in places (old.now.trees tree)) k) → Sees new (With key shown tables) × KeepsUnread old.now new.now) where
+    puts : (old new : State) (key : K) (row : C) (count : ℕ) (tables : Tables) → Sees old tables → Executes (put_text t) (cells key row) old new (Ok count) → IsTrue new.in_transaction → Sees new (With (pair key) (Some (cells key row)) tables) × KeepsUnread old.now new.now
     puts old new key row count tables seen h inside =
         let has = schema_seen seen in
         let two = pair key in
@@ -108,7 +108,7 @@ module _ {K C : Type 0} (name : List ℕ) (tree : ℕ) (columns : List Column) (
 
     -- one row was written over, or none was there
     abbrev Overs : State → State → K → C → ℕ → Tables → Type 0
-    Overs old new key row count tables = ((Sees new (With (pair key) (Some (cells key row)) tables) × KeepsSlot old.now new.now) × (count ≡ 1)) ⊎ ((Sees new tables × KeepsSlot old.now new.now) × (count ≡ 0))
+    Overs old new key row count tables = ((Sees new (With (pair key) (Some (cells key row)) tables) × KeepsUnread old.now new.now) × (count ≡ 1)) ⊎ ((Sees new tables × KeepsUnread old.now new.now) × (count ≡ 0))
 
     overs : (old new : State) (key : K) (row : C) (count : ℕ) (tables : Tables) → Sees old tables → Executes (update_text t) (cells key row) old new (Ok count) → IsTrue new.in_transaction → Overs old new key row count tables
     overs old new key row count tables seen h inside =
@@ -141,7 +141,7 @@ module _ {K C : Type 0} (name : List ℕ) (tree : ℕ) (columns : List Column) (
           | inr l ↦ inr (sees_still (sets old_rows (it.edited.applies.rows ∙ l.after_is)) tables seen, it.counted ∙ l.count)
         ]
 
-    removes : (old new : State) (key : K) (count : ℕ) (tables : Tables) → Sees old tables → Executes (remove_text t) (Int (pair key).0 ∷ Int (pair key).1 ∷ []) old new (Ok count) → IsTrue new.in_transaction → Sees new (With (pair key) None tables) × KeepsSlot old.now new.now
+    removes : (old new : State) (key : K) (count : ℕ) (tables : Tables) → Sees old tables → Executes (remove_text t) (Int (pair key).0 ∷ Int (pair key).1 ∷ []) old new (Ok count) → IsTrue new.in_transaction → Sees new (With (pair key) None tables) × KeepsUnread old.now new.now
     removes old new key count tables seen h inside =
         let has = schema_seen seen in
         let two = pair key in

@@ -16,7 +16,7 @@ pub use Rattle.moo_rows.specs.declared.row.PropId.{PropId}
 pub use Rattle.moo_tables.specs.Cause.{HasCauseIn, StopsChange}
 pub use Rattle.moo_tables.specs.Cells.{KeepsOthers, cells_after, counter_with, head_cells, object_cells, petition_cells, petition_head_cells, prop_cells, slot_cells, tables_with, verb_cells, with_counter, with_each, with_head_cells, with_next_petition, with_object_cells, with_object_changes, with_petition_cells, with_petition_changes, with_prop_cells, with_prop_changes, with_slot_cells, with_slot_changes, with_verb_cells, with_verb_changes}
 pub use Rattle.moo_tables.specs.Columns.{all_but, cells_over}
-pub use Rattle.moo_tables.specs.Inside.{AreKeyed, Changes, FailsToRead, HasNoTables, HasTables, Holds, IsCurrent, IsMade, KeepsSlot, Leaves, RanStatement, ReadsTables, Rests, Sees, StaysInside, no_rows, no_tables}
+pub use Rattle.moo_tables.specs.Inside.{AreKeyed, Changes, FailsToRead, HasNoTables, HasTables, Holds, IsCurrent, IsMade, KeepsUnread, Leaves, RanStatement, ReadsTables, Rests, Sees, StaysInside, no_rows, no_tables}
 pub use Rattle.moo_tables.specs.Listing.{AreListed, ArePaired, IsRowBelow, ListsNumbers, ListsPairs, ListsTables, has_key_pair, tables_of}
 pub use Rattle.moo_tables.specs.Head.{put_counter_text}
 pub use Rattle.moo_tables.specs.Migrated.{HasNoSlot, IsGrown, IsUnderWay, grown, migrated}

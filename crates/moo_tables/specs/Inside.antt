@@ -10,7 +10,7 @@ use Rattle.sqlite.specs.State.{State, HasCleanDisk, Executes, IsUnchanged, IsRol
 use Rattle.moo_tables.specs.declared.version.Version.{Version}
 use Rattle.moo_tables.specs.Version.{present}
 use Rattle.moo_tables.specs.Tables.{Tables, no_schema, schema_of}
-pub use Rattle.moo_tables.specs.Tables.{AreKeyed, Holds, KeepsSlot}
+pub use Rattle.moo_tables.specs.Tables.{AreKeyed, Holds, KeepsUnread}
 
 -- the tables are of the version that is written
 abbrev pub IsCurrent : Tables → Type 0
@@ -37,7 +37,7 @@ pub record StaysInside (old new : State) : Type 0 where
 
 -- the transaction goes on, with its tables changed so, and the table that isn't read stays
 abbrev pub Changes : (Tables → Tables) → State → State → Type 0
-Changes change old new = HasCleanDisk new → (tables : Tables) → Sees old tables → Sees new (change tables) × KeepsSlot old.now new.now
+Changes change old new = HasCleanDisk new → (tables : Tables) → Sees old tables → Sees new (change tables) × KeepsUnread old.now new.now
 
 -- a statement that succeeded ran, in the transaction
 abbrev pub RanStatement : List ℕ → Row → State → State → Result ℕ Error → Type 0

@@ -4,7 +4,7 @@ ghost use Rattle.std.specs.Prelude.{◌≡◌, ◌<◌, ◌^◌, IsTrue, OnOk, O
 ghost use Rattle.sqlite.specs.State.{HasCleanDisk, Survives};
 ghost use Rattle.sqlite.specs.Held.{state};
 ghost use Rattle.moo_tables.specs.Cells.{with_counter};
-ghost use Rattle.moo_tables.specs.Inside.{AreKeyed, StaysInside, Holds, Sees, KeepsSlot, Rests, RestsAt, HasTables, Leaves};
+ghost use Rattle.moo_tables.specs.Inside.{AreKeyed, StaysInside, Holds, Sees, KeepsUnread, Rests, RestsAt, HasTables, Leaves};
 ghost use Rattle.moo_tables.specs.Migrated.{HasNoSlot, grown, migrated};
 ghost use Rattle.moo_tables.specs.Tables.{present_schema, schema_of};
 ghost use Rattle.moo_tables.specs.Version.{IsEarlier};
@@ -25,7 +25,7 @@ use sqlite::{Alter, Connection, Error, Transaction};
 pub(crate) fn create_added_tables<S: Alter>(tx: &mut Transaction<'_, S>) -> Result<usize, Error>
     ensures same_reference { tx.new.conn.ghost_name ≡ tx.old.conn.ghost_name }
     ensures inside { StaysInside (state S.Store tx.old.conn.now) (state S.Store tx.new.conn.now) }
-    ensures made { OnOk result (HasCleanDisk (state S.Store tx.new.conn.now) → (tables : _) → Holds (state S.Store tx.old.conn.now).now tables → tables.version ≡ First → Sees (state S.Store tx.new.conn.now) (grown tables) × KeepsSlot (state S.Store tx.old.conn.now).now (state S.Store tx.new.conn.now).now) }
+    ensures made { OnOk result (HasCleanDisk (state S.Store tx.new.conn.now) → (tables : _) → Holds (state S.Store tx.old.conn.now).now tables → tables.version ≡ First → Sees (state S.Store tx.new.conn.now) (grown tables) × KeepsUnread (state S.Store tx.old.conn.now).now (state S.Store tx.new.conn.now).now) }
 {
     create_slot2(tx)?;
     create_petition(tx)?;
@@ -37,7 +37,7 @@ pub(crate) fn create_added_tables<S: Alter>(tx: &mut Transaction<'_, S>) -> Resu
 fn add_tables<S: Alter>(tx: &mut Transaction<'_, S>) -> Result<usize, Error>
     ensures same_reference { tx.new.conn.ghost_name ≡ tx.old.conn.ghost_name }
     ensures inside { StaysInside (state S.Store tx.old.conn.now) (state S.Store tx.new.conn.now) }
-    ensures made { OnOk result (HasCleanDisk (state S.Store tx.new.conn.now) → (tables : _) → Holds (state S.Store tx.old.conn.now).now tables → IsEarlier tables.version → Sees (state S.Store tx.new.conn.now) (with_counter 1 (grown tables)) × KeepsSlot (state S.Store tx.old.conn.now).now (state S.Store tx.new.conn.now).now) }
+    ensures made { OnOk result (HasCleanDisk (state S.Store tx.new.conn.now) → (tables : _) → Holds (state S.Store tx.old.conn.now).now tables → IsEarlier tables.version → Sees (state S.Store tx.new.conn.now) (with_counter 1 (grown tables)) × KeepsUnread (state S.Store tx.old.conn.now).now (state S.Store tx.new.conn.now).now) }
 {
     create_added_tables(tx)?;
     put_counter(tx, 1)

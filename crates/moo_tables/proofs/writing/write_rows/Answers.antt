@@ -1,4 +1,4 @@
-use Rattle.moo_tables.proofs.Words.{rules, ◌∙◌, take, subst, sym, take_all, state, with_each, Sees, KeepsSlot}
+use Rattle.moo_tables.proofs.Words.{rules, ◌∙◌, take, subst, sym, take_all, state, with_each, Sees, KeepsUnread}
 use Rattle.moo_tables.proofs.InsideLemmas.{stays_then, changes_then}
 use Rattle.moo_tables.proofs.CauseLemmas.{Reaches, fails_after}
 use Rattle.moo_tables.proofs.ChangeLemmas.{fold_more}
@@ -15,7 +15,7 @@ loop-change-preserved g c =
     let x = c.change-item.result in (
       done.same_reference ∙ was.0,
       stays_then old mid new was.1 done.inside,
-      λ clean tables seen. subst (λ t. Sees new t × KeepsSlot old.now new.now) (sym (fold_more (λ t y. with_row y.0 y.1 t) tables c.args.changes.now c.loop-change.change-index x c.loop-change-test.true c.change-item.is))
+      λ clean tables seen. subst (λ t. Sees new t × KeepsUnread old.now new.now) (sym (fold_more (λ t y. with_row y.0 y.1 t) tables c.args.changes.now c.loop-change.change-index x c.loop-change-test.true c.change-item.is))
           (changes_then old mid new (with_each with_row (take c.loop-change.change-index c.args.changes.now)) (with_row x.0 x.1) done.inside was.2 done.written clean tables seen),
     )
 
@@ -23,7 +23,7 @@ pub returns-clause-written : goal.returns-clause-written
 returns-clause-written g c clean tables seen =
     let old = state g.S.Store c.args.tx.now.conn.now in
     let new = state g.S.Store c.loop-change.tx.conn.now in
-    subst (λ changes. Sees new (with_each g.R.TableRow.with_row changes tables) × KeepsSlot old.now new.now) (take_all c.loop-change.change-index c.args.changes.now c.loop-change-test.false) (c.loop-change.invariant.2 clean tables seen)
+    subst (λ changes. Sees new (with_each g.R.TableRow.with_row changes tables) × KeepsUnread old.now new.now) (take_all c.loop-change.change-index c.args.changes.now c.loop-change-test.false) (c.loop-change.invariant.2 clean tables seen)
 
 pub returns-in_err-expected-clause-inside : goal.returns-in_err-expected-clause-inside
 returns-in_err-expected-clause-inside g c =
