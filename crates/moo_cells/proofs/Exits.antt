@@ -16,3 +16,8 @@ err_then P Q (Err e) p f = f e p
 pub both_some : {T : Type 0} (P Q S : T → Type 0) (o : Option T) → IfSome o P → IfSome o Q → ((x : T) → P x → Q x → S x) → IfSome o S
 both_some P Q S (Some x) p q f = f x p q
 both_some P Q S None p q f = tt
+
+-- where the error doesn't matter
+pub whatever : {T E P : Type 0} (r : Result T E) → P → IfErr r (λ _. P)
+whatever (Ok x) it = tt
+whatever (Err e) it = it

@@ -3,6 +3,7 @@ pub mod Columns
 pub mod Texts
 pub mod Exits
 pub mod Table
+pub mod Within
 pub mod Beside
 pub mod Keys
 pub mod HeadLemmas

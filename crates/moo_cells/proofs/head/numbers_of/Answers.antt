@@ -1,6 +1,7 @@
-use Rattle.moo_cells.proofs.Words.{◌≡◌, ℤ, length, [], ◌∷◌, ap, sym, subst, ◌∙◌, w64, FitsSigned, to_z, of_z, to_z-of_z, Value}
+use Rattle.moo_cells.proofs.Words.{◌≡◌, ℤ, Row, column, length, [], ◌∷◌, ap, sym, subst, ◌∙◌, w64, FitsSigned, to_z, of_z, to_z-of_z, Value}
 use Rattle.sqlite.specs.declared.types.Value.TheVariants.{Int as Number}
 use Rattle.moo_cells.proofs.Columns.{all_columns}
+use Rattle.moo_cells.proofs.Exits.{whatever}
 use Rattle.moo_cells.proofs.head.numbers_of.Goals as goal
 
 -- the number as a field keeps it
@@ -29,3 +30,25 @@ returns-clause-words c = record {
   next_prop = fits_kept c.in_ok-next_prop.next_prop c.in_ok-next_prop.ensures.fits;
   next_verb = fits_kept c.in_ok-next_verb.next_verb c.in_ok-next_verb.ensures.fits;
 }
+
+-- cells without a number in a column are not those of numbers
+pub returns-then-column_count-ne-COLUMNS-clause-err : goal.returns-then-column_count-ne-COLUMNS-clause-err
+returns-then-column_count-ne-COLUMNS-clause-err c = λ numbers same. c.if-column_count-ne-COLUMNS.true (c.column_count.ensures ∙ ap length same)
+
+pub returns-in_err-id-clause-err : goal.returns-in_err-id-clause-err
+returns-in_err-id-clause-err c = whatever c.from_residual.result (λ numbers same. c.in_err-id.ensures.err numbers.id (ap (λ (r : Row). column r 0) same))
+
+pub returns-in_err-version-clause-err : goal.returns-in_err-version-clause-err
+returns-in_err-version-clause-err c = whatever c.from_residual-in_err-version.result (λ numbers same. c.in_err-version.ensures.err numbers.version (ap (λ (r : Row). column r 1) same))
+
+pub returns-in_err-seq-clause-err : goal.returns-in_err-seq-clause-err
+returns-in_err-seq-clause-err c = whatever c.from_residual-in_err-seq.result (λ numbers same. c.in_err-seq.ensures.err numbers.seq (ap (λ (r : Row). column r 2) same))
+
+pub returns-in_err-top-clause-err : goal.returns-in_err-top-clause-err
+returns-in_err-top-clause-err c = whatever c.from_residual-in_err-top.result (λ numbers same. c.in_err-top.ensures.err numbers.top (ap (λ (r : Row). column r 3) same))
+
+pub returns-in_err-next_prop-clause-err : goal.returns-in_err-next_prop-clause-err
+returns-in_err-next_prop-clause-err c = whatever c.from_residual-in_err-next_prop.result (λ numbers same. c.in_err-next_prop.ensures.err numbers.next_prop (ap (λ (r : Row). column r 4) same))
+
+pub returns-in_err-next_verb-clause-err : goal.returns-in_err-next_verb-clause-err
+returns-in_err-next_verb-clause-err c = whatever c.from_residual-in_err-next_verb.result (λ numbers same. c.in_err-next_verb.ensures.err numbers.next_verb (ap (λ (r : Row). column r 5) same))

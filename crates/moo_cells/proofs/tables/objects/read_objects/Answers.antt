@@ -1,6 +1,8 @@
-use Rattle.moo_cells.proofs.Words.{rules, ◌≡◌, ◌∷◌, sym, length, refl, ap, ◌∙◌, w64, arith, into_iter_items, into_iter_len, to_z-of_z, column, object_total, object_exact, Maps, Object}
+use Rattle.moo_cells.proofs.Words.{rules, ◌≡◌, ◌∷◌, sym, length, refl, ap, ◌∙◌, w64, arith, into_iter_items, into_iter_len, to_z-of_z, column, object_total, object_exact, Maps, Object, IsTrue}
 use Rattle.moo_cells.proofs.Keys.{objects_bear, self_tied}
 use Rattle.moo_cells.proofs.Table.{held_none, held_more, held_first, takes_next, takes_on, took_all}
+use Rattle.moo_cells.proofs.Within.{taken}
+use Rattle.sqlite_trees.specs.View.{is_int}
 use Rattle.moo_cells.proofs.tables.objects.read_objects.Goals as goal
 
 pub loop-row-init : goal.loop-row-init
@@ -47,3 +49,6 @@ returns-in-Err-Unreadable-clause-fault c =
       λ i. Object (one i),
       held_first (objects_bear c.args.version) cells at.yielded row rest (takes_next cells at.yielded left rest row at.invariant.whole steps) c.requires.listed.0 at.rows.maps.objects at.invariant.holds (c.in-Err-Unreadable.ensures.err c.in-Err-Unreadable.field-0-is) c.int_in.result (self_tied (column row 0) c.int_in.result c.int_in.ensures.value),
     )
+
+pub int_in-requires : goal.int_in-requires
+int_in-requires c = taken (λ r. IsTrue (is_int (column r 0))) c.args.cells.items c.loop-row.yielded (into_iter_items c.loop-row.row-iterator) (into_iter_items c.next.new.self) c.in-Some.row c.requires.listed.1 c.loop-row.invariant.whole c.in-Some.ensures.steps.0

@@ -1,6 +1,8 @@
-use Rattle.moo_cells.proofs.Words.{rules, ◌≡◌, ◌∷◌, sym, length, refl, ap, ◌∙◌, w64, arith, into_iter_items, into_iter_len, to_z-of_z, slot_total, slot_exact, Maps, Slot}
+use Rattle.moo_cells.proofs.Words.{rules, ◌≡◌, ◌∷◌, sym, length, refl, ap, ◌∙◌, w64, arith, into_iter_items, into_iter_len, to_z-of_z, slot_total, slot_exact, Maps, Slot, IsTrue, column}
 use Rattle.moo_cells.proofs.Keys.{slots_bear, pair_mine}
 use Rattle.moo_cells.proofs.Table.{held_none, held_more, held_first, takes_next, takes_on, took_all}
+use Rattle.moo_cells.proofs.Within.{taken}
+use Rattle.sqlite_trees.specs.View.{is_int}
 use Rattle.moo_cells.proofs.tables.slots.read_slots.Goals as goal
 
 pub loop-row-init : goal.loop-row-init
@@ -48,3 +50,9 @@ returns-in-Err-Unreadable-clause-fault c =
       λ i. Slot (one i) (two i),
       held_first (slots_bear c.args.version) cells at.yielded row rest (takes_next cells at.yielded left rest row at.invariant.whole steps) c.requires.listed.rise at.rows.maps.slots at.invariant.holds (c.in-Err-Unreadable.ensures.err c.in-Err-Unreadable.field-0-is) (c.int_in.result, c.int_in-in-Err-Unreadable.result) (pair_mine row c.int_in.result c.int_in-in-Err-Unreadable.result c.int_in.ensures.value c.int_in-in-Err-Unreadable.ensures.value),
     )
+
+pub int_in-requires : goal.int_in-requires
+int_in-requires c = (taken (λ r. IsTrue (is_int (column r 0)) × IsTrue (is_int (column r 1))) c.args.cells.items c.loop-row.yielded (into_iter_items c.loop-row.row-iterator) (into_iter_items c.next.new.self) c.in-Some.row c.requires.listed.whole c.loop-row.invariant.whole c.in-Some.ensures.steps.0).0
+
+pub int_in-requires-in-Err-Unreadable : goal.int_in-requires-in-Err-Unreadable
+int_in-requires-in-Err-Unreadable c = (taken (λ r. IsTrue (is_int (column r 0)) × IsTrue (is_int (column r 1))) c.args.cells.items c.loop-row.yielded (into_iter_items c.loop-row.row-iterator) (into_iter_items c.next.new.self) c.in-Some.row c.requires.listed.whole c.loop-row.invariant.whole c.in-Some.ensures.steps.0).1

@@ -1,0 +1,10 @@
+-- A row that a loop takes has what all rows of its table have.
+use Rattle.moo_cells.proofs.Words.{◌≡◌, List, [], ◌∷◌, ◌++◌, sym, subst, AllByRecursion, Row}
+use Rattle.moo_cells.proofs.Table.{takes_next}
+
+between : (P : Row → Type 0) (front : List Row) (r : Row) (rest : List Row) → AllByRecursion P (front ++ r ∷ rest) → P r
+between P [] r rest all = all.0
+between P (x ∷ front) r rest all = between P front r rest all.1
+
+pub taken : (P : Row → Type 0) (cells front left rest : List Row) (r : Row) → AllByRecursion P cells → front ++ left ≡ cells → left ≡ r ∷ rest → P r
+taken P cells front left rest r all so step = between P front r rest (subst (AllByRecursion P) (sym (takes_next cells front left rest r so step)) all)
