@@ -81,31 +81,22 @@ impl<R: Read> LineReader<R> {
         requires { self.old.ahead ≡ [] }
         ensures gives { OnOk result (ReaderGives (lines_side R.remaining self.old) (lines_side R.remaining self.new) self.new.ahead) }
         ensures room { OnOk result (self.old.room ≡ length self.new.ahead + self.new.room) }
-        ensures falls { result ≡ Ok true → self.new.room < self.old.room }
-        ensures more { result ≡ Ok true → self.new.ended ≡ false }
-        ensures end { result ≡ Ok false → IsOver (lines_side R.remaining self.new) }
+        ensures falls { IfOk result (λ more. more ≡ true → self.new.room < self.old.room) }
+        ensures end { IfOk result (λ more. more ≡ false → IsOver (lines_side R.remaining self.new)) }
         ensures cause { IfErr result (λ fault. BreaksOff (lines_side R.remaining self.old) (lines_side R.remaining self.new) fault) }
     {
         if self.ended {
             return Ok(false);
         }
         let mut piece = [0u8; 4096];
-        if self.room == 0 {
-            return match self.reader.read(&mut piece[..1]) {
-                Ok(0) => {
-                    self.ended = true;
-                    Ok(false)
-                }
-                Ok(_) => Err(TextFault::Long),
-                Err(_) => Err(TextFault::Read),
-            };
-        }
-        let most = self.room.min(piece.len());
+        // With no room left one byte tells whether the text goes on.
+        let most = self.room.clamp(1, piece.len());
         match self.reader.read(&mut piece[..most]) {
             Ok(0) => {
                 self.ended = true;
                 Ok(false)
             }
+            Ok(_) if self.room == 0 => Err(TextFault::Long),
             Ok(count) => {
                 self.ahead.fill(&piece[..count])?;
                 self.room -= count;

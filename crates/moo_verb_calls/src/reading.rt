@@ -17,7 +17,7 @@ ghost use Rattle.moo_verb_calls.specs.Checks.{reading_verb};
 use moo_call_parts::{Fault, list_of, rights, text_list};
 use moo_rows::{ArgSpec, Rows, VerbRow};
 use moo_tree::valid;
-use moo_value::{Code, LiteralFault, MooStr, ObjNo, Value};
+use moo_value::{Code, MooStr, ObjNo, Value};
 use moo_verbs::{bits_letters, found_verb, print_object_spec, print_prep};
 use moo_world::Desc;
 use std::alloc::{AllocError, Global};
@@ -41,17 +41,12 @@ pub fn verbs<R: Rows>(rows: &R, alloc: Global, programmer: ObjNo, x: ObjNo) -> R
 }
 
 /// A text as a string. It may be one, so that the only error is out of memory.
-fn text(alloc: Global, text: &'static str) -> Result<Value, AllocError>
+fn text(alloc: Global, text: &'static str) -> Result<MooStr, AllocError>
     requires { IsText text.now }
-    ensures { IfOk result (λ value. value ≡ Str text.now) }
+    ensures { IfOk result (λ s. s ≡ text.now) }
 {
-    match MooStr::from_bytes(alloc, text.as_bytes()) {
-        Ok(text) => Ok(Value::Str(text)),
-        Err(fault) => match fault {
-            LiteralFault::OutOfMemory => Err(AllocError),
-            _ => unreachable!(),
-        },
-    }
+    let bytes = text.as_bytes().to_vec(alloc)?;
+    Ok(MooStr::from_vec(bytes))
 }
 
 /// The verb that a call on x reads, or the error: E_INVARG if x isn't an object, then E_VERBNF if no verb of x itself is
@@ -84,8 +79,12 @@ fn info_of(alloc: Global, verb: &VerbRow) -> Result<Value, AllocError>
         ≡ list_of (Obj verb.now.owner ∷ Str (verb_letters_of verb.now.bits) ∷ Str verb.now.names ∷ [])) }
 {
     let perms = text(alloc, bits_letters(verb.bits))?;
-    let names = Value::Str(verb.names.copy(alloc)?);
-    let values = vec![in alloc; Value::Obj(verb.owner), perms, names]?;
+    let names = verb.names.copy(alloc)?;
+    let values = vec![in alloc;
+        Value::Obj(verb.owner),
+        Value::Str(perms),
+        Value::Str(names),
+    ]?;
     Ok(list_of(values))
 }
 
@@ -115,7 +114,7 @@ fn args_of(alloc: Global, args: ArgSpec) -> Result<Value, AllocError>
     let dobj = text(alloc, print_object_spec(args.dobj))?;
     let prep = text(alloc, print_prep(args.prep))?;
     let iobj = text(alloc, print_object_spec(args.iobj))?;
-    let values = vec![in alloc; dobj, prep, iobj]?;
+    let values = vec![in alloc; Value::Str(dobj), Value::Str(prep), Value::Str(iobj)]?;
     Ok(list_of(values))
 }
 

@@ -1,4 +1,4 @@
-use Rattle.moo_text.proofs.Shared.{◌≡◌, ◌<◌, ◌+◌, ◌++◌, true, false, ℕ, List, Some, None, Ok, length, take, drop, sym, ap, subst, ◌∙◌, arith, rules, ◌==◌, position_from, length-drop, lines_side, ReadsLine, BreaksOff}
+use Rattle.moo_text.proofs.Shared.{◌≡◌, ◌<◌, ◌+◌, ◌++◌, true, false, ℕ, List, Some, None, length, take, drop, sym, ap, subst, ◌∙◌, arith, rules, ◌==◌, position_from, length-drop, lines_side, ReadsLine, BreaksOff}
 use Rattle.moo_text.proofs.Kept.{kept_short, no_newline, newline_there, text_ends, last_line}
 use Rattle.moo_text.proofs.Giving.{handed_on}
 use Rattle.moo_text.proofs.SoFar.{piece_read, room_falls, some_there, found_line, ends_with, piece_fails, beside}
@@ -40,7 +40,7 @@ returns-then-is_empty g c =
     let e = c.in_ok-read_piece.ensures in
     let so = piece_read first now next c.loop-at.line.items line c.skip-in-None.new.self c.loop-at.invariant none put e.gives e.room in
     let zero : (length line == 0) ≡ true = ap (λ (n : ℕ). n == 0) (sym c.put_kept-in-None.new.line.ok.0) ∙ sym c.if-is_empty.ensures in
-    let over = e.end (ap (λ b. Ok b) c.if-not-branch.true) in
+    let over = e.end c.if-not-branch.true in
     record {
       cause = tt;
       ends = over;
@@ -60,7 +60,7 @@ returns-then-not-branch g c =
     let e = c.in_ok-read_piece.ensures in
     let so = piece_read first now next c.loop-at.line.items line c.skip-in-None.new.self c.loop-at.invariant none put e.gives e.room in
     let some : (length line == 0) ≡ false = ap (λ (n : ℕ). n == 0) (sym c.put_kept-in-None.new.line.ok.0) ∙ sym c.if-is_empty.ensures in
-    let over = e.end (ap (λ b. Ok b) c.if-not-branch.true) in
+    let over = e.end c.if-not-branch.true in
     record {
       cause = tt;
       ends = tt;
