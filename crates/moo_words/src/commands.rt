@@ -1,9 +1,9 @@
 //! The commands of the program.
 ghost use Rattle.std.specs.Prelude.{◌≡◌, false, codes, IfOk};
 ghost use Rattle.clap.specs.Walk.{rule_of};
-ghost use Rattle.clap.specs.Simple.{app_of, new_app, with_subcommand};
+ghost use Rattle.clap.specs.Simple.{App, app_of, new_app, with_rule, with_subcommand};
 ghost use Rattle.clap.specs.declared.builder.command.Command.TheViews.{out-Command as fields_of};
-ghost use Rattle.moo_words.specs.Commands.{text_rule, port_rule, count_rule, file_app, batches_app, load_app, serve_app, program_app, moo_app};
+ghost use Rattle.moo_words.specs.Commands.{text_rule, port_rule, count_rule, file_app, serve_app, program_app, moo_app};
 
 use crate::help;
 use clap::{Arg, Command, value_parser};
@@ -56,27 +56,19 @@ fn file_command<'a>(
     described(alloc, name, about, more).arg(text_arg(alloc, "FILE", help::FILE))
 }
 
-fn batches_command<'a>(
+/// A command of a file and one more text, an argument of this name.
+fn text_command<'a>(
     alloc: Global,
     name: &'a str,
     about: &'a str,
     more: &'a str,
+    id: &'a str,
+    text: &'a str,
 ) -> Result<Command<'a>, AllocError>
-    ensures shape { IfOk result (λ command. app_of command ≡ batches_app name.entry.now) }
+    ensures shape { IfOk result (λ command. app_of command ≡ with_rule (file_app name.entry.now) (text_rule id.entry.now)) }
     ensures local { IfOk result (λ command. (fields_of command).has_globals ≡ false) }
 {
-    file_command(alloc, name, about, more)?.arg(text_arg(alloc, "BATCHES", help::BATCHES))
-}
-
-fn load_command<'a>(alloc: Global) -> Result<Command<'a>, AllocError>
-    ensures shape { IfOk result (λ command. app_of command ≡ load_app) }
-    ensures local { IfOk result (λ command. (fields_of command).has_globals ≡ false) }
-{
-    file_command(alloc, "load", help::LOAD, help::LOAD_MORE)?.arg(text_arg(
-        alloc,
-        "DUMP",
-        help::DUMP_FILE,
-    ))
+    file_command(alloc, name, about, more)?.arg(text_arg(alloc, id, text))
 }
 
 fn serve_command<'a>(alloc: Global) -> Result<Command<'a>, AllocError>
@@ -88,37 +80,16 @@ fn serve_command<'a>(alloc: Global) -> Result<Command<'a>, AllocError>
         .arg(count_arg(alloc))
 }
 
-fn with_command<'a>(program: Command<'a>, command: Command<'a>) -> Result<Command<'a>, AllocError>
-    requires { (fields_of command).has_globals ≡ false }
-    ensures { IfOk result (λ new. app_of new ≡ with_subcommand (app_of program.entry) (app_of command.entry).top) }
-{
-    program.subcommand(command)
-}
-
-fn with_file_command<'a>(
-    alloc: Global,
-    program: Command<'a>,
-    name: &'a str,
-    about: &'a str,
-    more: &'a str,
+/// A program with one more command. Memory may have run out for either.
+fn with_command<'a>(
+    program: Result<Command<'a>, AllocError>,
+    command: Result<Command<'a>, AllocError>,
 ) -> Result<Command<'a>, AllocError>
-    ensures { IfOk result (λ new. app_of new ≡ with_subcommand (app_of program.entry) (file_app name.entry.now).top) }
+    requires { IfOk command (λ command. (fields_of command).has_globals ≡ false) }
+    ensures { (old added : App) → IfOk program.entry (λ program. app_of program ≡ old) → IfOk command.entry (λ command. app_of command ≡ added)
+        → IfOk result (λ new. app_of new ≡ with_subcommand old added.top) }
 {
-    let command = file_command(alloc, name, about, more)?;
-    with_command(program, command)
-}
-
-fn with_batches_command<'a>(
-    alloc: Global,
-    program: Command<'a>,
-    name: &'a str,
-    about: &'a str,
-    more: &'a str,
-) -> Result<Command<'a>, AllocError>
-    ensures { IfOk result (λ new. app_of new ≡ with_subcommand (app_of program.entry) (batches_app name.entry.now).top) }
-{
-    let command = batches_command(alloc, name, about, more)?;
-    with_command(program, command)
+    program?.subcommand(command?)
 }
 
 /// The program without its commands.
@@ -133,13 +104,38 @@ fn program<'a>(alloc: Global) -> Command<'a>
 pub(crate) fn moo_command<'a>(alloc: Global) -> Result<Command<'a>, AllocError>
     ensures { IfOk result (λ command. app_of command ≡ moo_app) }
 {
-    let program = with_file_command(alloc, program(alloc), "init", help::INIT, help::INIT_MORE)?;
-    let program = with_batches_command(alloc, program, "apply", help::APPLY, help::APPLY_MORE)?;
-    let program = with_batches_command(alloc, program, "ask", help::ASK, help::ASK_MORE)?;
-    let program = with_file_command(alloc, program, "dump", help::DUMP, help::DUMP_MORE)?;
-    let command = load_command(alloc)?;
-    let program = with_command(program, command)?;
-    let program = with_file_command(alloc, program, "check", help::CHECK, help::CHECK_MORE)?;
-    let command = serve_command(alloc)?;
-    with_command(program, command)
+    let command = file_command(alloc, "init", help::INIT, help::INIT_MORE);
+    let program = with_command(Ok(program(alloc)), command);
+    let command = text_command(
+        alloc,
+        "apply",
+        help::APPLY,
+        help::APPLY_MORE,
+        "BATCHES",
+        help::BATCHES,
+    );
+    let program = with_command(program, command);
+    let command = text_command(
+        alloc,
+        "ask",
+        help::ASK,
+        help::ASK_MORE,
+        "BATCHES",
+        help::BATCHES,
+    );
+    let program = with_command(program, command);
+    let command = file_command(alloc, "dump", help::DUMP, help::DUMP_MORE);
+    let program = with_command(program, command);
+    let command = text_command(
+        alloc,
+        "load",
+        help::LOAD,
+        help::LOAD_MORE,
+        "DUMP",
+        help::DUMP_FILE,
+    );
+    let program = with_command(program, command);
+    let command = file_command(alloc, "check", help::CHECK, help::CHECK_MORE);
+    let program = with_command(program, command);
+    with_command(program, serve_command(alloc))
 }

@@ -82,30 +82,39 @@ fn service_in(matches: &ArgMatches<'_>) -> Option<Service>
     })
 }
 
+// The action of a command that reads a text.
+fn text_action_in<'a>(name: &str, matches: &ArgMatches<'a>) -> Option<Action<'a>>
+    ensures { IfSome result (IsAction (name.now, rows_of (found_of matches.now))) }
+{
+    if name == "apply" {
+        let batches = text_of(matches, "BATCHES")?;
+        Some(Action::Apply { batches })
+    } else if name == "ask" {
+        let batches = text_of(matches, "BATCHES")?;
+        Some(Action::Ask { batches })
+    } else if name == "load" {
+        let dump = text_of(matches, "DUMP")?;
+        Some(Action::Load { dump })
+    } else {
+        None
+    }
+}
+
 // The action of a command's name and matches.
 fn action_in<'a>(name: &str, matches: &ArgMatches<'a>) -> Option<Action<'a>>
     ensures { IfSome result (IsAction (name.now, rows_of (found_of matches.now))) }
 {
     if name == "init" {
         Some(Action::Init)
-    } else if name == "apply" {
-        let batches = text_of(matches, "BATCHES")?;
-        Some(Action::Apply { batches })
-    } else if name == "ask" {
-        let batches = text_of(matches, "BATCHES")?;
-        Some(Action::Ask { batches })
     } else if name == "dump" {
         Some(Action::Dump)
-    } else if name == "load" {
-        let dump = text_of(matches, "DUMP")?;
-        Some(Action::Load { dump })
     } else if name == "check" {
         Some(Action::Check)
     } else if name == "serve" {
         let service = service_in(matches)?;
         Some(Action::Serve(service))
     } else {
-        None
+        text_action_in(name, matches)
     }
 }
 

@@ -1,4 +1,5 @@
-use Rattle.moo_value.proofs.Words.{◌≡◌, ◌++◌, ◌∷◌, [], ◌∙◌, rules}
+use Rattle.std.proofs.lemmas.Grind.{common_steps}
+use Rattle.moo_value.proofs.Words.{arith, ◌≡◌, ◌++◌, ◌∷◌, [], ◌∙◌, rules}
 use Rattle.moo_value.proofs.Printed.{starts, starts_alike, starts_behind}
 use Rattle.moo_value.proofs.writing.put_string.Goals.{then-byte-eq34+in_ok-push-2, else-byte-eq34+else-byte-eq92}
 use Rattle.moo_value.proofs.writing.put_string.Goals as goal
@@ -21,3 +22,6 @@ returns-in_err-push-4-clause-kept c = starts _ _ _ (c.in_err-push-4.ensures.item
 
 pub returns-clause-kept : goal.returns-clause-kept
 returns-clause-kept c = starts_behind _ _ _ _ _ c.in_ok-push-4.ensures.items c.loop-byte.invariant
+
+pub loop-byte-preserved : goal.loop-byte-preserved
+loop-byte-preserved c = grind (arith, common_steps)
