@@ -1,4 +1,4 @@
-use Rattle.moo_load.proofs.Words.{rules, ◌≡◌, ◌≤◌, ◌<◌, ◌++◌, [], ◌∷◌, sym, subst, Some, true, length, arith, err_from_is_err_and, map, Value, Obj, accept_fits}
+use Rattle.moo_load.proofs.Words.{rules, ◌≡◌, ◌<◌, ◌++◌, [], ◌∷◌, length, arith, err_from_is_err_and}
 use Rattle.moo_load.proofs.Accepting.{not_objects, objects_more, numbers_more, all_objects, few_objects, too_many}
 use Rattle.moo_load.proofs.value.objects_of.Goals as goal
 
