@@ -1,5 +1,7 @@
 -- Accept lists as values.
-use Rattle.moo_load.proofs.Words.{◌≡◌, ◌≤◌, ◌<◌, ℕ, zero, suc, List, [], ◌∷◌, map, length, true, Option, Some, None, get_or, refl, ap, subst, ◌∙◌, arith, and_parts, leb-true, ObjNo, Value, Obj, a_list, gather, spread, Values, no_values, accept_value, accept_fits}
+use Rattle.moo_load.proofs.Words.{◌≡◌, ◌≤◌, ◌<◌, ℕ, zero, suc, ◌+◌, List, [], ◌∷◌, ◌++◌, map, take, length, true, Option, Some, None, get_or, refl, sym, ap, subst, ◌∙◌, arith, and_parts, both_true, le-leb, leb-true, list_all, take_all, length-map, map-append, ObjNo, Value, Obj, a_list, gather, spread, Values, no_values, is_number, accept_value, accept_fits}
+use Rattle.std.proofs.lemmas.List.{take_more}
+use Rattle.std.proofs.lemmas.List.Folds.{list_all-append}
 
 obj_at : (objects : List ObjNo) (i : ℕ) (v : Value) → i < length (map Obj objects) → (x : ObjNo) × (get_or (map Obj objects) i v ≡ Obj x)
 obj_at [] i v h = absurd (omega arith)
@@ -11,6 +13,26 @@ pub not_objects : (values : List Value) (i : ℕ) (v : Value) → i < length val
 not_objects values i v within is none objects same =
     let at = obj_at objects i v (subst (λ l. i < length l) same within) in
     none at.0 (is ∙ ap (λ l. get_or l i v) same ∙ at.1)
+
+-- one value more, which is an object
+pub objects_more : (values : List Value) (i : ℕ) (v : Value) (x : ObjNo) (objects more : List ObjNo) → i < length values → v ≡ get_or values i v → v ≡ Obj x → more ≡ objects ++ (x ∷ []) → take i values ≡ map Obj objects → take (i + 1) values ≡ map Obj more
+objects_more values i v x objects more within is object pushed read =
+    take_more values i v within ∙ ap (λ (w : Value). take i values ++ (w ∷ [])) (sym is ∙ object) ∙ ap (λ (l : List Value). l ++ (Obj x ∷ [])) read
+    ∙ sym (map-append Obj objects (x ∷ [])) ∙ ap (map Obj) (sym pushed)
+
+pub numbers_more : (x : ObjNo) (objects more : List ObjNo) → more ≡ objects ++ (x ∷ []) → is_number x ≡ true → list_all is_number objects ≡ true → list_all is_number more ≡ true
+numbers_more x objects more pushed number fits =
+    ap (list_all is_number) pushed ∙ list_all-append is_number objects (x ∷ []) ∙ both_true _ _ fits (both_true _ _ number refl)
+
+-- all of them, which aren't too many
+pub all_objects : (values : List Value) (i : ℕ) (objects : List ObjNo) → length values ≤ i → take i values ≡ map Obj objects → values ≡ map Obj objects
+all_objects values i objects over read = sym (take_all i values over) ∙ read
+
+pub few_objects : (values : List Value) (objects : List ObjNo) → values ≡ map Obj objects → length values ≤ 1000 → list_all is_number objects ≡ true → accept_fits (Some objects) ≡ true
+few_objects values objects is short fits = both_true _ _ (le-leb (length objects) 1000 (omega (arith, length-map objects Obj, ap length is))) fits
+
+pub too_many : (values : List Value) (objects : List ObjNo) → 1000 < length values → length objects ≤ 1000 → values ≡ map Obj objects → ⊥
+too_many values objects long short is = omega (arith, length-map objects Obj, ap length is)
 
 spread_objects : (objects : List ObjNo) → spread (gather (map Obj objects)) ≡ map Obj objects
 spread_objects [] = refl

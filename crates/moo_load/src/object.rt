@@ -36,7 +36,7 @@ pub(crate) fn read_object(alloc: Global, values: &[Value]) -> Result<(ObjNo, Obj
         return Err(LineFault::Unreadable);
     };
     let number = object_of(number)?;
-    let name = text_of(name)?.copy(alloc)?;
+    let name = text_of(name)?;
     let owner = object_of(owner)?;
     let parent = object_of(parent)?;
     let location = object_of(location)?;
@@ -46,6 +46,7 @@ pub(crate) fn read_object(alloc: Global, values: &[Value]) -> Result<(ObjNo, Obj
     let r = flag_of(r)?;
     let w = flag_of(w)?;
     let f = flag_of(f)?;
+    let name = name.copy(alloc)?;
     let accept = accept_of(alloc, accept)?;
     let row = ObjRow {
         name,

@@ -71,9 +71,10 @@ pub(crate) fn dumped_slot(alloc: Global, values: &[Value]) -> Result<SlotLine, L
     };
     let object = object_of(object)?;
     let definer = object_of(definer)?;
-    let name = text_of(name)?.copy(alloc)?;
+    let name = text_of(name)?;
     let owner = object_of(owner)?;
     let bits = bits_of(letters)?;
+    let name = name.copy(alloc)?;
     let state = state_of(alloc, state)?;
     Ok(SlotLine {
         object,

@@ -67,12 +67,12 @@ pub(crate) fn read_verb(alloc: Global, values: &[Value]) -> Result<(ObjNo, VerbR
     if check_names(names).is_err() {
         return Err(LineFault::Unreadable);
     }
-    let names = names.copy(alloc)?;
     let owner = object_of(owner)?;
     let bits = bits_of(letters)?;
     let dobj = object_spec_of(dobj)?;
     let prep = prep_of(prep)?;
     let iobj = object_spec_of(iobj)?;
+    let names = names.copy(alloc)?;
     let row = VerbRow {
         names,
         owner,

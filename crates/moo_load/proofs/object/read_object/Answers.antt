@@ -8,7 +8,7 @@ returns-clause-shown c =
     let long : 12 ≤ length values = omega arith in
     let short : length values ≤ 12 = omega arith in
     item values 0 c.number-item.result _ _ (omega (arith, long)) c.number-item.is c.in_ok-number.ensures.ok
-    (item values 1 c.name-item.result _ _ (omega (arith, long)) c.name-item.is (c.in_ok-text_of.ensures.ok ∙ ap Str (sym c.in_ok-name.ensures))
+    (item values 1 c.name-item.result _ _ (omega (arith, long)) c.name-item.is (c.in_ok-name.ensures.ok ∙ ap Str (sym c.in_ok-name-2.ensures))
     (item values 2 c.owner-item.result _ _ (omega (arith, long)) c.owner-item.is c.in_ok-owner.ensures.ok
     (item values 3 c.parent-item.result _ _ (omega (arith, long)) c.parent-item.is c.in_ok-parent.ensures.ok
     (item values 4 c.location-item.result _ _ (omega (arith, long)) c.location-item.is c.in_ok-location.ensures.ok
