@@ -6,6 +6,7 @@ ghost use Rattle.std.specs.FinMap.{get, entries};
 ghost use Rattle.moo_rows.specs.Links.{IsFirst};
 ghost use Rattle.moo_rows.specs.Maps.{object_cmp, prop_cmp, slot_cmp, verb_cmp};
 ghost use Rattle.moo_rows.specs.Walk.{slots_of_left};
+ghost use Rattle.moo_tree.specs.Under.{owners_under};
 ghost use Rattle.moo_world.specs.Objects.{same_object};
 ghost use Rattle.moo_world.specs.Recycling.{recycled};
 ghost use Rattle.moo_world.specs.Rows.{world_of, IsGood};
@@ -161,6 +162,24 @@ fn drop_slots<R: Rows>(
     Ok(())
 }
 
+/// Removes the slots of x, and those of its own properties on all under it, and lists them.
+fn drop_under<R: Rows>(
+    alloc: Global,
+    rows: &mut R,
+    x: ObjNo,
+    own: &[PropId],
+) -> Result<SlotKeys, AllocError>
+    requires { IsGood (R.held rows.old).maps }
+    ensures rows { OnOk result (R.held rows.new ≡ slots_dropped x (ids_among (slots_of_left x (record { 0 = 0 }) (R.held rows.old).maps)) own.now (owners_under (R.held rows.old).maps x) (R.held rows.old)) }
+    ensures list { IfOk result (λ keys. keys ≡ dropped_over x (ids_among (slots_of_left x (record { 0 = 0 }) (R.held rows.old).maps)) own.now (owners_under (R.held rows.old).maps x)) }
+{
+    let under = owners_under(alloc, rows, x)?;
+    let all = ids_on(alloc, rows, x)?;
+    let mut removed = Vec::new(alloc);
+    drop_slots(rows, x, all.as_slice(), own, under.as_slice(), &mut removed)?;
+    Ok(SlotKeys::from_vec(removed))
+}
+
 /// Removes the rows of these properties.
 fn remove_props<R: Rows>(rows: &mut R, ids: &[PropId]) -> Result<(), AllocError>
     ensures { OnOk result (R.held rows.new ≡ props_removed ids.now (R.held rows.old)) }
@@ -257,26 +276,16 @@ pub fn drop_object<R: Rows>(alloc: Global, rows: &mut R, x: ObjNo) -> Result<Dro
         None => unreachable!(),
         Some(row) => row.parent,
     };
-    let under = owners_under(alloc, rows, x)?;
-    let all = ids_on(alloc, rows, x)?;
     let own = props_on(alloc, rows, x)?;
     let verbs = verbs_on(alloc, rows, x)?;
     let relinked = linked_to(alloc, rows, x)?;
-    let mut removed = Vec::new(alloc);
-    drop_slots(
-        rows,
-        x,
-        all.as_slice(),
-        own.as_slice(),
-        under.as_slice(),
-        &mut removed,
-    )?;
+    let removed = drop_under(alloc, rows, x, own.as_slice())?;
     remove_props(rows, own.as_slice())?;
     remove_verbs(rows, verbs.as_slice())?;
     release_all(alloc, rows, x, parent, relinked.as_slice())?;
     rows.remove_object(x)?;
     Ok(Dropped {
-        removed: SlotKeys::from_vec(removed),
+        removed,
         props: PropIds { items: own },
         verbs: VerbKeys { items: verbs },
         relinked: ObjList::from_vec(relinked),

@@ -3,13 +3,14 @@
 ghost use Rattle.std.specs.Prelude.{◌≡◌, true, ◌++◌, ◌+◌, ◌≤◌, map, length, IfOk, OnOk};
 ghost use Rattle.std.specs.FinMap.{get, entries};
 ghost use Rattle.moo_rows.specs.Maps.{slot_cmp};
+ghost use Rattle.moo_tree.specs.Under.{owners_under};
 ghost use Rattle.moo_world.specs.Objects.{is_among};
 ghost use Rattle.moo_world.specs.World.{chain, reparented};
 ghost use Rattle.moo_world.specs.Rows.{world_of, IsGood};
 ghost use Rattle.moo_world.specs.Laws.{MayReparent};
 ghost use Rattle.moo_world.specs.Keeps.{Keeps};
 ghost use Rattle.moo_props.specs.Reparent.{is_defined_only, props_only_of, slots_moved, relinked, relinked_list};
-ghost use Rattle.moo_props.specs.Slots.{id_of, keys_over};
+ghost use Rattle.moo_props.specs.Slots.{id_of, keys_over, origins};
 ghost use Rattle.moo_props.specs.Present.{ArePresent, AreAbsent, AreAscending};
 ghost use Rattle.moo_props.specs.Touched.{removed_keys, added_keys, relinked_objects, slot_after, row_after, IsSameButSlotsAndObjects};
 
@@ -87,6 +88,55 @@ fn move_slots<R: Rows>(
     Ok(())
 }
 
+/// The properties that x loses when it goes from one parent to another, and those that it gains, each with the slot of it on
+/// the new one.
+fn turnover<R: Rows>(
+    alloc: Global,
+    rows: &R,
+    x: ObjNo,
+    parent: ObjNo,
+    new: ObjNo,
+) -> Result<(Vec<PropId>, Vec<Origin>), AllocError>
+    requires good { IsGood (R.held rows.now).maps }
+    requires above { (d : ObjNo) → is_among d (chain (world_of (R.held rows.now).maps) parent) ≡ true → is_among d (chain (world_of (R.held rows.now).maps) x) ≡ true }
+    ensures lost { IfOk result (λ both. both.0.items ≡ props_only_of (chain (world_of (R.held rows.now).maps) parent) (chain (world_of (R.held rows.now).maps) new) (entries (R.held rows.now).maps.props)) }
+    ensures gained { IfOk result (λ both. both.1.items ≡ origins (R.held rows.now).maps.slots new (props_only_of (chain (world_of (R.held rows.now).maps) new) (chain (world_of (R.held rows.now).maps) parent) (entries (R.held rows.now).maps.props))) }
+{
+    let above = chain(alloc, rows, parent)?;
+    let ahead = chain(alloc, rows, new)?;
+    let lost = props_among(alloc, rows, x, above.as_slice(), ahead.as_slice())?;
+    let coming = props_among(alloc, rows, new, ahead.as_slice(), above.as_slice())?;
+    let gained = origins(alloc, rows, new, coming.as_slice())?;
+    Ok((lost, gained))
+}
+
+/// Moves the slots of x and of all under it, and lists those that went and those that came.
+fn move_under<R: Rows>(
+    alloc: Global,
+    rows: &mut R,
+    x: ObjNo,
+    lost: &[PropId],
+    gained: &[Origin],
+) -> Result<(SlotKeys, SlotKeys), AllocError>
+    requires { IsGood (R.held rows.old).maps }
+    ensures rows { OnOk result (R.held rows.new ≡ slots_moved lost.now gained.now (owners_under (R.held rows.old).maps x) (R.held rows.old)) }
+    ensures removed { IfOk result (λ both. both.0 ≡ keys_over lost.now (owners_under (R.held rows.old).maps x)) }
+    ensures added { IfOk result (λ both. both.1 ≡ keys_over (map id_of gained.now) (owners_under (R.held rows.old).maps x)) }
+{
+    let under = owners_under(alloc, rows, x)?;
+    let mut removed = Vec::new(alloc);
+    let mut added = Vec::new(alloc);
+    move_slots(
+        rows,
+        under.as_slice(),
+        lost,
+        gained,
+        &mut removed,
+        &mut added,
+    )?;
+    Ok((SlotKeys::from_vec(removed), SlotKeys::from_vec(added)))
+}
+
 /// Puts x under another parent, and lists it, unless that is its parent already.
 #[tactic(auto, unfolding(moo_world::specs::Objects::same_object))]
 fn relink<R: Rows>(
@@ -143,26 +193,12 @@ pub fn reparent<R: Rows>(
         None => unreachable!(),
         Some(row) => row.copy(alloc)?,
     };
-    let above = chain(alloc, rows, row.parent)?;
-    let ahead = chain(alloc, rows, new)?;
-    let lost = props_among(alloc, rows, x, above.as_slice(), ahead.as_slice())?;
-    let coming = props_among(alloc, rows, new, ahead.as_slice(), above.as_slice())?;
-    let gained = origins(alloc, rows, new, coming.as_slice())?;
-    let under = owners_under(alloc, rows, x)?;
-    let mut removed = Vec::new(alloc);
-    let mut added = Vec::new(alloc);
-    move_slots(
-        rows,
-        under.as_slice(),
-        lost.as_slice(),
-        gained.as_slice(),
-        &mut removed,
-        &mut added,
-    )?;
+    let (lost, gained) = turnover(alloc, rows, x, row.parent, new)?;
+    let (removed, added) = move_under(alloc, rows, x, lost.as_slice(), gained.as_slice())?;
     let relinked = relink(alloc, rows, x, row, new)?;
     Ok(Touched {
-        removed: SlotKeys::from_vec(removed),
-        added: SlotKeys::from_vec(added),
+        removed,
+        added,
         relinked,
     })
 }

@@ -1,5 +1,6 @@
-use Rattle.moo_props.proofs.Words.{◌≡◌, refl, sym, ap, ◌∙◌, subst, [], ◌∷◌, ◌++◌, length, arith, Some, is_some, get, entries, remove, false≢true, Held, wrote, object_cmp, prop_cmp, slot_cmp, verb_cmp, recycled, AreSound, look_ups, world_of, world_shown, IsWellFormed, is_object_seen, dropped_keys, linked_among, dropped_over, slots_dropped, props_removed, verbs_removed, rows_released, ArePresent, AreAbsent, AreAscending, props_of, as_high, beside_world, petitions_stay}
+use Rattle.moo_props.proofs.Words.{◌≡◌, refl, sym, ap, ◌∙◌, subst, [], ◌∷◌, length, arith, Some, is_some, get, entries, remove, false≢true, Held, wrote, object_cmp, prop_cmp, slot_cmp, verb_cmp, recycled, AreSound, look_ups, world_of, world_shown, IsWellFormed, is_object_seen, dropped_keys, linked_among, dropped_over, slots_dropped, ids_among, owners_under, props_removed, verbs_removed, rows_released, ArePresent, AreAbsent, AreAscending, props_of, as_high, beside_world, petitions_stay}
 use Rattle.moo_props.proofs.Kept.{good_by}
+use Rattle.moo_props.proofs.Walked.{walk}
 use Rattle.moo_props.proofs.Lessened.{world_less, sound_less, formed_less, less_object}
 use Rattle.moo_props.proofs.LessRows.{look_ups-less, held1, held2, held3, held4, held5, only5, base5}
 use Rattle.moo_props.proofs.Ascending.{ascend, props_rise, verbs_ascend, linked_ascend}
@@ -9,36 +10,36 @@ use Rattle.moo_rows.specs.declared.row.Head.{Head}
 use Rattle.moo_world.specs.Numbers.{props_dropped, verbs_dropped}
 use Rattle.moo_props.proofs.dropping.drop_object.Goals as goal
 
-abbrev before : (g : _) → goal.After-drop-under-2 g → Held
+abbrev before : (g : _) → goal.After-from_vec g → Held
 before g c = g.R.Rows.held c.args.rows.now
 
-here : (g : _) (c : goal.After-drop-under-2 g) → get (before g c).maps.objects c.args.x ≡ Some c.in-Some.row.now
+here : (g : _) (c : goal.After-from_vec g) → get (before g c).maps.objects c.args.x ≡ Some c.in-Some.row.now
 here g c = sym c.in-Some.ensures
 
-own_is : (g : _) (c : goal.After-drop-under-2 g) → c.in_ok-own.own.items ≡ props_of (c.args.x ∷ []) (before g c).maps.props
+own_is : (g : _) (c : goal.After-from_vec g) → c.in_ok-own.own.items ≡ props_of (c.args.x ∷ []) (before g c).maps.props
 own_is g c = c.in_ok-own.ensures
 
-first : (g : _) (c : goal.After-drop-under-2 g) → g.R.Rows.held c.drop_slots.new.rows ≡ held1 (before g c).maps c.requires.good c.args.x c.in-Some.row.now (here g c) (before g c) refl
+first : (g : _) (c : goal.After-from_vec g) → g.R.Rows.held c.drop_under.new.rows ≡ held1 (before g c).maps c.requires.good c.args.x c.in-Some.row.now (here g c) (before g c) refl
 first g c =
-    c.in_ok-drop_slots.ensures.rows
-    ∙ (λ i. slots_dropped c.args.x ((c.as_slice.ensures.value ∙ c.in_ok-all.ensures) i) ((c.as_slice-2.ensures.value ∙ own_is g c) i) ((c.as_slice-3.ensures.value ∙ c.in_ok-under.ensures) i) (before g c))
+    c.in_ok-removed.ensures.rows
+    ∙ (λ i. slots_dropped c.args.x (ids_among (walk (before g c).maps c.args.x)) ((c.as_slice.ensures.value ∙ own_is g c) i) (owners_under (before g c).maps c.args.x) (before g c))
 
-second : (g : _) (c : goal.After-drop-under-2 g) → g.R.Rows.held c.remove_props.new.rows ≡ held2 (before g c).maps c.requires.good c.args.x c.in-Some.row.now (here g c) (before g c) refl
-second g c = c.in_ok-remove_props.ensures ∙ (λ i. props_removed ((c.as_slice-4.ensures.value ∙ own_is g c) i) (first g c i))
+second : (g : _) (c : goal.After-from_vec g) → g.R.Rows.held c.remove_props.new.rows ≡ held2 (before g c).maps c.requires.good c.args.x c.in-Some.row.now (here g c) (before g c) refl
+second g c = c.in_ok-remove_props.ensures ∙ (λ i. props_removed ((c.as_slice-2.ensures.value ∙ own_is g c) i) (first g c i))
 
-third : (g : _) (c : goal.After-drop-under-2 g) → g.R.Rows.held c.remove_verbs.new.rows ≡ held3 (before g c).maps c.requires.good c.args.x c.in-Some.row.now (here g c) (before g c) refl
-third g c = c.in_ok-remove_verbs.ensures ∙ (λ i. verbs_removed ((c.as_slice-5.ensures.value ∙ c.in_ok-verbs.ensures) i) (second g c i))
+third : (g : _) (c : goal.After-from_vec g) → g.R.Rows.held c.remove_verbs.new.rows ≡ held3 (before g c).maps c.requires.good c.args.x c.in-Some.row.now (here g c) (before g c) refl
+third g c = c.in_ok-remove_verbs.ensures ∙ (λ i. verbs_removed ((c.as_slice-3.ensures.value ∙ c.in_ok-verbs.ensures) i) (second g c i))
 
-fourth : (g : _) (c : goal.After-drop-under-2 g) → g.R.Rows.held c.release_all.new.rows ≡ held4 (before g c).maps c.requires.good c.args.x c.in-Some.row.now (here g c) (before g c) refl
-fourth g c = c.in_ok-release_all.ensures ∙ (λ i. rows_released c.args.x c.in-Some.row.now.parent ((c.as_slice-6.ensures.value ∙ c.in_ok-relinked.ensures) i) (third g c i))
+fourth : (g : _) (c : goal.After-from_vec g) → g.R.Rows.held c.release_all.new.rows ≡ held4 (before g c).maps c.requires.good c.args.x c.in-Some.row.now (here g c) (before g c) refl
+fourth g c = c.in_ok-release_all.ensures ∙ (λ i. rows_released c.args.x c.in-Some.row.now.parent ((c.as_slice-4.ensures.value ∙ c.in_ok-relinked.ensures) i) (third g c i))
 
-ends : (g : _) (c : goal.After-drop-under-2 g) → g.R.Rows.held c.remove_object.new.self ≡ held5 (before g c).maps c.requires.good c.args.x c.in-Some.row.now (here g c) (before g c) refl
+ends : (g : _) (c : goal.After-from_vec g) → g.R.Rows.held c.remove_object.new.self ≡ held5 (before g c).maps c.requires.good c.args.x c.in-Some.row.now (here g c) (before g c) refl
 ends g c = c.in_ok-remove_object.ensures.ok ∙ (λ i. let h = fourth g c i in wrote h (record (h.maps) { objects = remove h.maps.objects c.args.x }))
 
-shown : (g : _) (c : goal.After-drop-under-2 g) → look_ups (g.R.Rows.held c.remove_object.new.self).maps ≡ less_object (look_ups (before g c).maps) c.args.x c.in-Some.row.now.parent
+shown : (g : _) (c : goal.After-from_vec g) → look_ups (g.R.Rows.held c.remove_object.new.self).maps ≡ less_object (look_ups (before g c).maps) c.args.x c.in-Some.row.now.parent
 shown g c = ap (λ (h : Held). look_ups h.maps) (ends g c) ∙ look_ups-less (before g c).maps c.requires.good c.args.x c.in-Some.row.now (here g c) (before g c) refl
 
-world : (g : _) (c : goal.After-drop-under-2 g) → world_of (g.R.Rows.held c.remove_object.new.self).maps ≡ recycled (world_of (before g c).maps) c.args.x
+world : (g : _) (c : goal.After-from_vec g) → world_of (g.R.Rows.held c.remove_object.new.self).maps ≡ recycled (world_of (before g c).maps) c.args.x
 world g c = ap world_shown (shown g c) ∙ world_less (look_ups (before g c).maps) c.requires.good.sound c.requires.good.formed c.args.x c.in-Some.row.now (here g c)
 
 pub unreachable-requires : goal.unreachable-requires
@@ -46,21 +47,20 @@ unreachable-requires g c =
     let m = look_ups (g.R.Rows.held c.args.rows.now).maps in
     false≢true (ap is_some c.in-None.ensures ∙ sym (is_object_seen m c.args.x) ∙ c.requires.object)
 
-head_is : (g : _) (c : goal.After-drop-under-2 g) → (g.R.Rows.held c.remove_object.new.self).maps.head ≡ (before g c).maps.head
+head_is : (g : _) (c : goal.After-from_vec g) → (g.R.Rows.held c.remove_object.new.self).maps.head ≡ (before g c).maps.head
 head_is g c = ap (λ (h : Held). h.maps.head) (ends g c) ∙ head5 (before g c).maps c.requires.good c.args.x c.in-Some.row.now (here g c) (before g c) refl
 
-beside : (g : _) (c : goal.After-drop-under-2 g) → beside_world (g.R.Rows.held c.remove_object.new.self).maps ≡ beside_world (before g c).maps
+beside : (g : _) (c : goal.After-from_vec g) → beside_world (g.R.Rows.held c.remove_object.new.self).maps ≡ beside_world (before g c).maps
 beside g c = ap (λ (h : Held). beside_world h.maps) (ends g c) ∙ ap beside_world (only5 (before g c).maps c.requires.good c.args.x c.in-Some.row.now (here g c) (before g c) refl)
 
-removed_is : (g : _) (c : goal.After-drop-under-2 g) → c.from_vec.result ≡ dropped_keys (before g c).maps c.args.x
+removed_is : (g : _) (c : goal.After-from_vec g) → c.in_ok-removed.removed ≡ dropped_keys (before g c).maps c.args.x
 removed_is g c =
-    c.from_vec.ensures
-    ∙ c.in_ok-drop_slots.ensures.list
-    ∙ (λ i. c.new-removed.ensures.items i ++ dropped_over c.args.x ((c.as_slice.ensures.value ∙ c.in_ok-all.ensures) i) ((c.as_slice-2.ensures.value ∙ own_is g c) i) ((c.as_slice-3.ensures.value ∙ c.in_ok-under.ensures) i))
+    c.in_ok-removed.ensures.list
+    ∙ (λ i. dropped_over c.args.x (ids_among (walk (before g c).maps c.args.x)) ((c.as_slice.ensures.value ∙ own_is g c) i) (owners_under (before g c).maps c.args.x))
     ∙ dropped_list (before g c).maps c.requires.good c.args.x c.in-Some.row.now (here g c)
 
-relinked_is : (g : _) (c : goal.After-drop-under-2 g) → c.from_vec-2.result ≡ linked_among c.args.x (entries (before g c).maps.objects)
-relinked_is g c = c.from_vec-2.ensures ∙ c.in_ok-relinked.ensures
+relinked_is : (g : _) (c : goal.After-from_vec g) → c.from_vec.result ≡ linked_among c.args.x (entries (before g c).maps.objects)
+relinked_is g c = c.from_vec.ensures ∙ c.in_ok-relinked.ensures
 
 pub returns : goal.returns
 returns g c = record {
