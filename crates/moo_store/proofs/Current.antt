@@ -9,7 +9,7 @@ pub rests_already : (store : Database) (t : Tables) (m : Maps) → Rests store t
 rests_already store t m rests current shown = record {
   tables = t;
   rests = rests;
-  became = record { current = current; same = λ _. refl; others = record { objects = refl; props = refl; verbs = refl } };
+  became = record { current = current; same = λ _. refl; unmigrated = record { objects = refl; props = refl; verbs = refl } };
   shows = shown;
 }
 
@@ -19,6 +19,6 @@ module _ (m : Maps) (head : Head) (slots : List ((ObjNo × PropId) × Option Slo
   rests_migrated old new t was earlier rests shown = record {
     tables = migrated head slots t;
     rests = rests;
-    became = record { current = refl; same = λ current. absurd (earlier current); others = record { objects = refl; props = refl; verbs = refl } };
+    became = record { current = refl; same = λ current. absurd (earlier current); unmigrated = record { objects = refl; props = refl; verbs = refl } };
     shows = shows m head slots is printed old.now t was.holds earlier shown;
   }

@@ -3,7 +3,7 @@ use Rattle.std.specs.Prelude.{◌≡◌}
 use Rattle.sqlite.specs.State.{State as Database}
 use Rattle.moo_rows.specs.Maps.{Maps}
 use Rattle.moo_tables.specs.Tables.{Tables}
-use Rattle.moo_tables.specs.Migrated.{KeepsOthers}
+use Rattle.moo_tables.specs.Migrated.{KeepsUnmigrated}
 use Rattle.moo_tables.specs.Inside.{Rests, IsCurrent}
 use Rattle.moo_cells.specs.Shows.{ShowsRows}
 
@@ -12,7 +12,7 @@ use Rattle.moo_cells.specs.Shows.{ShowsRows}
 pub record BecomesCurrent (old new : Tables) : Type 0 where
   pub current : IsCurrent new
   pub same : IsCurrent old → new ≡ old
-  pub others : KeepsOthers old new
+  pub unmigrated : KeepsUnmigrated old new
 
 -- the connection is open and in no transaction, and has what these tables became, which shows these rows
 pub record RestsCurrent (store : Database) (old : Tables) (rows : Maps) : Type 0 where

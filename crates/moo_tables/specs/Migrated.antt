@@ -47,7 +47,7 @@ migrated head slots t = record {
 }
 
 -- from tables of an earlier version to those that they are migrated to: every cell of an object, a property or a verb is as it was
-pub record KeepsOthers (old new : Tables) : Type 0 where
+pub record KeepsUnmigrated (old new : Tables) : Type 0 where
   pub objects : new.object ≡ old.object
   pub props : new.prop ≡ old.prop
   pub verbs : new.verb ≡ old.verb
