@@ -1,4 +1,4 @@
-//! What is noted of a connection.
+//! The notes on a connection.
 
 ghost use Rattle.std.specs.Prelude.{◌≡◌, ◌≢◌, IfSome, IfNone, is_ok};
 ghost use Rattle.moo_responses.specs.Responses.{response_of, reply_response};
@@ -64,7 +64,7 @@ impl From<ServeFault> for Trouble {
     }
 }
 
-/// What is noted of a connection while it is served: what is told of it, and how it is to be closed.
+/// The notes on a connection while it is served: what is told of it, and how it is to be closed.
 #[derive(Clone, Copy, Debug, PartialEq, Eq, Drop)]
 pub struct Note {
     pub route: Route,

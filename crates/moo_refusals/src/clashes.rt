@@ -23,7 +23,7 @@ fn common_name<R: Rows>(rows: &R, object: ObjNo, other: ObjNo) -> Option<&MooStr
     None
 }
 
-/// Says which object under this one defines a property that the new parent has. False if there is none.
+/// Says which object under this one defines a property that the new parent has. False if no object does.
 fn told_names<R: Rows>(
     reason: &mut Reason,
     rows: &R,
@@ -79,7 +79,7 @@ fn put_definer(reason: &mut Reason, definer: ObjNo, name: &MooStr) -> Result<(),
     reason.put(b" already")
 }
 
-/// Says which object defines a property of the name already. False if there is none.
+/// Says which object defines a property of the name already. False if no object does.
 fn told_definer<R: Rows>(
     reason: &mut Reason,
     rows: &R,

@@ -130,7 +130,7 @@ fn checked<'a>(given: Given<'a>, check: Check) -> Option<&'a Value> {
     }
 }
 
-/// Says the value, or the programmer if there is none.
+/// Says the value, or the programmer if no value is given.
 fn put_some(
     reason: &mut Reason,
     given: Given<'_>,

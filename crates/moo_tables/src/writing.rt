@@ -9,7 +9,7 @@ ghost use Rattle.moo_tables.specs.Inside.{StaysInside, Changes};
 use crate::table_row::TableRow;
 use sqlite::{Alter, Error, Transaction};
 
-/// Writes over the row with the key, or puts a new one if there is none. Answers whether there was one.
+/// Writes over the row with the key, or puts a new one if no row has it. Answers whether one had it.
 fn write_over<S: Alter, R: TableRow>(
     tx: &mut Transaction<'_, S>,
     key: R::Key,

@@ -35,6 +35,7 @@ INSERT INTO slot VALUES (7, 3, 3, 'r', '30');
 "#;
 
 /// A file of the first version, and what a look at it shows: how many tables there are, before a migration and after one, and the world.
+#[derive(Clone, Copy, Drop)]
 struct Migration<'a> {
     kept: &'a Kept,
     earlier: &'a [u8],
