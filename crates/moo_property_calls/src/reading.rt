@@ -14,7 +14,7 @@ use moo_call_parts::{Fault, list_of, rights, text_list};
 use moo_props::value_of;
 use moo_rows::{Bits, PropId, Rows, SlotRow, each_defined};
 use moo_tree::valid;
-use moo_value::{Code, LiteralFault, MooStr, ObjNo, Value};
+use moo_value::{Code, MooStr, ObjNo, Value};
 use std::alloc::{AllocError, Global};
 
 /// `get(object, name)` of a name that isn't built in: the value that the object reads for its property. E_PROPNF if it
@@ -71,13 +71,8 @@ pub fn properties<R: Rows>(
 fn letters(alloc: Global, bits: Bits) -> Result<MooStr, AllocError>
     ensures { IfOk result (λ text. text ≡ letters_of bits) }
 {
-    match MooStr::from_bytes(alloc, bits.letters().as_bytes()) {
-        Ok(text) => Ok(text),
-        Err(fault) => match fault {
-            LiteralFault::OutOfMemory => Err(AllocError),
-            _ => unreachable!(),
-        },
-    }
+    let bytes = bits.letters().as_bytes().to_vec(alloc)?;
+    Ok(MooStr::from_vec(bytes))
 }
 
 /// The owner and the rights of a slot. The only error is out of memory.
