@@ -1,5 +1,6 @@
 -- Why one of several calls failed, one after another.
-use Rattle.moo_tables.proofs.Words.{◌≡◌, inl, inr, ◌≤◌, Ok, Err, Result, IsTrue, IsSome, true≢false, sym, subst, ◌∙◌, arith, ⊤, Error, Trees, State, HasCleanDisk, HasCause, Survives, Tables, Sees, Changes, StaysInside, StopsChange, HasCauseIn}
+use Rattle.moo_tables.proofs.Words.{IfErr, ◌≡◌, inl, inr, ◌≤◌, Ok, Err, Result, IsTrue, IsSome, true≢false, sym, subst, ◌∙◌, arith, ⊤, Error, Trees, State, HasCleanDisk, HasCause, Survives, Tables, Sees, Changes, StaysInside, StopsChange, HasCauseIn}
+use Rattle.std.specs.Result.{IsErrAnd}
 use Rattle.sqlite_trees.specs.declared.error.StoreError.{StoreError}
 use Rattle.sqlite_trees.specs.declared.error.StoreError.TheVariants.{OutOfMemory, Io, Corrupt, Full, Broken, Unstorable}
 use Rattle.moo_tables.proofs.InsideLemmas.{clean_before, stays, stays_then}
@@ -44,6 +45,11 @@ reaches_more a b c change first quiet changes = record {
   inside = stays_then a b c first.inside quiet;
   sees = λ clean tables seen. let at = first.sees (clean_before b c _ quiet.survives clean) tables seen in (change at.0, (changes clean at.0 at.1).0);
 }
+
+-- the error is handed on
+pub err_again : {A B : Type 0} (r : Result A Error) (s : Result B Error) (e : Error) (P : Error → Type 0) → r ≡ Err e → IsErrAnd s (λ x. x ≡ e) → IfErr r P → IfErr s P
+err_again r (Ok x) e P was is it = absurd is
+err_again r (Err x) e P was is it = subst P (sym is) (subst (λ t. IfErr t P) was it)
 
 pub fails_after : {A : Type 0} (old mid new : State) (r : Result A Error) → Reaches old mid → StaysInside mid new → HasCauseIn mid new r → HasCauseIn old new r
 fails_after old mid new (Ok x) first quiet cause = λ clean tables seen. tt

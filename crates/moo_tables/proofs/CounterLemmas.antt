@@ -1,9 +1,9 @@
 -- What the statement on petition_head does.
-use Rattle.moo_tables.proofs.Words.{◌≡◌, ◌⊎◌, inl, inr, ℕ, ℤ, pos, List, [], ◌∷◌, ◌++◌, drop, codes, option_map, length, Some, None, Bool, true, false, ◌&&◌, Result, Ok, Err, OnOk, IsTrue, refl, arith, ap, subst, ◌∙◌, list_all, and_parts, Int, Error, Row, column, with_rowid, cast_row, Chosen, Trees, rowid, has_rowid, put_row, holds, shown, Updates, Does, InsertOr, Values, Abort, Column, Enforced, IsDatabase, IsSound, has_computed, differ, Program, Datatype, NotNull, Has, all_has, is_int, understood, everything, State, Executes, mode_of, statement_of, runs_as, AreConflicts, conflicts, petition_head_cells, with_counter, Tables, present_schema, petition_head_table, cells_at, petition_head_places, numbered_in, numbered_with, same_number, put_counter_text, AreKeyed, Sees, Changes, RanStatement, KeepsUnread, HasCauseIn}
+use Rattle.moo_tables.proofs.Words.{◌≡◌, ◌⊎◌, inl, inr, ℕ, ℤ, pos, List, [], ◌∷◌, ◌++◌, drop, codes, option_map, Some, None, Bool, true, false, ◌&&◌, Result, Ok, Err, OnOk, IsTrue, refl, ap, subst, ◌∙◌, list_all, and_parts, Int, Error, Row, column, with_rowid, cast_row, Chosen, Trees, rowid, has_rowid, put_row, holds, shown, Updates, Does, InsertOr, Values, Abort, Column, Enforced, IsDatabase, IsSound, has_computed, differ, Program, Datatype, NotNull, Has, all_has, is_int, understood, State, Executes, mode_of, statement_of, runs_as, AreConflicts, conflicts, petition_head_cells, with_counter, Tables, present_schema, petition_head_table, cells_at, petition_head_places, numbered_in, numbered_with, same_number, put_counter_text, AreKeyed, Sees, Changes, RanStatement, KeepsUnread, HasCauseIn}
 use Rattle.sqlite_schema.specs.declared.command.Command.{Command}
-use Rattle.moo_tables.proofs.TextLemmas.{put_counter_is, put_counter_plain, number_terms, number_overwrite, counter_filter, writes_where}
+use Rattle.moo_tables.proofs.TextLemmas.{put_counter_is, put_counter_plain, put_counter_one, number_terms, number_overwrite, counter_filter, writes_where}
 use Rattle.moo_tables.proofs.RefusalLemmas.{IsAllowed, Upserting, each, halted, concluded, clear_one, update_stops, upsert_stops}
-use Rattle.moo_tables.proofs.StoppedLemmas.{Ran, IsOne, at_schema, stops}
+use Rattle.moo_tables.proofs.StoppedLemmas.{Ran, at_schema, stops}
 use Rattle.moo_tables.proofs.StopNumberLemmas as stop
 use Rattle.moo_tables.proofs.StopNumberLemmas.{PassesNumbers}
 use Rattle.moo_tables.proofs.NumberLemmas as number
@@ -189,12 +189,8 @@ module _ (s : State) (tables : Tables) (seen : Sees s tables) (next : ℕ) (e : 
             (stop.named_there name 10 columns number_of cells has_numbers passes 7 refl s tables seen (counter_seen seen) e tt next there more met) h);
       }
 
-put_one : IsOne (length put_counter_text) 2 (understood present_schema put_counter_text)
-unfolding understood everything
-put_one = (omega arith, refl)
-
 pub put_fails : (old new : State) (next : ℕ) (r : Result ℕ Error) → Ran put_counter_text (petition_head_cells next) old new r → HasCauseIn old new r
 put_fails old new next (Ok count) ran = λ clean tables seen. tt
 put_fails old new next (Err e) ran = λ clean tables seen.
-    stops put_counter_text (petition_head_cells next) old new present_schema (schema_seen seen) _ put_counter_is put_counter_plain put_one refl refl e
+    stops put_counter_text (petition_head_cells next) old new present_schema (schema_seen seen) _ put_counter_is put_counter_plain put_counter_one refl refl e
     (λ text does. refused old tables seen next e text (at_schema old.step_limit (mode_of old) (petition_head_cells next) old.now present_schema text put_command e (schema_seen seen) does)) (ran clean seen.inside)

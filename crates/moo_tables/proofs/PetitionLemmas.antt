@@ -1,5 +1,5 @@
 -- What the statements on petitions do.
-use Rattle.moo_tables.proofs.Words.{ℕ, ℤ, pos, List, [], ◌∷◌, Option, Some, None, Result, OnOk, IfOk, Vec, ◌≡◌, refl, sym, ap, subst, arith, Global, Value, Null, Int, Text, Error, Row, State, understood, everything, cells_over, all_but, petition_row, with_petition_cells, Tables, petition_table, numbered_with, numbered_over, update_petition_text, keep_petition_text, put_petition_text, remove_petition_text, Changes, RanStatement, WritesOver, HasCauseIn}
+use Rattle.moo_tables.proofs.Words.{ℕ, ℤ, pos, List, [], ◌∷◌, Option, Some, None, Result, OnOk, IfOk, Vec, ◌≡◌, refl, sym, ap, subst, Global, Value, Null, Int, Text, Error, Row, State, cells_over, all_but, petition_row, with_petition_cells, Tables, petition_table, numbered_with, numbered_over, update_petition_text, keep_petition_text, put_petition_text, remove_petition_text, Changes, RanStatement, WritesOver, HasCauseIn}
 use Rattle.moo_rows.specs.declared.row.PetitionId.{PetitionId}
 use Rattle.moo_tables.specs.declared.petition.PetitionCells.{PetitionCells}
 use Rattle.moo_tables.proofs.TextLemmas.{petition_writes, petition_keeps}
@@ -77,19 +77,15 @@ passes = record {
 }
 
 pub remove_fails : (old new : State) (id : PetitionId) (r : Result ℕ Error) → Ran remove_petition_text (Int (pos id.0) ∷ []) old new r → HasCauseIn old new r
-unfolding understood everything
-remove_fails old new id = stop.remove _ 9 _ number_of whole has_numbers passes 6 refl petition_writes (λ s tables seen. petitions_seen seen) old new (pos id.0) (omega arith, refl)
+remove_fails old new id = stop.remove _ 9 _ number_of whole has_numbers passes 6 refl petition_writes (λ s tables seen. petitions_seen seen) old new (pos id.0) petition_writes.remove_one
 
 pub put_fails : (old new : State) (id : PetitionId) (row : Whole) (r : Result ℕ Error) → Ran put_petition_text (whole id row) old new r → HasCauseIn old new r
-unfolding understood everything
-put_fails old new id row = stop.put _ 9 _ number_of whole has_numbers passes 6 refl petition_writes (λ s tables seen. petitions_seen seen) old new id row (omega arith, refl)
+put_fails old new id row = stop.put _ 9 _ number_of whole has_numbers passes 6 refl petition_writes (λ s tables seen. petitions_seen seen) old new id row petition_writes.put_one
 
 pub update_fails : (old new : State) (id : PetitionId) (row : Whole) (r : Result ℕ Error) → Ran update_petition_text (whole id row) old new r → HasCauseIn old new r
-unfolding understood everything
-update_fails old new id row = stop.update _ 9 _ number_of whole has_numbers passes 6 refl petition_writes (λ s tables seen. petitions_seen seen) old new id row (omega arith, refl)
+update_fails old new id row = stop.update _ 9 _ number_of whole has_numbers passes 6 refl petition_writes (λ s tables seen. petitions_seen seen) old new id row petition_writes.update_one
 
 pub keep_fails : (old new : State) (id : PetitionId) (row : PetitionCells) (r : Result ℕ Error) → Ran keep_petition_text (values id row) old new r → HasCauseIn old new r
-unfolding understood everything
 keep_fails old new id row =
     stop.keep _ 9 _ number_of whole has_numbers passes 2 values over keeps_numbers (λ row text. (row, text)) (λ key row text. refl) (λ key row. refl) 6 refl petition_keeps (λ s tables seen. petitions_seen seen) (λ s tables seen. petition_texts seen)
-    old new id row (omega arith, refl)
+    old new id row petition_keeps.one

@@ -1,6 +1,6 @@
 -- What the texts that read a table mean.
 use Rattle.moo_tables.proofs.Words.{◌≡◌, ℕ, List, map, false, refl, Select, Schema, Table, understood, reads_listing, Term, col, IsPlain, command_of, everything, Program, Version, First, Second, first_schema, second_schema, schema_of, slot_tree, number_places, pair_places, head_table, object_table, prop_table, slot_table, slot2_table, verb_table, petition_table, petition_head_table, select_text, names, IsTrue, has_petitions, has_lettered_bits, sym, true≢false, if◌then◌else◌}
-use Rattle.moo_tables.proofs.TextLemmas.{in_order, number_order, pair_order}
+use Rattle.moo_tables.proofs.TextLemmas.{Means, means_command, means_plain, in_order, number_order, pair_order}
 
 -- the text is this query of the schema, and reads no list of tables
 pub record IsSelect (schema : Schema) (text : List ℕ) (program : Program) (names : List (List ℕ)) : Type 0 where
@@ -21,15 +21,21 @@ SelectsByNumber schema t = IsSelect schema (select_text t) (in_order t.tree (num
 abbrev SelectsByPair : Schema → Table → Type 0
 SelectsByPair schema t = IsSelect schema (select_text t) (in_order t.tree (pair_columns t) pair_order) (names t)
 
+selects_by_number : (schema : Schema) (t : Table) → Means (understood schema (select_text t)) (Select (in_order t.tree (number_columns t) number_order) (names t)) → reads_listing schema (select_text t) ≡ false → SelectsByNumber schema t
+selects_by_number schema t means unlisted = record { command = means_command (understood schema (select_text t)) _ means; plain = means_plain (understood schema (select_text t)) _ means; unlisted = unlisted }
+
+selects_by_pair : (schema : Schema) (t : Table) → Means (understood schema (select_text t)) (Select (in_order t.tree (pair_columns t) pair_order) (names t)) → reads_listing schema (select_text t) ≡ false → SelectsByPair schema t
+selects_by_pair schema t means unlisted = record { command = means_command (understood schema (select_text t)) _ means; plain = means_plain (understood schema (select_text t)) _ means; unlisted = unlisted }
+
 -- ---- the tables of both versions
 
 head_first : SelectsByNumber first_schema head_table
 unfolding understood everything
-head_first = record { command = refl; plain = (refl, refl); unlisted = refl }
+head_first = selects_by_number first_schema head_table (refl, refl, refl) refl
 
 head_second : SelectsByNumber second_schema head_table
 unfolding understood everything
-head_second = record { command = refl; plain = (refl, refl); unlisted = refl }
+head_second = selects_by_number second_schema head_table (refl, refl, refl) refl
 
 pub select_head : (version : Version) → SelectsByNumber (schema_of version) head_table
 select_head First = head_first
@@ -37,11 +43,11 @@ select_head Second = head_second
 
 object_first : SelectsByNumber first_schema object_table
 unfolding understood everything
-object_first = record { command = refl; plain = (refl, refl); unlisted = refl }
+object_first = selects_by_number first_schema object_table (refl, refl, refl) refl
 
 object_second : SelectsByNumber second_schema object_table
 unfolding understood everything
-object_second = record { command = refl; plain = (refl, refl); unlisted = refl }
+object_second = selects_by_number second_schema object_table (refl, refl, refl) refl
 
 pub select_object : (version : Version) → SelectsByNumber (schema_of version) object_table
 select_object First = object_first
@@ -49,11 +55,11 @@ select_object Second = object_second
 
 prop_first : SelectsByNumber first_schema prop_table
 unfolding understood everything
-prop_first = record { command = refl; plain = (refl, refl); unlisted = refl }
+prop_first = selects_by_number first_schema prop_table (refl, refl, refl) refl
 
 prop_second : SelectsByNumber second_schema prop_table
 unfolding understood everything
-prop_second = record { command = refl; plain = (refl, refl); unlisted = refl }
+prop_second = selects_by_number second_schema prop_table (refl, refl, refl) refl
 
 pub select_prop : (version : Version) → SelectsByNumber (schema_of version) prop_table
 select_prop First = prop_first
@@ -61,11 +67,11 @@ select_prop Second = prop_second
 
 verb_first : SelectsByPair first_schema verb_table
 unfolding understood everything
-verb_first = record { command = refl; plain = (refl, refl); unlisted = refl }
+verb_first = selects_by_pair first_schema verb_table (refl, refl, refl) refl
 
 verb_second : SelectsByPair second_schema verb_table
 unfolding understood everything
-verb_second = record { command = refl; plain = (refl, refl); unlisted = refl }
+verb_second = selects_by_pair second_schema verb_table (refl, refl, refl) refl
 
 pub select_verb : (version : Version) → SelectsByPair (schema_of version) verb_table
 select_verb First = verb_first
@@ -78,11 +84,11 @@ slots_table version = if has_lettered_bits version then slot_table else slot2_ta
 
 slot_first : SelectsByPair first_schema slot_table
 unfolding understood everything
-slot_first = record { command = refl; plain = (refl, refl); unlisted = refl }
+slot_first = selects_by_pair first_schema slot_table (refl, refl, refl) refl
 
 slot_second : SelectsByPair second_schema slot2_table
 unfolding understood everything
-slot_second = record { command = refl; plain = (refl, refl); unlisted = refl }
+slot_second = selects_by_pair second_schema slot2_table (refl, refl, refl) refl
 
 pub select_slot : (version : Version) → IsSelect (schema_of version) (select_text (slots_table version)) (in_order (slot_tree version) (pair_columns slot2_table) pair_order) (names slot2_table)
 select_slot First = slot_first
@@ -92,7 +98,7 @@ select_slot Second = slot_second
 
 petition_second : SelectsByNumber second_schema petition_table
 unfolding understood everything
-petition_second = record { command = refl; plain = (refl, refl); unlisted = refl }
+petition_second = selects_by_number second_schema petition_table (refl, refl, refl) refl
 
 pub select_petition : (version : Version) → IsTrue (has_petitions version) → SelectsByNumber (schema_of version) petition_table
 select_petition First has = absurd (true≢false (sym has))
@@ -100,7 +106,7 @@ select_petition Second has = petition_second
 
 counter_second : SelectsByNumber second_schema petition_head_table
 unfolding understood everything
-counter_second = record { command = refl; plain = (refl, refl); unlisted = refl }
+counter_second = selects_by_number second_schema petition_head_table (refl, refl, refl) refl
 
 pub select_counter : (version : Version) → IsTrue (has_petitions version) → SelectsByNumber (schema_of version) petition_head_table
 select_counter First has = absurd (true≢false (sym has))

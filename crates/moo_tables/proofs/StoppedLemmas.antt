@@ -1,12 +1,12 @@
 -- Why a statement fails whose text and values are sound.
-use Rattle.moo_tables.proofs.Words.{◌≡◌, inl, inr, ℕ, ◌≤◌, List, [], append-nil, length, Bool, true, false, true≢false, ◌||◌, Option, Some, None, Ok, Err, Result, IsTrue, refl, sym, ap, subst, subst₂, ◌∙◌, ⊤, Error, Row, Schema, Does, Database, is_query, understood, timed, State, HasCleanDisk, Fails, HasCause, IsNotRun, IsNoStatement, IsStatement, IsMisplaced, ExecutesIn, ExecutesInside, EndsScope, RunsCommand, shows_rows, is_pragma, mode_of, text_of, IsPlain, command_of, StopsChange}
+use Rattle.moo_tables.proofs.Words.{◌≡◌, inl, inr, ℕ, List, [], append-nil, length, Bool, true, false, true≢false, ◌||◌, Option, Some, None, Err, Result, IsTrue, refl, sym, ap, subst, subst₂, ◌∙◌, ⊤, Error, Row, Schema, Does, Database, is_query, understood, timed, State, HasCleanDisk, Fails, HasCause, IsNotRun, IsNoStatement, IsStatement, IsMisplaced, ExecutesIn, ExecutesInside, EndsScope, RunsCommand, shows_rows, is_pragma, mode_of, text_of, IsPlain, command_of, StopsChange}
 use Rattle.sqlite.specs.declared.run.Mode.{Mode}
 use Rattle.sqlite_resolve.specs.declared.compiled.Compiled.{Compiled}
-use Rattle.sqlite_resolve.specs.declared.error.CompileError.{CompileError}
 use Rattle.sqlite_schema.specs.declared.command.Command.{Command}
 use Rattle.sqlite_schema.specs.declared.command.Command.TheVariants.{InsertOr, Update, Delete, Begin, Commit, Rollback, Release, RollbackTo}
 use Rattle.sqlite_trees.specs.declared.error.StoreError.{StoreError}
 use Rattle.sqlite_trees.specs.declared.error.StoreError.TheVariants.{OutOfMemory, Io, Corrupt, Full, Broken, Unstorable}
+pub use Rattle.moo_tables.proofs.TextLemmas.{IsOne}
 use Rattle.moo_tables.proofs.RefusalLemmas.{IsAllowed}
 
 abbrev pub is_change : Command → Bool
@@ -14,11 +14,6 @@ is_change (InsertOr at way from clauses) = true
 is_change (Update at q) = true
 is_change (Delete at q) = true
 is_change _ = false
-
--- the text is one statement, and takes so many values
-abbrev pub IsOne : ℕ → ℕ → Result Compiled CompileError → Type 0
-IsOne size count (Ok c) = (size ≤ c.tail) × (count ≡ length c.names)
-IsOne size count (Err e) = ⊥
 
 any_size : (old new : State) (Big : Type 0) (cause : StoreError) → HasCause old new Big cause → HasCause old new ⊤ cause
 any_size old new Big OutOfMemory h = h

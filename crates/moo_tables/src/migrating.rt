@@ -1,20 +1,19 @@
 //! The tables of an earlier version made those of the present one.
 
-ghost use Rattle.std.specs.Prelude.{◌≡◌, ◌<◌, ◌^◌, IsTrue, OnOk, OnErr, [], false};
+ghost use Rattle.std.specs.Prelude.{◌≡◌, ◌<◌, ◌^◌, IsTrue, OnOk, OnErr, false};
 ghost use Rattle.sqlite.specs.State.{HasCleanDisk, Survives};
 ghost use Rattle.sqlite.specs.Held.{state};
-ghost use Rattle.moo_tables.specs.Cells.{with_counter};
-ghost use Rattle.moo_tables.specs.Inside.{AreKeyed, StaysInside, Holds, Sees, KeepsUnread, Rests, RestsAt, HasTables, Leaves};
+ghost use Rattle.moo_tables.specs.Inside.{StaysInside, Holds, Sees, KeepsUnread, Rests, RestsAt, HasTables, Leaves};
 ghost use Rattle.moo_tables.specs.Migrated.{HasNoSlot, grown, migrated};
-ghost use Rattle.moo_tables.specs.Tables.{present_schema, schema_of};
+ghost use Rattle.moo_tables.specs.Tables.{schema_of};
 ghost use Rattle.moo_tables.specs.Version.{IsEarlier};
 ghost use Rattle.moo_tables.specs.declared.version.Version.{Version};
 ghost use Rattle.moo_tables.specs.declared.version.Version.TheVariants.{First};
 
-use crate::counter::{create_petition_head, put_counter};
+use crate::counter::{CREATE_PETITION_HEAD, put_counter};
 use crate::head::put_head;
-use crate::petition::create_petition;
-use crate::slot::{SlotCells, create_slot2};
+use crate::petition::CREATE_PETITION;
+use crate::slot::{CREATE_SLOT2, SlotCells};
 use crate::statement::run;
 use crate::writing::write_rows;
 use moo_rows::{Head, PropId};
@@ -27,34 +26,14 @@ pub(crate) fn create_added_tables<S: Alter>(tx: &mut Transaction<'_, S>) -> Resu
     ensures inside { StaysInside (state S.Store tx.old.conn.now) (state S.Store tx.new.conn.now) }
     ensures made { OnOk result (HasCleanDisk (state S.Store tx.new.conn.now) → (tables : _) → Holds (state S.Store tx.old.conn.now).now tables → tables.version ≡ First → Sees (state S.Store tx.new.conn.now) (grown tables) × KeepsUnread (state S.Store tx.old.conn.now).now (state S.Store tx.new.conn.now).now) }
 {
-    create_slot2(tx)?;
-    create_petition(tx)?;
-    create_petition_head(tx)
-}
-
-/// Makes the tables that an earlier version lacks, and puts the one row of `petition_head`: the first petition has the number 1.
-/// Writes no slot and no petition.
-fn add_tables<S: Alter>(tx: &mut Transaction<'_, S>) -> Result<usize, Error>
-    ensures same_reference { tx.new.conn.ghost_name ≡ tx.old.conn.ghost_name }
-    ensures inside { StaysInside (state S.Store tx.old.conn.now) (state S.Store tx.new.conn.now) }
-    ensures made { OnOk result (HasCleanDisk (state S.Store tx.new.conn.now) → (tables : _) → Holds (state S.Store tx.old.conn.now).now tables → IsEarlier tables.version → Sees (state S.Store tx.new.conn.now) (with_counter 1 (grown tables)) × KeepsUnread (state S.Store tx.old.conn.now).now (state S.Store tx.new.conn.now).now) }
-{
-    create_added_tables(tx)?;
-    put_counter(tx, 1)
-}
-
-/// Deletes every row of the table `slot`, which only the first version reads.
-fn empty_slot<S: Alter>(tx: &mut Transaction<'_, S>) -> Result<usize, Error>
-    ensures same_reference { tx.new.conn.ghost_name ≡ tx.old.conn.ghost_name }
-    ensures inside { StaysInside (state S.Store tx.old.conn.now) (state S.Store tx.new.conn.now) }
-    ensures goes_on { HasCleanDisk (state S.Store tx.new.conn.now) → OnOk result (IsTrue (state S.Store tx.new.conn.now).in_transaction) }
-    ensures same { OnOk result (HasCleanDisk (state S.Store tx.new.conn.now) → (tables : _) → Sees (state S.Store tx.old.conn.now) tables → Sees (state S.Store tx.new.conn.now) tables) }
-    ensures emptied { OnOk result (HasCleanDisk (state S.Store tx.new.conn.now) → HasTables present_schema (state S.Store tx.old.conn.now) → AreKeyed ((state S.Store tx.old.conn.now).now.trees 3) → HasNoSlot (state S.Store tx.new.conn.now).now) }
-{
-    run(tx, "DELETE FROM slot", &[])
+    run(tx, CREATE_SLOT2, &[])?;
+    run(tx, CREATE_PETITION, &[])?;
+    run(tx, CREATE_PETITION_HEAD, &[])
 }
 
 /// Makes the tables of the present version with this head and these slots, within a transaction.
+///
+/// The first petition has the number 1. Every row of the table `slot` is deleted, which only the first version reads.
 fn write_migrated<S: Alter>(
     tx: &mut Transaction<'_, S>,
     head: &Head,
@@ -66,10 +45,11 @@ fn write_migrated<S: Alter>(
     ensures goes_on { HasCleanDisk (state S.Store tx.new.conn.now) → OnOk result (IsTrue (state S.Store tx.new.conn.now).in_transaction) }
     ensures migrated { OnOk result (HasCleanDisk (state S.Store tx.new.conn.now) → (tables : _) → Holds (state S.Store tx.old.conn.now).now tables → IsEarlier tables.version → Sees (state S.Store tx.new.conn.now) (migrated head.now slots.now tables) × HasNoSlot (state S.Store tx.new.conn.now).now) }
 {
-    add_tables(tx)?;
+    create_added_tables(tx)?;
+    put_counter(tx, 1)?;
     put_head(tx, head)?;
     write_rows(tx, slots)?;
-    empty_slot(tx)
+    run(tx, "DELETE FROM slot", &[])
 }
 
 /// Makes tables of an earlier version those of the present one, all or nothing.

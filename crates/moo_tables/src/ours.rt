@@ -1,6 +1,7 @@
 //! Which version of the tables a database has.
 
 ghost use Rattle.std.specs.Prelude.{◌≡◌, ◌≢◌, ◌↔◌, [], ◌∷◌, drop, IsTrue, IfOk, IfSome, IfNone};
+ghost use Rattle.std.specs.List.{AllByRecursion};
 ghost use Rattle.sqlite_value.specs.Keys.{plain};
 ghost use Rattle.moo_tables.specs.Tables.{head_table, object_table, prop_table, slot_table, verb_table, slot2_table, petition_table, petition_head_table, key_index, first_schema, second_schema, schema_of};
 ghost use Rattle.moo_tables.specs.Ours.{HasNoRules, IsNumbered, IsPaired};
@@ -41,6 +42,18 @@ fn has_no_rules(alloc: Global, table: &Table) -> Result<bool, AllocError>
             && table.stamps.formats.is_empty()
             && !table.is_counted,
     )
+}
+
+fn have_no_rules(alloc: Global, tables: &[Table]) -> Result<bool, AllocError>
+    ensures { IfOk result (λ none. IsTrue none ↔ AllByRecursion HasNoRules tables.now) }
+{
+    for table in tables {
+        let plain = has_no_rules(alloc, table)?;
+        if !plain {
+            return Ok(false);
+        }
+    }
+    Ok(true)
 }
 
 fn is_numbered(table: &Table, name: &[u8], tree: u32) -> bool
@@ -89,68 +102,60 @@ fn is_paired(table: &Table, name: &[u8], tree: u32) -> bool
         && is_one_plain(table.orders.as_slice())
 }
 
-fn is_head(alloc: Global, table: &Table) -> Result<bool, AllocError>
-    ensures { IfOk result (λ is. IsTrue is ↔ table.now ≡ head_table) }
+fn is_head(table: &Table) -> bool
+    requires { HasNoRules table.now }
+    ensures { IsTrue result ↔ table.now ≡ head_table }
 {
-    let plain = has_no_rules(alloc, table)?;
-    Ok(plain && is_numbered(table, b"head", 0) && are_head_columns(table.columns.as_slice()))
+    is_numbered(table, b"head", 0) && are_head_columns(table.columns.as_slice())
 }
 
-fn is_object(alloc: Global, table: &Table) -> Result<bool, AllocError>
-    ensures { IfOk result (λ is. IsTrue is ↔ table.now ≡ object_table) }
+fn is_object(table: &Table) -> bool
+    requires { HasNoRules table.now }
+    ensures { IsTrue result ↔ table.now ≡ object_table }
 {
-    let plain = has_no_rules(alloc, table)?;
-    Ok(plain && is_numbered(table, b"object", 1) && are_object_columns(table.columns.as_slice()))
+    is_numbered(table, b"object", 1) && are_object_columns(table.columns.as_slice())
 }
 
-fn is_prop(alloc: Global, table: &Table) -> Result<bool, AllocError>
-    ensures { IfOk result (λ is. IsTrue is ↔ table.now ≡ prop_table) }
+fn is_prop(table: &Table) -> bool
+    requires { HasNoRules table.now }
+    ensures { IsTrue result ↔ table.now ≡ prop_table }
 {
-    let plain = has_no_rules(alloc, table)?;
-    Ok(plain && is_numbered(table, b"prop", 2) && are_prop_columns(table.columns.as_slice()))
+    is_numbered(table, b"prop", 2) && are_prop_columns(table.columns.as_slice())
 }
 
-fn is_slot(alloc: Global, table: &Table) -> Result<bool, AllocError>
-    ensures { IfOk result (λ is. IsTrue is ↔ table.now ≡ slot_table) }
+fn is_slot(table: &Table) -> bool
+    requires { HasNoRules table.now }
+    ensures { IsTrue result ↔ table.now ≡ slot_table }
 {
-    let plain = has_no_rules(alloc, table)?;
-    Ok(plain && is_paired(table, b"slot", 3) && are_slot_columns(table.columns.as_slice()))
+    is_paired(table, b"slot", 3) && are_slot_columns(table.columns.as_slice())
 }
 
-fn is_verb(alloc: Global, table: &Table) -> Result<bool, AllocError>
-    ensures { IfOk result (λ is. IsTrue is ↔ table.now ≡ verb_table) }
+fn is_verb(table: &Table) -> bool
+    requires { HasNoRules table.now }
+    ensures { IsTrue result ↔ table.now ≡ verb_table }
 {
-    let plain = has_no_rules(alloc, table)?;
-    Ok(plain && is_paired(table, b"verb", 5) && are_verb_columns(table.columns.as_slice()))
+    is_paired(table, b"verb", 5) && are_verb_columns(table.columns.as_slice())
 }
 
-fn is_slot2(alloc: Global, table: &Table) -> Result<bool, AllocError>
-    ensures { IfOk result (λ is. IsTrue is ↔ table.now ≡ slot2_table) }
+fn is_slot2(table: &Table) -> bool
+    requires { HasNoRules table.now }
+    ensures { IsTrue result ↔ table.now ≡ slot2_table }
 {
-    let plain = has_no_rules(alloc, table)?;
-    Ok(plain && is_paired(table, b"slot2", 7) && are_slot2_columns(table.columns.as_slice()))
+    is_paired(table, b"slot2", 7) && are_slot2_columns(table.columns.as_slice())
 }
 
-fn is_petition(alloc: Global, table: &Table) -> Result<bool, AllocError>
-    ensures { IfOk result (λ is. IsTrue is ↔ table.now ≡ petition_table) }
+fn is_petition(table: &Table) -> bool
+    requires { HasNoRules table.now }
+    ensures { IsTrue result ↔ table.now ≡ petition_table }
 {
-    let plain = has_no_rules(alloc, table)?;
-    Ok(
-        plain
-            && is_numbered(table, b"petition", 9)
-            && are_petition_columns(table.columns.as_slice()),
-    )
+    is_numbered(table, b"petition", 9) && are_petition_columns(table.columns.as_slice())
 }
 
-fn is_petition_head(alloc: Global, table: &Table) -> Result<bool, AllocError>
-    ensures { IfOk result (λ is. IsTrue is ↔ table.now ≡ petition_head_table) }
+fn is_petition_head(table: &Table) -> bool
+    requires { HasNoRules table.now }
+    ensures { IsTrue result ↔ table.now ≡ petition_head_table }
 {
-    let plain = has_no_rules(alloc, table)?;
-    Ok(
-        plain
-            && is_numbered(table, b"petition_head", 10)
-            && are_petition_head_columns(table.columns.as_slice()),
-    )
+    is_numbered(table, b"petition_head", 10) && are_petition_head_columns(table.columns.as_slice())
 }
 
 fn is_key(index: &Index, name: &[u8], tree: u32, table: u32) -> bool
@@ -164,47 +169,38 @@ fn is_key(index: &Index, name: &[u8], tree: u32, table: u32) -> bool
         && index.is_unique
 }
 
-fn are_first_tables(alloc: Global, tables: &[Table]) -> Result<bool, AllocError>
-    ensures { IfOk result (λ are. IsTrue are ↔ tables.now ≡ first_schema.tables) }
+fn are_first_tables(tables: &[Table]) -> bool
+    requires { AllByRecursion HasNoRules tables.now }
+    ensures { IsTrue result ↔ tables.now ≡ first_schema.tables }
 {
     match tables {
         [head, object, prop, slot, verb] => {
-            let head = is_head(alloc, head)?;
-            let object = is_object(alloc, object)?;
-            let prop = is_prop(alloc, prop)?;
-            let slot = is_slot(alloc, slot)?;
-            let verb = is_verb(alloc, verb)?;
-            Ok(head && object && prop && slot && verb)
+            is_head(head) && is_object(object) && is_prop(prop) && is_slot(slot) && is_verb(verb)
         }
-        _ => Ok(false),
+        _ => false,
     }
 }
 
 /// Whether they are the tables that the second version adds.
-fn are_added_tables(alloc: Global, tables: &[Table]) -> Result<bool, AllocError>
-    ensures { IfOk result (λ are. IsTrue are ↔ tables.now ≡ drop 5 second_schema.tables) }
+fn are_added_tables(tables: &[Table]) -> bool
+    requires { AllByRecursion HasNoRules tables.now }
+    ensures { IsTrue result ↔ tables.now ≡ drop 5 second_schema.tables }
 {
     match tables {
         [slot2, petition, petition_head] => {
-            let slot2 = is_slot2(alloc, slot2)?;
-            let petition = is_petition(alloc, petition)?;
-            let petition_head = is_petition_head(alloc, petition_head)?;
-            Ok(slot2 && petition && petition_head)
+            is_slot2(slot2) && is_petition(petition) && is_petition_head(petition_head)
         }
-        _ => Ok(false),
+        _ => false,
     }
 }
 
-fn are_second_tables(alloc: Global, tables: &[Table]) -> Result<bool, AllocError>
-    ensures { IfOk result (λ are. IsTrue are ↔ tables.now ≡ second_schema.tables) }
+fn are_second_tables(tables: &[Table]) -> bool
+    requires { AllByRecursion HasNoRules tables.now }
+    ensures { IsTrue result ↔ tables.now ≡ second_schema.tables }
 {
     match tables.split_at_checked(5) {
-        Some((first, added)) => {
-            let first = are_first_tables(alloc, first)?;
-            let added = are_added_tables(alloc, added)?;
-            Ok(first && added)
-        }
-        None => Ok(false),
+        Some((first, added)) => are_first_tables(first) && are_added_tables(added),
+        None => false,
     }
 }
 
@@ -233,18 +229,22 @@ fn are_second_keys(indexes: &[Index]) -> bool
     }
 }
 
-fn is_first(alloc: Global, schema: &Schema) -> Result<bool, AllocError>
-    ensures { IfOk result (λ is. IsTrue is ↔ schema.now ≡ first_schema) }
+fn is_first(schema: &Schema) -> bool
+    requires { AllByRecursion HasNoRules schema.now.tables }
+    ensures { IsTrue result ↔ schema.now ≡ first_schema }
 {
-    let tables = are_first_tables(alloc, schema.tables.as_slice())?;
-    Ok(tables && are_first_keys(schema.indexes.as_slice()) && schema.views.is_empty())
+    are_first_tables(schema.tables.as_slice())
+        && are_first_keys(schema.indexes.as_slice())
+        && schema.views.is_empty()
 }
 
-fn is_second(alloc: Global, schema: &Schema) -> Result<bool, AllocError>
-    ensures { IfOk result (λ is. IsTrue is ↔ schema.now ≡ second_schema) }
+fn is_second(schema: &Schema) -> bool
+    requires { AllByRecursion HasNoRules schema.now.tables }
+    ensures { IsTrue result ↔ schema.now ≡ second_schema }
 {
-    let tables = are_second_tables(alloc, schema.tables.as_slice())?;
-    Ok(tables && are_second_keys(schema.indexes.as_slice()) && schema.views.is_empty())
+    are_second_tables(schema.tables.as_slice())
+        && are_second_keys(schema.indexes.as_slice())
+        && schema.views.is_empty()
 }
 
 /// Which version of the tables a database has.
@@ -255,10 +255,14 @@ pub fn version_of(alloc: Global, schema: &Schema) -> Result<Option<Version>, All
     ensures ours { IfOk result (λ found. IfSome found (λ version. schema.now ≡ schema_of version)) }
     ensures none { IfOk result (λ found. IfNone found ((version : Version) → schema.now ≢ schema_of version)) }
 {
-    if is_first(alloc, schema)? {
+    let plain = have_no_rules(alloc, schema.tables.as_slice())?;
+    if !plain {
+        return Ok(None);
+    }
+    if is_first(schema) {
         return Ok(Some(Version::First));
     }
-    if is_second(alloc, schema)? {
+    if is_second(schema) {
         return Ok(Some(Version::Second));
     }
     Ok(None)

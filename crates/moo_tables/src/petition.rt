@@ -1,32 +1,31 @@
 //! The table `petition`: its making, writing and reading, and the test of its columns.
 
-ghost use Rattle.std.specs.Prelude.{Some, None, ◌≡◌, ◌↔◌, ◌∷◌, [], pos, IsTrue, IfOk, OnOk, OnErr, false};
+ghost use Rattle.std.specs.Prelude.{Some, None, ◌≡◌, ◌↔◌, ◌∷◌, [], pos, IsTrue, IfOk, OnOk};
 ghost use Rattle.sqlite.specs.Held.{state};
-ghost use Rattle.sqlite.specs.State.{HasCleanDisk};
 ghost use Rattle.sqlite.specs.Values.{bound};
 ghost use Rattle.sqlite.specs.declared.types.Value.TheVariants.{Null, Int, Text};
 ghost use Rattle.moo_tables.specs.Cause.{HasCauseIn};
 ghost use Rattle.moo_tables.specs.Cells.{with_petition_cells};
 ghost use Rattle.moo_tables.specs.Columns.{all_but};
 ghost use Rattle.moo_tables.specs.Over.{WritesOver};
-ghost use Rattle.moo_tables.specs.Inside.{StaysInside, Changes, Rests, ReadsTables, FailsToRead};
-ghost use Rattle.moo_tables.specs.Listing.{ListsNumbers};
-ghost use Rattle.moo_tables.specs.Migrated.{IsGrown};
+ghost use Rattle.moo_tables.specs.Inside.{StaysInside, Changes};
 ghost use Rattle.moo_tables.specs.Petition.{petition_row, petition_table};
-ghost use Rattle.moo_tables.specs.Tables.{slot2_schema, petition_schema, schema_of};
-ghost use Rattle.moo_tables.specs.Version.{has_petitions};
 
 use crate::columns::{is_number, is_text};
-use crate::query::all_rows;
 use crate::statement::{counter_value, object_value, run, text_value};
 use crate::table_row::TableRow;
-use crate::version::Version;
 use moo_rows::PetitionId;
 use moo_value::ObjNo;
-use sqlite::{Alter, Connection, Error, Row, Transaction};
+use sqlite::{Alter, Error, Transaction};
 use sqlite_schema::schema::Column;
 use sqlite_value::value::ValueRef;
-use std::alloc::Global;
+
+/// Makes the table.
+pub(crate) const CREATE_PETITION: &str =
+    "CREATE TABLE petition (id INTEGER NOT NULL PRIMARY KEY, who INTEGER NOT NULL, calls TEXT NOT NULL) STRICT";
+
+/// Reads its rows, in the order of their keys.
+pub(crate) const READ_PETITION: &str = "SELECT id, who, calls FROM petition ORDER BY id";
 
 /// A row of the table `petition`, without its key.
 #[derive(Drop)]
@@ -34,19 +33,6 @@ pub struct PetitionCells {
     pub who: ObjNo,
     /// A literal list. None leaves the cell that is there.
     pub calls: Option<Vec<u8>>,
-}
-
-/// Makes the table `petition`.
-pub(crate) fn create_petition<S: Alter>(tx: &mut Transaction<'_, S>) -> Result<usize, Error>
-    ensures same_reference { tx.new.conn.ghost_name ≡ tx.old.conn.ghost_name }
-    ensures inside { StaysInside (state S.Store tx.old.conn.now) (state S.Store tx.new.conn.now) }
-    ensures made { OnOk result (HasCleanDisk (state S.Store tx.new.conn.now) → (base : _) → IsGrown base slot2_schema (7 ∷ []) (state S.Store tx.old.conn.now).now → IsGrown base petition_schema (7 ∷ 9 ∷ []) (state S.Store tx.new.conn.now).now) }
-{
-    run(
-        tx,
-        "CREATE TABLE petition (id INTEGER NOT NULL PRIMARY KEY, who INTEGER NOT NULL, calls TEXT NOT NULL) STRICT",
-        &[],
-    )
 }
 
 fn petition_values<'a>(id: PetitionId, row: &'a PetitionCells, calls: &'a [u8]) -> [ValueRef<'a>; 3]
@@ -126,24 +112,6 @@ impl TableRow for PetitionCells {
     fn remove<S: Alter>(tx: &mut Transaction<'_, S>, id: PetitionId) -> Result<usize, Error> {
         run(tx, "DELETE FROM petition WHERE id = ?1", &petition_key(id))
     }
-}
-
-/// The rows of `petition`, in the order of their numbers. The version has to have petitions.
-pub(crate) fn petition_cells_of<S: Alter>(
-    alloc: Global,
-    conn: &mut Connection<S>,
-    version: Version,
-) -> Result<Vec<Row>, Error>
-    ensures outside { (state S.Store conn.old).in_transaction ≡ false → (state S.Store conn.new).in_transaction ≡ false }
-    ensures read { IsTrue (has_petitions version) → OnOk result (ReadsTables (schema_of version) (state S.Store conn.old) (state S.Store conn.new)) }
-    ensures listed { HasCleanDisk (state S.Store conn.new) → IfOk result (λ rows. (tables : _) → Rests (state S.Store conn.old) tables → IsTrue (has_petitions tables.version) → ListsNumbers rows.items tables.petition) }
-    ensures failed { IsTrue (has_petitions version) → OnErr result (FailsToRead (schema_of version) (state S.Store conn.old) (state S.Store conn.new)) }
-{
-    all_rows(
-        alloc,
-        conn,
-        "SELECT id, who, calls FROM petition ORDER BY id",
-    )
 }
 
 pub(crate) fn are_petition_columns(columns: &[Column]) -> bool

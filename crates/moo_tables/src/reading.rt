@@ -7,13 +7,14 @@ ghost use Rattle.moo_tables.specs.Inside.{Rests, ReadsTables, FailsToRead};
 ghost use Rattle.moo_tables.specs.Listing.{ListsNumbers, ListsTables};
 ghost use Rattle.moo_tables.specs.Tables.{schema_of};
 
-use crate::counter::counter_cells_of;
-use crate::head::head_cells_of;
-use crate::object::object_cells_of;
-use crate::petition::petition_cells_of;
-use crate::prop::prop_cells_of;
+use crate::counter::READ_PETITION_HEAD;
+use crate::head::READ_HEAD;
+use crate::object::READ_OBJECT;
+use crate::petition::READ_PETITION;
+use crate::prop::READ_PROP;
+use crate::query::all_rows;
 use crate::slot::slot_cells_of;
-use crate::verb::verb_cells_of;
+use crate::verb::READ_VERB;
 use crate::version::Version;
 use sqlite::{Alter, Connection, Error, Row};
 use std::alloc::Global;
@@ -48,8 +49,8 @@ fn both_petition_cells_of<S: Alter>(
     if !version.has_petitions() {
         return Ok((Vec::new(alloc), Vec::new(alloc)));
     }
-    let petition = petition_cells_of(alloc, conn, version)?;
-    let petition_head = counter_cells_of(alloc, conn, version)?;
+    let petition = all_rows(alloc, conn, READ_PETITION)?;
+    let petition_head = all_rows(alloc, conn, READ_PETITION_HEAD)?;
     Ok((petition, petition_head))
 }
 
@@ -68,11 +69,11 @@ pub fn read_tables<S: Alter>(
     ensures listed { HasCleanDisk (state S.Store conn.new) → IfOk result (λ lists. (tables : _) → tables.version ≡ version → Rests (state S.Store conn.old) tables → ListsTables lists tables) }
     ensures failed { OnErr result (FailsToRead (schema_of version) (state S.Store conn.old) (state S.Store conn.new)) }
 {
-    let head = head_cells_of(alloc, conn, version)?;
-    let object = object_cells_of(alloc, conn, version)?;
-    let prop = prop_cells_of(alloc, conn, version)?;
+    let head = all_rows(alloc, conn, READ_HEAD)?;
+    let object = all_rows(alloc, conn, READ_OBJECT)?;
+    let prop = all_rows(alloc, conn, READ_PROP)?;
     let slot = slot_cells_of(alloc, conn, version)?;
-    let verb = verb_cells_of(alloc, conn, version)?;
+    let verb = all_rows(alloc, conn, READ_VERB)?;
     let (petition, petition_head) = both_petition_cells_of(alloc, conn, version)?;
     Ok(CellLists {
         version,

@@ -28,28 +28,9 @@ fn write_over<S: Alter, R: TableRow>(
     Ok(false)
 }
 
-/// Puts a row, in place of the one with its key if there is one. Answers whether it found one.
-///
-/// If one is expected, the cheaper statement is tried first, which only writes over a row.
-fn put_row<S: Alter, R: TableRow>(
-    tx: &mut Transaction<'_, S>,
-    key: R::Key,
-    row: &R,
-    expected: bool,
-) -> Result<bool, Error>
-    ensures same_reference { tx.new.conn.ghost_name ≡ tx.old.conn.ghost_name }
-    ensures inside { StaysInside (state S.Store tx.old.conn.now) (state S.Store tx.new.conn.now) }
-    ensures written { OnOk result (Changes (R.with_row key (Some row.now)) (state S.Store tx.old.conn.now) (state S.Store tx.new.conn.now)) }
-    ensures cause { HasCauseIn (state S.Store tx.old.conn.now) (state S.Store tx.new.conn.now) result }
-{
-    if expected {
-        return write_over(tx, key, row);
-    }
-    row.put(tx, key)?;
-    Ok(false)
-}
-
 /// Puts the new row, or deletes the old one if there is no new one. Answers whether the next row is expected to be there.
+///
+/// If a row is expected, the cheaper statement is tried first, which only writes over one.
 fn write_row<S: Alter, R: TableRow>(
     tx: &mut Transaction<'_, S>,
     key: R::Key,
@@ -62,7 +43,11 @@ fn write_row<S: Alter, R: TableRow>(
     ensures cause { HasCauseIn (state S.Store tx.old.conn.now) (state S.Store tx.new.conn.now) result }
 {
     match cells {
-        Some(row) => put_row(tx, key, row, expected),
+        Some(row) if expected => write_over(tx, key, row),
+        Some(row) => {
+            row.put(tx, key)?;
+            Ok(false)
+        }
         None => {
             R::remove(tx, key)?;
             Ok(expected)

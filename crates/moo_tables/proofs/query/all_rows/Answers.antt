@@ -1,10 +1,28 @@
-use Rattle.moo_tables.proofs.Words.{rules, ◌≡◌, ◌⊎◌, Result, Ok, Err, OnErr, false, refl, inl, ◌∙◌, state, HasCleanDisk, IsUnchanged, IsRolledBack}
+use Rattle.moo_tables.proofs.Words.{rules, ◌≡◌, ◌⊎◌, [], Result, Ok, Err, OnErr, false, refl, inl, sym, subst, ◌∙◌, state, HasCleanDisk, Shown, Survives, CommitsShowing, IsUnchanged, IsRolledBack}
 use Rattle.moo_tables.proofs.StreamLemmas.{IsGiving, begins, refused, survives_on, failed_on, unchanged_on, gives_on, shown_on}
+use Rattle.moo_tables.proofs.query.all_rows.Given.{Over}
 use Rattle.moo_tables.proofs.query.all_rows.Goals as goal
 
 always : {A E P : Type 0} (r : Result A E) → P → OnErr r P
 always (Ok a) it = tt
 always (Err e) it = it
+
+-- the connection that is handed back is the one that the query had
+
+row_end : (g : Over) (c : goal.After-drop-all-in_err-row g) → c.next.follows.lender-at-none.conn.now ≡ c.conn-in_err-row-1.given.0
+row_end g c = search rules
+
+rows_end : (g : Over) (c : goal.After-conn-in_default-1 g) → c.next.follows.lender-at-none.conn.now ≡ c.conn-in_default-1.given.0
+rows_end g c = search rules
+
+copy_end : (g : Over) (c : goal.After-drop-all-in_err-copy g) → c.next.follows.lender-at-none.conn.now ≡ c.conn-in_err-copy-1.given.0
+copy_end g c = search rules
+
+push_end : (g : Over) (c : goal.After-drop-all-in_err-push g) → c.next.follows.lender-at-none.conn.now ≡ c.conn-in_err-push-1.given.0
+push_end g c = search rules
+
+last_end : (g : Over) (c : goal.After-drop-all-2 g) → c.rows.rows.conn.now ≡ c.conn-2-1.given.0
+last_end g c = search rules
 
 pub returns-in_err-rows-clause-kept : goal.returns-in_err-rows-clause-kept
 returns-in_err-rows-clause-kept g c clean plain =
@@ -18,81 +36,85 @@ rows-init g c =
 pub returns-in_err-row-clause-outside : goal.returns-in_err-row-clause-outside
 returns-in_err-row-clause-outside g c h =
     let now = c.next.follows.lender-at-none.conn.now in
-    let it : now.in_transaction ≡ false = c.next.follows.holds-at-none.mode (c.rows.invariant.1.outside h) in search rules
+    let same = row_end g c in
+    subst (λ h. h.in_transaction ≡ false) same (c.next.follows.holds-at-none.mode (c.rows.invariant.1.outside h))
 
 pub returns-in_err-row-clause-kept : goal.returns-in_err-row-clause-kept
 returns-in_err-row-clause-kept g c clean plain =
     let now = c.next.follows.lender-at-none.conn.now in
     let moved = c.next.follows.holds-at-none in
-    let late : HasCleanDisk (state g.S.Store now) = search rules in
+    let same = row_end g c in
+    let late = subst (λ h. HasCleanDisk (state g.S.Store h)) (sym same) clean in
     let it = failed_on g.S.Store c.args.sql.now c.args.conn.now c.rows.rows.conn.now now c.rows.all.items c.rows.invariant.1 moved.survives c.in_err-row.field-0.0 (λ late. rw c.in_err-row.was at (moved.kept late)) late plain in
-    let same : OnErr c.from_residual-in_err-row.result (IsUnchanged (state g.S.Store c.args.conn.now) (state g.S.Store now) ⊎ IsRolledBack (state g.S.Store c.args.conn.now) (state g.S.Store now)) = always c.from_residual-in_err-row.result it in
-    search rules
+    always c.from_residual-in_err-row.result (subst (λ h. IsUnchanged (state g.S.Store c.args.conn.now) (state g.S.Store h) ⊎ IsRolledBack (state g.S.Store c.args.conn.now) (state g.S.Store h)) same it)
 
 pub returns-in_err-row-clause-survives : goal.returns-in_err-row-clause-survives
 returns-in_err-row-clause-survives g c =
     let now = c.next.follows.lender-at-none.conn.now in
-    let it = survives_on g.S.Store c.args.sql.now c.args.conn.now c.rows.rows.conn.now now c.rows.all.items c.rows.invariant.1 c.next.follows.holds-at-none.survives in
-    search rules
+    let same = row_end g c in
+    subst (λ h. Survives (state g.S.Store c.args.conn.now) (state g.S.Store h) (CommitsShowing c.args.sql.now [] (state g.S.Store c.args.conn.now))) same (survives_on g.S.Store c.args.sql.now c.args.conn.now c.rows.rows.conn.now now c.rows.all.items c.rows.invariant.1 c.next.follows.holds-at-none.survives)
 
 pub returns-in_default-clause-outside : goal.returns-in_default-clause-outside
 returns-in_default-clause-outside g c h =
     let now = c.next.follows.lender-at-none.conn.now in
-    let it : now.in_transaction ≡ false = c.next.follows.holds-at-none.mode (c.rows.invariant.1.outside h) in search rules
+    let same = rows_end g c in
+    subst (λ h. h.in_transaction ≡ false) same (c.next.follows.holds-at-none.mode (c.rows.invariant.1.outside h))
 
 pub returns-in_default-clause-shown : goal.returns-in_default-clause-shown
 returns-in_default-clause-shown g c clean plain =
     let now = c.next.follows.lender-at-none.conn.now in
     let moved = c.next.follows.holds-at-none in
-    let late : HasCleanDisk (state g.S.Store now) = search rules in
-    let it = shown_on g.S.Store c.args.sql.now c.args.conn.now c.rows.rows.conn.now now c.rows.all.items c.rows.invariant.1 moved.survives (λ late. rw (c.in_ok-row.was, c.in_default.is) at (moved.ok late)) late plain in
-    search rules
+    let same = rows_end g c in
+    let late = subst (λ h. HasCleanDisk (state g.S.Store h)) (sym same) clean in
+    subst (λ h. Shown c.args.sql.now [] (state g.S.Store c.args.conn.now) (state g.S.Store h) c.rows.all.items) same (shown_on g.S.Store c.args.sql.now c.args.conn.now c.rows.rows.conn.now now c.rows.all.items c.rows.invariant.1 moved.survives (λ late. rw (c.in_ok-row.was, c.in_default.is) at (moved.ok late)) late plain)
 
 pub returns-in_default-clause-survives : goal.returns-in_default-clause-survives
 returns-in_default-clause-survives g c =
     let now = c.next.follows.lender-at-none.conn.now in
-    let it = survives_on g.S.Store c.args.sql.now c.args.conn.now c.rows.rows.conn.now now c.rows.all.items c.rows.invariant.1 c.next.follows.holds-at-none.survives in
-    search rules
+    let same = rows_end g c in
+    subst (λ h. Survives (state g.S.Store c.args.conn.now) (state g.S.Store h) (CommitsShowing c.args.sql.now [] (state g.S.Store c.args.conn.now))) same (survives_on g.S.Store c.args.sql.now c.args.conn.now c.rows.rows.conn.now now c.rows.all.items c.rows.invariant.1 c.next.follows.holds-at-none.survives)
 
 pub returns-in_err-copy-clause-outside : goal.returns-in_err-copy-clause-outside
 returns-in_err-copy-clause-outside g c h =
     let now = c.next.follows.lender-at-none.conn.now in
-    let it : now.in_transaction ≡ false = c.next.follows.holds-at-none.mode (c.rows.invariant.1.outside h) in search rules
+    let same = copy_end g c in
+    subst (λ h. h.in_transaction ≡ false) same (c.next.follows.holds-at-none.mode (c.rows.invariant.1.outside h))
 
 pub returns-in_err-copy-clause-kept : goal.returns-in_err-copy-clause-kept
 returns-in_err-copy-clause-kept g c clean plain =
     let now = c.next.follows.lender-at-none.conn.now in
     let moved = c.next.follows.holds-at-none in
-    let late : HasCleanDisk (state g.S.Store now) = search rules in
-    let it = unchanged_on g.S.Store c.args.sql.now c.args.conn.now c.rows.rows.conn.now now c.rows.all.items c.rows.invariant.1 moved.survives (λ late. rw c.in_ok-row.was at (moved.same late)) late plain in
-    let same : OnErr c.from_residual-in_err-copy.result (IsUnchanged (state g.S.Store c.args.conn.now) (state g.S.Store now) ⊎ IsRolledBack (state g.S.Store c.args.conn.now) (state g.S.Store now)) = always c.from_residual-in_err-copy.result (inl it) in
-    search rules
+    let same = copy_end g c in
+    let late = subst (λ h. HasCleanDisk (state g.S.Store h)) (sym same) clean in
+    let it = inl (unchanged_on g.S.Store c.args.sql.now c.args.conn.now c.rows.rows.conn.now now c.rows.all.items c.rows.invariant.1 moved.survives (λ late. rw c.in_ok-row.was at (moved.same late)) late plain) in
+    always c.from_residual-in_err-copy.result (subst (λ h. IsUnchanged (state g.S.Store c.args.conn.now) (state g.S.Store h) ⊎ IsRolledBack (state g.S.Store c.args.conn.now) (state g.S.Store h)) same it)
 
 pub returns-in_err-copy-clause-survives : goal.returns-in_err-copy-clause-survives
 returns-in_err-copy-clause-survives g c =
     let now = c.next.follows.lender-at-none.conn.now in
-    let it = survives_on g.S.Store c.args.sql.now c.args.conn.now c.rows.rows.conn.now now c.rows.all.items c.rows.invariant.1 c.next.follows.holds-at-none.survives in
-    search rules
+    let same = copy_end g c in
+    subst (λ h. Survives (state g.S.Store c.args.conn.now) (state g.S.Store h) (CommitsShowing c.args.sql.now [] (state g.S.Store c.args.conn.now))) same (survives_on g.S.Store c.args.sql.now c.args.conn.now c.rows.rows.conn.now now c.rows.all.items c.rows.invariant.1 c.next.follows.holds-at-none.survives)
 
 pub returns-in_err-push-clause-outside : goal.returns-in_err-push-clause-outside
 returns-in_err-push-clause-outside g c h =
     let now = c.next.follows.lender-at-none.conn.now in
-    let it : now.in_transaction ≡ false = c.next.follows.holds-at-none.mode (c.rows.invariant.1.outside h) in search rules
+    let same = push_end g c in
+    subst (λ h. h.in_transaction ≡ false) same (c.next.follows.holds-at-none.mode (c.rows.invariant.1.outside h))
 
 pub returns-in_err-push-clause-kept : goal.returns-in_err-push-clause-kept
 returns-in_err-push-clause-kept g c clean plain =
     let now = c.next.follows.lender-at-none.conn.now in
     let moved = c.next.follows.holds-at-none in
-    let late : HasCleanDisk (state g.S.Store now) = search rules in
-    let it = unchanged_on g.S.Store c.args.sql.now c.args.conn.now c.rows.rows.conn.now now c.rows.all.items c.rows.invariant.1 moved.survives (λ late. rw c.in_ok-row.was at (moved.same late)) late plain in
-    let same : OnErr c.from_residual-in_err-push.result (IsUnchanged (state g.S.Store c.args.conn.now) (state g.S.Store now) ⊎ IsRolledBack (state g.S.Store c.args.conn.now) (state g.S.Store now)) = always c.from_residual-in_err-push.result (inl it) in
-    search rules
+    let same = push_end g c in
+    let late = subst (λ h. HasCleanDisk (state g.S.Store h)) (sym same) clean in
+    let it = inl (unchanged_on g.S.Store c.args.sql.now c.args.conn.now c.rows.rows.conn.now now c.rows.all.items c.rows.invariant.1 moved.survives (λ late. rw c.in_ok-row.was at (moved.same late)) late plain) in
+    always c.from_residual-in_err-push.result (subst (λ h. IsUnchanged (state g.S.Store c.args.conn.now) (state g.S.Store h) ⊎ IsRolledBack (state g.S.Store c.args.conn.now) (state g.S.Store h)) same it)
 
 pub returns-in_err-push-clause-survives : goal.returns-in_err-push-clause-survives
 returns-in_err-push-clause-survives g c =
     let now = c.next.follows.lender-at-none.conn.now in
-    let it = survives_on g.S.Store c.args.sql.now c.args.conn.now c.rows.rows.conn.now now c.rows.all.items c.rows.invariant.1 c.next.follows.holds-at-none.survives in
-    search rules
+    let same = push_end g c in
+    subst (λ h. Survives (state g.S.Store c.args.conn.now) (state g.S.Store h) (CommitsShowing c.args.sql.now [] (state g.S.Store c.args.conn.now))) same (survives_on g.S.Store c.args.sql.now c.args.conn.now c.rows.rows.conn.now now c.rows.all.items c.rows.invariant.1 c.next.follows.holds-at-none.survives)
 
 pub rows-preserved : goal.rows-preserved
 rows-preserved g c =
@@ -103,14 +125,20 @@ rows-preserved g c =
     (moved.same_reference ∙ c.rows.invariant.0, same)
 
 pub returns-clause-outside : goal.returns-clause-outside
-returns-clause-outside g c h = let it = c.rows.invariant.1.outside h in search rules
+returns-clause-outside g c h =
+    let now = c.rows.rows.conn.now in
+    let same = last_end g c in
+    subst (λ h. h.in_transaction ≡ false) same (c.rows.invariant.1.outside h)
 
 pub returns-clause-kept : goal.returns-clause-kept
 returns-clause-kept g c clean plain =
-    let late : HasCleanDisk (state g.S.Store c.rows.rows.conn.now) = search rules in
-    let it = (c.rows.invariant.1.given late plain).1 in
-    let same : IsUnchanged (state g.S.Store c.args.conn.now) (state g.S.Store c.rows.rows.conn.now) ⊎ IsRolledBack (state g.S.Store c.args.conn.now) (state g.S.Store c.rows.rows.conn.now) = inl it in
-    search rules
+    let now = c.rows.rows.conn.now in
+    let same = last_end g c in
+    let late = subst (λ h. HasCleanDisk (state g.S.Store h)) (sym same) clean in
+    subst (λ h. IsUnchanged (state g.S.Store c.args.conn.now) (state g.S.Store h) ⊎ IsRolledBack (state g.S.Store c.args.conn.now) (state g.S.Store h)) same (inl (c.rows.invariant.1.given late plain).1)
 
 pub returns-clause-survives : goal.returns-clause-survives
-returns-clause-survives g c = let it = c.rows.invariant.1.survives in search rules
+returns-clause-survives g c =
+    let now = c.rows.rows.conn.now in
+    let same = last_end g c in
+    subst (λ h. Survives (state g.S.Store c.args.conn.now) (state g.S.Store h) (CommitsShowing c.args.sql.now [] (state g.S.Store c.args.conn.now))) same c.rows.invariant.1.survives

@@ -1,6 +1,6 @@
-use Rattle.moo_tables.proofs.Words.{rules, ◌∙◌, take, subst, sym, take_all, state, with_each, Sees, KeepsUnread}
+use Rattle.moo_tables.proofs.Words.{StopsChange, ◌∙◌, take, subst, sym, take_all, state, with_each, Sees, KeepsUnread}
 use Rattle.moo_tables.proofs.InsideLemmas.{stays_then, changes_then}
-use Rattle.moo_tables.proofs.CauseLemmas.{Reaches, fails_after}
+use Rattle.moo_tables.proofs.CauseLemmas.{Reaches, err_again, fails_after}
 use Rattle.moo_tables.proofs.ChangeLemmas.{fold_more}
 use Rattle.moo_tables.proofs.writing.write_rows.Goals as goal
 
@@ -37,4 +37,4 @@ returns-in_err-expected-clause-cause g c clean tables seen =
     let was = c.loop-change.invariant in
     let reached : Reaches old mid = record { inside = was.1; sees = λ clean tables seen. (with_each g.R.TableRow.with_row (take c.loop-change.change-index c.args.changes.now) tables, (was.2 clean tables seen).0) } in
     let done = fails_after old mid new c.write_row.result reached c.write_row.ensures.inside c.write_row.ensures.cause clean tables seen in
-    search (rules, done)
+    err_again c.write_row.result c.from_residual.result c.in_err-expected.field-0.0 (StopsChange old new) c.in_err-expected.was c.from_residual.ensures.1 done
