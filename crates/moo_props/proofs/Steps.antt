@@ -1,5 +1,6 @@
 -- One step of a loop over a list.
-use Rattle.moo_props.proofs.Words.{◌≡◌, ℕ, ◌+◌, ◌<◌, Bool, true, false, List, [], ◌∷◌, ◌++◌, length, map, drop, get_or, sym, ap, ◌∙◌, ◌||◌, or_left, list_any, append_assoc, append-nil, at_drop_more}
+use Rattle.moo_props.proofs.Words.{◌≡◌, ℕ, ◌+◌, ◌<◌, ◌≤◌, Bool, true, false, cond, List, [], ◌∷◌, ◌++◌, length, map, filter, drop, get_or, sym, ap, ◌∙◌, ◌||◌, or_left, list_any, append_assoc, append-nil, at_drop_more}
+use Rattle.std.proofs.lemmas.List.{drop_all}
 
 -- ---- by a walk
 
@@ -17,6 +18,10 @@ module _ {A B : Type 0} (f : A → B) (found : List B) (left : List A) where
   pub all_listed : left ≡ [] → found ≡ found ++ map f left
   all_listed is = sym (append-nil found) ∙ ap (λ l. found ++ map f l) (sym is)
 
+-- the same of those that pass
+pub kept : {A B : Type 0} (f : A → B) (test : A → Bool) (found : List B) (left es : List A) (e : A) → left ≡ e ∷ es → (next : List B) → test e ≡ true → next ≡ found ++ f e ∷ [] → next ++ map f (filter test es) ≡ found ++ map f (filter test left)
+kept f test found left es e is next h pushed = listed f found (filter test left) (filter test es) e next (ap (filter test) is ∙ ap (λ b. cond b (e ∷ filter test es) (filter test es)) h) pushed
+
 -- ---- by an index
 
 -- after the rest, it is as after this one and the rest
@@ -33,3 +38,10 @@ listed_more all one more l i d now next h e =
     ∙ append_assoc now (one (get_or l i d)) (all (drop (i + 1) l))
     ∙ ap (λ k. now ++ k) (sym (more (get_or l i d) (drop (i + 1) l)))
     ∙ sym (at_drop_more (λ k. now ++ all k) l i d h)
+
+-- where none is left, it is as after all
+pub all_done : {A S : Type 0} (run : List A → S → S) → ((s : S) → run [] s ≡ s) → (l : List A) (i : ℕ) (now : S) → length l ≤ i → now ≡ run (drop i l) now
+all_done run none l i now h = sym (none now) ∙ ap (λ k. run k now) (sym (drop_all i l h))
+
+pub listed_all : {A B : Type 0} (all : List A → List B) → all [] ≡ [] → (l : List A) (i : ℕ) (now : List B) → length l ≤ i → now ≡ now ++ all (drop i l)
+listed_all all none l i now h = sym (append-nil now) ∙ ap (λ k. now ++ k) (sym none ∙ ap all (sym (drop_all i l h)))

@@ -11,9 +11,6 @@ pub use Rattle.std.proofs.lemmas.Bool.{and_from, and_parts, both_ways, cases_eq,
 pub use Rattle.std.proofs.Math.Bool.{and-false, and-true, or-false}
 pub use Rattle.std.proofs.lemmas.Bool.Decides.{Decides-int_eq}
 pub use Rattle.std.proofs.lemmas.Int.{ints, to_z-of_z}
-pub use Rattle.std.proofs.lemmas.Iterator.{YieldsList-from_map, items_from_collect}
-pub use Rattle.std.proofs.lemmas.Iterator.Consumers.{YieldsList-at, YieldsList-from_first}
-pub use Rattle.std.proofs.lemmas.Iterator.Search.{any_from_yields_List}
 pub use Rattle.std.proofs.lemmas.List.{at_drop_more}
 pub use Rattle.std.proofs.lemmas.List.Elements.{filter_map-append}
 pub use Rattle.std.proofs.lemmas.Map.Lookups.{CmpEqualImpliesEq}
@@ -25,7 +22,7 @@ pub use Rattle.moo_rows.proofs.Orders.{object_total, prop_total, slot_total}
 pub use Rattle.moo_rows.proofs.Walking.{first_of}
 pub use Rattle.moo_rows.specs.Exact.{object_exact, prop_exact, slot_exact}
 pub use Rattle.moo_rows.specs.Links.{IsFirst, defined_left, is_linked}
-pub use Rattle.moo_rows.specs.Maps.{Held, Maps, object_cmp, prop_cmp, slot_cmp, verb_cmp, without_object, wrote}
+pub use Rattle.moo_rows.specs.Maps.{Held, Maps, object_cmp, prop_cmp, slot_cmp, verb_cmp, without_object, without_prop, without_verb, wrote}
 pub use Rattle.moo_rows.specs.Walk.{entries_past, is_past, slots_of_left, verbs_of_left}
 pub use Rattle.moo_rows.specs.declared.row.Link.TheVariants.{ChildOf, Within}
 pub use Rattle.moo_rows.specs.declared.row.ObjRow.{ObjRow}

@@ -101,7 +101,11 @@ fn props_on<R: Rows>(alloc: Global, rows: &R, x: ObjNo) -> Result<Vec<PropId>, A
     requires { IsGood (R.held rows.now).maps }
     ensures { IfOk result (λ v. v.items ≡ props_of (x ∷ []) (R.held rows.now).maps.props) }
 {
-    each_defined(rows, x, PropId(0)).map(|e| e.0).collect(alloc)
+    let mut found = Vec::new(alloc);
+    for (id, _row) in each_defined(rows, x, PropId(0)) {
+        found.push(id)?;
+    }
+    Ok(found)
 }
 
 /// The verbs of x.
@@ -109,7 +113,11 @@ fn verbs_on<R: Rows>(alloc: Global, rows: &R, x: ObjNo) -> Result<Vec<(ObjNo, Ve
     requires { IsGood (R.held rows.now).maps }
     ensures { IfOk result (λ v. v.items ≡ verbs_among x (entries (R.held rows.now).maps.verbs)) }
 {
-    each_verb_of(rows, x, VerbId(0)).map(|e| e.0).collect(alloc)
+    let mut found = Vec::new(alloc);
+    for (key, _row) in each_verb_of(rows, x, VerbId(0)) {
+        found.push(key)?;
+    }
+    Ok(found)
 }
 
 /// The least object past `last` whose parent or place is x, or none if there is no such object.

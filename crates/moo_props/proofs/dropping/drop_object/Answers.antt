@@ -1,4 +1,4 @@
-use Rattle.moo_props.proofs.Words.{◌≡◌, refl, sym, ap, ◌∙◌, subst, [], ◌∷◌, length, arith, Some, is_some, get, entries, false≢true, Held, without_object, object_cmp, prop_cmp, slot_cmp, verb_cmp, recycled, AreSound, look_ups, world_of, world_shown, IsWellFormed, is_object_seen, dropped_keys, linked_among, dropped_over, slots_dropped, ids_among, owners_under, props_removed, verbs_removed, rows_released, ArePresent, AreAbsent, AreAscending, props_of, as_high, beside_world, petitions_stay}
+use Rattle.moo_props.proofs.Words.{IfOk, ◌≡◌, refl, sym, ap, ◌∙◌, subst, [], ◌∷◌, length, arith, Some, is_some, get, entries, false≢true, Held, without_object, object_cmp, prop_cmp, slot_cmp, verb_cmp, recycled, AreSound, look_ups, world_of, world_shown, IsWellFormed, is_object_seen, dropped_keys, linked_among, dropped_over, slots_dropped, ids_among, owners_under, props_removed, verbs_removed, rows_released, ArePresent, AreAbsent, AreAscending, props_of, as_high, beside_world, petitions_stay}
 use Rattle.moo_props.proofs.Kept.{good_by}
 use Rattle.moo_props.proofs.Walked.{walk}
 use Rattle.moo_props.proofs.Lessened.{world_less, sound_less, formed_less, less_object}
@@ -8,6 +8,8 @@ use Rattle.moo_props.proofs.DroppedKeys.{dropped_list, dropped_ascend, dropped_h
 use Rattle.moo_props.proofs.LeftRows.{writes5, slots_left, props_left, verbs_left, objects_left, head5, left_is, dropped_gone, relinked_there}
 use Rattle.moo_rows.specs.declared.row.Head.{Head}
 use Rattle.moo_world.specs.Numbers.{props_dropped, verbs_dropped}
+use Rattle.std.proofs.lemmas.Result.{IfOk-from_err}
+use Rattle.moo_props.specs.declared.dropping.Dropped.{Dropped}
 use Rattle.moo_props.proofs.dropping.drop_object.Goals as goal
 
 abbrev before : (g : _) → goal.After-from_vec g → Held
@@ -97,3 +99,29 @@ returns g c = record {
       let relinked = ap length (relinked_is g c) in
       omega (arith, total, most, removed, props, verbs, relinked);
 }
+
+-- after an error nothing is promised
+pub returns-in_err-own : goal.returns-in_err-own
+returns-in_err-own g c =
+    let none : (P : Dropped → Type 0) → IfOk c.from_residual.result P = λ P. IfOk-from_err c.from_residual.result P c.from_residual.ensures.0 in
+    record { removed = none _; props = none _; verbs = none _; relinked = none _; removed_order = none _; props_order = none _; verbs_order = none _; relinked_order = none _; had = none _; gone = none _; stay = none _; slots_left = none _; props_left = none _; verbs_left = none _; objects_left = none _; head = none _; world = none _; kept = none _; writes = none _ }
+
+pub returns-in_err-verbs : goal.returns-in_err-verbs
+returns-in_err-verbs g c =
+    let none : (P : Dropped → Type 0) → IfOk c.from_residual-in_err-verbs.result P = λ P. IfOk-from_err c.from_residual-in_err-verbs.result P c.from_residual-in_err-verbs.ensures.0 in
+    record { removed = none _; props = none _; verbs = none _; relinked = none _; removed_order = none _; props_order = none _; verbs_order = none _; relinked_order = none _; had = none _; gone = none _; stay = none _; slots_left = none _; props_left = none _; verbs_left = none _; objects_left = none _; head = none _; world = none _; kept = none _; writes = none _ }
+
+pub returns-in_err-relinked : goal.returns-in_err-relinked
+returns-in_err-relinked g c =
+    let none : (P : Dropped → Type 0) → IfOk c.from_residual-in_err-relinked.result P = λ P. IfOk-from_err c.from_residual-in_err-relinked.result P c.from_residual-in_err-relinked.ensures.0 in
+    record { removed = none _; props = none _; verbs = none _; relinked = none _; removed_order = none _; props_order = none _; verbs_order = none _; relinked_order = none _; had = none _; gone = none _; stay = none _; slots_left = none _; props_left = none _; verbs_left = none _; objects_left = none _; head = none _; world = none _; kept = none _; writes = none _ }
+
+pub returns-in_err-removed : goal.returns-in_err-removed
+returns-in_err-removed g c =
+    let none : (P : Dropped → Type 0) → IfOk c.from_residual-in_err-removed.result P = λ P. IfOk-from_err c.from_residual-in_err-removed.result P c.from_residual-in_err-removed.ensures.0 in
+    record { removed = none _; props = none _; verbs = none _; relinked = none _; removed_order = none _; props_order = none _; verbs_order = none _; relinked_order = none _; had = none _; gone = none _; stay = none _; slots_left = none _; props_left = none _; verbs_left = none _; objects_left = none _; head = none _; world = none _; kept = none _; writes = none _ }
+
+pub returns-in_err-drop_rows : goal.returns-in_err-drop_rows
+returns-in_err-drop_rows g c =
+    let none : (P : Dropped → Type 0) → IfOk c.from_residual-in_err-drop_rows.result P = λ P. IfOk-from_err c.from_residual-in_err-drop_rows.result P c.from_residual-in_err-drop_rows.ensures.0 in
+    record { removed = none _; props = none _; verbs = none _; relinked = none _; removed_order = none _; props_order = none _; verbs_order = none _; relinked_order = none _; had = none _; gone = none _; stay = none _; slots_left = none _; props_left = none _; verbs_left = none _; objects_left = none _; head = none _; world = none _; kept = none _; writes = none _ }

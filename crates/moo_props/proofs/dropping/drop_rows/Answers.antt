@@ -1,4 +1,4 @@
-use Rattle.moo_props.proofs.Words.{◌≡◌, ◌∙◌, subst, OnOk, props_removed, verbs_removed, rows_released, without_object}
+use Rattle.moo_props.proofs.Words.{◌≡◌, ◌∙◌, subst, OnOk, verbs_removed, rows_released, without_object}
 use Rattle.moo_props.proofs.dropping.drop_rows.Goals as goal
 
 pub returns : goal.returns

@@ -1,4 +1,4 @@
-use Rattle.moo_tree.proofs.Words.{◌≡◌, IfOk, subst, refl, nothing}
+use Rattle.moo_tree.proofs.Words.{◌≡◌, IfOk, subst}
 use Rattle.moo_tree.proofs.Listing.{children_listed}
 use Rattle.moo_tree.proofs.lists.children.Goals as goal
 

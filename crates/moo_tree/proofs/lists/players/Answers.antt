@@ -1,4 +1,4 @@
-use Rattle.moo_tree.proofs.Words.{◌≡◌, IfOk, subst, refl, nothing}
+use Rattle.moo_tree.proofs.Words.{◌≡◌, IfOk, subst}
 use Rattle.moo_tree.proofs.Listing.{players_listed}
 use Rattle.moo_tree.proofs.lists.players.Goals as goal
 
