@@ -1,5 +1,5 @@
 -- From the first bad row of a map to the least key at which a kind is met.
-use Rattle.moo_damage.proofs.Words.{◌≡◌, ℕ, ℤ, pos, negsuc, None, Some, Ordering, Less, Equal, sym, ap, ◌∙◌, ◌⊎◌, inl, inr, arith, ◌<ℤ◌, int_cmp_is, nat_cmp_is, nat_cmp, ordering_then, FinMap, get, ints, ObjNo, ObjRow, PetitionId, PropId, PropRow, SlotRow, VerbId, VerbRow, Maps, Kind, Key, Head, Object, Prop, Verb, Petition, IsLeastBad, IsBelow, AtSlot, InRows, IsLeast, int_cmp, Slot, Has, AtObject, AtProp, AtVerb, AtPetition}
+use Rattle.moo_damage.proofs.Words.{◌≡◌, ℕ, ℤ, pos, negsuc, None, Some, Ordering, Less, Equal, sym, ap, ◌∙◌, ◌⊎◌, inl, inr, arith, ◌<ℤ◌, int_cmp_is, nat_cmp_is, nat_cmp, ordering_then, FinMap, get, ints, ObjNo, ObjRow, PetitionId, PetitionRow, PropId, PropRow, SlotRow, VerbId, VerbRow, Maps, Kind, Key, Head, Object, Prop, Verb, Petition, IsLeastBad, IsBelow, AtSlot, InRows, IsLeast, int_cmp, Slot, Has, AtObject, AtProp, AtVerb, AtPetition}
 
 pub number_less : (i j : ℕ) → pos i <ℤ pos j → nat_cmp i j ≡ Less
 number_less i j l = sym (nat_cmp_is i j Less (omega (arith, ints, l)))
@@ -75,3 +75,10 @@ module _ (m : Maps) where
       least_at m kind (Verb key.0.0 (pos key.1.0)) (to key (f.0, f.1, f.2)) (λ y l. a y) (λ i l. b i) (λ k l. c k)
       (λ k l h. let t = from k h in apart k t.0 (f.3 k t.0 (pair_less k.0.0 key.0.0 k.1.0 key.1.0 l) t.1) t.2)
       (λ i l h. omega (arith, l))
+
+  pub petition_first : (kind : Kind) (right bad : PetitionId → PetitionRow → Type 0) → ((id : PetitionId) → Has (get m.petitions) bad id → AtPetition m kind id) → ((id : PetitionId) → AtPetition m kind id → Has (get m.petitions) bad id)
+      → ((id : PetitionId) (row : PetitionRow) → right id row → ¬ (bad id row)) → ((y : ObjNo) → ¬ (AtObject m kind y)) → ((id : PropId) → ¬ (AtProp m kind id)) → ((key : ObjNo × PropId) → ¬ (AtSlot m kind key)) → ((key : ObjNo × VerbId) → ¬ (AtVerb m kind key))
+      → (id : PetitionId) → IsLeastBad m.petitions right bad (Some id) → IsLeast (InRows m kind) (Some (Petition (pos id.0)))
+  petition_first kind right bad to from apart a b c d id f =
+      least_at m kind (Petition (pos id.0)) (to id (f.0, f.1, f.2)) (λ y l. a y) (λ i l. b i) (λ k l. c k) (λ k l. d k)
+      (λ i l h. let t = from i h in apart i t.0 (f.3 i t.0 (number_less i.0 id.0 l) t.1) t.2)

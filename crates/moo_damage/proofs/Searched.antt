@@ -1,8 +1,8 @@
 -- What each search found, as the least key at which its kind is met.
-use Rattle.moo_damage.proofs.Words.{◌≡◌, pos, Bool, true, false, Option, None, Some, sym, subst, option_map, both_ways, ObjNo, PropId, VerbId, Maps, Kind, NoParent, ParentLoop, NoPlace, PlaceLoop, NoDefiner, StrangeSlot, MissingSlot, ClearDefiner, StrangeVerb, Key, Object, Prop, Verb, TreeLink, Parent, Location, HasEnd, Loops, is_lost, lacks_definer, is_strange, is_clear_definer, is_strange_verb, IsLeastBad, rank, lost_kind, loop_kind, InRows, NoneBefore, IsLeast, IsFirstMet, IsFirstMissing, Slot}
+use Rattle.moo_damage.proofs.Words.{◌≡◌, pos, Bool, true, false, Option, None, Some, sym, subst, option_map, both_ways, arith, ObjNo, PetitionId, PropId, VerbId, Maps, Kind, BadHead, BadCell, PastHead, NoParent, ParentLoop, NoPlace, PlaceLoop, NoDefiner, DoubleName, StrangeSlot, MissingSlot, ClearDefiner, StrangeVerb, Mismatch, Key, Object, Prop, Verb, Petition, TreeLink, Parent, Location, HasEnd, Loops, is_object_past, is_prop_past, is_verb_past, is_petition_past, is_lost, lacks_definer, is_strange, is_clear_definer, is_strange_verb, IsLeastBad, rank, lost_kind, loop_kind, InRows, NoneBefore, IsLeast, IsFirstMet, IsFirstMissing, Slot}
 use Rattle.moo_damage.proofs.InTurn.{none_more}
 use Rattle.moo_damage.proofs.Lacking.{none_missing, missing_first}
-use Rattle.moo_damage.proofs.Least.{no_bad, none_met, object_first, prop_first, slot_first, verb_first}
+use Rattle.moo_damage.proofs.Least.{no_bad, none_met, object_first, prop_first, slot_first, verb_first, petition_first}
 
 abbrev pub of_object : Option ObjNo → Option Key
 of_object o = option_map (λ x. Object x.0) o
@@ -55,7 +55,42 @@ module _ (m : Maps) where
   verb_least None f = none_met m StrangeVerb (λ x h. h) (λ id h. h) (λ key h. h) (no_bad m.verbs (λ k r. is_strange_verb m k ≡ false) (λ k r. is_strange_verb m k ≡ true) (λ k r. apart (is_strange_verb m k)) f) (λ id h. h)
   verb_least (Some key) f = verb_first m StrangeVerb (λ k r. is_strange_verb m k ≡ false) (λ k r. is_strange_verb m k ≡ true) (λ k h. h) (λ k h. h) (λ k r. apart (is_strange_verb m k)) (λ y h. h) (λ id h. h) (λ key h. h) key f
 
-  -- ---- numbers past the head, in five maps
+  -- ---- numbers past the head, in four maps
+
+  -- the kinds before are of cells
+  pub none_of_cells : NoneBefore (InRows m) (rank PastHead)
+  none_of_cells BadHead l = none_met m BadHead (λ x h. h) (λ id h. h) (λ key h. h) (λ key h. h) (λ id h. h)
+  none_of_cells BadCell l = none_met m BadCell (λ x h. h) (λ id h. h) (λ key h. h) (λ key h. h) (λ id h. h)
+  none_of_cells PastHead l = absurd (omega (arith, l))
+  none_of_cells NoParent l = absurd (omega (arith, l))
+  none_of_cells ParentLoop l = absurd (omega (arith, l))
+  none_of_cells NoPlace l = absurd (omega (arith, l))
+  none_of_cells PlaceLoop l = absurd (omega (arith, l))
+  none_of_cells NoDefiner l = absurd (omega (arith, l))
+  none_of_cells DoubleName l = absurd (omega (arith, l))
+  none_of_cells StrangeSlot l = absurd (omega (arith, l))
+  none_of_cells MissingSlot l = absurd (omega (arith, l))
+  none_of_cells ClearDefiner l = absurd (omega (arith, l))
+  none_of_cells StrangeVerb l = absurd (omega (arith, l))
+  none_of_cells Mismatch l = absurd (omega (arith, l))
+
+  pub object_past : (x : ObjNo) → IsLeastBad m.objects (λ k r. is_object_past m.head k ≡ false) (λ k r. is_object_past m.head k ≡ true) (Some x) → IsLeast (InRows m PastHead) (Some (Object x.0))
+  object_past x f = object_first m PastHead (λ k r. is_object_past m.head k ≡ false) (λ k r. is_object_past m.head k ≡ true) (λ x h. h) (λ x h. h) (λ k r. apart (is_object_past m.head k)) x f
+
+  module _ (objects : IsLeastBad m.objects (λ k r. is_object_past m.head k ≡ false) (λ k r. is_object_past m.head k ≡ true) None) where
+    pub prop_past : (id : PropId) → IsLeastBad m.props (λ k r. is_prop_past m.head k ≡ false) (λ k r. is_prop_past m.head k ≡ true) (Some id) → IsLeast (InRows m PastHead) (Some (Prop (pos id.0)))
+    prop_past id f = prop_first m PastHead (λ k r. is_prop_past m.head k ≡ false) (λ k r. is_prop_past m.head k ≡ true) (λ id h. h) (λ id h. h) (λ k r. apart (is_prop_past m.head k)) (no_bad m.objects (λ k r. is_object_past m.head k ≡ false) (λ k r. is_object_past m.head k ≡ true) (λ k r. apart (is_object_past m.head k)) objects) id f
+
+    module _ (props : IsLeastBad m.props (λ k r. is_prop_past m.head k ≡ false) (λ k r. is_prop_past m.head k ≡ true) None) where
+      pub verb_past : (key : ObjNo × VerbId) → IsLeastBad m.verbs (λ k r. is_verb_past m.head k ≡ false) (λ k r. is_verb_past m.head k ≡ true) (Some key) → IsLeast (InRows m PastHead) (Some (Verb key.0.0 (pos key.1.0)))
+      verb_past key f = verb_first m PastHead (λ k r. is_verb_past m.head k ≡ false) (λ k r. is_verb_past m.head k ≡ true) (λ k h. h) (λ k h. h) (λ k r. apart (is_verb_past m.head k)) (no_bad m.objects (λ k r. is_object_past m.head k ≡ false) (λ k r. is_object_past m.head k ≡ true) (λ k r. apart (is_object_past m.head k)) objects) (no_bad m.props (λ k r. is_prop_past m.head k ≡ false) (λ k r. is_prop_past m.head k ≡ true) (λ k r. apart (is_prop_past m.head k)) props) (λ key h. h) key f
+
+      module _ (verbs : IsLeastBad m.verbs (λ k r. is_verb_past m.head k ≡ false) (λ k r. is_verb_past m.head k ≡ true) None) where
+        pub petition_past : (id : PetitionId) → IsLeastBad m.petitions (λ k r. is_petition_past m.head k ≡ false) (λ k r. is_petition_past m.head k ≡ true) (Some id) → IsLeast (InRows m PastHead) (Some (Petition (pos id.0)))
+        petition_past id f = petition_first m PastHead (λ k r. is_petition_past m.head k ≡ false) (λ k r. is_petition_past m.head k ≡ true) (λ id h. h) (λ id h. h) (λ k r. apart (is_petition_past m.head k)) (no_bad m.objects (λ k r. is_object_past m.head k ≡ false) (λ k r. is_object_past m.head k ≡ true) (λ k r. apart (is_object_past m.head k)) objects) (no_bad m.props (λ k r. is_prop_past m.head k ≡ false) (λ k r. is_prop_past m.head k ≡ true) (λ k r. apart (is_prop_past m.head k)) props) (λ key h. h) (no_bad m.verbs (λ k r. is_verb_past m.head k ≡ false) (λ k r. is_verb_past m.head k ≡ true) (λ k r. apart (is_verb_past m.head k)) verbs) id f
+
+        pub none_past : IsLeastBad m.petitions (λ k r. is_petition_past m.head k ≡ false) (λ k r. is_petition_past m.head k ≡ true) None → NoneBefore (InRows m) (rank NoParent)
+        none_past petitions = none_more (InRows m) PastHead none_of_cells (none_met m PastHead (no_bad m.objects (λ k r. is_object_past m.head k ≡ false) (λ k r. is_object_past m.head k ≡ true) (λ k r. apart (is_object_past m.head k)) objects) (no_bad m.props (λ k r. is_prop_past m.head k ≡ false) (λ k r. is_prop_past m.head k ≡ true) (λ k r. apart (is_prop_past m.head k)) props) (λ key h. h) (no_bad m.verbs (λ k r. is_verb_past m.head k ≡ false) (λ k r. is_verb_past m.head k ≡ true) (λ k r. apart (is_verb_past m.head k)) verbs) (no_bad m.petitions (λ k r. is_petition_past m.head k ≡ false) (λ k r. is_petition_past m.head k ≡ true) (λ k r. apart (is_petition_past m.head k)) petitions))
 
   -- ---- one after another
 

@@ -25,6 +25,7 @@ pub use Rattle.moo_rows.specs.Maps.{Maps, object_cmp, prop_cmp, slot_cmp}
 pub use Rattle.moo_rows.specs.Walk.{is_past, objects_left, petitions_left, props_left, slots_left, slots_of_left, verbs_left}
 pub use Rattle.moo_rows.specs.declared.row.ObjRow.{ObjRow}
 pub use Rattle.moo_rows.specs.declared.row.PetitionId.{PetitionId}
+pub use Rattle.moo_rows.specs.declared.row.PetitionRow.{PetitionRow}
 pub use Rattle.moo_rows.specs.declared.row.PropId.{PropId}
 pub use Rattle.moo_rows.specs.declared.row.PropRow.{PropRow}
 pub use Rattle.moo_rows.specs.declared.row.SlotRow.{SlotRow}

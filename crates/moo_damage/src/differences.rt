@@ -113,11 +113,10 @@ fn petition_differing<R: Rows>(own: &R, found: &R) -> Option<PetitionId>
     moo_ordered::least(petition_unlike(own, found), petition_unlike(found, own))
 }
 
-/// The first row in which two lots of rows differ, in the order head, objects, properties, slots, verbs, petitions, and in each by
-/// number: that both have with other content, or one of them alone. None if they are equal. Takes no memory.
-pub fn first_difference(own: &Flat, found: &Flat) -> Option<Key>
-    ensures differs { IfSome result (λ key. IsFirstDifference own.now.maps found.now.maps key) }
-    ensures same { IfNone result (own.now.maps ≡ found.now.maps) }
+/// The first row in which two lots of rows differ, or none.
+fn difference<R: Rows>(own: &R, found: &R) -> Option<Key>
+    ensures differs { IfSome result (λ key. IsFirstDifference (R.held own.now).maps (R.held found.now).maps key) }
+    ensures same { IfNone result ((R.held own.now).maps ≡ (R.held found.now).maps) }
 {
     if own.head() != found.head() {
         return Some(Key::Head);
@@ -138,4 +137,13 @@ pub fn first_difference(own: &Flat, found: &Flat) -> Option<Key>
         return Some(petition_key(id));
     }
     None
+}
+
+/// The first row in which two lots of rows differ, in the order head, objects, properties, slots, verbs, petitions, and in each by
+/// number: that both have with other content, or one of them alone. None if they are equal. Takes no memory.
+pub fn first_difference(own: &Flat, found: &Flat) -> Option<Key>
+    ensures differs { IfSome result (λ key. IsFirstDifference own.now.maps found.now.maps key) }
+    ensures same { IfNone result (own.now.maps ≡ found.now.maps) }
+{
+    difference(own, found)
 }

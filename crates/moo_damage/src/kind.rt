@@ -86,7 +86,7 @@ impl fmt::Display for Key {
 
     fn fmt<W: fmt::Write>(&self, f: &mut fmt::Formatter<W>) -> fmt::Result {
         match self {
-            Key::Head => write!(f, "head"),
+            Key::Head => f.write_str("head"),
             Key::Object(object) => write!(f, "#{object}"),
             Key::Prop(prop) => write!(f, "p{prop}"),
             Key::Slot(object, prop) => write!(f, "#{object} p{prop}"),

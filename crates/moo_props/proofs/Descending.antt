@@ -90,10 +90,10 @@ module _ (t : Maps) (tree : IsTree (world_of t)) where
 
   -- a child, by the list of the children
   child_of : (y c : ObjNo) → is_among c (children_past t y nothing) ≡ true → (r : ObjRow) × (get t.objects c ≡ Some r) × (r.parent ≡ y)
-  child_of y c h = listed_child t tree c y (ap (is_among c) (sym (children_listed t tree y nothing refl)) ∙ h)
+  child_of y c h = listed_child t tree c y (ap (is_among c) (sym (children_listed t tree y)) ∙ h)
 
   child_in : (y c : ObjNo) (r : ObjRow) → get t.objects c ≡ Some r → r.parent ≡ y → is_among c (children_past t y nothing) ≡ true
-  child_in y c r e p = ap (is_among c) (children_listed t tree y nothing refl) ∙ child_listed t tree c y r e p
+  child_in y c r e p = ap (is_among c) (children_listed t tree y) ∙ child_listed t tree c y r e p
 
   deeper : (y c : ObjNo) → is_among c (children_past t y nothing) ≡ true → depth c ≡ suc (depth y)
   deeper y c h = let k = child_of y c h in ap length (chain_up c y k.0 k.1 k.2)

@@ -6,14 +6,11 @@ pub use Rattle.std.specs.FinMap.{FinMap, entries, entries_sorted, get, get-entri
 pub use Rattle.std.specs.List.{AllByRecursion, cons_option, filter, filter_map, list_any}
 pub use Rattle.std.specs.Option.{option_and_then, option_map, option_or}
 pub use Rattle.std.specs.Ordering.{eq_by_cmp, int_eq, is_lt, ordering_then}
-pub use Rattle.std.specs.Prelude.{if◌then◌else◌, int_lt, is_some, not, slice_get, unwrap_or, ◌&&◌, ◌+ℤ◌}
+pub use Rattle.std.specs.Prelude.{OnOk, if◌then◌else◌, int_lt, is_some, not, slice_get, unwrap_or, ◌&&◌, ◌+ℤ◌}
 pub use Rattle.std.proofs.lemmas.Bool.{and_from, and_parts, both_ways, cases_eq, cases_lt, cases_order, cond_both, eq-eqb, eqb-true, false_from_ne_true, false≢true, le-ltb, lt-ltb, ne_eqb, not-true, or_cases, or_left, or_parts, or_right, true_from_ne_false, true≢false}
 pub use Rattle.std.proofs.Math.Bool.{and-false, and-true, or-false}
 pub use Rattle.std.proofs.lemmas.Bool.Decides.{Decides-int_eq}
 pub use Rattle.std.proofs.lemmas.Int.{ints, to_z-of_z}
-pub use Rattle.std.proofs.lemmas.Iterator.{YieldsList-from_map, items_from_collect}
-pub use Rattle.std.proofs.lemmas.Iterator.Consumers.{YieldsList-at, YieldsList-from_first}
-pub use Rattle.std.proofs.lemmas.Iterator.Search.{any_from_yields_List}
 pub use Rattle.std.proofs.lemmas.List.{at_drop_more}
 pub use Rattle.std.proofs.lemmas.List.Elements.{filter_map-append}
 pub use Rattle.std.proofs.lemmas.Map.Lookups.{CmpEqualImpliesEq}
@@ -25,7 +22,7 @@ pub use Rattle.moo_rows.proofs.Orders.{object_total, prop_total, slot_total}
 pub use Rattle.moo_rows.proofs.Walking.{first_of}
 pub use Rattle.moo_rows.specs.Exact.{object_exact, prop_exact, slot_exact}
 pub use Rattle.moo_rows.specs.Links.{IsFirst, defined_left, is_linked}
-pub use Rattle.moo_rows.specs.Maps.{Held, Maps, object_cmp, prop_cmp, slot_cmp, verb_cmp, wrote}
+pub use Rattle.moo_rows.specs.Maps.{Held, Maps, object_cmp, prop_cmp, slot_cmp, verb_cmp, without_object, without_prop, without_verb, wrote}
 pub use Rattle.moo_rows.specs.Walk.{entries_past, is_past, slots_of_left, verbs_of_left}
 pub use Rattle.moo_rows.specs.declared.row.Link.TheVariants.{ChildOf, Within}
 pub use Rattle.moo_rows.specs.declared.row.ObjRow.{ObjRow}

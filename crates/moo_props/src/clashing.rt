@@ -20,8 +20,12 @@ fn defines_named<R: Rows>(rows: &R, y: ObjNo, name: &MooStr) -> bool
     requires { IsSound (R.held rows.now).maps }
     ensures { result ≡ defines_name (world_of (R.held rows.now).maps) y name.now }
 {
-    let name = name.bytes();
-    each_defined(rows, y, PropId(0)).any(|(_id, row)| is_named(row, name))
+    for (_id, row) in each_defined(rows, y, PropId(0)) {
+        if is_named(row, name.bytes()) {
+            return true;
+        }
+    }
+    false
 }
 
 /// Whether x or a descendant of x defines a property of the name.
@@ -57,7 +61,12 @@ fn meets_on<R: Rows>(rows: &R, new: ObjNo, y: ObjNo) -> bool
     requires { IsGood (R.held rows.now).maps }
     ensures { result ≡ meets_on (world_of (R.held rows.now).maps) new y }
 {
-    each_defined(rows, y, PropId(0)).any(|(_id, row)| find(rows, new, &row.name).is_some())
+    for (_id, row) in each_defined(rows, y, PropId(0)) {
+        if find(rows, new, &row.name).is_some() {
+            return true;
+        }
+    }
+    false
 }
 
 /// Whether x or a descendant of x defines a property of a name that new or an ancestor of new defines.

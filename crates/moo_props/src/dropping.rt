@@ -4,7 +4,7 @@
 ghost use Rattle.std.specs.Prelude.{◌≡◌, ◌≤◌, ◌+◌, ◌++◌, [], ◌∷◌, length, true, if◌then◌else◌, IfOk, OnOk};
 ghost use Rattle.std.specs.FinMap.{get, entries};
 ghost use Rattle.moo_rows.specs.Links.{IsFirst};
-ghost use Rattle.moo_rows.specs.Maps.{object_cmp, prop_cmp, slot_cmp, verb_cmp};
+ghost use Rattle.moo_rows.specs.Maps.{object_cmp, prop_cmp, slot_cmp, verb_cmp, without_object};
 ghost use Rattle.moo_rows.specs.Walk.{slots_of_left};
 ghost use Rattle.moo_tree.specs.Under.{owners_under};
 ghost use Rattle.moo_world.specs.Objects.{same_object};
@@ -101,7 +101,11 @@ fn props_on<R: Rows>(alloc: Global, rows: &R, x: ObjNo) -> Result<Vec<PropId>, A
     requires { IsGood (R.held rows.now).maps }
     ensures { IfOk result (λ v. v.items ≡ props_of (x ∷ []) (R.held rows.now).maps.props) }
 {
-    each_defined(rows, x, PropId(0)).map(|e| e.0).collect(alloc)
+    let mut found = Vec::new(alloc);
+    for (id, _row) in each_defined(rows, x, PropId(0)) {
+        found.push(id)?;
+    }
+    Ok(found)
 }
 
 /// The verbs of x.
@@ -109,7 +113,11 @@ fn verbs_on<R: Rows>(alloc: Global, rows: &R, x: ObjNo) -> Result<Vec<(ObjNo, Ve
     requires { IsGood (R.held rows.now).maps }
     ensures { IfOk result (λ v. v.items ≡ verbs_among x (entries (R.held rows.now).maps.verbs)) }
 {
-    each_verb_of(rows, x, VerbId(0)).map(|e| e.0).collect(alloc)
+    let mut found = Vec::new(alloc);
+    for (key, _row) in each_verb_of(rows, x, VerbId(0)) {
+        found.push(key)?;
+    }
+    Ok(found)
 }
 
 /// The least object past `last` whose parent or place is x, or none if there is no such object.
@@ -244,6 +252,24 @@ fn release_all<R: Rows>(
     Ok(())
 }
 
+/// Removes the rows of these properties and verbs, and that of x, once it has released these objects.
+fn drop_rows<R: Rows>(
+    alloc: Global,
+    rows: &mut R,
+    x: ObjNo,
+    parent: ObjNo,
+    own: &[PropId],
+    verbs: &[(ObjNo, VerbId)],
+    relinked: &[ObjNo],
+) -> Result<(), AllocError>
+    ensures { OnOk result (R.held rows.new ≡ without_object (rows_released x parent relinked.now (verbs_removed verbs.now (props_removed own.now (R.held rows.old)))) x) }
+{
+    remove_props(rows, own)?;
+    remove_verbs(rows, verbs)?;
+    release_all(alloc, rows, x, parent, relinked)?;
+    rows.remove_object(x)
+}
+
 /// Removes an object with its slots, verbs and properties, and the slots of these properties on its descendants. Its
 /// children go to its parent, and what is in it to `#-1`; these are listed as relinked, and are still there. What is
 /// listed is ascending.
@@ -280,10 +306,15 @@ pub fn drop_object<R: Rows>(alloc: Global, rows: &mut R, x: ObjNo) -> Result<Dro
     let verbs = verbs_on(alloc, rows, x)?;
     let relinked = linked_to(alloc, rows, x)?;
     let removed = drop_under(alloc, rows, x, own.as_slice())?;
-    remove_props(rows, own.as_slice())?;
-    remove_verbs(rows, verbs.as_slice())?;
-    release_all(alloc, rows, x, parent, relinked.as_slice())?;
-    rows.remove_object(x)?;
+    drop_rows(
+        alloc,
+        rows,
+        x,
+        parent,
+        own.as_slice(),
+        verbs.as_slice(),
+        relinked.as_slice(),
+    )?;
     Ok(Dropped {
         removed,
         props: PropIds { items: own },

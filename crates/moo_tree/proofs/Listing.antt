@@ -1,7 +1,9 @@
 -- What is read off the objects' rows, as lists of the world.
-use Rattle.moo_tree.proofs.Words.{◌≡◌, Bool, true, List, [], ◌∷◌, map, Some, Less, refl, sym, ap, ◌∙◌, arith, pos, negsuc, ◌≤ℤ◌, is_some, int_cmp_is, entries, entries_sorted, get-entries, filter, AllByRecursion, is_lt, ObjNo, ChildOf, Within, Player, ObjRow, has_link, linked_left, ties_of, Maps, object_cmp, object_total, children_of, contents_of, objects_of, players_of, subtree_of, nothing, same_object, is_among, same_object-eq, look_ups, world_of, IsTree, is_object, row_passes, chain, is_object_seen}
+use Rattle.moo_tree.proofs.Words.{◌≡◌, Bool, true, true≢false, List, [], ◌∷◌, map, Option, None, Some, get, object_exact, Less, refl, sym, ap, ◌∙◌, arith, pos, negsuc, ◌≤ℤ◌, is_some, int_cmp_is, entries, entries_sorted, get-entries, filter, AllByRecursion, is_lt, ObjNo, ChildOf, Within, Player, ObjRow, has_link, linked_left, ties_of, Maps, object_cmp, object_total, children_of, contents_of, objects_of, players_of, subtree_of, nothing, same_object, is_among, same_object-eq, look_ups, world_of, IsTree, is_object, row_passes, chain, is_object_seen}
 use Rattle.std.specs.FinMap.{find}
 use Rattle.std.proofs.lemmas.Int.{ints}
+use Rattle.moo_rows.proofs.Firsts.{first-end, first-step}
+use Rattle.moo_rows.specs.Links.{IsFirst, is_linked, row_has}
 use Rattle.moo_rows.specs.declared.row.Link.{Link}
 use Rattle.moo_world.proofs.Shown.EntriesInOrder.{all_weaker, filter_alike, own_entries}
 use Rattle.moo_world.proofs.Shown.ObjectEntries.{objects_passing, rows_passing}
@@ -9,6 +11,20 @@ use Rattle.moo_world.proofs.Shown.ObjectEntries.{objects_passing, rows_passing}
 all_pass : {A : Type 0} (l : List A) → filter (λ a. true) l ≡ l
 all_pass [] = refl
 all_pass (a ∷ l) = ap (λ m. a ∷ m) (all_pass l)
+
+module _ (t : Maps) (link : Link) (from : ObjNo) where
+  -- the first object with the link, and then those past it
+  pub linked_first : (y : ObjNo) → IsFirst object_cmp (is_linked t link) from (Some y) → map (λ e. e.0) (linked_left link from t) ≡ y ∷ map (λ e. e.0) (linked_left link y t)
+  linked_first y h =
+      let row = some_linked (get t.objects y) h.0 in
+      ap (map (λ e. e.0)) (first-step object_total object_exact (λ r. has_link link (ties_of r)) t.objects from y row.0 h row.1)
+    where
+      some_linked : (o : Option ObjRow) → row_has link o ≡ true → (row : ObjRow) × (o ≡ Some row)
+      some_linked None e = absurd (true≢false (sym e))
+      some_linked (Some row) e = (row, refl)
+
+  pub linked_end : IsFirst object_cmp (is_linked t link) from None → map (λ e. e.0) (linked_left link from t) ≡ []
+  linked_end h = ap (map (λ e. e.0)) (first-end object_total object_exact (λ r. has_link link (ties_of r)) t.objects from h)
 
 module _ (t : Maps) (tree : IsTree (world_of t)) where
   -- every object is past #-1
@@ -24,24 +40,22 @@ module _ (t : Maps) (tree : IsTree (world_of t)) where
           ap is_lt (sym (int_cmp_is (negsuc 0) e.0.0 Less (omega (arith, ints))))
 
   -- so a walk from there on meets all that have a link
-  left_whole : (link : Link) (from : ObjNo) → from ≡ nothing → linked_left link from t ≡ filter (λ e. has_link link (ties_of e.1)) (entries t.objects)
-  left_whole link from at =
-      ap (λ x. linked_left link x t) at
-      ∙ ap (filter (λ e. has_link link (ties_of e.1))) (filter_alike (λ e. is_lt (object_cmp nothing e.0)) (λ e. true) (entries t.objects) all_past ∙ all_pass (entries t.objects))
+  left_whole : (link : Link) → linked_left link nothing t ≡ filter (λ e. has_link link (ties_of e.1)) (entries t.objects)
+  left_whole link = ap (filter (λ e. has_link link (ties_of e.1))) (filter_alike (λ e. is_lt (object_cmp nothing e.0)) (λ e. true) (entries t.objects) all_past ∙ all_pass (entries t.objects))
 
   -- as lists of the world, where the link is a test of the row
-  linked_listed : (link : Link) (from : ObjNo) (test : ObjRow → Bool) → from ≡ nothing → ((r : ObjRow) → has_link link (ties_of r) ≡ test r) → map (λ e. e.0) (linked_left link from t) ≡ filter (row_passes test (world_of t)) (objects_of (world_of t))
-  linked_listed link from test at same =
-      ap (map (λ e. e.0)) (left_whole link from at ∙ (λ i. filter (λ e. same e.1 i) (entries t.objects))) ∙ sym (rows_passing t tree test)
+  linked_listed : (link : Link) (test : ObjRow → Bool) → ((r : ObjRow) → has_link link (ties_of r) ≡ test r) → map (λ e. e.0) (linked_left link nothing t) ≡ filter (row_passes test (world_of t)) (objects_of (world_of t))
+  linked_listed link test same =
+      ap (map (λ e. e.0)) (left_whole link ∙ (λ i. filter (λ e. same e.1 i) (entries t.objects))) ∙ sym (rows_passing t tree test)
 
-  pub children_listed : (x from : ObjNo) → from ≡ nothing → map (λ e. e.0) (linked_left (ChildOf x) from t) ≡ children_of (world_of t) x
-  children_listed x from at = linked_listed (ChildOf x) from (λ r. same_object x r.parent) at (λ r. same_object-eq x r.parent)
+  pub children_listed : (x : ObjNo) → map (λ e. e.0) (linked_left (ChildOf x) nothing t) ≡ children_of (world_of t) x
+  children_listed x = linked_listed (ChildOf x) (λ r. same_object x r.parent) (λ r. same_object-eq x r.parent)
 
-  pub contents_listed : (x from : ObjNo) → from ≡ nothing → map (λ e. e.0) (linked_left (Within x) from t) ≡ contents_of (world_of t) x
-  contents_listed x from at = linked_listed (Within x) from (λ r. same_object x r.location) at (λ r. same_object-eq x r.location)
+  pub contents_listed : (x : ObjNo) → map (λ e. e.0) (linked_left (Within x) nothing t) ≡ contents_of (world_of t) x
+  contents_listed x = linked_listed (Within x) (λ r. same_object x r.location) (λ r. same_object-eq x r.location)
 
-  pub players_listed : (from : ObjNo) → from ≡ nothing → map (λ e. e.0) (linked_left Player from t) ≡ players_of (world_of t)
-  players_listed from at = linked_listed Player from (λ r. r.player) at (λ r. refl)
+  pub players_listed : map (λ e. e.0) (linked_left Player nothing t) ≡ players_of (world_of t)
+  players_listed = linked_listed Player (λ r. r.player) (λ r. refl)
 
   pub subtree_listed : (x : ObjNo) → map (λ e. e.0) (filter (λ e. is_among x (chain (world_of t) e.0)) (entries t.objects)) ≡ subtree_of (world_of t) x
   subtree_listed x = sym (objects_passing t tree (λ y. is_among x (chain (world_of t) y)))

@@ -1,8 +1,9 @@
 -- The words that most proofs of this crate share.
 pub use Rattle.std.proofs.Common.{Bool, Equal, Greater, IfOk, Less, List, None, Option, Ordering, Some, T, [], ap, append-nil, append_assoc, arith, cond, drop, false, inl, inr, length, map, negsuc, pos, refl, rules, subst, suc, sym, true, zero, ℕ, ◌&&◌, ◌++◌, ◌-◌, ◌<◌, ◌||◌, ◌∙◌, ◌∷◌, ◌≡◌, ◌≢◌, ◌≤◌, ◌⊎◌}
 pub use Rattle.std.proofs.lemmas.Bool.{both_ways, cases_lt, or_cases, or_right, true≢false}
-pub use Rattle.std.proofs.lemmas.Iterator.{YieldsList-from_map, items_from_collect}
-pub use Rattle.std.proofs.lemmas.Iterator.Consumers.{YieldsList-at, YieldsList-from_first, YieldsList-from_rest}
+pub use Rattle.std.proofs.lemmas.Iterator.{items_from_collect}
+pub use Rattle.std.proofs.lemmas.Iterator.Consumers.{YieldsList-from_rest}
+pub use Rattle.std.proofs.lemmas.Option.{same_Some}
 pub use Rattle.std.specs.BTreeMap.{BTreeMap, IsOrdered, keys}
 pub use Rattle.std.specs.Cmp.{int_cmp_is, tied_itself}
 pub use Rattle.std.specs.FinMap.{FinMap, entries, entries_sorted, from_entries, get, get-empty, get-entries, get-from_entries, get-insert, insert, is_sorted}

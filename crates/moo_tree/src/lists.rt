@@ -1,14 +1,41 @@
 //! Lists of objects, ascending.
 
-ghost use Rattle.std.specs.Prelude.{◌≡◌, IfOk};
+ghost use Rattle.std.specs.Prelude.{◌≡◌, ◌++◌, map, IfOk, OnOk};
+ghost use Rattle.moo_rows.specs.Links.{linked_left};
 ghost use Rattle.moo_world.specs.ObjectLists.{children_of, contents_of, players_of};
+ghost use Rattle.moo_world.specs.Objects.{nothing};
 ghost use Rattle.moo_world.specs.Rows.{world_of};
 ghost use Rattle.moo_world.specs.World.{IsTree};
 
 use crate::numbers::nothing;
-use moo_rows::{Link, Rows, each_linked};
+use moo_rows::{Link, Rows};
 use moo_value::ObjNo;
 use std::alloc::{AllocError, Global};
+
+/// Lists the objects past `#-1` that have the link, ascending, after those that are listed. An `Err` is a lack of memory.
+pub(crate) fn list_linked<R: Rows>(
+    rows: &R,
+    link: Link,
+    list: &mut Vec<ObjNo>,
+) -> Result<(), AllocError>
+    ensures { OnOk result (list.new.items ≡ list.old.items ++ map (λ e. e.0) (linked_left link nothing (R.held rows.now).maps)) }
+{
+    let mut last = nothing();
+    while let Some(y) = rows.next_linked(link, last) {
+        list.push(y)?;
+        last = y;
+    }
+    Ok(())
+}
+
+/// The objects past `#-1` that have the link, ascending. An `Err` is a lack of memory.
+fn linked<R: Rows>(alloc: Global, rows: &R, link: Link) -> Result<Vec<ObjNo>, AllocError>
+    ensures { IfOk result (λ v. v.items ≡ map (λ e. e.0) (linked_left link nothing (R.held rows.now).maps)) }
+{
+    let mut found = Vec::new(alloc);
+    list_linked(rows, link, &mut found)?;
+    Ok(found)
+}
 
 /// The objects whose parent is x, ascending; the roots for `#-1`. An `Err` is a lack of memory.
 /// LambdaMOO Programmer's Manual, 'Fundamental Operations on Objects': `children`.
@@ -16,9 +43,7 @@ pub fn children<R: Rows>(alloc: Global, rows: &R, x: ObjNo) -> Result<Vec<ObjNo>
     requires { IsTree (world_of (R.held rows.now).maps) }
     ensures { IfOk result (λ v. v.items ≡ children_of (world_of (R.held rows.now).maps) x) }
 {
-    each_linked(rows, Link::ChildOf(x), nothing())
-        .map(|e| e.0)
-        .collect(alloc)
+    linked(alloc, rows, Link::ChildOf(x))
 }
 
 /// The objects that are in x itself, ascending; those that are nowhere for `#-1`. An `Err` is a lack of memory.
@@ -27,9 +52,7 @@ pub fn contents<R: Rows>(alloc: Global, rows: &R, x: ObjNo) -> Result<Vec<ObjNo>
     requires { IsTree (world_of (R.held rows.now).maps) }
     ensures { IfOk result (λ v. v.items ≡ contents_of (world_of (R.held rows.now).maps) x) }
 {
-    each_linked(rows, Link::Within(x), nothing())
-        .map(|e| e.0)
-        .collect(alloc)
+    linked(alloc, rows, Link::Within(x))
 }
 
 /// The objects with the player flag, ascending. An `Err` is a lack of memory.
@@ -38,7 +61,5 @@ pub fn players<R: Rows>(alloc: Global, rows: &R) -> Result<Vec<ObjNo>, AllocErro
     requires { IsTree (world_of (R.held rows.now).maps) }
     ensures { IfOk result (λ v. v.items ≡ players_of (world_of (R.held rows.now).maps)) }
 {
-    each_linked(rows, Link::Player, nothing())
-        .map(|e| e.0)
-        .collect(alloc)
+    linked(alloc, rows, Link::Player)
 }

@@ -10,16 +10,15 @@ ghost use Rattle.moo_world.specs.Rows.{world_of};
 ghost use Rattle.moo_world.specs.World.{IsTree, is_object};
 ghost use Rattle.moo_tree.specs.Under.{IsFound, owners_under};
 
-use crate::lists::children;
+use crate::lists::list_linked;
 use crate::numbers::valid;
-use moo_rows::Rows;
+use moo_rows::{Link, Rows};
 use moo_value::ObjNo;
 use std::alloc::{AllocError, Global};
 use std::collections::BTreeMap;
 
 /// Notes an object with its owner, and its children as those to be looked at.
 fn visit<R: Rows>(
-    alloc: Global,
     rows: &R,
     y: ObjNo,
     found: &mut BTreeMap<ObjNo, ObjNo>,
@@ -35,9 +34,7 @@ fn visit<R: Rows>(
         Some(row) => row,
     };
     moo_ordered::put(found, y, row.owner)?;
-    let children = children(alloc, rows, y)?;
-    below.extend_from_slice(children.as_slice())?;
-    Ok(())
+    list_linked(rows, Link::ChildOf(y), below)
 }
 
 /// x and its descendants, each with its owner; nothing if x isn't an object. It goes down level by level, so that what is
@@ -59,7 +56,7 @@ fn find_under<R: Rows>(
     while !level.is_empty() {
         let mut below = Vec::new(alloc);
         for y in level.as_slice() {
-            visit(alloc, rows, *y, &mut found, &mut below)?;
+            visit(rows, *y, &mut found, &mut below)?;
         }
         level = below;
     }

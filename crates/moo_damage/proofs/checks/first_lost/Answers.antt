@@ -1,9 +1,24 @@
-use Rattle.moo_damage.proofs.Words.{rules, ◌≡◌, option_map, object_exact, objects_left, object_total, is_lost, tests}
-use Rattle.moo_damage.proofs.Found.{first_failing}
+use Rattle.moo_damage.proofs.Words.{rules, object_exact, objects_left, object_total, is_lost}
+use Rattle.moo_damage.proofs.Found.{all_left, found, passed, none_found}
 use Rattle.moo_damage.proofs.checks.first_lost.Goals as goal
+
+pub loop-key-init : goal.loop-key-init
+loop-key-init g c =
+    let m = (g.R.Rows.held c.args.rows.now).maps in
+    let from = c.into_iter-key-iterator.result in
+    all_left (λ _ r. is_lost c.args.link m r) m.objects (objects_left from.last (g.R.Rows.held from.rows.now).maps) (search rules)
+
+pub returns-then-is_lost : goal.returns-then-is_lost
+returns-then-is_lost g c =
+    let m = (g.R.Rows.held c.args.rows.now).maps in
+    found (λ _ r. is_lost c.args.link m r) m.objects object_total object_exact _ _ _ (c.in-Some.key, c.in-Some.row.now) c.in-Some.ensures.steps c.loop-key.invariant c.is_lost.ensures c.if-is_lost.true
+
+pub loop-key-preserved : goal.loop-key-preserved
+loop-key-preserved g c =
+    let m = (g.R.Rows.held c.args.rows.now).maps in
+    passed (λ _ r. is_lost c.args.link m r) m.objects _ _ _ (c.in-Some.key, c.in-Some.row.now) c.in-Some.ensures.steps c.loop-key.invariant c.is_lost.ensures c.if-is_lost.false
 
 pub returns : goal.returns
 returns g c =
     let m = (g.R.Rows.held c.args.rows.now).maps in
-    let is : c.map.result ≡ option_map (λ e. e.0) c.find.result = search rules in
-    first_failing object_total object_exact m.objects (λ k r. is_lost c.args.link m r) (λ s. objects_left s.last (g.R.Rows.held s.rows.now).maps) c.find.new.self _ c.find.result c.find.ensures.ran c.each_object.ensures (λ x b q k. search (rules, tests)) c.map.result is
+    none_found (λ _ r. is_lost c.args.link m r) m.objects object_total object_exact _ c.in-None.ensures.steps.0 c.loop-key.invariant

@@ -1,11 +1,24 @@
-use Rattle.moo_damage.proofs.Words.{rules, ◌≡◌, true, false, subst, option_map, petition_exact, petitions_left, petition_total, is_petition_past, IsLeastBad, tests}
-use Rattle.moo_damage.proofs.Found.{first_failing}
+use Rattle.moo_damage.proofs.Words.{rules, ap, ◌∙◌, petition_exact, petitions_left, petition_total, is_petition_past}
+use Rattle.moo_damage.proofs.Found.{all_left, found, passed, none_found}
 use Rattle.moo_damage.proofs.checks.first_petition_past.Goals as goal
+
+pub loop-key-init : goal.loop-key-init
+loop-key-init g c =
+    let m = (g.R.Rows.held c.args.rows.now).maps in
+    let from = c.into_iter-key-iterator.result in
+    all_left (λ k _. is_petition_past m.head k) m.petitions (petitions_left from.last (g.R.Rows.held from.rows.now).maps) (search rules)
+
+pub returns-then-is_petition_past : goal.returns-then-is_petition_past
+returns-then-is_petition_past g c =
+    let m = (g.R.Rows.held c.args.rows.now).maps in
+    found (λ k _. is_petition_past m.head k) m.petitions petition_total petition_exact _ _ _ (c.in-Some.key, c.in-Some._row.now) c.in-Some.ensures.steps c.loop-key.invariant (c.is_petition_past.ensures ∙ ap (λ h. is_petition_past h c.in-Some.key) c.head.ensures) c.if-is_petition_past.true
+
+pub loop-key-preserved : goal.loop-key-preserved
+loop-key-preserved g c =
+    let m = (g.R.Rows.held c.args.rows.now).maps in
+    passed (λ k _. is_petition_past m.head k) m.petitions _ _ _ (c.in-Some.key, c.in-Some._row.now) c.in-Some.ensures.steps c.loop-key.invariant (c.is_petition_past.ensures ∙ ap (λ h. is_petition_past h c.in-Some.key) c.head.ensures) c.if-is_petition_past.false
 
 pub returns : goal.returns
 returns g c =
     let m = (g.R.Rows.held c.args.rows.now).maps in
-    let h = c.head-head.result in
-    let is : c.map.result ≡ option_map (λ e. e.0) c.find.result = search rules in
-    subst (λ h. IsLeastBad m.petitions (λ k r. is_petition_past h k ≡ false) (λ k r. is_petition_past h k ≡ true) c.map.result) c.head-head.ensures
-    (first_failing petition_total petition_exact m.petitions (λ k r. is_petition_past h k) (λ s. petitions_left s.last (g.R.Rows.held s.rows.now).maps) c.find.new.self _ c.find.result c.find.ensures.ran c.each_petition.ensures (λ x b q k. search (rules, tests)) c.map.result is)
+    none_found (λ k _. is_petition_past m.head k) m.petitions petition_total petition_exact _ c.in-None.ensures.steps.0 c.loop-key.invariant

@@ -1,11 +1,24 @@
-use Rattle.moo_damage.proofs.Words.{rules, ◌≡◌, true, false, subst, option_map, verb_exact, verbs_left, verb_total, is_verb_past, IsLeastBad, tests}
-use Rattle.moo_damage.proofs.Found.{first_failing}
+use Rattle.moo_damage.proofs.Words.{rules, ap, ◌∙◌, verb_exact, verbs_left, verb_total, is_verb_past}
+use Rattle.moo_damage.proofs.Found.{all_left, found, passed, none_found}
 use Rattle.moo_damage.proofs.checks.first_verb_past.Goals as goal
+
+pub loop-key-init : goal.loop-key-init
+loop-key-init g c =
+    let m = (g.R.Rows.held c.args.rows.now).maps in
+    let from = c.into_iter-key-iterator.result in
+    all_left (λ k _. is_verb_past m.head k) m.verbs (verbs_left from.last (g.R.Rows.held from.rows.now).maps) (search rules)
+
+pub returns-then-is_verb_past : goal.returns-then-is_verb_past
+returns-then-is_verb_past g c =
+    let m = (g.R.Rows.held c.args.rows.now).maps in
+    found (λ k _. is_verb_past m.head k) m.verbs verb_total verb_exact _ _ _ (c.in-Some.key, c.in-Some._row.now) c.in-Some.ensures.steps c.loop-key.invariant (c.is_verb_past.ensures ∙ ap (λ h. is_verb_past h c.in-Some.key) c.head.ensures) c.if-is_verb_past.true
+
+pub loop-key-preserved : goal.loop-key-preserved
+loop-key-preserved g c =
+    let m = (g.R.Rows.held c.args.rows.now).maps in
+    passed (λ k _. is_verb_past m.head k) m.verbs _ _ _ (c.in-Some.key, c.in-Some._row.now) c.in-Some.ensures.steps c.loop-key.invariant (c.is_verb_past.ensures ∙ ap (λ h. is_verb_past h c.in-Some.key) c.head.ensures) c.if-is_verb_past.false
 
 pub returns : goal.returns
 returns g c =
     let m = (g.R.Rows.held c.args.rows.now).maps in
-    let h = c.head-head.result in
-    let is : c.map.result ≡ option_map (λ e. e.0) c.find.result = search rules in
-    subst (λ h. IsLeastBad m.verbs (λ k r. is_verb_past h k ≡ false) (λ k r. is_verb_past h k ≡ true) c.map.result) c.head-head.ensures
-    (first_failing verb_total verb_exact m.verbs (λ k r. is_verb_past h k) (λ s. verbs_left s.last (g.R.Rows.held s.rows.now).maps) c.find.new.self _ c.find.result c.find.ensures.ran c.each_verb.ensures (λ x b q k. search (rules, tests)) c.map.result is)
+    none_found (λ k _. is_verb_past m.head k) m.verbs verb_total verb_exact _ c.in-None.ensures.steps.0 c.loop-key.invariant

@@ -1,6 +1,10 @@
-use Rattle.moo_damage.proofs.Words.{◌≡◌, true, Some, ◌⊎◌, sym, subst, arith, is_some, AllByRecursion, get, nothing, Climbs, next_of, HasEnd, all_then}
+use Rattle.moo_damage.proofs.Words.{◌≡◌, true, Option, None, Some, refl, ◌⊎◌, sym, ap, ◌∙◌, subst, arith, is_some, option_map, AllByRecursion, get, object_cmp, contents, some_of, nothing, Climbs, next_of, HasEnd, all_then}
 use Rattle.moo_damage.proofs.Ending.{ends_here, step_up, step_down, bound}
 use Rattle.moo_damage.proofs.trees.climb.Goals as goal
+
+some_still : {A B : Type 0} (o : Option A) (f : A → B) → is_some o ≡ true → is_some (option_map f o) ≡ true
+some_still None f e = e
+some_still (Some a) f e = refl
 
 pub returns-in-None-clause-ends : goal.returns-in-None-clause-ends
 returns-in-None-clause-ends g c =
@@ -34,3 +38,8 @@ returns-in-Some-object-clause-loops g c l p =
     let d = c.loop.invariant.down l p in
     let s = step_down c.args.link m c.requires.links c.loop.at c.in-Some-object.field-0.now (sym c.in-Some-object.ensures) d.0 d.1 in
     omega (arith, s.2, d.2, bound c.args.link m c.requires.links l c.args.x p, c.requires.count, c.loop-test.false)
+
+pub returns-then-is_some-clause-ends : goal.returns-then-is_some-clause-ends
+returns-then-is_some-clause-ends g c =
+    let there : is_some (get (contents object_cmp c.args.known.now) c.loop.at) ≡ true = sym (ap is_some c.get.ensures) ∙ some_still _ _ (sym c.is_some.ensures ∙ c.if-is_some.true) in
+    c.loop.invariant.up (c.requires.known c.loop.at (some_of _ there).1)

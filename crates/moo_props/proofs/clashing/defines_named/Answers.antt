@@ -1,12 +1,26 @@
-use Rattle.moo_props.proofs.Words.{rules, ◌∙◌, YieldsList-from_first, any_from_yields_List, defined_left, same_text, folded, prop_id}
+use Rattle.moo_props.proofs.Words.{ap, sym, ◌∙◌, list_any, defined_left, same_text, folded}
 use Rattle.moo_props.proofs.NameClashes.{any_defined}
+use Rattle.moo_props.proofs.Steps.{meets, goes_on}
 use Rattle.moo_props.proofs.clashing.defines_named.Goals as goal
-use borrow.Author.Tests.{tests}
+
+pub loop-id-init : goal.loop-id-init
+loop-id-init g c =
+    let t = (g.R.Rows.held c.args.rows.now).maps in
+    ap (λ walk. list_any (λ e. same_text (folded e.1.name) (folded c.args.name.now)) (defined_left walk.definer walk.last (g.R.Rows.held walk.rows.now).maps)) c.into_iter-id-iterator.ensures.into_iter_gives
+    ∙ ap (list_any (λ e. same_text (folded e.1.name) (folded c.args.name.now))) c.each_defined-id-items.ensures
+    ∙ any_defined t c.requires (λ m. same_text (folded m) (folded c.args.name.now)) c.args.y
+
+pub returns-then-is_named : goal.returns-then-is_named
+returns-then-is_named g c =
+    let t = (g.R.Rows.held c.args.rows.now).maps in
+    sym (meets (λ e. same_text (folded e.1.name) (folded c.args.name.now)) c.is_named.result _ _ (c.in-Some._id, c.in-Some.row.now) c.in-Some.ensures.steps (c.is_named.ensures ∙ ap (λ n. same_text (folded c.in-Some.row.now.name) (folded n)) c.bytes.ensures.value) c.if-is_named.true) ∙ c.loop-id.invariant
+
+pub loop-id-preserved : goal.loop-id-preserved
+loop-id-preserved g c =
+    let t = (g.R.Rows.held c.args.rows.now).maps in
+    goes_on (λ e. same_text (folded e.1.name) (folded c.args.name.now)) c.is_named.result _ _ (c.in-Some._id, c.in-Some.row.now) c.in-Some.ensures.steps (c.is_named.ensures ∙ ap (λ n. same_text (folded c.in-Some.row.now.name) (folded n)) c.bytes.ensures.value) c.if-is_named.false ∙ c.loop-id.invariant
 
 pub returns : goal.returns
 returns g c =
     let t = (g.R.Rows.held c.args.rows.now).maps in
-    any_from_yields_List {s = c.each_defined.result} (λ e. same_text (folded e.1.name) (folded c.args.name.now)) c.any.new.self _ c.any.result c.any.ensures.ran
-    (YieldsList-from_first (λ p. (p.0, p.1.now)) (λ s. defined_left s.definer s.last (g.R.Rows.held s.rows.now).maps) {s = c.each_defined.result} (defined_left c.args.y (prop_id 0) t) c.each_defined.ensures)
-    (λ x b q k. search (rules, tests))
-    ∙ any_defined t c.requires (λ m. same_text (folded m) (folded c.args.name.now)) c.args.y
+    ap (list_any (λ e. same_text (folded e.1.name) (folded c.args.name.now))) (sym c.in-None.ensures.steps.0) ∙ c.loop-id.invariant

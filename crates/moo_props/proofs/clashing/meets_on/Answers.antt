@@ -1,14 +1,27 @@
-use Rattle.moo_props.proofs.Words.{rules, ◌∙◌, YieldsList-from_first, any_from_yields_List, is_some, defined_left, folded, world_of, prop_id, slot_of}
+use Rattle.moo_props.proofs.Words.{ap, sym, ◌∙◌, is_some, list_any, defined_left, folded, world_of, slot_of}
 use Rattle.moo_props.proofs.NameClashes.{any_defined, meets_by_slots}
+use Rattle.moo_props.proofs.Steps.{meets, goes_on}
 use Rattle.moo_props.proofs.clashing.meets_on.Goals as goal
-use borrow.Author.Tests.{tests}
+
+pub loop-id-init : goal.loop-id-init
+loop-id-init g c =
+    let t = (g.R.Rows.held c.args.rows.now).maps in
+    ap (λ walk. list_any (λ e. is_some (slot_of (world_of t) c.args.new (folded e.1.name))) (defined_left walk.definer walk.last (g.R.Rows.held walk.rows.now).maps)) c.into_iter-id-iterator.ensures.into_iter_gives
+    ∙ ap (list_any (λ e. is_some (slot_of (world_of t) c.args.new (folded e.1.name)))) c.each_defined-id-items.ensures
+    ∙ any_defined t c.requires.sound (λ m. is_some (slot_of (world_of t) c.args.new (folded m))) c.args.y
+    ∙ meets_by_slots (world_of t) c.requires.formed c.args.new c.args.y
+
+pub returns-then-is_some : goal.returns-then-is_some
+returns-then-is_some g c =
+    let t = (g.R.Rows.held c.args.rows.now).maps in
+    sym (meets (λ e. is_some (slot_of (world_of t) c.args.new (folded e.1.name))) c.is_some.result _ _ (c.in-Some._id, c.in-Some.row.now) c.in-Some.ensures.steps (c.is_some.ensures ∙ c.find.ensures.exact) c.if-is_some.true) ∙ c.loop-id.invariant
+
+pub loop-id-preserved : goal.loop-id-preserved
+loop-id-preserved g c =
+    let t = (g.R.Rows.held c.args.rows.now).maps in
+    goes_on (λ e. is_some (slot_of (world_of t) c.args.new (folded e.1.name))) c.is_some.result _ _ (c.in-Some._id, c.in-Some.row.now) c.in-Some.ensures.steps (c.is_some.ensures ∙ c.find.ensures.exact) c.if-is_some.false ∙ c.loop-id.invariant
 
 pub returns : goal.returns
 returns g c =
     let t = (g.R.Rows.held c.args.rows.now).maps in
-    let w = world_of t in
-    any_from_yields_List {s = c.each_defined.result} (λ e. is_some (slot_of w c.args.new (folded e.1.name))) c.any.new.self _ c.any.result c.any.ensures.ran
-    (YieldsList-from_first (λ p. (p.0, p.1.now)) (λ s. defined_left s.definer s.last (g.R.Rows.held s.rows.now).maps) {s = c.each_defined.result} (defined_left c.args.y (prop_id 0) t) c.each_defined.ensures)
-    (λ x b q k. search (rules, tests))
-    ∙ any_defined t c.requires.sound (λ m. is_some (slot_of w c.args.new (folded m))) c.args.y
-    ∙ meets_by_slots w c.requires.formed c.args.new c.args.y
+    ap (list_any (λ e. is_some (slot_of (world_of t) c.args.new (folded e.1.name)))) (sym c.in-None.ensures.steps.0) ∙ c.loop-id.invariant

@@ -1,13 +1,15 @@
-use Rattle.moo_props.proofs.Words.{◌≡◌, refl, sym, ap, ◌∙◌, subst, [], ◌∷◌, length, arith, Some, is_some, get, entries, remove, false≢true, Held, wrote, object_cmp, prop_cmp, slot_cmp, verb_cmp, recycled, AreSound, look_ups, world_of, world_shown, IsWellFormed, is_object_seen, dropped_keys, linked_among, dropped_over, slots_dropped, ids_among, owners_under, props_removed, verbs_removed, rows_released, ArePresent, AreAbsent, AreAscending, props_of, as_high, beside_world, petitions_stay}
+use Rattle.moo_props.proofs.Words.{IfOk, ◌≡◌, refl, sym, ap, ◌∙◌, subst, [], ◌∷◌, length, arith, Some, is_some, get, entries, false≢true, Held, without_object, object_cmp, prop_cmp, slot_cmp, verb_cmp, recycled, AreSound, look_ups, world_of, world_shown, IsWellFormed, is_object_seen, dropped_keys, linked_among, dropped_over, slots_dropped, ids_among, owners_under, props_removed, verbs_removed, rows_released, ArePresent, AreAbsent, AreAscending, props_of, as_high, beside_world, petitions_stay}
 use Rattle.moo_props.proofs.Kept.{good_by}
 use Rattle.moo_props.proofs.Walked.{walk}
 use Rattle.moo_props.proofs.Lessened.{world_less, sound_less, formed_less, less_object}
-use Rattle.moo_props.proofs.LessRows.{look_ups-less, held1, held2, held3, held4, held5, only5, base5}
+use Rattle.moo_props.proofs.LessRows.{look_ups-less, held1, held5, only5, base5}
 use Rattle.moo_props.proofs.Ascending.{ascend, props_rise, verbs_ascend, linked_ascend}
 use Rattle.moo_props.proofs.DroppedKeys.{dropped_list, dropped_ascend, dropped_had}
 use Rattle.moo_props.proofs.LeftRows.{writes5, slots_left, props_left, verbs_left, objects_left, head5, left_is, dropped_gone, relinked_there}
 use Rattle.moo_rows.specs.declared.row.Head.{Head}
 use Rattle.moo_world.specs.Numbers.{props_dropped, verbs_dropped}
+use Rattle.std.proofs.lemmas.Result.{IfOk-from_err}
+use Rattle.moo_props.specs.declared.dropping.Dropped.{Dropped}
 use Rattle.moo_props.proofs.dropping.drop_object.Goals as goal
 
 abbrev before : (g : _) → goal.After-from_vec g → Held
@@ -24,22 +26,17 @@ first g c =
     c.in_ok-removed.ensures.rows
     ∙ (λ i. slots_dropped c.args.x (ids_among (walk (before g c).maps c.args.x)) ((c.as_slice.ensures.value ∙ own_is g c) i) (owners_under (before g c).maps c.args.x) (before g c))
 
-second : (g : _) (c : goal.After-from_vec g) → g.R.Rows.held c.remove_props.new.rows ≡ held2 (before g c).maps c.requires.good c.args.x c.in-Some.row.now (here g c) (before g c) refl
-second g c = c.in_ok-remove_props.ensures ∙ (λ i. props_removed ((c.as_slice-2.ensures.value ∙ own_is g c) i) (first g c i))
+ends : (g : _) (c : goal.After-from_vec g) → g.R.Rows.held c.drop_rows.new.rows ≡ held5 (before g c).maps c.requires.good c.args.x c.in-Some.row.now (here g c) (before g c) refl
+ends g c =
+    c.in_ok-drop_rows.ensures
+    ∙ (λ i. without_object (rows_released c.args.x c.in-Some.row.now.parent ((c.as_slice-4.ensures.value ∙ c.in_ok-relinked.ensures) i)
+    (verbs_removed ((c.as_slice-3.ensures.value ∙ c.in_ok-verbs.ensures) i)
+    (props_removed ((c.as_slice-2.ensures.value ∙ own_is g c) i) (first g c i)))) c.args.x)
 
-third : (g : _) (c : goal.After-from_vec g) → g.R.Rows.held c.remove_verbs.new.rows ≡ held3 (before g c).maps c.requires.good c.args.x c.in-Some.row.now (here g c) (before g c) refl
-third g c = c.in_ok-remove_verbs.ensures ∙ (λ i. verbs_removed ((c.as_slice-3.ensures.value ∙ c.in_ok-verbs.ensures) i) (second g c i))
-
-fourth : (g : _) (c : goal.After-from_vec g) → g.R.Rows.held c.release_all.new.rows ≡ held4 (before g c).maps c.requires.good c.args.x c.in-Some.row.now (here g c) (before g c) refl
-fourth g c = c.in_ok-release_all.ensures ∙ (λ i. rows_released c.args.x c.in-Some.row.now.parent ((c.as_slice-4.ensures.value ∙ c.in_ok-relinked.ensures) i) (third g c i))
-
-ends : (g : _) (c : goal.After-from_vec g) → g.R.Rows.held c.remove_object.new.self ≡ held5 (before g c).maps c.requires.good c.args.x c.in-Some.row.now (here g c) (before g c) refl
-ends g c = c.in_ok-remove_object.ensures.ok ∙ (λ i. let h = fourth g c i in wrote h (record (h.maps) { objects = remove h.maps.objects c.args.x }))
-
-shown : (g : _) (c : goal.After-from_vec g) → look_ups (g.R.Rows.held c.remove_object.new.self).maps ≡ less_object (look_ups (before g c).maps) c.args.x c.in-Some.row.now.parent
+shown : (g : _) (c : goal.After-from_vec g) → look_ups (g.R.Rows.held c.drop_rows.new.rows).maps ≡ less_object (look_ups (before g c).maps) c.args.x c.in-Some.row.now.parent
 shown g c = ap (λ (h : Held). look_ups h.maps) (ends g c) ∙ look_ups-less (before g c).maps c.requires.good c.args.x c.in-Some.row.now (here g c) (before g c) refl
 
-world : (g : _) (c : goal.After-from_vec g) → world_of (g.R.Rows.held c.remove_object.new.self).maps ≡ recycled (world_of (before g c).maps) c.args.x
+world : (g : _) (c : goal.After-from_vec g) → world_of (g.R.Rows.held c.drop_rows.new.rows).maps ≡ recycled (world_of (before g c).maps) c.args.x
 world g c = ap world_shown (shown g c) ∙ world_less (look_ups (before g c).maps) c.requires.good.sound c.requires.good.formed c.args.x c.in-Some.row.now (here g c)
 
 pub unreachable-requires : goal.unreachable-requires
@@ -47,10 +44,10 @@ unreachable-requires g c =
     let m = look_ups (g.R.Rows.held c.args.rows.now).maps in
     false≢true (ap is_some c.in-None.ensures ∙ sym (is_object_seen m c.args.x) ∙ c.requires.object)
 
-head_is : (g : _) (c : goal.After-from_vec g) → (g.R.Rows.held c.remove_object.new.self).maps.head ≡ (before g c).maps.head
+head_is : (g : _) (c : goal.After-from_vec g) → (g.R.Rows.held c.drop_rows.new.rows).maps.head ≡ (before g c).maps.head
 head_is g c = ap (λ (h : Held). h.maps.head) (ends g c) ∙ head5 (before g c).maps c.requires.good c.args.x c.in-Some.row.now (here g c) (before g c) refl
 
-beside : (g : _) (c : goal.After-from_vec g) → beside_world (g.R.Rows.held c.remove_object.new.self).maps ≡ beside_world (before g c).maps
+beside : (g : _) (c : goal.After-from_vec g) → beside_world (g.R.Rows.held c.drop_rows.new.rows).maps ≡ beside_world (before g c).maps
 beside g c = ap (λ (h : Held). beside_world h.maps) (ends g c) ∙ ap beside_world (only5 (before g c).maps c.requires.good c.args.x c.in-Some.row.now (here g c) (before g c) refl)
 
 removed_is : (g : _) (c : goal.After-from_vec g) → c.in_ok-removed.removed ≡ dropped_keys (before g c).maps c.args.x
@@ -82,14 +79,14 @@ returns g c = record {
   head = head_is g c;
   world = world g c;
   kept = record {
-    good = good_by (before g c).maps (g.R.Rows.held c.remove_object.new.self).maps c.requires.good (less_object (look_ups (before g c).maps) c.args.x c.in-Some.row.now.parent) (shown g c) (sound_less (look_ups (before g c).maps) c.requires.good.sound c.requires.good.formed c.args.x c.in-Some.row.now (here g c)) (recycled (world_of (before g c).maps) c.args.x) (world g c) (formed_less (look_ups (before g c).maps) c.requires.good.sound c.requires.good.formed c.args.x c.in-Some.row.now (here g c)) (beside g c);
+    good = good_by (before g c).maps (g.R.Rows.held c.drop_rows.new.rows).maps c.requires.good (less_object (look_ups (before g c).maps) c.args.x c.in-Some.row.now.parent) (shown g c) (sound_less (look_ups (before g c).maps) c.requires.good.sound c.requires.good.formed c.args.x c.in-Some.row.now (here g c)) (recycled (world_of (before g c).maps) c.args.x) (world g c) (formed_less (look_ups (before g c).maps) c.requires.good.sound c.requires.good.formed c.args.x c.in-Some.row.now (here g c)) (beside g c);
     beside = beside g c;
     base = ap (λ (h : Held). h.base) (ends g c) ∙ base5 (before g c).maps c.requires.good c.args.x c.in-Some.row.now (here g c) (before g c) refl;
     numbers = record {
       props = props_dropped c.args.x (λ id. ap (λ (h : Held). get h.maps.props id) (ends g c) ∙ props_left (before g c).maps c.requires.good c.args.x c.in-Some.row.now (here g c) (before g c) refl id ∙ left_is (before g c).maps c.args.x id);
       verbs = verbs_dropped c.args.x (λ key. ap (λ (h : Held). get h.maps.verbs key) (ends g c) ∙ verbs_left (before g c).maps c.requires.good c.args.x c.in-Some.row.now (here g c) (before g c) refl key);
-      next_prop = as_high (before g c).maps.head.next_prop (g.R.Rows.held c.remove_object.new.self).maps.head.next_prop (ap (λ (h : Head). h.next_prop) (head_is g c));
-      next_verb = as_high (before g c).maps.head.next_verb (g.R.Rows.held c.remove_object.new.self).maps.head.next_verb (ap (λ (h : Head). h.next_verb) (head_is g c));
+      next_prop = as_high (before g c).maps.head.next_prop (g.R.Rows.held c.drop_rows.new.rows).maps.head.next_prop (ap (λ (h : Head). h.next_prop) (head_is g c));
+      next_verb = as_high (before g c).maps.head.next_verb (g.R.Rows.held c.drop_rows.new.rows).maps.head.next_verb (ap (λ (h : Head). h.next_verb) (head_is g c));
     };
   };
   writes =
@@ -102,3 +99,29 @@ returns g c = record {
       let relinked = ap length (relinked_is g c) in
       omega (arith, total, most, removed, props, verbs, relinked);
 }
+
+-- after an error nothing is promised
+pub returns-in_err-own : goal.returns-in_err-own
+returns-in_err-own g c =
+    let none : (P : Dropped → Type 0) → IfOk c.from_residual.result P = λ P. IfOk-from_err c.from_residual.result P c.from_residual.ensures.0 in
+    record { removed = none _; props = none _; verbs = none _; relinked = none _; removed_order = none _; props_order = none _; verbs_order = none _; relinked_order = none _; had = none _; gone = none _; stay = none _; slots_left = none _; props_left = none _; verbs_left = none _; objects_left = none _; head = none _; world = none _; kept = none _; writes = none _ }
+
+pub returns-in_err-verbs : goal.returns-in_err-verbs
+returns-in_err-verbs g c =
+    let none : (P : Dropped → Type 0) → IfOk c.from_residual-in_err-verbs.result P = λ P. IfOk-from_err c.from_residual-in_err-verbs.result P c.from_residual-in_err-verbs.ensures.0 in
+    record { removed = none _; props = none _; verbs = none _; relinked = none _; removed_order = none _; props_order = none _; verbs_order = none _; relinked_order = none _; had = none _; gone = none _; stay = none _; slots_left = none _; props_left = none _; verbs_left = none _; objects_left = none _; head = none _; world = none _; kept = none _; writes = none _ }
+
+pub returns-in_err-relinked : goal.returns-in_err-relinked
+returns-in_err-relinked g c =
+    let none : (P : Dropped → Type 0) → IfOk c.from_residual-in_err-relinked.result P = λ P. IfOk-from_err c.from_residual-in_err-relinked.result P c.from_residual-in_err-relinked.ensures.0 in
+    record { removed = none _; props = none _; verbs = none _; relinked = none _; removed_order = none _; props_order = none _; verbs_order = none _; relinked_order = none _; had = none _; gone = none _; stay = none _; slots_left = none _; props_left = none _; verbs_left = none _; objects_left = none _; head = none _; world = none _; kept = none _; writes = none _ }
+
+pub returns-in_err-removed : goal.returns-in_err-removed
+returns-in_err-removed g c =
+    let none : (P : Dropped → Type 0) → IfOk c.from_residual-in_err-removed.result P = λ P. IfOk-from_err c.from_residual-in_err-removed.result P c.from_residual-in_err-removed.ensures.0 in
+    record { removed = none _; props = none _; verbs = none _; relinked = none _; removed_order = none _; props_order = none _; verbs_order = none _; relinked_order = none _; had = none _; gone = none _; stay = none _; slots_left = none _; props_left = none _; verbs_left = none _; objects_left = none _; head = none _; world = none _; kept = none _; writes = none _ }
+
+pub returns-in_err-drop_rows : goal.returns-in_err-drop_rows
+returns-in_err-drop_rows g c =
+    let none : (P : Dropped → Type 0) → IfOk c.from_residual-in_err-drop_rows.result P = λ P. IfOk-from_err c.from_residual-in_err-drop_rows.result P c.from_residual-in_err-drop_rows.ensures.0 in
+    record { removed = none _; props = none _; verbs = none _; relinked = none _; removed_order = none _; props_order = none _; verbs_order = none _; relinked_order = none _; had = none _; gone = none _; stay = none _; slots_left = none _; props_left = none _; verbs_left = none _; objects_left = none _; head = none _; world = none _; kept = none _; writes = none _ }

@@ -1,13 +1,15 @@
-use Rattle.moo_props.proofs.Words.{◌≡◌, IfOk, subst, rules, items_from_collect, YieldsList-from_map, YieldsList-from_first, YieldsList-at, defined_left, prop_id}
+use Rattle.moo_props.proofs.Words.{◌++◌, map, ap, ◌∙◌, defined_left}
+use Rattle.moo_props.proofs.Steps.{listed, all_listed}
 use Rattle.moo_props.proofs.WholeWalks.{defined_keys}
 use Rattle.moo_props.proofs.dropping.props_on.Goals as goal
 
+pub loop-id-init : goal.loop-id-init
+loop-id-init g c =
+    let left = ap (λ walk. defined_left walk.definer walk.last (g.R.Rows.held walk.rows.now).maps) c.into_iter-id-iterator.ensures.into_iter_gives ∙ c.each_defined-id-items.ensures in
+    (λ i. c.new-found.ensures.items i ++ map (λ e. e.0) (left i)) ∙ defined_keys (g.R.Rows.held c.args.rows.now).maps c.requires c.args.x
+
+pub loop-id-preserved : goal.loop-id-preserved
+loop-id-preserved g c = listed (λ e. e.0) c.loop-id.found.items _ _ (c.in-Some.id, c.in-Some._row.now) _ c.in-Some.ensures.steps c.in_ok-push.ensures.items ∙ c.loop-id.invariant
+
 pub returns : goal.returns
-returns g c =
-    let t = (g.R.Rows.held c.args.rows.now).maps in
-    subst (λ l. IfOk c.collect.result (λ v. v.items ≡ l)) (defined_keys t c.requires c.args.x)
-    (items_from_collect c.collect.result c.collect.ensures.ran
-    (YieldsList-from_map _ (λ e. e.0)
-    (YieldsList-at c.map.ensures.source
-    (YieldsList-from_first (λ p. (p.0, p.1.now)) (λ s. defined_left s.definer s.last (g.R.Rows.held s.rows.now).maps) (defined_left c.args.x (prop_id 0) t) c.each_defined.ensures))
-    c.map.ensures.closure (λ x r q k. search rules)))
+returns g c = all_listed (λ e. e.0) c.loop-id.found.items _ c.in-None.ensures.steps.0 ∙ c.loop-id.invariant

@@ -1,13 +1,15 @@
-use Rattle.moo_props.proofs.Words.{◌≡◌, IfOk, subst, rules, items_from_collect, YieldsList-from_map, YieldsList-from_first, YieldsList-at, verbs_of_left, verb_id}
+use Rattle.moo_props.proofs.Words.{◌++◌, map, ap, ◌∙◌, verbs_of_left}
+use Rattle.moo_props.proofs.Steps.{listed, all_listed}
 use Rattle.moo_props.proofs.WholeWalks.{verb_keys}
 use Rattle.moo_props.proofs.dropping.verbs_on.Goals as goal
 
+pub loop-key-init : goal.loop-key-init
+loop-key-init g c =
+    let left = ap (λ walk. verbs_of_left walk.object walk.last (g.R.Rows.held walk.rows.now).maps) c.into_iter-key-iterator.ensures.into_iter_gives ∙ c.each_verb_of-key-items.ensures in
+    (λ i. c.new-found.ensures.items i ++ map (λ e. e.0) (left i)) ∙ verb_keys (g.R.Rows.held c.args.rows.now).maps c.requires c.args.x
+
+pub loop-key-preserved : goal.loop-key-preserved
+loop-key-preserved g c = listed (λ e. e.0) c.loop-key.found.items _ _ (c.in-Some.key, c.in-Some._row.now) _ c.in-Some.ensures.steps c.in_ok-push.ensures.items ∙ c.loop-key.invariant
+
 pub returns : goal.returns
-returns g c =
-    let t = (g.R.Rows.held c.args.rows.now).maps in
-    subst (λ l. IfOk c.collect.result (λ v. v.items ≡ l)) (verb_keys t c.requires c.args.x)
-    (items_from_collect c.collect.result c.collect.ensures.ran
-    (YieldsList-from_map _ (λ e. e.0)
-    (YieldsList-at c.map.ensures.source
-    (YieldsList-from_first (λ p. (p.0, p.1.now)) (λ s. verbs_of_left s.object s.last (g.R.Rows.held s.rows.now).maps) (verbs_of_left c.args.x (verb_id 0) t) c.each_verb_of.ensures))
-    c.map.ensures.closure (λ x r q k. search rules)))
+returns g c = all_listed (λ e. e.0) c.loop-key.found.items _ c.in-None.ensures.steps.0 ∙ c.loop-key.invariant

@@ -1,4 +1,4 @@
-use Rattle.moo_props.proofs.Words.{◌≡◌, map, length, Some, sym, ap, subst, ◌∙◌, arith, is_some, unwrap_or, [], option_map, get, entries, false≢true, or_right, ObjNo, ObjRow, PropId, Maps, Held, slot_cmp, lost, gained, same_object, is_among, IsGood, IsWellFormed, MayReparent, chain, look_ups, world_of, IsSound, chain_of_row, is_object_seen, owners_under, slots_moved, relinked, relinked_list, props_of, removed_keys, added_keys, slot_after, IsSameButSlotsAndObjects, AreAscending, id_of, origins, keys_over, numbers_same, beside_world, petitions_stay}
+use Rattle.moo_props.proofs.Words.{IfOk, ◌≡◌, map, length, Some, sym, ap, subst, ◌∙◌, arith, is_some, unwrap_or, [], option_map, get, entries, false≢true, or_right, ObjNo, ObjRow, PropId, Maps, Held, slot_cmp, lost, gained, same_object, is_among, IsGood, IsWellFormed, MayReparent, chain, look_ups, world_of, IsSound, chain_of_row, is_object_seen, owners_under, slots_moved, relinked, relinked_list, props_of, removed_keys, added_keys, slot_after, IsSameButSlotsAndObjects, AreAscending, id_of, origins, keys_over, numbers_same, beside_world, petitions_stay}
 use Rattle.moo_world.specs.Keeps.{Keeps}
 use Rattle.moo_world.specs.World.{reparented}
 use Rattle.moo_props.proofs.Shared.{new_is, no_clash}
@@ -6,6 +6,8 @@ use Rattle.moo_world.proofs.Inheritance.Reparenting.{IsWellFormed-reparented}
 use Rattle.moo_props.proofs.Moved.{lost_list, gained_list, all_on_new, held2, slots2, objects2, rest2, world2, sound2, base2, writes2}
 use Rattle.moo_props.proofs.Ascending.{removed_ascend, added_ascend}
 use Rattle.moo_props.proofs.Presence.{removed_had, added_had, removed_gone, added_there}
+use Rattle.std.proofs.lemmas.Result.{IfOk-from_err}
+use Rattle.moo_props.specs.declared.reparenting.Touched.{Touched}
 use Rattle.moo_props.proofs.reparenting.reparent.Goals as goal
 
 -- what is kept where the rows after it are known
@@ -96,3 +98,24 @@ returns g c = record {
       let total = ap (λ (h : Held). h.writes) (ends g c) ∙ writes2 (before g c).maps c.requires.good.sound c.args.x c.args.new c.requires.may c.in_ok-row-in-Some.row (here g c) (before g c) (λ i. (before g c).maps) in
       omega (arith, total, ap length (removed_is g c), ap length (added_is g c), ap length c.in_ok-relinked.ensures.list);
 }
+
+-- after an error nothing is promised
+pub returns-in_err-row-in-Some : goal.returns-in_err-row-in-Some
+returns-in_err-row-in-Some g c =
+    let none : (P : Touched → Type 0) → IfOk c.from_residual.result P = λ P. IfOk-from_err c.from_residual.result P c.from_residual.ensures.0 in
+    record { removed = none _; added = none _; relinked = none _; removed_order = none _; added_order = none _; had = none _; gone = none _; lacked = none _; came = none _; slots = none _; objects = none _; rest = none _; world = none _; kept = none _; writes = none _ }
+
+pub returns-in_err-lost : goal.returns-in_err-lost
+returns-in_err-lost g c =
+    let none : (P : Touched → Type 0) → IfOk c.from_residual-in_err-lost.result P = λ P. IfOk-from_err c.from_residual-in_err-lost.result P c.from_residual-in_err-lost.ensures.0 in
+    record { removed = none _; added = none _; relinked = none _; removed_order = none _; added_order = none _; had = none _; gone = none _; lacked = none _; came = none _; slots = none _; objects = none _; rest = none _; world = none _; kept = none _; writes = none _ }
+
+pub returns-in_err-removed : goal.returns-in_err-removed
+returns-in_err-removed g c =
+    let none : (P : Touched → Type 0) → IfOk c.from_residual-in_err-removed.result P = λ P. IfOk-from_err c.from_residual-in_err-removed.result P c.from_residual-in_err-removed.ensures.0 in
+    record { removed = none _; added = none _; relinked = none _; removed_order = none _; added_order = none _; had = none _; gone = none _; lacked = none _; came = none _; slots = none _; objects = none _; rest = none _; world = none _; kept = none _; writes = none _ }
+
+pub returns-in_err-relinked : goal.returns-in_err-relinked
+returns-in_err-relinked g c =
+    let none : (P : Touched → Type 0) → IfOk c.from_residual-in_err-relinked.result P = λ P. IfOk-from_err c.from_residual-in_err-relinked.result P c.from_residual-in_err-relinked.ensures.0 in
+    record { removed = none _; added = none _; relinked = none _; removed_order = none _; added_order = none _; had = none _; gone = none _; lacked = none _; came = none _; slots = none _; objects = none _; rest = none _; world = none _; kept = none _; writes = none _ }

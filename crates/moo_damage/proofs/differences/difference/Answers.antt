@@ -1,10 +1,10 @@
 use Rattle.moo_damage.proofs.Words.{rules, ◌≡◌}
 use Rattle.moo_damage.proofs.Differing.{nowhere}
-use Rattle.moo_damage.proofs.differences.first_difference.Goals as goal
+use Rattle.moo_damage.proofs.differences.difference.Goals as goal
 
 pub returns-clause-same : goal.returns-clause-same
-returns-clause-same c =
-    let a = c.args.own.now.maps in
-    let b = c.args.found.now.maps in
+returns-clause-same g c =
+    let a = (g.R.Rows.held c.args.own.now).maps in
+    let b = (g.R.Rows.held c.args.found.now).maps in
     let head : a.head ≡ b.head = search rules in
     nowhere a b head c.in_default.ensures c.in_default-prop_differing.ensures c.in_default-slot_differing.ensures c.in_default-verb_differing.ensures c.in_default-petition_differing.ensures
