@@ -1,4 +1,4 @@
-use Rattle.moo_load.proofs.Words.{◌≤◌, length, ap, sym, ◌∙◌, arith, Str, get_or, err_from_is_err_and}
+use Rattle.moo_load.proofs.Words.{◌≤◌, length, ap, sym, ◌∙◌, arith, Str, get_or, err_from_is_err_and, and_parts, ◌&&◌, is_text, is_number, accept_fits}
 use Rattle.moo_load.proofs.Items.{item, no_item}
 use Rattle.moo_load.proofs.object.read_object.Goals as goal
 
@@ -75,3 +75,11 @@ pub returns-in_err-f-clause-err : goal.returns-in_err-f-clause-err
 returns-in_err-f-clause-err c =
     let p = err_from_is_err_and c.from_residual-in_err-f.result c.from_residual-in_err-f.ensures.1 in
     rw p.1 (λ unreadable x row fits is. c.in_err-f.ensures.err row.f (c.f-item.is ∙ ap (λ l. get_or l 10 c.f-item.result) is))
+
+pub returns-in_err-accept-clause-err : goal.returns-in_err-accept-clause-err
+returns-in_err-accept-clause-err c =
+    let p = err_from_is_err_and c.from_residual-in_err-accept.result c.from_residual-in_err-accept.ensures.1 in
+    rw p.1 (λ unreadable x row fits is.
+    let rest = and_parts (is_text row.name) (is_number row.owner && accept_fits row.accept) fits in
+    let accept = and_parts (is_number row.owner) (accept_fits row.accept) rest.1 in
+    c.in_err-accept.ensures.err (sym p.2 ∙ unreadable) row.accept accept.1 (c.accept-item.is ∙ ap (λ l. get_or l 11 c.accept-item.result) is))
