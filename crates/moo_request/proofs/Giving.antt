@@ -1,5 +1,12 @@
 -- What reading takes from a reader, joined from call to call.
-use Rattle.moo_request.proofs.Words.{◌≡◌, ◌≤◌, ◌+◌, ◌-◌, ℕ, List, [], ◌++◌, true, false, Option, Some, None, length, refl, sym, ap, subst, ◌∙◌, append-nil, append_assoc, arith, Consumes, IsAtEnd, max, Result, Ok, Err, OnErr, length-append, Grows, TakesAtMost, Settles}
+use Rattle.moo_request.proofs.Words.{◌≡◌, ◌≤◌, ◌+◌, ◌-◌, ℕ, List, [], ◌++◌, true, false, Option, Some, None, length, take, refl, sym, ap, subst, ◌∙◌, append-nil, append_assoc, arith, Consumes, IsAtEnd, max, Result, Ok, Err, OnErr, length-append, Grows, TakesAtMost, Settles}
+use Rattle.std.proofs.lemmas.List.{length-take-le}
+
+-- so much of a front as it holds
+pub front_size : (n : ℕ) (xs ys : List ℕ) → n ≤ length xs → n ≡ length (take n (xs ++ ys))
+front_size n xs ys within =
+    let long = length-append xs ys in
+    sym (length-take-le n (xs ++ ys) (omega (arith, long, within)))
 
 Consumes-none : (a : Option (List ℕ)) → Consumes a a []
 Consumes-none None = tt
