@@ -86,3 +86,8 @@ module _ (t : Maps) (read one two three : List ℕ) (heading_read : read ≡ hea
 
   pub with_end : one ≡ read ++ objects_text t → two ≡ one ++ petitions_text t → three ≡ two ++ codes "end\n" → three ≡ dump (state_of t)
   with_end e f g = g ∙ with_petitions e f
+
+-- one piece more is compared
+pub next_compared : (before all now ahead piece left shown next : List ℕ) → IsComparedTo before all now ahead → ahead ≡ piece ++ left → shown ≡ piece → next ≡ now ++ shown → IsComparedTo before all next left
+next_compared before all now ahead piece left shown next compared is own more =
+    compared ∙ ap (λ (t : List ℕ). now ++ t) is ∙ sym (append_assoc now piece left) ∙ ap (λ (t : List ℕ). t ++ left) (ap (λ (t : List ℕ). now ++ t) (sym own) ∙ sym more)

@@ -1,6 +1,8 @@
 -- One more property in the map of lists.
-use Rattle.moo_dump.proofs.Words.{◌≡◌, Bool, true, false, cond, Some, [], ◌∷◌, ◌++◌, refl, sym, ap, ◌∙◌, append-nil, unwrap_or, option_map, is_at, Vec, ObjNo, PropId, object_cmp, same_object, same_object-Decides, ids_listed}
-use Rattle.std.specs.Prelude.{if◌then◌else◌}
+use Rattle.moo_dump.proofs.Words.{◌≡◌, Bool, true, false, cond, List, filter, Some, [], ◌∷◌, ◌++◌, refl, sym, ap, ◌∙◌, append-nil, unwrap_or, option_map, is_at, Vec, ObjNo, PropId, object_cmp, same_object, same_object-Decides, ids_listed}
+use Rattle.std.specs.Prelude.{if◌then◌else◌, map}
+use Rattle.moo_rows.specs.declared.row.PropRow.{PropRow}
+use Rattle.moo_dump.specs.Lines.{ids_defined_by}
 use Rattle.std.specs.BTreeMap.{BTreeMap}
 use Rattle.moo_world.proofs.Shown.MapLaws.{object_key}
 use Rattle.moo_world.proofs.Shown.ObjectEntries.{same_object-symm}
@@ -14,3 +16,12 @@ module _ (m n : BTreeMap ObjNo (Vec PropId)) (k : ObjNo) (v : Vec PropId) (id : 
     | true ↦ λ e. items ∙ ap (λ y. ids_listed m y ++ id ∷ []) ((same_object-Decides k d).0 e)
     | false ↦ λ e. sym (append-nil (ids_listed m d))
   ] refl
+
+-- one more property, of those that are left
+pub defined_more : (d : ObjNo) (id : PropId) (row : PropRow) (left : List (PropId × PropRow)) → ids_defined_by d ((id, row) ∷ left) ≡ (if same_object row.definer d then id ∷ [] else []) ++ ids_defined_by d left
+defined_more d id row left =
+    let rest : List (PropId × PropRow) = filter (λ e. same_object e.1.definer d) left in
+    elim (same_object row.definer d) as (λ (b : Bool). map (λ e. e.0) (cond b ((id, row) ∷ rest) rest) ≡ (if b then id ∷ [] else []) ++ map (λ e. e.0) rest) [
+      | true ↦ refl
+      | false ↦ refl
+    ]

@@ -16,7 +16,7 @@ use moo_rows::{Rows, each_object, each_petition};
 use std::alloc::{AllocError, Global};
 
 /// Why a text wasn't found to be a dump.
-#[derive(Clone, Copy, Debug, PartialEq, Eq)]
+#[derive(Clone, Copy)]
 pub enum CompareFault {
     /// The text isn't the dump: after so many bytes that they have in common one of them ends, or the next bytes differ.
     Differs(usize),

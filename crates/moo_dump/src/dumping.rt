@@ -14,7 +14,6 @@ use crate::lines::petition_text;
 use crate::objects::object_text;
 use crate::output::put_all;
 use moo_rows::{Rows, each_object, each_petition};
-use moo_value::{ObjNo, Value, print_literal};
 use std::alloc::{AllocError, Global};
 use std::io::Write;
 
@@ -25,14 +24,9 @@ pub(crate) fn heading_text<R: Rows>(alloc: Global, rows: &R) -> Result<Vec<u8>, 
 {
     let head = rows.head();
     let seq = head.seq.to_string(alloc)?;
-    let top = Value::Obj(ObjNo(head.top));
-    let mut text = Vec::new(alloc);
-    text.extend_from_slice(b"seq ")?;
-    text.extend_from_slice(seq.as_bytes())?;
-    text.extend_from_slice(b"\ntop ")?;
-    print_literal(alloc, &top, &mut text)?;
-    text.push(b'\n')?;
-    Ok(text)
+    let top = head.top.to_string(alloc)?;
+    let text = ["seq ", seq.as_str(), "\ntop #", top.as_str(), "\n"].concat(alloc)?;
+    Ok(text.into_bytes())
 }
 
 /// Writes the lines of the objects, ascending.

@@ -6,7 +6,7 @@ ghost use Rattle.moo_dump.specs.declared.fault.RowsDumpFault.TheVariants.{OutOfM
 use std::alloc::AllocError;
 
 /// Why a dump stopped.
-#[derive(Clone, Copy, Debug, PartialEq, Eq)]
+#[derive(Clone, Copy)]
 pub enum RowsDumpFault {
     /// The writer failed, or took no bytes.
     Write,

@@ -23,10 +23,9 @@ fn put_line(
 {
     let list = list_of(values);
     out.extend_from_slice(word)?;
-    out.push(b' ')?;
+    out.extend_from_slice(b" ")?;
     print_literal(alloc, &list, out)?;
-    out.push(b'\n')?;
-    Ok(())
+    out.extend_from_slice(b"\n")
 }
 
 /// A text as a value.

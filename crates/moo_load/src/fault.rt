@@ -12,7 +12,7 @@ use moo_value::LiteralFault;
 use std::alloc::AllocError;
 
 /// Why a text gives no world.
-#[derive(Clone, Copy, Debug, PartialEq, Eq)]
+#[derive(Clone, Copy)]
 pub enum LoadFault {
     /// The line of this number, from 1, isn't as a dump has it, or is missing.
     NotADump(u64),
@@ -33,7 +33,7 @@ impl From<AllocError> for LoadFault {
 }
 
 /// Why a line can't be read.
-#[derive(Clone, Copy, Debug, PartialEq, Eq)]
+#[derive(Clone, Copy)]
 pub(crate) enum LineFault {
     /// No dump has the line.
     Unreadable,

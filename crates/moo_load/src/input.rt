@@ -14,7 +14,7 @@ pub const LONGEST_TEXT: usize = 1073741824;
 const PIECE: usize = 65536;
 
 /// Why a reader gives no text.
-#[derive(Clone, Copy, Debug, PartialEq, Eq)]
+#[derive(Clone, Copy)]
 pub enum InputFault {
     /// The reader failed.
     Read,

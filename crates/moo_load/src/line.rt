@@ -12,7 +12,7 @@ use moo_value::{Value, read_literal};
 use std::alloc::{AllocError, Global};
 
 /// What the line of a row begins with.
-#[derive(Clone, Copy, Debug, PartialEq, Eq)]
+#[derive(Clone, Copy, PartialEq, Eq)]
 pub(crate) enum Word {
     Object,
     Property,

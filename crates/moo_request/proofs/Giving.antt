@@ -1,5 +1,12 @@
 -- What reading takes from a reader, joined from call to call.
-use Rattle.moo_request.proofs.Words.{◌≡◌, ◌≤◌, ◌+◌, ◌-◌, ℕ, List, [], ◌++◌, true, false, Option, Some, None, length, refl, sym, ap, subst, ◌∙◌, append-nil, append_assoc, arith, Consumes, IsAtEnd, max, Result, Ok, Err, OnErr, length-append, Grows, TakesAtMost, Settles}
+use Rattle.moo_request.proofs.Words.{◌≡◌, ◌≤◌, ◌+◌, ◌-◌, ℕ, List, [], ◌++◌, true, false, Option, Some, None, length, take, refl, sym, ap, subst, ◌∙◌, append-nil, append_assoc, arith, Consumes, IsAtEnd, max, Result, Ok, Err, OnErr, length-append, Grows, TakesAtMost, Settles}
+use Rattle.std.proofs.lemmas.List.{length-take-le}
+
+-- so much of a front as it holds
+pub front_size : (n : ℕ) (xs ys : List ℕ) → n ≤ length xs → n ≡ length (take n (xs ++ ys))
+front_size n xs ys within =
+    let long = length-append xs ys in
+    sym (length-take-le n (xs ++ ys) (omega (arith, long, within)))
 
 Consumes-none : (a : Option (List ℕ)) → Consumes a a []
 Consumes-none None = tt
@@ -17,6 +24,13 @@ Grows-all a b x y e p = subst (Consumes a b) (sym (p.grown ∙ ap (λ (t : List 
 
 pub Grows-more : (a b c : Option (List ℕ)) (y z : List ℕ) → Consumes a b y → Grows b c y z → Consumes a c z
 Grows-more a b c y z p q = subst (Consumes a c) (sym q.grown) (Consumes-then a b c y q.given p q.known)
+
+pub Grows-then : (a b c : Option (List ℕ)) (x y z : List ℕ) → Grows a b x y → Grows b c y z → Grows a c x z
+Grows-then a b c x y z p q = record {
+  given = p.given ++ q.given;
+  known = Consumes-then a b c p.given q.given p.known q.known;
+  grown = q.grown ∙ ap (λ (t : List ℕ). t ++ q.given) p.grown ∙ append_assoc x p.given q.given;
+}
 
 -- what was taken, with what stood there before, stays below the limit
 pub taken_then : (a b c : Option (List ℕ)) (x y : List ℕ) (limit : ℕ) → length y ≤ limit → Grows a b x y → TakesAtMost (limit - length y) b c → TakesAtMost (limit - length x) a c

@@ -4,14 +4,14 @@ use crate::question::Question;
 use moo_world::Batch;
 
 /// The method that a route has.
-#[derive(Clone, Copy, Debug, PartialEq, Eq, Drop)]
+#[derive(Clone, Copy, Drop)]
 pub enum Method {
     Get,
     Post,
 }
 
 /// Why a request is refused before the World is asked.
-#[derive(Clone, Copy, Debug, PartialEq, Eq, Drop)]
+#[derive(Clone, Copy, Drop)]
 pub enum Refusal {
     /// No head within the limits, no stated length, or no body of the shape.
     BadRequest,
@@ -26,7 +26,7 @@ pub enum Refusal {
 }
 
 /// Whether a batch is to be run, or only asked what it would answer.
-#[derive(Clone, Copy, Debug, PartialEq, Eq, Drop)]
+#[derive(Clone, Copy, Drop)]
 pub enum Mode {
     Run,
     Ask,

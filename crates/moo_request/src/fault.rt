@@ -6,7 +6,7 @@ ghost use Rattle.moo_request.specs.declared.fault.ReadFault.TheVariants.{OutOfMe
 use std::alloc::AllocError;
 
 /// Why nothing is received.
-#[derive(Clone, Copy, Debug, PartialEq, Eq, Drop)]
+#[derive(Clone, Copy, Drop)]
 pub enum ReadFault {
     /// The reader failed.
     Read,

@@ -9,7 +9,7 @@ use moo_value::ObjNo;
 use std::fmt::{self, Display, Formatter};
 
 /// What a GET asks about. Each topic has one route.
-#[derive(Clone, Copy, Debug, PartialEq, Eq, Drop)]
+#[derive(Clone, Copy, Drop)]
 pub enum Topic {
     Seq,
     Object,

@@ -1,6 +1,8 @@
 //! The routes of the service.
 
-ghost use Rattle.std.specs.Prelude.{◌≡◌, OnOk};
+ghost use Rattle.std.specs.Prelude.{◌≡◌, OnOk, codes};
+ghost use Rattle.moo_request.specs.declared.asked.Mode.TheVariants.{Run, Ask};
+ghost use Rattle.moo_request.specs.declared.routes.Endpoint.TheVariants.{Batch};
 ghost use Rattle.moo_request.specs.Routes.{service_rows, with_route, with_topics, endpoint_of};
 ghost use Rattle.moo_request.specs.Questions.{all_topics};
 
@@ -10,7 +12,7 @@ use matchit::Router;
 use std::alloc::{AllocError, Global};
 
 /// What a path names.
-#[derive(Clone, Copy, Debug, PartialEq, Eq, Drop)]
+#[derive(Clone, Copy, Drop)]
 pub enum Endpoint {
     /// Batches are sent to it.
     Batch(Mode),
@@ -49,13 +51,20 @@ fn add_topics(router: &mut Router<Endpoint>) -> Result<(), AllocError>
     Ok(())
 }
 
+/// Adds the two routes of batches and that of each topic. AllocError if memory runs out.
+fn add_routes(router: &mut Router<Endpoint>) -> Result<(), AllocError>
+    ensures { OnOk result (router.new ≡ with_topics all_topics (with_route (codes "/ask") (Batch Ask) (with_route (codes "/batch") (Batch Run) router.old))) }
+{
+    add_route(router, "/batch", Endpoint::Batch(Mode::Run))?;
+    add_route(router, "/ask", Endpoint::Batch(Mode::Ask))?;
+    add_topics(router)
+}
+
 impl Routes {
     /// The router of the two routes of batches and of each topic. AllocError if memory runs out.
     pub fn new(alloc: Global) -> Result<Routes, AllocError> {
         let mut router = Router::new(alloc);
-        add_route(&mut router, "/batch", Endpoint::Batch(Mode::Run))?;
-        add_route(&mut router, "/ask", Endpoint::Batch(Mode::Ask))?;
-        add_topics(&mut router)?;
+        add_routes(&mut router)?;
         Ok(Routes { router })
     }
 

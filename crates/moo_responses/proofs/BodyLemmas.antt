@@ -1,5 +1,10 @@
--- The bodies of answers hold no float.
-use Rattle.moo_responses.proofs.Words.{◌≡◌, ℕ, List, [], ◌∷◌, false, map, refl, Value, print, has_float, items_have_float, strings, object_text, accepted_body, look_body}
+-- The bodies of answers: they hold no float, and their texts come one after another.
+use Rattle.moo_responses.proofs.Words.{◌≡◌, ◌+◌, ◌<◌, ℕ, List, [], ◌∷◌, ◌++◌, ◌∙◌, false, map, get_or, length, take, sym, ap, refl, rules, Value, print, has_float, items_have_float, string, view, strings, object_text, accepted_body, look_body}
+use Rattle.std.proofs.lemmas.List.{map-append, map_more}
+use Rattle.std.specs.Prelude.{String, string_bytes}
+use Rattle.std.specs.declared.alloc.Global.{Global}
+use Rattle.serde_json.specs.declared.value.Value.{Value as Json, the_lemmas}
+use Rattle.serde_json.specs.declared.value.Value.TheVariants.{String as a_string}
 use Rattle.moo_dump.specs.declared.seen.Look.{Look}
 
 no_float-strings : (texts : List (List ℕ)) → items_have_float (strings texts) ≡ false
@@ -11,3 +16,13 @@ no_float-accepted answers seq = rw (no_float-strings (map print answers)) refl
 
 pub no_float-look : (look : Look) → has_float (look_body look) ≡ false
 no_float-look look = rw (no_float-strings (map object_text look.children)) (rw (no_float-strings (map object_text look.contents)) refl)
+
+pub view-String : (s : String Global) → view (a_string s) ≡ string (string_bytes s)
+view-String s = search (rules, the_lemmas)
+
+-- one more text in an array
+pub one_more : {A : Type 0} (f : A → List ℕ) (xs : List A) (i : ℕ) (default : A) (vs : List Json) (v : Json) → i < length xs → view v ≡ string (f (get_or xs i default)) → map view vs ≡ map string (map f (take i xs)) → map view (vs ++ v ∷ []) ≡ map string (map f (take (i + 1) xs))
+one_more f xs i default vs v within seen before =
+    map-append view vs (v ∷ [])
+    ∙ (λ j. before j ++ seen j ∷ [])
+    ∙ sym (ap (map string) (map_more f xs i default within) ∙ map-append string (map f (take i xs)) (f (get_or xs i default) ∷ []))

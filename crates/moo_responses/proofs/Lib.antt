@@ -2,3 +2,4 @@ pub mod Words
 pub mod Nesting
 pub mod Ascii
 pub mod BodyLemmas
+pub mod HeadLemmas

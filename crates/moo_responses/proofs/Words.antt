@@ -1,5 +1,6 @@
 -- The words that most proofs of this crate share.
-pub use Rattle.std.proofs.Common.{Bool, List, [], ap, arith, drop, false, get_or, length, map, nat_lt, negsuc, pos, refl, subst, suc, sym, take, true, zero, ℕ, ℤ, ◌&&◌, ◌*◌, ◌++◌, ◌+◌, ◌<◌, ◌==◌, ◌^◌, ◌||◌, ◌∙◌, ◌∷◌, ◌≡◌, ◌≤◌}
+pub use Rattle.std.proofs.Common.{Bool, List, [], ap, arith, drop, false, get_or, length, map, nat_lt, negsuc, pos, refl, subst, suc, sym, take, true, zero, ℕ, ℤ, ◌&&◌, ◌*◌, ◌++◌, ◌+◌, ◌<◌, ◌==◌, ◌^◌, ◌||◌, ◌∙◌, ◌∷◌, ◌≡◌, ◌≤◌, rules}
+pub use Rattle.std.specs.Prelude.{codes}
 pub use Rattle.std.specs.Str.{IsAscii, IsUtf8}
 pub use Rattle.moo_value.specs.Literal.{HoldIn, HoldInside, InRange, NumberKind, an_integer, an_object, escape, name, print, print_comma, print_items, print_string}
 pub use Rattle.moo_value.specs.Text.{IsText, is_allowed}

@@ -1,81 +1,68 @@
-//! The JSON of answers: each body is built by one function and printed by another.
+//! The JSON of answers, printed.
 
-ghost use Rattle.std.specs.Prelude.{◌≡◌, map, IfOk, string_bytes, false};
-ghost use Rattle.serde_json.specs.View.{view, items_view};
-ghost use Rattle.serde_json.specs.Written.{compact_text, has_float};
+ghost use Rattle.std.specs.Prelude.{◌≡◌, map, IfOk, string_bytes, codes, false};
+ghost use Rattle.serde_json.specs.Data.{object, string, member, no_members};
+ghost use Rattle.serde_json.specs.View.{items_view, members_view};
+ghost use Rattle.serde_json.specs.Written.{compact_text, members_have_float};
 ghost use Rattle.moo_value.specs.Literal.{print};
 ghost use Rattle.moo_responses.specs.Bodies.{strings, error_body, call_body, stale_body, number_body, accepted_body};
 
 use crate::limits::read_limits;
 use moo_value::{Value as Literal, print_literal};
-use serde_json::{Map, Value, json, put};
+use serde_json::{Map, Value, put};
 use std::alloc::{AllocError, Global};
 
-/// JSON without floats, printed.
-pub(crate) fn printed(alloc: Global, value: &Value) -> Result<String, AllocError>
-    requires { has_float (view value.now) ≡ false }
-    ensures { IfOk result (λ text. string_bytes text ≡ compact_text (view value.now)) }
+/// An object without floats, printed.
+pub(crate) fn printed(alloc: Global, fields: Map<String, Value>) -> Result<String, AllocError>
+    requires { members_have_float (members_view fields.entries) ≡ false }
+    ensures { IfOk result (λ text. string_bytes text ≡ compact_text (object (members_view fields.entries))) }
 {
-    value.to_string(alloc)
+    Value::Object(fields).to_string(alloc)
 }
 
-fn error_value(alloc: Global, word: &str) -> Result<Value, AllocError>
-    ensures { IfOk result (λ value. view value ≡ error_body word.now) }
+/// A word under `error`.
+fn error_fields(alloc: Global, word: &str) -> Result<Map<String, Value>, AllocError>
+    ensures { IfOk result (λ fields. members_view fields.entries ≡ member (codes "error") (string word.now) no_members) }
 {
-    json!(in alloc; {"error": word})
-}
-
-fn call_value(alloc: Global, call: u32, word: &str) -> Result<Value, AllocError>
-    ensures { IfOk result (λ value. view value ≡ call_body call word.now) }
-{
-    let call = u64::from(call);
-    json!(in alloc; {"call": call, "error": word})
-}
-
-fn stale_value(alloc: Global, seq: u64) -> Result<Value, AllocError>
-    ensures { IfOk result (λ value. view value ≡ stale_body seq) }
-{
-    json!(in alloc; {"error": "stale", "seq": seq})
-}
-
-fn number_value(alloc: Global, key: &str, number: u64) -> Result<Value, AllocError>
-    ensures { IfOk result (λ value. view value ≡ number_body key.now number) }
-{
+    let word = String::from_str(alloc, word)?;
     let mut fields = Map::new(alloc);
-    put(&mut fields, alloc, key, Value::from(number))?;
-    Ok(Value::Object(fields))
+    put(&mut fields, alloc, "error", Value::String(word))?;
+    Ok(fields)
 }
 
 /// A word under `error`.
 pub(crate) fn error_text(alloc: Global, word: &str) -> Result<String, AllocError>
     ensures { IfOk result (λ text. string_bytes text ≡ compact_text (error_body word.now)) }
 {
-    let value = error_value(alloc, word)?;
-    printed(alloc, &value)
+    let fields = error_fields(alloc, word)?;
+    printed(alloc, fields)
 }
 
 /// A call, by its number, and what befell it.
 pub(crate) fn call_text(alloc: Global, call: u32, word: &str) -> Result<String, AllocError>
     ensures { IfOk result (λ text. string_bytes text ≡ compact_text (call_body call word.now)) }
 {
-    let value = call_value(alloc, call, word)?;
-    printed(alloc, &value)
+    let mut fields = error_fields(alloc, word)?;
+    put(&mut fields, alloc, "call", Value::from(u64::from(call)))?;
+    printed(alloc, fields)
 }
 
 /// The present number, if a batch named another.
 pub(crate) fn stale_text(alloc: Global, seq: u64) -> Result<String, AllocError>
     ensures { IfOk result (λ text. string_bytes text ≡ compact_text (stale_body seq)) }
 {
-    let value = stale_value(alloc, seq)?;
-    printed(alloc, &value)
+    let mut fields = error_fields(alloc, "stale")?;
+    put(&mut fields, alloc, "seq", Value::from(seq))?;
+    printed(alloc, fields)
 }
 
 /// A number under a key.
 pub(crate) fn number_text(alloc: Global, key: &str, number: u64) -> Result<String, AllocError>
     ensures { IfOk result (λ text. string_bytes text ≡ compact_text (number_body key.now number)) }
 {
-    let value = number_value(alloc, key, number)?;
-    printed(alloc, &value)
+    let mut fields = Map::new(alloc);
+    put(&mut fields, alloc, key, Value::from(number))?;
+    printed(alloc, fields)
 }
 
 /// The printed literal of a value.
@@ -99,13 +86,6 @@ fn literals(alloc: Global, answers: &[Literal]) -> Result<Vec<Value>, AllocError
     Ok(list)
 }
 
-fn accepted_value(alloc: Global, answers: &[Literal], seq: u64) -> Result<Value, AllocError>
-    ensures { IfOk result (λ value. view value ≡ accepted_body answers.now seq) }
-{
-    let list = Value::Array(literals(alloc, answers)?);
-    json!(in alloc; {"answers": list, "seq": seq})
-}
-
 /// The answers of a batch, each as its printed literal, and the number.
 pub(crate) fn accepted_text(
     alloc: Global,
@@ -114,6 +94,9 @@ pub(crate) fn accepted_text(
 ) -> Result<String, AllocError>
     ensures { IfOk result (λ text. string_bytes text ≡ compact_text (accepted_body answers.now seq)) }
 {
-    let value = accepted_value(alloc, answers, seq)?;
-    printed(alloc, &value)
+    let list = literals(alloc, answers)?;
+    let mut fields = Map::new(alloc);
+    put(&mut fields, alloc, "answers", Value::Array(list))?;
+    put(&mut fields, alloc, "seq", Value::from(seq))?;
+    printed(alloc, fields)
 }

@@ -2,7 +2,7 @@
 
 ghost use Rattle.std.specs.Prelude.{◌≡◌, map, IfOk, OnOk, string_bytes};
 ghost use Rattle.serde_json.specs.Data.{string, put as insert};
-ghost use Rattle.serde_json.specs.View.{view, items_view, members_view};
+ghost use Rattle.serde_json.specs.View.{items_view, members_view};
 ghost use Rattle.serde_json.specs.Written.{compact_text};
 ghost use Rattle.moo_responses.specs.Bodies.{strings, object_text, objects as objects_of, flag_data, look_body};
 ghost use Rattle.moo_responses.specs.Fields.{with_links, with_flags};
@@ -108,19 +108,12 @@ fn put_flags(fields: &mut Map<String, Value>, alloc: Global, look: &Look) -> Res
     put_flag(fields, alloc, "wizard", look.wizard)
 }
 
-fn look_value(alloc: Global, look: &Look) -> Result<Value, AllocError>
-    ensures { IfOk result (λ value. view value ≡ look_body look.now) }
-{
-    let mut fields = Map::new(alloc);
-    put_links(&mut fields, alloc, look)?;
-    put_flags(&mut fields, alloc, look)?;
-    Ok(Value::Object(fields))
-}
-
 /// The fields of an object, its children and what is in it.
 pub(crate) fn look_text(alloc: Global, look: &Look) -> Result<String, AllocError>
     ensures { IfOk result (λ text. string_bytes text ≡ compact_text (look_body look.now)) }
 {
-    let value = look_value(alloc, look)?;
-    printed(alloc, &value)
+    let mut fields = Map::new(alloc);
+    put_links(&mut fields, alloc, look)?;
+    put_flags(&mut fields, alloc, look)?;
+    printed(alloc, fields)
 }

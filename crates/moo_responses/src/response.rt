@@ -1,7 +1,7 @@
 //! Responses as bytes.
 
-ghost use Rattle.std.specs.Prelude.{◌≡◌, ◌++◌, IfOk, OnOk, option_map, string_bytes};
-ghost use Rattle.moo_responses.specs.Bytes.{reason_of, status_line, length_line, allow_line, head_text, text_of};
+ghost use Rattle.std.specs.Prelude.{◌≡◌, IfOk, option_map, string_bytes};
+ghost use Rattle.moo_responses.specs.Bytes.{reason_of, allow_line, head_text, text_of};
 
 use http::StatusCode;
 use std::alloc::{AllocError, Global};
@@ -23,42 +23,16 @@ fn reason(status: StatusCode) -> &'static str
     }
 }
 
-#[tactic(auto, unfolding(crate::specs::Bytes::status_line))]
-fn print_status(alloc: Global, status: StatusCode) -> Result<String, AllocError>
-    ensures { IfOk result (λ text. string_bytes text ≡ status_line status) }
+/// The line that names the method of the route, or nothing.
+fn allow_line(alloc: Global, allow: Option<&str>) -> Result<String, AllocError>
+    ensures { IfOk result (λ line. string_bytes line ≡ allow_line (option_map (λ method. method.now) allow.entry)) }
 {
-    let mut text = String::from_str(alloc, "HTTP/1.1 ")?;
-    let code = status.as_u16().to_string(alloc)?;
-    text.push_str(&code)?;
-    text.push_str(" ")?;
-    text.push_str(reason(status))?;
-    text.push_str("\r\n")?;
-    Ok(text)
-}
-
-#[tactic(auto, unfolding(crate::specs::Bytes::length_line))]
-fn add_length(text: &mut String, alloc: Global, length: usize) -> Result<(), AllocError>
-    ensures { OnOk result (string_bytes text.new ≡ string_bytes text.old ++ length_line length) }
-{
-    let digits = length.to_string(alloc)?;
-    text.push_str("content-length: ")?;
-    text.push_str(&digits)?;
-    text.push_str("\r\n")?;
-    Ok(())
-}
-
-fn add_allow(text: &mut String, allow: Option<&str>) -> Result<(), AllocError>
-    ensures { OnOk result (string_bytes text.new ≡ string_bytes text.old ++ allow_line (option_map (λ method. method.now) allow.entry)) }
-{
-    if let Some(method) = allow {
-        text.push_str("allow: ")?;
-        text.push_str(method)?;
-        text.push_str("\r\n")?;
+    match allow {
+        Some(method) => ["allow: ", method, "\r\n"].concat(alloc),
+        None => Ok(String::new(alloc)),
     }
-    Ok(())
 }
 
-#[tactic(auto, unfolding(crate::specs::Bytes::head_text))]
 fn print_head(
     alloc: Global,
     status: StatusCode,
@@ -67,13 +41,21 @@ fn print_head(
 ) -> Result<String, AllocError>
     ensures { IfOk result (λ text. string_bytes text ≡ head_text status (option_map (λ method. method.now) allow.entry) size) }
 {
-    let mut text = print_status(alloc, status)?;
-    text.push_str("content-type: application/json\r\n")?;
-    add_length(&mut text, alloc, size)?;
-    text.push_str("connection: close\r\n")?;
-    add_allow(&mut text, allow)?;
-    text.push_str("\r\n")?;
-    Ok(text)
+    let code = status.as_u16().to_string(alloc)?;
+    let length = size.to_string(alloc)?;
+    let allow = allow_line(alloc, allow)?;
+    [
+        "HTTP/1.1 ",
+        code.as_str(),
+        " ",
+        reason(status),
+        "\r\ncontent-type: application/json\r\ncontent-length: ",
+        length.as_str(),
+        "\r\nconnection: close\r\n",
+        allow.as_str(),
+        "\r\n",
+    ]
+    .concat(alloc)
 }
 
 /// The bytes of a response. To HEAD the body is left off.

@@ -1,7 +1,19 @@
-use Rattle.moo_dump.proofs.Words.{◌∙◌}
+use Rattle.moo_dump.proofs.Words.{ℕ, take, ◌∙◌, Appends, dump, state_of}
 use Rattle.std.proofs.lemmas.Result.{on_ok_weaker, on_err_weaker}
-use Rattle.moo_dump.proofs.Writing.{on_err, all_written, at_end, at_heading, at_objects, at_petitions}
+use Rattle.moo_dump.proofs.Writing.{Appends-nothing, on_err, all_written, at_end, at_heading, at_objects, at_petitions}
 use Rattle.moo_dump.proofs.dumping.dump.Goals as goal
+
+pub returns-in_err-definitions-clause-err : goal.returns-in_err-definitions-clause-err
+returns-in_err-definitions-clause-err g c =
+    let old = g.W.Write.contents c.args.output.now in
+    let none : (count : ℕ) × Appends old old (take count (dump (state_of (g.R.Rows.held c.args.rows.now).maps))) = (0, Appends-nothing old) in
+    on_err c.from_residual.result none
+
+pub returns-in_err-heading-clause-err : goal.returns-in_err-heading-clause-err
+returns-in_err-heading-clause-err g c =
+    let old = g.W.Write.contents c.args.output.now in
+    let none : (count : ℕ) × Appends old old (take count (dump (state_of (g.R.Rows.held c.args.rows.now).maps))) = (0, Appends-nothing old) in
+    on_err c.from_residual-in_err-heading.result none
 
 pub returns-in_err-put_all-clause-err : goal.returns-in_err-put_all-clause-err
 returns-in_err-put_all-clause-err g c =

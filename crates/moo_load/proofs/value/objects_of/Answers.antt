@@ -1,4 +1,4 @@
-use Rattle.moo_load.proofs.Words.{rules, ◌≡◌, ◌<◌, ◌++◌, [], ◌∷◌, length, arith, err_from_is_err_and}
+use Rattle.moo_load.proofs.Words.{rules, ◌≡◌, ◌<◌, ◌++◌, [], ◌∷◌, length, arith, err_from_is_err_and, sym, ◌∙◌}
 use Rattle.moo_load.proofs.Accepting.{not_objects, objects_more, numbers_more, all_objects, few_objects, too_many}
 use Rattle.moo_load.proofs.value.objects_of.Goals as goal
 
@@ -27,3 +27,8 @@ pub returns-clause-fits : goal.returns-clause-fits
 returns-clause-fits c =
     let read = all_objects c.args.values.now c.loop-value.value-index c.loop-value.objects.items (omega arith) c.loop-value.invariant.read in
     rw c.from_vec.ensures (few_objects c.args.values.now c.loop-value.objects.items read (omega arith) c.loop-value.invariant.fits)
+
+pub returns-in_err-map_err-clause-err : goal.returns-in_err-map_err-clause-err
+returns-in_err-map_err-clause-err c =
+    let p = err_from_is_err_and c.from_residual-in_err-map_err.result c.from_residual-in_err-map_err.ensures.1 in
+    rw p.1 (λ unreadable objects short same. let none = sym p.2 ∙ unreadable in cc)

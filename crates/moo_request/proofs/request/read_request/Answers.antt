@@ -1,5 +1,5 @@
 use Rattle.moo_request.proofs.Giving.{on_err}
-use Rattle.moo_request.proofs.RequestLemmas.{takes_of, takes_refused, breaks_of}
+use Rattle.moo_request.proofs.RequestLemmas.{takes_of, takes_nothing, takes_refused, breaks_of}
 use Rattle.moo_request.proofs.request.read_request.Goals as goal
 
 pub returns-in_err-asked-clause-breaks : goal.returns-in_err-asked-clause-breaks
@@ -20,3 +20,8 @@ returns-clause-takes g c =
 pub returns-in-Refused-clause-takes : goal.returns-in-Refused-clause-takes
 returns-in-Refused-clause-takes g c =
     takes_refused _ _ c.read_head.new.bytes.items c.in_ok-read_head.ensures.takes c.in_ok-read_head.ensures.few (rw c.in-Refused.is at c.in_ok-read_head.ensures.head)
+
+pub returns-in-Empty-clause-takes : goal.returns-in-Empty-clause-takes
+returns-in-Empty-clause-takes g c =
+    let finds = rw c.in-Empty.is at c.in_ok-read_head.ensures.head in
+    takes_nothing _ _ c.read_head.new.bytes.items c.in_ok-read_head.ensures.takes finds.0 finds.1

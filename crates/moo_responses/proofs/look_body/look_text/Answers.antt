@@ -1,6 +1,11 @@
-use Rattle.moo_responses.proofs.Words.{ap, ◌∙◌, has_float}
+use Rattle.moo_responses.proofs.Words.{ap, ◌∙◌}
+use Rattle.serde_json.specs.View.{members_view}
+use Rattle.serde_json.specs.Written.{members_have_float}
+use Rattle.moo_responses.specs.Fields.{with_links, with_flags}
 use Rattle.moo_responses.proofs.BodyLemmas.{no_float-look}
 use Rattle.moo_responses.proofs.look_body.look_text.Goals as goal
 
 pub printed-requires : goal.printed-requires
-printed-requires c = ap has_float c.in_ok-value.ensures ∙ no_float-look c.args.look.now
+printed-requires c =
+    ap members_have_float (c.in_ok-put_flags.ensures ∙ ap (with_flags c.args.look.now) (c.in_ok-put_links.ensures ∙ ap (λ fields. with_links c.args.look.now (members_view fields)) c.new-fields.ensures.empty))
+    ∙ no_float-look c.args.look.now

@@ -1,0 +1,10 @@
+use Rattle.moo_request.proofs.Words.{ap, ◌∙◌, all_topics, with_route, with_topics, codes}
+use Rattle.std.proofs.lemmas.Result.{IfOk-equal}
+use Rattle.moo_request.specs.declared.asked.Mode.TheVariants.{Ask}
+use Rattle.moo_request.specs.declared.routes.Endpoint.TheVariants.{Batch}
+use Rattle.moo_request.proofs.routes.add_routes.Goals as goal
+
+pub returns : goal.returns
+returns c =
+    IfOk-equal c.add_topics.result c.add_topics.new.router _ _ c.add_topics.ensures
+    (ap (with_topics all_topics) (c.in_ok-add_route-2.ensures ∙ ap (with_route (codes "/ask") (Batch Ask)) c.in_ok-add_route.ensures))
