@@ -11,7 +11,7 @@ use moo_text::TextFault;
 use sqlite::{Error, ErrorCode};
 
 /// How a run of the program fails.
-#[derive(Clone, Copy, Debug, PartialEq, Eq)]
+#[derive(Clone, Copy)]
 pub enum Failure {
     /// The words aren't those of a command, or can't be read.
     Usage,

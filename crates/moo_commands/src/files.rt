@@ -38,8 +38,6 @@ use std::alloc::Global;
 use std::io::{Eprint, Read, Write};
 use std::time::Clock;
 
-const CANNOT_OPEN: Failure = Failure::Store(Error::SqliteFailure(ErrorCode::CannotOpen));
-
 /// `run_in` at the store in files, over any disk. What is known of that store weighs on each function that calls a generic one at it,
 /// so this call has a function of its own.
 fn run_in_files<H: BatchFiles + Ports, C: Clock + Eprint, R: Read + Drop, W: Write, D: Disk + Drop>(
@@ -80,7 +78,11 @@ fn refusal_of<T: Start, H: WorldFiles<T>>(
     ensures { Tells fault result }
 {
     let failure = refusal(fault);
-    if failure == CANNOT_OPEN && !begins_anew(task) && host.metadata(file).is_err() {
+    let is_unopened = matches!(
+        failure,
+        Failure::Store(Error::SqliteFailure(ErrorCode::CannotOpen))
+    );
+    if is_unopened && !begins_anew(task) && host.metadata(file).is_err() {
         return Failure::NoFile;
     }
     failure

@@ -1,30 +1,13 @@
 //! Closing a connection to the files of a world.
 
-ghost use Rattle.std.specs.Prelude.{◌≡◌, IsTrue};
-ghost use Rattle.sqlite.specs.Tree.{Trees};
 ghost use Rattle.sqlite.specs.State.{HasCleanDisk};
-ghost use Rattle.sqlite.specs.Held.{state};
 ghost use Rattle.sqlite.specs.Files.{file_state, IsCleanLeft};
 ghost use Rattle.moo_files.specs.Closing.{IsLeftOf, IsClosedAs};
 ghost use Rattle.moo_files.specs.Stop.{HasNumberedTrees};
 
-use sqlite::{Alter, Connection, FileStore, Leftover};
+use sqlite::{Connection, FileStore, Leftover};
 use sqlite_disk::Disk;
 use sqlite_trees::store::Store;
-
-/// While a connection is open, a crash leaves its last commit and nothing else.
-fn leave_last_commit<S: Alter>(conn: &Connection<S>)
-    ensures only { IsTrue (state S.Store conn.now).is_open → (trees : Trees) → (state S.Store conn.now).may_leave trees → trees ≡ (state S.Store conn.now).committed.trees }
-    ensures stays { IsTrue (state S.Store conn.now).is_open → (state S.Store conn.now).may_leave (state S.Store conn.now).committed.trees }
-{}
-
-/// `leave_last_commit` at the store in files.
-pub(crate) fn leave_commit<D: Disk + Drop>(conn: &Connection<FileStore<D>>)
-    ensures only { IsTrue (file_state conn.now).is_open → (trees : Trees) → (file_state conn.now).may_leave trees → trees ≡ (file_state conn.now).committed.trees }
-    ensures stays { IsTrue (file_state conn.now).is_open → (file_state conn.now).may_leave (file_state conn.now).committed.trees }
-{
-    leave_last_commit(conn);
-}
 
 /// Closes a connection: what wasn't committed is rolled back, and its log is copied into the database file. The two files come
 /// back, or the store if that failed; either is shut when it is dropped.
@@ -39,7 +22,6 @@ pub fn close_connection<D: Disk + Drop>(conn: Connection<FileStore<D>>) -> Lefto
     // Its trees were numbered, so that what the disk had left of its files, had it been stopped, was a database too (`disk_leaves_a_database`).
     ensures numbered { IsCleanLeft result → HasNumberedTrees conn }
 {
-    leave_commit(&conn);
     // These are the steps of `sqlite`'s `close_files`, which doesn't say that the trees are numbered: `into_store` does.
     let mut store = conn.into_store();
     store.rollback();

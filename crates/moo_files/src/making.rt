@@ -197,7 +197,7 @@ pub fn create_at<H: WorldFiles<Unknown>>(
     match create_from(alloc, host, path, Unknown) {
         Ok(world) => Ok(world),
         Err((fault, remains)) => {
-            let _closed = remains.close();
+            remains.close().shut();
             Err(fault)
         }
     }

@@ -17,7 +17,7 @@ ghost use Rattle.moo_world.specs.Judge.{State};
 ghost use Rattle.moo_files.specs.Closing.{IsClosedFrom};
 
 use crate::blank::open_or_make;
-use crate::closing::{close_connection, leave_commit};
+use crate::closing::close_connection;
 use crate::pair::{NotOpened, open_files};
 use crate::paths::WorldFiles;
 use moo_store::StoreFault;
@@ -55,6 +55,12 @@ impl<T: Drop, D: Disk + Drop> Remains<T, D> {
             Remains::Connection(conn) => Remains::Leftover(close_connection(conn)),
             other => other,
         }
+    }
+
+    /// Lets go of what is left: files that are open are shut. What is known of a connection weighs on each function that drops one, so this
+    /// drop stands alone.
+    pub fn shut(self) {
+        let _shut = self;
     }
 }
 
@@ -139,10 +145,7 @@ pub(crate) fn open_new<T: Start, H: WorldFiles<T>>(
         Err(refused) => return Err(refused),
     };
     match open_or_make(alloc, files, options) {
-        Ok(made) => {
-            leave_commit(&made);
-            Ok(made)
-        }
+        Ok(made) => Ok(made),
         Err((error, left)) => Err((open_fault(error), Remains::Leftover(left))),
     }
 }
@@ -173,10 +176,7 @@ pub(crate) fn open_connection<T: Start, H: WorldFiles<T>>(
         Err(refused) => return Err(refused),
     };
     match Connection::open_files(alloc, files, options) {
-        Ok(conn) => {
-            leave_commit(&conn);
-            Ok(conn)
-        }
+        Ok(conn) => Ok(conn),
         Err((error, left)) => Err((open_fault(error), Remains::Leftover(left))),
     }
 }

@@ -12,7 +12,7 @@ pub struct Connection<R, W> {
 }
 
 /// How a connection is closed.
-#[derive(Clone, Copy, Debug, PartialEq, Eq, Drop)]
+#[derive(Clone, Copy, Drop)]
 pub enum Closing {
     /// At once: it has no answer.
     AtOnce,

@@ -21,7 +21,7 @@ use std::io::{Eprint, Read, Write};
 use std::time::Clock;
 
 /// How many connections were answered, and how many failed.
-#[derive(Clone, Copy, Debug, PartialEq, Eq, Drop)]
+#[derive(Clone, Copy, Drop)]
 pub struct Served {
     pub answered: u32,
     pub failed: u32,

@@ -9,10 +9,9 @@ use moo_request::{Asked, Mode, Question};
 use moo_responses::Outcome;
 use moo_text::Reply;
 use std::fmt::{self, Display, Formatter};
-use thiserror::Error;
 
 /// The route that a request asked for.
-#[derive(Clone, Copy, Debug, PartialEq, Eq, Drop)]
+#[derive(Clone, Copy, Drop)]
 pub enum Route {
     /// None: the request was refused, or wasn't read.
     Unknown,
@@ -25,33 +24,40 @@ pub enum Route {
 impl Display for Route {
     fn fmt<W: fmt::Write>(&self, f: &mut Formatter<W>) -> fmt::Result {
         match self {
-            Route::Unknown => write!(f, "-"),
-            Route::Batch => write!(f, "/batch"),
-            Route::Ask => write!(f, "/ask"),
-            Route::Question(question) => write!(f, "{question}"),
+            Route::Unknown => f.write_str("-"),
+            Route::Batch => f.write_str("/batch"),
+            Route::Ask => f.write_str("/ask"),
+            Route::Question(question) => question.fmt(f),
         }
     }
 }
 
 /// Why a connection failed, or was answered 503.
-#[derive(Clone, Copy, Debug, PartialEq, Eq, Drop, Error)]
+#[derive(Clone, Copy, Drop)]
 pub enum Trouble {
-    #[error("failed: the connection can't be taken")]
     NotTaken,
-    #[error("failed: the waits of the connection can't be limited")]
     NotLimited,
-    #[error("failed: the request can't be read, or its peer was silent")]
     Read,
-    #[error("failed: the answer can't be written, or its peer was silent")]
     Write,
-    #[error("failed: out of memory")]
     OutOfMemory,
-    #[error("503: the store failed before, and the world is closed")]
     Closed,
-    #[error("503: the store failed")]
     Store,
-    #[error("503: out of memory")]
     NoMemory,
+}
+
+impl Display for Trouble {
+    fn fmt<W: fmt::Write>(&self, f: &mut Formatter<W>) -> fmt::Result {
+        f.write_str(match self {
+            Trouble::NotTaken => "failed: the connection can't be taken",
+            Trouble::NotLimited => "failed: the waits of the connection can't be limited",
+            Trouble::Read => "failed: the request can't be read, or its peer was silent",
+            Trouble::Write => "failed: the answer can't be written, or its peer was silent",
+            Trouble::OutOfMemory => "failed: out of memory",
+            Trouble::Closed => "503: the store failed before, and the world is closed",
+            Trouble::Store => "503: the store failed",
+            Trouble::NoMemory => "503: out of memory",
+        })
+    }
 }
 
 impl From<ServeFault> for Trouble {
@@ -65,7 +71,7 @@ impl From<ServeFault> for Trouble {
 }
 
 /// The notes on a connection while it is served: what is told of it, and how it is to be closed.
-#[derive(Clone, Copy, Debug, PartialEq, Eq, Drop)]
+#[derive(Clone, Copy, Drop)]
 pub struct Note {
     pub route: Route,
     /// None if the connection was answered, and not by 503.

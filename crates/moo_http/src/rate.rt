@@ -6,7 +6,7 @@ ghost use Rattle.std.specs.Prelude.{◌≡◌, ◌≢◌, ◌≤◌, ◌<◌, �
 pub(crate) const MOST: u32 = 10;
 
 /// How many lines were told in a second, and how many weren't told since the last one that was.
-#[derive(Clone, Copy, Debug, PartialEq, Eq, Drop)]
+#[derive(Clone, Copy, Drop)]
 pub(crate) struct Rate {
     pub(crate) second: u64,
     pub(crate) told: u32,

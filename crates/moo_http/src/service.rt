@@ -25,7 +25,7 @@ use std::io::{Eprint, Write};
 use std::time::Clock;
 
 /// Why the service ended before its last line.
-#[derive(Clone, Copy, Debug, PartialEq, Eq, Drop)]
+#[derive(Clone, Copy, Drop)]
 pub enum ServiceFault {
     /// The port can't be bound; nothing is written.
     Port,

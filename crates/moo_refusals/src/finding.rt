@@ -19,7 +19,7 @@ use moo_world::{Batch, Call, CallName};
 use std::alloc::{AllocError, Global};
 
 /// Does the first calls on a draft, so many of them; whether all of these were done.
-pub(crate) fn do_calls<R: Rows>(
+fn do_calls<R: Rows>(
     rows: &mut R,
     alloc: Global,
     programmer: ObjNo,
@@ -112,8 +112,35 @@ pub(crate) fn tell_failing<R: Rows>(
     tell(reason, given, check)
 }
 
-/// Says after a comma why a call of a batch fails, after the calls before it are done on a draft. Of a grant whose petition is there: which
-/// of its calls fails.
+/// Says after a comma why a call of a batch fails, after the calls before it are done on these rows. Of a grant whose petition is there:
+/// which of its calls fails.
+fn tell_after<R: Rows>(
+    reason: &mut Reason,
+    rows: &mut R,
+    batch: &Batch,
+    place: usize,
+    call: &Call,
+    code: Code,
+) -> Result<(), AllocError>
+    requires { IsGood (R.held rows.old).maps }
+{
+    if !do_calls(
+        rows,
+        reason.alloc,
+        batch.programmer,
+        batch.calls.items(),
+        place,
+    ) {
+        return Ok(());
+    }
+    let given = given_by(batch.programmer, call);
+    if told_grant(reason, rows, given, code)? {
+        return Ok(());
+    }
+    tell_failing(reason, b", ", rows, given, code)
+}
+
+/// The same on a draft over these rows.
 pub(crate) fn tell_refusal<R: Rows>(
     reason: &mut Reason,
     rows: &R,
@@ -125,13 +152,5 @@ pub(crate) fn tell_refusal<R: Rows>(
     requires { IsGood (R.held rows.now).maps }
 {
     let mut draft = Draft::new(reason.alloc, rows);
-    let calls = batch.calls.items();
-    if !do_calls(&mut draft, reason.alloc, batch.programmer, calls, place) {
-        return Ok(());
-    }
-    let given = given_by(batch.programmer, call);
-    if told_grant(reason, &draft, given, code)? {
-        return Ok(());
-    }
-    tell_failing(reason, b", ", &draft, given, code)
+    tell_after(reason, &mut draft, batch, place, call, code)
 }

@@ -108,29 +108,37 @@ fn found_slot<'a, R: Rows>(rows: &'a R, given: Given<'_>) -> Option<FoundSlot<'a
     slot_of(rows, object_at(given, FIRST), text_at(given, SECOND)?)
 }
 
-fn property_holds<R: Rows>(rows: &R, given: Given<'_>, check: PropertyCheck) -> bool
-    requires { IsGood (R.held rows.now).maps }
-{
+/// Whether a check of a property holds on an object that has it.
+fn slot_holds<R: Rows>(
+    rows: &R,
+    given: Given<'_>,
+    found: FoundSlot<'_>,
+    check: PropertyCheck,
+) -> bool {
     let object = object_at(given, FIRST);
-    match (check, found_slot(rows, given)) {
-        (PropertyCheck::Free(position), _) => is_free(rows, object, text_at(given, position)),
-        (_, None) => false,
-        (PropertyCheck::Present, _) => true,
-        (PropertyCheck::Defined, Some(found)) => found.definer == object,
-        (PropertyCheck::Renamed, Some(found)) => {
-            text_at(given, NEW_NAME).is_none() || found.definer == object
-        }
-        (PropertyCheck::Inherited, Some(found)) => found.definer != object,
-        (PropertyCheck::Read, Some(found)) => {
-            rights::may_read_slot(rows, given.programmer, found.slot)
-        }
-        (PropertyCheck::Write, Some(found)) => {
-            rights::may_write_slot(rows, given.programmer, found.slot)
-        }
-        (PropertyCheck::Give(position), Some(found)) => {
+    match check {
+        PropertyCheck::Present | PropertyCheck::Free(_) => true,
+        PropertyCheck::Defined => found.definer == object,
+        PropertyCheck::Renamed => text_at(given, NEW_NAME).is_none() || found.definer == object,
+        PropertyCheck::Inherited => found.definer != object,
+        PropertyCheck::Read => rights::may_read_slot(rows, given.programmer, found.slot),
+        PropertyCheck::Write => rights::may_write_slot(rows, given.programmer, found.slot),
+        PropertyCheck::Give(position) => {
             object_at(given, position) == found.slot.owner
                 || rights::is_wizard(rows, given.programmer)
         }
+    }
+}
+
+fn property_holds<R: Rows>(rows: &R, given: Given<'_>, check: PropertyCheck) -> bool
+    requires { IsGood (R.held rows.now).maps }
+{
+    if let PropertyCheck::Free(position) = check {
+        return is_free(rows, object_at(given, FIRST), text_at(given, position));
+    }
+    match found_slot(rows, given) {
+        Some(found) => slot_holds(rows, given, found, check),
+        None => false,
     }
 }
 

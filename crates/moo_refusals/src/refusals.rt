@@ -22,7 +22,7 @@ fn tell_call<R: Rows>(
     let Some(call) = batch.calls.items().get(place) else {
         return reason.put(code.name().as_bytes());
     };
-    reason.put_call(call)?;
+    reason.put_call(call.name, call.args.items())?;
     reason.put(b": ")?;
     reason.put(code.name().as_bytes())?;
     tell_refusal(reason, rows, batch, place, call, code)

@@ -1,7 +1,7 @@
 //! The text of a reason, and values as it shows them.
 
 use moo_value::{MooStr, ObjNo, Value, print_literal};
-use moo_world::Call;
+use moo_world::CallName;
 use std::alloc::{AllocError, Global};
 
 /// So many bytes of a value are shown.
@@ -60,10 +60,10 @@ impl Reason {
     }
 
     /// A call, as it is written.
-    pub(crate) fn put_call(&mut self, call: &Call) -> Result<(), AllocError> {
-        self.put(call.name.spelling())?;
+    pub(crate) fn put_call(&mut self, name: CallName, values: &[Value]) -> Result<(), AllocError> {
+        self.put(name.spelling())?;
         self.put(b"(")?;
-        for (place, value) in call.args.items().iter().enumerate() {
+        for (place, value) in values.iter().enumerate() {
             if place != 0 {
                 self.put(b", ")?;
             }

@@ -5,6 +5,7 @@ use Rattle.sqlite_wal.specs.Recovery.{Image}
 use Rattle.sqlite_wal.proofs.StateLemmas.{open_from}
 use Rattle.sqlite_pool.proofs.StateLemmas.{clean_is, may_leave_is}
 use Rattle.sqlite_store.specs.FileStore.{state, view}
+use Rattle.sqlite_store.specs.Laws.{stays_at}
 use Rattle.sqlite_trees.specs.View.{View, IsClean}
 use Rattle.sqlite_trees.proofs.Doubt.{clean_of as sure, no_doubt}
 use Rattle.sqlite.specs.Closing.{HoldsAlone}
@@ -51,7 +52,7 @@ returns-in-Ok-clause-clean g c clean = (returns-in-Ok-clause-copied g c clean).w
 pub returns-in-Ok-clause-left : goal.returns-in-Ok-clause-left
 returns-in-Ok-clause-left g c clean =
     let it = returns-in-Ok-clause-copied g c clean in
-    let stays = c.leave_commit.ensures.stays it.was_open in
+    let stays = stays_at c.args.conn.store g.met.D.Disk.seen_may_stay it.was_open in
     (record { trees = _; holds = it.seen.both; such = stays }, λ found lies. record { trees = _; holds = (it.left found lies).both; such = stays })
 
 pub returns-in-Ok-clause-numbered : goal.returns-in-Ok-clause-numbered

@@ -94,6 +94,9 @@ returns-in-Err-make_files-clause-spared g c some begun clean =
 
 -- ---- no connection was opened
 
+pub returns-in-Err-clause-kept : goal.returns-in-Err-clause-kept
+returns-in-Err-clause-kept g c trees holds any clean = c.in-Err.ensures.kept trees holds clean
+
 pub returns-in-Err-clause-trees : goal.returns-in-Err-clause-trees
 returns-in-Err-clause-trees g c trees holds clean =
     keeps_more (λ found. found ≡ trees) (λ found. (found ≡ trees) ⊎ (Made (rows_made c.args.rows)) found) (λ found same. inl same) (image_at g.T.Start) c.in-Err.remains (c.in-Err.ensures.kept trees holds clean)

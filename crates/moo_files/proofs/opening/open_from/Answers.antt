@@ -66,6 +66,9 @@ returns-in-Ok-adopt_files-clause-held g c trees holds clean =
     let opened = c.in-Ok.ensures.opened early in
     kept_or_migrated (image_at g.T.Start) (file_state conn) store trees opened.0 opened.1 (c.in-Ok.ensures.found early) c.in-Ok.ensures.left holds clean c.in-Ok-adopt_files.ensures.crash
 
+pub returns-in-Ok-adopt_files-clause-rows : goal.returns-in-Ok-adopt_files-clause-rows
+returns-in-Ok-adopt_files-clause-rows g c = c.in-Ok-adopt_files.ensures.rows
+
 -- ---- the tables were refused
 
 pub returns-in-Err-adopt_files-clause-whole : goal.returns-in-Err-adopt_files-clause-whole

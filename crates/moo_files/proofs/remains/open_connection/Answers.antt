@@ -1,4 +1,5 @@
 use Rattle.moo_files.proofs.Words.{sym, subst, inl, HoldsDatabase, AreFoundIn, file_state, image_at}
+use Rattle.sqlite_store.specs.Laws.{settled_at}
 use Rattle.moo_files.proofs.RefusalLemmas.{opened_own, opened_malformed, unopened_malformed}
 use Rattle.moo_files.proofs.RemainsLemmas.{leftover_keeps, leftover_blank, leftover_spares, unopened_keeps, unopened_blank, unopened_spares}
 use Rattle.moo_files.proofs.remains.open_connection.Goals as goal
@@ -11,6 +12,10 @@ returns-in-Ok-open_files-clause-found g c clean =
       holds = λ trees held. found.holds trees (subst (λ i. HoldsDatabase i trees) (sym start.seen) held);
       reads = subst (λ i. AreFoundIn i (file_state c.in-Ok-open_files.conn).committed.trees) start.seen found.reads;
     }
+
+-- while it is open, a crash leaves its last commit and nothing else
+pub returns-in-Ok-open_files-clause-left : goal.returns-in-Ok-open_files-clause-left
+returns-in-Ok-open_files-clause-left g c is_open trees lies = settled_at c.in-Ok-open_files.conn.store g.met.H.Disk.Disk.seen_may_stay trees is_open lies
 
 pub returns-in-Err-open_files-clause-kept : goal.returns-in-Err-open_files-clause-kept
 returns-in-Err-open_files-clause-kept g c trees holds clean =

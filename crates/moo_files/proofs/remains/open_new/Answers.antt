@@ -1,4 +1,5 @@
 use Rattle.moo_files.proofs.Words.{sym, subst, inl, inr, HoldsDatabase, AreFoundIn, file_state, image_at, IsBlank}
+use Rattle.sqlite_store.specs.Laws.{settled_at}
 use Rattle.moo_files.proofs.RemainsLemmas.{spared_keeps, spared_blank, spared_begun, spared_spares, unopened_keeps, unopened_blank, unopened_spares}
 use Rattle.moo_files.proofs.remains.open_new.Goals as goal
 
@@ -12,6 +13,10 @@ returns-in-Ok-open_or_make-clause-found g c clean =
         reads = subst (λ i. AreFoundIn i (file_state c.in-Ok-open_or_make.made).committed.trees) start.seen found.reads;
       })
     ]
+
+-- while it is open, a crash leaves its last commit and nothing else
+pub returns-in-Ok-open_or_make-clause-left : goal.returns-in-Ok-open_or_make-clause-left
+returns-in-Ok-open_or_make-clause-left g c is_open trees lies = settled_at c.in-Ok-open_or_make.made.store g.met.H.Disk.Disk.seen_may_stay trees is_open lies
 
 pub returns-in-Err-open_or_make-clause-kept : goal.returns-in-Err-open_or_make-clause-kept
 returns-in-Err-open_or_make-clause-kept g c trees holds clean =
