@@ -32,6 +32,5 @@ pub fn change_row<R: Rows>(
         Some(row) => row.copy(alloc)?,
         None => unreachable!(),
     };
-    rows.put_object(x, change.applied(row))?;
-    Ok(())
+    rows.put_object(x, change.applied(row))
 }

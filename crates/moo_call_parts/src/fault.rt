@@ -4,7 +4,7 @@ use moo_value::Code;
 use std::alloc::AllocError;
 
 /// Why a call fails.
-#[derive(Clone, Copy, Debug, PartialEq, Eq)]
+#[derive(Clone, Copy)]
 pub enum Fault {
     /// The call's error. The rows are as they were, but for those of a `grant`, which may be half changed.
     Moo(Code),

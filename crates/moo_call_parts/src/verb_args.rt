@@ -1,25 +1,26 @@
 //! What a call on verbs is given: descriptors, and owners, rights, names and arguments in lists. A list of another length, or
 //! with something of another type in it, is E_TYPE, and so is a descriptor that is neither a number nor a word.
 
-ghost use Rattle.std.specs.Prelude.{◌≡◌, IfOk, IfErr, Ok, Err, option_map};
+ghost use Rattle.std.specs.Prelude.{◌≡◌, IfOk, IfErr, Ok, Err, ok_or, option_map};
 ghost use Rattle.std.specs.Result.{result_map_both};
 ghost use Rattle.moo_world.specs.Arguments.{desc_of, verb_info_in, texts_in, object_and_desc, new_verb, new_verb_info, new_verb_args};
+ghost use Rattle.moo_world.specs.Codes.{E_TYPE};
 ghost use Rattle.moo_call_parts.specs.Outcomes.{GivenOrNot};
 
 use crate::fault::Fault;
 use crate::infos::Info;
 use moo_value::{Code, MooStr, ObjNo, Value};
 use moo_world::Desc;
-use std::alloc::{AllocError, Global};
+use std::alloc::Global;
 
-/// The descriptor that a value is: a number or a word. The only error is out of memory.
-fn desc_of(alloc: Global, value: &Value) -> Result<Option<Desc>, AllocError>
-    ensures { IfOk result (λ desc. desc ≡ desc_of value.now) }
+/// The descriptor that a value is: a number or a word. E_TYPE for any other value.
+fn desc_of(alloc: Global, value: &Value) -> Result<Desc, Fault>
+    ensures { GivenOrNot (ok_or (desc_of value.now) E_TYPE) result }
 {
     match value {
-        Value::Int(number) => Ok(Some(Desc::Index(*number))),
-        Value::Str(word) => Ok(Some(Desc::Name(word.copy(alloc)?))),
-        _ => Ok(None),
+        Value::Int(number) => Ok(Desc::Index(*number)),
+        Value::Str(word) => Ok(Desc::Name(word.copy(alloc)?)),
+        _ => Err(Fault::Moo(Code::Type)),
     }
 }
 
@@ -28,10 +29,7 @@ pub fn object_and_desc(alloc: Global, args: &[Value]) -> Result<(ObjNo, Desc), F
     ensures { GivenOrNot (object_and_desc args.now) result }
 {
     match args {
-        [Value::Obj(x), desc] => match desc_of(alloc, desc)? {
-            Some(desc) => Ok((*x, desc)),
-            None => Err(Fault::Moo(Code::Type)),
-        },
+        [Value::Obj(x), desc] => Ok((*x, desc_of(alloc, desc)?)),
         [_, _] => Err(Fault::Moo(Code::Type)),
         _ => Err(Fault::Moo(Code::Arguments)),
     }
@@ -127,19 +125,14 @@ pub fn new_verb_info(alloc: Global, args: &[Value]) -> Result<NewVerbInfo<'_>, F
         (result_map_both (λ p. (p.object, (p.desc, ((p.verb.info.owner, p.verb.info.perms.now), p.verb.names.now)))) (λ fault. fault) result) }
 {
     match args {
-        [Value::Obj(object), desc, Value::List(info)] => {
-            let Some(desc) = desc_of(alloc, desc)? else {
-                return Err(Fault::Moo(Code::Type));
-            };
-            match verb_info_in(info.items()) {
-                Some(verb) => Ok(NewVerbInfo {
-                    object: *object,
-                    desc,
-                    verb,
-                }),
-                None => Err(Fault::Moo(Code::Type)),
-            }
-        }
+        [Value::Obj(object), desc, Value::List(info)] => match verb_info_in(info.items()) {
+            Some(verb) => Ok(NewVerbInfo {
+                object: *object,
+                desc: desc_of(alloc, desc)?,
+                verb,
+            }),
+            None => Err(Fault::Moo(Code::Type)),
+        },
         [_, _, _] => Err(Fault::Moo(Code::Type)),
         _ => Err(Fault::Moo(Code::Arguments)),
     }
@@ -159,19 +152,14 @@ pub fn new_verb_args(alloc: Global, args: &[Value]) -> Result<NewVerbArgs<'_>, F
         (result_map_both (λ p. (p.object, (p.desc, (p.args.dobj.now, p.args.prep.now, p.args.iobj.now)))) (λ fault. fault) result) }
 {
     match args {
-        [Value::Obj(object), desc, Value::List(texts)] => {
-            let Some(desc) = desc_of(alloc, desc)? else {
-                return Err(Fault::Moo(Code::Type));
-            };
-            match texts_in(texts.items()) {
-                Some(args) => Ok(NewVerbArgs {
-                    object: *object,
-                    desc,
-                    args,
-                }),
-                None => Err(Fault::Moo(Code::Type)),
-            }
-        }
+        [Value::Obj(object), desc, Value::List(texts)] => match texts_in(texts.items()) {
+            Some(args) => Ok(NewVerbArgs {
+                object: *object,
+                desc: desc_of(alloc, desc)?,
+                args,
+            }),
+            None => Err(Fault::Moo(Code::Type)),
+        },
         [_, _, _] => Err(Fault::Moo(Code::Type)),
         _ => Err(Fault::Moo(Code::Arguments)),
     }

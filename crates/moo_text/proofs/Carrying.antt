@@ -91,9 +91,13 @@ pub bad_line : (header : Header) (calls : List Call) (n : ℕ) (line : List ℕ)
     → within header calls n (line ∷ rest) ≡ skipping (n + 1) rest
 bad_line header calls n line rest not_blank not_end none = rw (not_blank, not_end, none) refl
 
-pub call_too_many : (header : Header) (calls : List Call) (n : ℕ) (line : List ℕ) (rest : List (List ℕ)) (call : Call) → is_blank_line line ≡ false → is_end_line line ≡ false → call_of line ≡ Some call → 1000 ≤ length calls
+pub call_too_many : (header : Header) (calls : List Call) (n : ℕ) (line : List ℕ) (rest : List (List ℕ)) → is_blank_line line ≡ false → is_end_line line ≡ false → 1000 ≤ length calls
     → within header calls n (line ∷ rest) ≡ skipping (n + 1) rest
-call_too_many header calls n line rest call not_blank not_end is full = let room = no_room (length calls) full in rw (not_blank, not_end, is, room) refl
+call_too_many header calls n line rest not_blank not_end full = by (call_of line) refl
+  where
+    by : (read : Option Call) → call_of line ≡ read → within header calls n (line ∷ rest) ≡ skipping (n + 1) rest
+    by None is = bad_line header calls n line rest not_blank not_end is
+    by (Some call) is = let room = no_room (length calls) full in rw (not_blank, not_end, is, room) refl
 
 pub one_call : (header : Header) (calls : List Call) (n : ℕ) (line : List ℕ) (rest : List (List ℕ)) (call : Call) → is_blank_line line ≡ false → is_end_line line ≡ false → call_of line ≡ Some call → length calls < 1000
     → within header calls n (line ∷ rest) ≡ within header (calls ++ call ∷ []) (n + 1) rest

@@ -10,3 +10,4 @@ pub mod Joining
 pub mod Headers
 pub mod Calls
 pub mod Cutting
+mod Putting

@@ -6,7 +6,7 @@ ghost use Rattle.moo_text.specs.declared.fault.TextFault.TheVariants.{OutOfMemor
 use std::alloc::{AllocError, AllocFailed};
 
 /// Why a line is read as no call.
-#[derive(Clone, Copy, Debug, PartialEq, Eq)]
+#[derive(Clone, Copy)]
 pub enum CallFault {
     /// The line spells no call.
     Malformed,
@@ -15,7 +15,7 @@ pub enum CallFault {
 }
 
 /// Why a run over a text stopped.
-#[derive(Clone, Copy, Debug, PartialEq, Eq)]
+#[derive(Clone, Copy)]
 pub enum TextFault {
     /// The reader failed.
     Read,

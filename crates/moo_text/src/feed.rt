@@ -69,15 +69,13 @@ fn rest_of_batch<R: Read>(
                 calls: Calls::from_vec(calls),
             }));
         }
-        match call_in(alloc, &line)? {
-            Some(call) => {
-                if MOST_CALLS <= calls.len() {
-                    return skip_batch(number, line, lines);
-                }
-                calls.push(call)?;
-            }
-            None => return skip_batch(number, line, lines),
+        if MOST_CALLS <= calls.len() {
+            return skip_batch(number, line, lines);
         }
+        let Some(call) = call_in(alloc, &line)? else {
+            return skip_batch(number, line, lines);
+        };
+        calls.push(call)?;
     }
 }
 

@@ -12,7 +12,7 @@ use moo_value::{ObjNo, Value};
 use std::alloc::{AllocError, Global};
 
 /// Who runs a batch, and after how many accepted batches, if it says so.
-#[derive(Clone, Copy, Debug)]
+#[derive(Clone, Copy)]
 pub struct Header {
     pub programmer: ObjNo,
     pub at: Option<u64>,

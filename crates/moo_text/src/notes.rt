@@ -16,7 +16,7 @@ pub trait Notes {
 }
 
 /// Nobody is told.
-#[derive(Clone, Copy, Debug)]
+#[derive(Clone, Copy)]
 pub struct NoNotes;
 
 impl Notes for NoNotes {

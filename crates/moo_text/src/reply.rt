@@ -44,34 +44,32 @@ fn put_number(
     alloc: Global,
     word: &[u8],
     number: u64,
-    end: u8,
+    end: &[u8],
     out: &mut Vec<u8>,
 ) -> Result<(), AllocError>
-    ensures ok { OnOk result (out.new.items ≡ out.old.items ++ (word.now ++ (decimal number ++ end ∷ []))) }
+    ensures ok { OnOk result (out.new.items ≡ out.old.items ++ (word.now ++ (decimal number ++ end.now))) }
     ensures kept { StartsWith out.new.items out.old.items }
 {
     let digits = number.to_string(alloc)?;
     out.extend_from_slice(word)?;
     out.extend_from_slice(digits.as_bytes())?;
-    out.push(end)?;
-    Ok(())
+    out.extend_from_slice(end)
 }
 
 fn put_line(alloc: Global, word: &[u8], number: u64, out: &mut Vec<u8>) -> Result<(), AllocError>
     ensures ok { OnOk result (out.new.items ≡ out.old.items ++ (word.now ++ (decimal number ++ 10 ∷ []))) }
     ensures kept { StartsWith out.new.items out.old.items }
 {
-    put_number(alloc, word, number, b'\n', out)
+    put_number(alloc, word, number, b"\n", out)
 }
 
 fn put_refused(alloc: Global, call: u32, code: Code, out: &mut Vec<u8>) -> Result<(), AllocError>
     ensures ok { OnOk result (out.new.items ≡ out.old.items ++ refused_text call code) }
     ensures kept { StartsWith out.new.items out.old.items }
 {
-    put_number(alloc, b"refused ", u64::from(call), b' ', out)?;
+    put_number(alloc, b"refused ", u64::from(call), b" ", out)?;
     out.extend_from_slice(code.name().as_bytes())?;
-    out.push(b'\n')?;
-    Ok(())
+    out.extend_from_slice(b"\n")
 }
 
 fn put_answers(alloc: Global, values: &[Value], out: &mut Vec<u8>) -> Result<(), AllocError>
@@ -96,8 +94,7 @@ fn put_accepted(
 {
     put_line(alloc, b"accepted ", seq, out)?;
     put_answers(alloc, answers.items(), out)?;
-    out.extend_from_slice(b"end\n")?;
-    Ok(())
+    out.extend_from_slice(b"end\n")
 }
 
 fn put_reply(alloc: Global, reply: &Reply, out: &mut Vec<u8>) -> Result<(), AllocError>

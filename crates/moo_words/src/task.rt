@@ -1,6 +1,7 @@
 //! The task that the words of the command line name.
-ghost use Rattle.std.specs.Prelude.{◌≡◌, ◌<◌, Some, map, IfOk, IfErr, IsErr, IfSome, codes, length};
-ghost use Rattle.clap.specs.Walk.{rows_of};
+ghost use Rattle.std.specs.Prelude.{◌≡◌, ◌<◌, List, Some, map, IfOk, IfErr, IsErr, IfSome, codes, length};
+ghost use Rattle.clap.specs.Simple.{subcommand_rows_of};
+ghost use Rattle.clap.specs.Walk.{Row, Text, rows_of};
 ghost use Rattle.clap.specs.Matches.{found_of};
 ghost use Rattle.moo_words.specs.Tasks.{HasNumber, HasText, IsService, IsAction, IsTask, IsRefusal, NamesTask, NamesAlone};
 
@@ -9,7 +10,7 @@ use clap::{ArgMatches, Error};
 use std::alloc::{AllocError, Global};
 
 /// What the program is to do, and on which file: the path of a database, or `:memory:` for a new world.
-#[derive(Clone, Copy, Debug, PartialEq, Eq, Drop)]
+#[derive(Clone, Copy, Drop)]
 pub struct Task<'a> {
     pub file: &'a str,
     pub action: Action<'a>,
@@ -18,7 +19,7 @@ pub struct Task<'a> {
 /// What a command does with its file.
 ///
 /// `batches` is the path of a text of batches, and `dump` that of a dump; `-` is standard input.
-#[derive(Clone, Copy, Debug, PartialEq, Eq, Drop)]
+#[derive(Clone, Copy, Drop)]
 pub enum Action<'a> {
     /// Make a new world.
     Init,
@@ -37,7 +38,7 @@ pub enum Action<'a> {
 }
 
 /// How `serve` answers: on this port of 127.0.0.1, 1 to 65535, and it ends after so many connections, 0 to 1,000,000.
-#[derive(Clone, Copy, Debug, PartialEq, Eq, Drop)]
+#[derive(Clone, Copy, Drop)]
 pub struct Service {
     pub port: u16,
     pub count: u32,
@@ -86,15 +87,15 @@ fn service_in(matches: &ArgMatches<'_>) -> Option<Service>
 fn text_action_in<'a>(name: &str, matches: &ArgMatches<'a>) -> Option<Action<'a>>
     ensures { IfSome result (IsAction (name.now, rows_of (found_of matches.now))) }
 {
+    if name == "load" {
+        let dump = text_of(matches, "DUMP")?;
+        return Some(Action::Load { dump });
+    }
+    let batches = text_of(matches, "BATCHES")?;
     if name == "apply" {
-        let batches = text_of(matches, "BATCHES")?;
         Some(Action::Apply { batches })
     } else if name == "ask" {
-        let batches = text_of(matches, "BATCHES")?;
         Some(Action::Ask { batches })
-    } else if name == "load" {
-        let dump = text_of(matches, "DUMP")?;
-        Some(Action::Load { dump })
     } else {
         None
     }
@@ -118,10 +119,11 @@ fn action_in<'a>(name: &str, matches: &ArgMatches<'a>) -> Option<Action<'a>>
     }
 }
 
-// The task of a command's name and matches.
-fn task_in<'a>(name: &str, matches: &ArgMatches<'a>) -> Option<Task<'a>>
-    ensures { IfSome result (IsTask (name.now, rows_of (found_of matches.now))) }
+// The task of the command among the matches.
+fn task_in<'a>(matches: &ArgMatches<'a>) -> Option<Task<'a>>
+    ensures { IfSome result (λ task. (found : Text × List Row) × (subcommand_rows_of matches.now ≡ Some found) × IsTask found task) }
 {
+    let (name, matches) = matches.subcommand()?;
     let file = text_of(matches, "FILE")?;
     let action = action_in(name, matches)?;
     Some(Task { file, action })
@@ -152,10 +154,7 @@ pub fn read_words<'a>(alloc: Global, words: &'a [&'a str]) -> Result<Task<'a>, U
         Ok(matches) => matches,
         Err(error) => return Err(Usage::Refused(error)),
     };
-    let Some((name, matches)) = matches.subcommand() else {
-        return Err(Usage::Absent);
-    };
-    match task_in(name, matches) {
+    match task_in(&matches) {
         Some(task) => Ok(task),
         None => Err(Usage::Absent),
     }

@@ -1,4 +1,5 @@
 use Rattle.std.proofs.Common.{sym, ap, ◌∙◌}
+use Rattle.std.proofs.lemmas.Result.{on_ok_weaker}
 use Rattle.moo_world.specs.Fields.{changed}
 use Rattle.moo_call_parts.specs.Outcomes.{world_in}
 use Rattle.moo_world.proofs.Form.Fields.{IsWellFormed-field_changed}
@@ -7,12 +8,14 @@ use Rattle.moo_call_parts.proofs.changing.change_row.Goals as goal
 
 pub returns-clause-world : goal.returns-clause-world
 returns-clause-world g c =
-    world_in-changed (g.R.Rows.held c.args.rows.now) (g.R.Rows.held c.put_object.new.self) c.args.x c.in-Some.row.now c.applied.result (changed c.args.change) (sym c.in-Some.ensures)
-    (c.applied.ensures ∙ ap (changed c.args.change) c.in_ok-row-in-Some.ensures) c.in_ok-put_object.ensures.ok
+    on_ok_weaker c.put_object.result
+    (world_in-changed (g.R.Rows.held c.args.rows.now) (g.R.Rows.held c.put_object.new.self) c.args.x c.in-Some.row.now c.applied.result (changed c.args.change) (sym c.in-Some.ensures)
+    (c.applied.ensures ∙ ap (changed c.args.change) c.in_ok-row-in-Some.ensures)) c.put_object.ensures.ok
 
 pub returns-clause-kept : goal.returns-clause-kept
 returns-clause-kept g c =
     let old = g.R.Rows.held c.args.rows.now in
-    Keeps-changed old (g.R.Rows.held c.put_object.new.self) c.args.x c.in-Some.row.now c.applied.result (changed c.args.change) (sym c.in-Some.ensures)
-    (c.applied.ensures ∙ ap (changed c.args.change) c.in_ok-row-in-Some.ensures) c.in_ok-put_object.ensures.ok c.requires.good
-    (IsWellFormed-field_changed (world_in old) c.args.x c.args.change c.requires.there c.requires.allowed c.requires.good.formed)
+    on_ok_weaker c.put_object.result
+    (λ put. Keeps-changed old (g.R.Rows.held c.put_object.new.self) c.args.x c.in-Some.row.now c.applied.result (changed c.args.change) (sym c.in-Some.ensures)
+    (c.applied.ensures ∙ ap (changed c.args.change) c.in_ok-row-in-Some.ensures) put c.requires.good
+    (IsWellFormed-field_changed (world_in old) c.args.x c.args.change c.requires.there c.requires.allowed c.requires.good.formed)) c.put_object.ensures.ok

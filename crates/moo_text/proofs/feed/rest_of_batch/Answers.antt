@@ -87,10 +87,9 @@ returns-then-len-ge-MOST_CALLS-clause-item g c =
     let took : ReadsLine old new (Some line) = search rules in
     let not_blank : is_blank_line line ≡ false = search rules in
     let not_end : is_end_line line ≡ false = search rules in
-    let is : call_of line ≡ Some c.in-Some-2.call = search rules in
     let full : 1000 ≤ length calls = omega (arith, c.loop-calls.calls.ok.0, c.len.ensures) in
     let step = along_line (within header [] 1) (within header calls n) (skipping (n + 1)) start old new line (within_alike header calls n) c.loop-calls.invariant.along took
-    (λ rest. call_too_many header calls n line rest c.in-Some-2.call not_blank not_end is full) in
+    (λ rest. call_too_many header calls n line rest not_blank not_end full) in
     first_after (within header [] 1) (skipping (n + 1)) start new last c.skip_batch.result step c.skip_batch.ensures.item
 
 pub returns-then-len-ge-MOST_CALLS-clause-cause : goal.returns-then-len-ge-MOST_CALLS-clause-cause
@@ -106,29 +105,28 @@ returns-then-len-ge-MOST_CALLS-clause-cause g c =
     let took : ReadsLine old new (Some line) = search rules in
     let not_blank : is_blank_line line ≡ false = search rules in
     let not_end : is_end_line line ≡ false = search rules in
-    let is : call_of line ≡ Some c.in-Some-2.call = search rules in
     let full : 1000 ≤ length calls = omega (arith, c.loop-calls.calls.ok.0, c.len.ensures) in
     let step = along_line (within header [] 1) (within header calls n) (skipping (n + 1)) start old new line (within_alike header calls n) c.loop-calls.invariant.along took
-    (λ rest. call_too_many header calls n line rest c.in-Some-2.call not_blank not_end is full) in
+    (λ rest. call_too_many header calls n line rest not_blank not_end full) in
     breaks_after c.skip_batch.result (within header [] 1) (skipping (n + 1)) start new last step c.skip_batch.ensures.cause
 
-pub returns-in_err-push-in-Some-2-clause-cause : goal.returns-in_err-push-in-Some-2-clause-cause
-returns-in_err-push-in-Some-2-clause-cause g c =
+pub returns-in_err-push-clause-cause : goal.returns-in_err-push-clause-cause
+returns-in_err-push-clause-cause g c =
     let start = lines_side g.R.Read.remaining c.args.lines.now in
     let old = lines_side g.R.Read.remaining c.loop-calls.lines in
     let new = lines_side g.R.Read.remaining c.next_line.new.self in
     let header = c.args.header in
     let line = c.in-Some.line.items in
     let took : ReadsLine old new (Some line) = search rules in
-    handed_on c.from_residual-in_err-push-in-Some-2.result (λ e. BreaksOff start new e) OutOfMemory c.from_residual-in_err-push-in-Some-2.ensures.1
+    handed_on c.from_residual-in_err-push.result (λ e. BreaksOff start new e) OutOfMemory c.from_residual-in_err-push.ensures.1
     (along_refused (within header [] 1) (within header c.loop-calls.calls.items c.loop-calls.number) start old new (Some line) c.loop-calls.invariant.along took)
 
-pub returns-in-None-clause-item : goal.returns-in-None-clause-item
-returns-in-None-clause-item g c =
+pub returns-in_default-2-clause-item : goal.returns-in_default-2-clause-item
+returns-in_default-2-clause-item g c =
     let start = lines_side g.R.Read.remaining c.args.lines.now in
     let old = lines_side g.R.Read.remaining c.loop-calls.lines in
     let new = lines_side g.R.Read.remaining c.next_line.new.self in
-    let last = lines_side g.R.Read.remaining c.skip_batch-in-None.new.lines in
+    let last = lines_side g.R.Read.remaining c.skip_batch-in_default-2.new.lines in
     let header = c.args.header in
     let calls = c.loop-calls.calls.items in
     let n = c.loop-calls.number in
@@ -139,14 +137,14 @@ returns-in-None-clause-item g c =
     let is : call_of line ≡ None = search rules in
     let step = along_line (within header [] 1) (within header calls n) (skipping (n + 1)) start old new line (within_alike header calls n) c.loop-calls.invariant.along took
     (λ rest. bad_line header calls n line rest not_blank not_end is) in
-    first_after (within header [] 1) (skipping (n + 1)) start new last c.skip_batch-in-None.result step c.skip_batch-in-None.ensures.item
+    first_after (within header [] 1) (skipping (n + 1)) start new last c.skip_batch-in_default-2.result step c.skip_batch-in_default-2.ensures.item
 
-pub returns-in-None-clause-cause : goal.returns-in-None-clause-cause
-returns-in-None-clause-cause g c =
+pub returns-in_default-2-clause-cause : goal.returns-in_default-2-clause-cause
+returns-in_default-2-clause-cause g c =
     let start = lines_side g.R.Read.remaining c.args.lines.now in
     let old = lines_side g.R.Read.remaining c.loop-calls.lines in
     let new = lines_side g.R.Read.remaining c.next_line.new.self in
-    let last = lines_side g.R.Read.remaining c.skip_batch-in-None.new.lines in
+    let last = lines_side g.R.Read.remaining c.skip_batch-in_default-2.new.lines in
     let header = c.args.header in
     let calls = c.loop-calls.calls.items in
     let n = c.loop-calls.number in
@@ -157,7 +155,7 @@ returns-in-None-clause-cause g c =
     let is : call_of line ≡ None = search rules in
     let step = along_line (within header [] 1) (within header calls n) (skipping (n + 1)) start old new line (within_alike header calls n) c.loop-calls.invariant.along took
     (λ rest. bad_line header calls n line rest not_blank not_end is) in
-    breaks_after c.skip_batch-in-None.result (within header [] 1) (skipping (n + 1)) start new last step c.skip_batch-in-None.ensures.cause
+    breaks_after c.skip_batch-in_default-2.result (within header [] 1) (skipping (n + 1)) start new last step c.skip_batch-in_default-2.ensures.cause
 
 pub loop-calls-preserved : goal.loop-calls-preserved
 loop-calls-preserved g c =

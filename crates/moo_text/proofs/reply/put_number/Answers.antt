@@ -1,5 +1,6 @@
-use Rattle.std.proofs.Common.{[], ◌∷◌, refl, ◌∙◌}
-use Rattle.moo_value.proofs.Printed.{starts, starts_alike, starts_behind, kept_on}
+use Rattle.std.proofs.Common.{refl, ◌∙◌}
+use Rattle.moo_value.proofs.Printed.{starts, starts_alike, starts_behind}
+use Rattle.moo_text.proofs.Putting.{kept_last}
 use Rattle.moo_text.proofs.reply.put_number.Goals as goal
 
 pub returns-in_err-digits-clause-kept : goal.returns-in_err-digits-clause-kept
@@ -11,11 +12,7 @@ returns-in_err-extend_from_slice-clause-kept c = starts_alike _ _ c.in_err-exten
 pub returns-in_err-extend_from_slice-2-clause-kept : goal.returns-in_err-extend_from_slice-2-clause-kept
 returns-in_err-extend_from_slice-2-clause-kept c = starts _ _ c.args.word.now (c.in_err-extend_from_slice-2.ensures.items ∙ c.in_ok-extend_from_slice.ensures.items)
 
-pub returns-in_err-push-clause-kept : goal.returns-in_err-push-clause-kept
-returns-in_err-push-clause-kept c =
-    starts_behind _ _ _ c.as_bytes.result.now c.args.word.now (c.in_err-push.ensures.items ∙ c.in_ok-extend_from_slice-2.ensures.items) c.in_ok-extend_from_slice.ensures.items
-
 pub returns-clause-kept : goal.returns-clause-kept
 returns-clause-kept c =
-    let digits = starts_behind _ _ _ c.as_bytes.result.now c.args.word.now c.in_ok-extend_from_slice-2.ensures.items c.in_ok-extend_from_slice.ensures.items in
-    kept_on _ _ _ (starts _ _ (c.args.end ∷ []) c.in_ok-push.ensures.items) digits
+    kept_last c.extend_from_slice-3.result _ _ _ _ c.extend_from_slice-3.ensures.items
+    (starts_behind _ _ _ c.as_bytes.result.now c.args.word.now c.in_ok-extend_from_slice-2.ensures.items c.in_ok-extend_from_slice.ensures.items)

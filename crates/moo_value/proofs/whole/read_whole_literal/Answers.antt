@@ -1,4 +1,4 @@
-use Rattle.moo_value.proofs.Words.{◌≡◌, ℕ, length, Result, Ok, Err, sym, ap, err_from_is_err_and, Fails, Value, LiteralFault, OutOfMemory}
+use Rattle.moo_value.proofs.Words.{◌≡◌, ℕ, length, take_all, Result, Ok, Err, sym, ap, subst, arith, Spells, err_from_is_err_and, Fails, Value, LiteralFault, OutOfMemory}
 use Rattle.moo_value.proofs.Printed.{whole}
 use Rattle.moo_value.proofs.whole.read_whole_literal.Goals as goal
 
@@ -40,3 +40,8 @@ returns-then-used-bytes-clause-only c v fits spells =
 pub returns-else-used-bytes-clause-only : goal.returns-else-used-bytes-clause-only
 returns-else-used-bytes-clause-only c v fits spells =
     absurd (c.if-used-bytes.false (sym (same_count v c.in_ok-value.value (length c.args.bytes.now) c.in_ok-value.used (c.in_ok-value.ensures.only v (length c.args.bytes.now) (whole v c.args.bytes.now fits spells)))))
+
+pub returns-then-used-bytes-clause-spelled : goal.returns-then-used-bytes-clause-spelled
+returns-then-used-bytes-clause-spelled c =
+    let front = c.in_ok-value.ensures.found in
+    (subst (Spells c.in_ok-value.value) (take_all c.in_ok-value.used c.args.bytes.now (omega (arith, c.if-used-bytes.true))) front.spelled, front.fits)

@@ -1,8 +1,14 @@
 use Rattle.std.proofs.lemmas.Grind.{common_steps}
-use Rattle.moo_value.proofs.Words.{arith, ◌≡◌, ◌++◌, ◌∷◌, [], ◌∙◌, rules}
+use Rattle.moo_value.proofs.Words.{arith, ◌≡◌, ◌≤◌, ◌++◌, ◌∷◌, ℕ, List, [], length, take, ap, ◌∙◌, rules, append_assoc, take_all, flat_map, escape}
+use Rattle.moo_value.specs.Literal.{print_string}
 use Rattle.moo_value.proofs.Printed.{starts, starts_alike, starts_behind}
 use Rattle.moo_value.proofs.writing.put_string.Goals.{then-byte-eq34+in_ok-push-2, else-byte-eq34+else-byte-eq92}
 use Rattle.moo_value.proofs.writing.put_string.Goals as goal
+
+-- the last quote ends the string
+closed : (old out new s bytes : List ℕ) (i : ℕ) → out ≡ old ++ 34 ∷ flat_map escape (take i bytes) → length bytes ≤ i → bytes ≡ s → new ≡ out ++ 34 ∷ [] → new ≡ old ++ print_string s
+closed old out new s bytes i before over same ended =
+    ended ∙ ap (λ (t : List ℕ). t ++ 34 ∷ []) (before ∙ ap (λ (t : List ℕ). old ++ 34 ∷ flat_map escape t) (take_all i bytes over ∙ same)) ∙ append_assoc old (34 ∷ flat_map escape s) (34 ∷ [])
 
 pub returns-in_err-push-clause-kept : goal.returns-in_err-push-clause-kept
 returns-in_err-push-clause-kept c = starts_alike _ _ c.in_err-push.ensures.items
@@ -25,3 +31,7 @@ returns-clause-kept c = starts_behind _ _ _ _ _ c.in_ok-push-4.ensures.items c.l
 
 pub loop-byte-preserved : goal.loop-byte-preserved
 loop-byte-preserved c = grind (arith, common_steps)
+
+pub returns-clause-ok : goal.returns-clause-ok
+returns-clause-ok c =
+    closed _ _ _ c.args.text.now c.bytes-byte-items.result.now c.loop-byte.byte-index c.loop-byte.invariant c.loop-byte-test.false c.bytes-byte-items.ensures.value c.in_ok-push-4.ensures.items

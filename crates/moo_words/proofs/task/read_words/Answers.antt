@@ -1,13 +1,12 @@
 use Rattle.std.proofs.lemmas.List.{length-map}
 use Rattle.std.proofs.Common.{inr, arith, length, ◌<◌, ap, ap₂, sym, subst, ◌∙◌, refl, true, ◌≡◌, map, List, []}
 use Rattle.clap.specs.Walk.{Text}
-use Rattle.clap.specs.Simple.{App, is_simple, subcommand_of, subcommand_rows_of}
+use Rattle.clap.specs.Simple.{App, is_simple, subcommand_of}
 use Rattle.clap.specs.Kinds.{HasKind}
 use Rattle.clap.specs.Faults.{fault_of, is_simple_and_free}
 use Rattle.clap.specs.declared.error.Error.{Error}
 use Rattle.clap.proofs.OnLiterals.{clap_on_literals}
 use Rattle.moo_words.proofs.AloneLemmas.{names_alone}
-use Rattle.moo_words.proofs.MatchLemmas.{name_is, pair_given}
 use Rattle.moo_words.specs.Commands.{moo_app}
 use Rattle.moo_words.specs.Tasks.{mistakes}
 use Rattle.moo_words.proofs.task.read_words.Goals as goal
@@ -29,18 +28,18 @@ has_mistake : (app : App) (words : List Text) (error : Error) → app ≡ moo_ap
 unfolding mistakes
 has_mistake app words error is has = subst (λ a. HasKind (fault_of a words) error) is (has (ap is_simple_and_free is ∙ moo_free))
 
-pub returns-in-Some-task_in-clause-task : goal.returns-in-Some-task_in-clause-task
-returns-in-Some-task_in-clause-task c =
+pub returns-in-Some-clause-task : goal.returns-in-Some-clause-task
+returns-in-Some-clause-task c =
     let parsed = c.in-Ok-try_get_matches_from.ensures.matches (ap is_simple c.in-Ok.ensures ∙ moo_simple) in
-    let found = pair_given (subcommand_rows_of c.in-Ok-try_get_matches_from.matches) c.in-Some.name.now _ (c.in-Some.ensures.name ∙ name_is c.in-Ok-try_get_matches_from.matches) c.in-Some.ensures.rows in
     let many : 1 < length (map (λ word. word.now) c.args.words.now) =
     omega (arith, c.if-words-le1.false, length-map c.args.words.now (λ word. word.now)) in
     let none = no_mistake _ _ c.in-Ok.ensures c.in-Ok-try_get_matches_from.ensures.kinds in
-    inr (many, none, _, ap₂ subcommand_of (sym c.in-Ok.ensures) refl ∙ sym parsed.1 ∙ found, c.in-Some-task_in.ensures)
+    let task = c.in-Some.ensures in
+    inr (many, none, task.0, ap₂ subcommand_of (sym c.in-Ok.ensures) refl ∙ sym parsed.1 ∙ task.1, task.2)
 
-pub returns-in-Some-task_in-clause-alone : goal.returns-in-Some-task_in-clause-alone
-returns-in-Some-task_in-clause-alone c =
-    names_alone (map (λ word. word.now) c.args.words.now) c.in-Some-task_in.task (returns-in-Some-task_in-clause-task c)
+pub returns-in-Some-clause-alone : goal.returns-in-Some-clause-alone
+returns-in-Some-clause-alone c =
+    names_alone (map (λ word. word.now) c.args.words.now) c.in-Some.task (returns-in-Some-clause-task c)
 
 pub returns-in-Err-try_get_matches_from-clause-refused : goal.returns-in-Err-try_get_matches_from-clause-refused
 returns-in-Err-try_get_matches_from-clause-refused c = has_mistake _ _ c.in-Err-try_get_matches_from.error c.in-Ok.ensures c.in-Err-try_get_matches_from.ensures.kinds

@@ -1,0 +1,28 @@
+use Rattle.std.proofs.Common.{◌++◌, ◌∷◌, [], List, ap, ◌∙◌}
+use Rattle.std.specs.Prelude.{codes}
+use Rattle.std.specs.Fmt.{decimal}
+use Rattle.std.specs.List.{flat_map}
+use Rattle.moo_value.specs.declared.value.Value.{Value}
+use Rattle.moo_value.proofs.Printed.{kept_on}
+use Rattle.moo_text.specs.Replies.{answer_line, accepted_text}
+use Rattle.moo_text.proofs.Putting.{put_last, kept_last, line_and_two}
+use Rattle.moo_text.proofs.reply.put_accepted.Goals as goal
+
+pub returns-in_err-put_line-clause-kept : goal.returns-in_err-put_line-clause-kept
+returns-in_err-put_line-clause-kept c = c.in_err-put_line.ensures.kept
+
+pub returns-in_err-put_answers-clause-kept : goal.returns-in_err-put_answers-clause-kept
+returns-in_err-put_answers-clause-kept c = kept_on _ _ _ c.in_err-put_answers.ensures.kept c.in_ok-put_line.ensures.kept
+
+pub returns-clause-kept : goal.returns-clause-kept
+returns-clause-kept c =
+    kept_last c.extend_from_slice.result _ _ _ _ c.extend_from_slice.ensures.items (kept_on _ _ _ c.in_ok-put_answers.ensures.kept c.in_ok-put_line.ensures.kept)
+
+pub returns-clause-ok : goal.returns-clause-ok
+returns-clause-ok c =
+    let old = c.args.out.now.items in
+    let first = c.put_line.new.out.items in
+    let second = c.put_answers.new.out.items in
+    put_last c.extend_from_slice.result old second (codes "end\n") (accepted_text c.args.seq c.args.answers.now) c.extend_from_slice.new.self.items c.extend_from_slice.ensures.items
+    (line_and_two old first second (codes "accepted ") (decimal c.args.seq) (10 ∷ []) (flat_map answer_line c.args.answers.now) (codes "end\n") c.in_ok-put_line.ensures.ok
+    (c.in_ok-put_answers.ensures.ok ∙ ap (λ (values : List Value). first ++ flat_map answer_line values) c.items.ensures))

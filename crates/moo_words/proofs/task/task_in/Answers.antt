@@ -1,0 +1,12 @@
+use Rattle.std.proofs.Common.{◌∙◌}
+use Rattle.clap.specs.Matches.{found_of}
+use Rattle.clap.specs.Walk.{rows_of}
+use Rattle.moo_words.proofs.MatchLemmas.{name_is, pair_given}
+use Rattle.clap.specs.Simple.{subcommand_rows_of}
+use Rattle.moo_words.proofs.task.task_in.Goals as goal
+
+pub returns : goal.returns
+returns c =
+    let whole = c.args.matches.now in
+    let is = pair_given (subcommand_rows_of whole) c.in_ok-name.name.now (rows_of (found_of c.in_ok-name.matches.now)) (c.in_ok-name.ensures.name ∙ name_is whole) c.in_ok-name.ensures.rows in
+    (_, is, (c.in_ok-file.ensures, c.in_ok-action.ensures))
