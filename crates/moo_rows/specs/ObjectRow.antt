@@ -5,7 +5,6 @@ use Rattle.std.proofs.Common.{ap}
 use Rattle.std.proofs.lemmas.Slice.Eq.{bytes_eq-Decides}
 use Rattle.moo_value.specs.Equal.{IsExact}
 use Rattle.moo_value.specs.SameValue.{object_no-exact}
-use Rattle.moo_value.specs.declared.value.ObjNo.{ObjNo}
 use Rattle.moo_rows.specs.Equal.{list_eq-exact}
 use Rattle.moo_rows.specs.SameRows.{and, is, option-exact}
 use Rattle.moo_rows.specs.declared.row.ObjRow.{ObjRow}
