@@ -227,15 +227,11 @@ impl<'a, R: Rows> Rows for Draft<'a, R> {
 
     fn put_object(&mut self, key: ObjNo, row: ObjRow) -> Result<(), AllocError> {
         self.links.add(self.base, key, row.ties())?;
-        moo_ordered::put(&mut self.objects, key, Some(row))?;
-        self.writes.rise();
-        Ok(())
+        overlay::put(&mut self.objects, &mut self.writes, key, Some(row))
     }
 
     fn remove_object(&mut self, key: ObjNo) -> Result<(), AllocError> {
-        moo_ordered::put(&mut self.objects, key, None)?;
-        self.writes.rise();
-        Ok(())
+        overlay::put(&mut self.objects, &mut self.writes, key, None)
     }
 
     fn prop(&self, key: PropId) -> Option<&PropRow> {
@@ -262,15 +258,11 @@ impl<'a, R: Rows> Rows for Draft<'a, R> {
 
     fn put_prop(&mut self, key: PropId, row: PropRow) -> Result<(), AllocError> {
         moo_ordered::put(&mut self.definers, (row.definer, key), ())?;
-        moo_ordered::put(&mut self.props, key, Some(row))?;
-        self.writes.rise();
-        Ok(())
+        overlay::put(&mut self.props, &mut self.writes, key, Some(row))
     }
 
     fn remove_prop(&mut self, key: PropId) -> Result<(), AllocError> {
-        moo_ordered::put(&mut self.props, key, None)?;
-        self.writes.rise();
-        Ok(())
+        overlay::put(&mut self.props, &mut self.writes, key, None)
     }
 
     fn slot(&self, key: (ObjNo, PropId)) -> Option<&SlotRow> {
