@@ -184,16 +184,22 @@ fn apply_petitions<R: Rows>(
     Ok(())
 }
 
-/// Makes the changes in the rows that they are changes of. The only error is that memory runs out, and then some are made
-/// and some are not.
-pub fn apply_changes(rows: &mut Flat, changes: Changes) -> Result<(), AllocError>
-    ensures { OnOk result ((new : Maps) → AreChanges rows.old.maps new changes → rows.new.maps ≡ new) }
+/// Makes the changes of all maps, and sets the head.
+fn apply_all<R: Rows>(rows: &mut R, changes: Changes) -> Result<(), AllocError>
+    ensures { OnOk result ((new : Maps) → AreChanges (R.held rows.old).maps new changes → (R.held rows.new).maps ≡ new) }
 {
     rows.set_head(changes.head);
     apply_objects(rows, changes.objects)?;
     apply_props(rows, changes.props)?;
     apply_slots(rows, changes.slots)?;
     apply_verbs(rows, changes.verbs)?;
-    apply_petitions(rows, changes.petitions)?;
-    Ok(())
+    apply_petitions(rows, changes.petitions)
+}
+
+/// Makes the changes in the rows that they are changes of. The only error is that memory runs out, and then some are made
+/// and some are not.
+pub fn apply_changes(rows: &mut Flat, changes: Changes) -> Result<(), AllocError>
+    ensures { OnOk result ((new : Maps) → AreChanges rows.old.maps new changes → rows.new.maps ≡ new) }
+{
+    apply_all(rows, changes)
 }

@@ -96,19 +96,23 @@ impl<'a, R: Rows> Draft<'a, R> {
     pub fn into_changes(self) -> Result<Changes, AllocError>
         ensures { IfOk result (λ changes. AreChanges self.entry.base self.entry.maps changes) }
     {
-        let objects = changed_rows(self.alloc, self.base, self.objects)?;
-        let props = changed_rows(self.alloc, self.base, self.props)?;
-        let slots = changed_rows(self.alloc, self.base, self.slots)?;
-        let verbs = changed_rows(self.alloc, self.base, self.verbs)?;
-        let petitions = changed_rows(self.alloc, self.base, self.petitions)?;
-        Ok(Changes {
-            head: self.head,
-            objects,
-            props,
-            slots,
-            verbs,
-            petitions,
-        })
+        match (
+            changed_rows(self.alloc, self.base, self.objects),
+            changed_rows(self.alloc, self.base, self.props),
+            changed_rows(self.alloc, self.base, self.slots),
+            changed_rows(self.alloc, self.base, self.verbs),
+            changed_rows(self.alloc, self.base, self.petitions),
+        ) {
+            (Ok(objects), Ok(props), Ok(slots), Ok(verbs), Ok(petitions)) => Ok(Changes {
+                head: self.head,
+                objects,
+                props,
+                slots,
+                verbs,
+                petitions,
+            }),
+            _ => Err(AllocError),
+        }
     }
 }
 
@@ -223,15 +227,11 @@ impl<'a, R: Rows> Rows for Draft<'a, R> {
 
     fn put_object(&mut self, key: ObjNo, row: ObjRow) -> Result<(), AllocError> {
         self.links.add(self.base, key, row.ties())?;
-        moo_ordered::put(&mut self.objects, key, Some(row))?;
-        self.writes.rise();
-        Ok(())
+        overlay::put(&mut self.objects, &mut self.writes, key, Some(row))
     }
 
     fn remove_object(&mut self, key: ObjNo) -> Result<(), AllocError> {
-        moo_ordered::put(&mut self.objects, key, None)?;
-        self.writes.rise();
-        Ok(())
+        overlay::put(&mut self.objects, &mut self.writes, key, None)
     }
 
     fn prop(&self, key: PropId) -> Option<&PropRow> {
@@ -258,15 +258,11 @@ impl<'a, R: Rows> Rows for Draft<'a, R> {
 
     fn put_prop(&mut self, key: PropId, row: PropRow) -> Result<(), AllocError> {
         moo_ordered::put(&mut self.definers, (row.definer, key), ())?;
-        moo_ordered::put(&mut self.props, key, Some(row))?;
-        self.writes.rise();
-        Ok(())
+        overlay::put(&mut self.props, &mut self.writes, key, Some(row))
     }
 
     fn remove_prop(&mut self, key: PropId) -> Result<(), AllocError> {
-        moo_ordered::put(&mut self.props, key, None)?;
-        self.writes.rise();
-        Ok(())
+        overlay::put(&mut self.props, &mut self.writes, key, None)
     }
 
     fn slot(&self, key: (ObjNo, PropId)) -> Option<&SlotRow> {
@@ -278,15 +274,11 @@ impl<'a, R: Rows> Rows for Draft<'a, R> {
     }
 
     fn put_slot(&mut self, key: (ObjNo, PropId), row: SlotRow) -> Result<(), AllocError> {
-        moo_ordered::put(&mut self.slots, key, Some(row))?;
-        self.writes.rise();
-        Ok(())
+        overlay::put(&mut self.slots, &mut self.writes, key, Some(row))
     }
 
     fn remove_slot(&mut self, key: (ObjNo, PropId)) -> Result<(), AllocError> {
-        moo_ordered::put(&mut self.slots, key, None)?;
-        self.writes.rise();
-        Ok(())
+        overlay::put(&mut self.slots, &mut self.writes, key, None)
     }
 
     fn verb(&self, key: (ObjNo, VerbId)) -> Option<&VerbRow> {
@@ -298,15 +290,11 @@ impl<'a, R: Rows> Rows for Draft<'a, R> {
     }
 
     fn put_verb(&mut self, key: (ObjNo, VerbId), row: VerbRow) -> Result<(), AllocError> {
-        moo_ordered::put(&mut self.verbs, key, Some(row))?;
-        self.writes.rise();
-        Ok(())
+        overlay::put(&mut self.verbs, &mut self.writes, key, Some(row))
     }
 
     fn remove_verb(&mut self, key: (ObjNo, VerbId)) -> Result<(), AllocError> {
-        moo_ordered::put(&mut self.verbs, key, None)?;
-        self.writes.rise();
-        Ok(())
+        overlay::put(&mut self.verbs, &mut self.writes, key, None)
     }
 
     fn petition(&self, key: PetitionId) -> Option<&PetitionRow> {
@@ -318,14 +306,10 @@ impl<'a, R: Rows> Rows for Draft<'a, R> {
     }
 
     fn put_petition(&mut self, key: PetitionId, row: PetitionRow) -> Result<(), AllocError> {
-        moo_ordered::put(&mut self.petitions, key, Some(row))?;
-        self.writes.rise();
-        Ok(())
+        overlay::put(&mut self.petitions, &mut self.writes, key, Some(row))
     }
 
     fn remove_petition(&mut self, key: PetitionId) -> Result<(), AllocError> {
-        moo_ordered::put(&mut self.petitions, key, None)?;
-        self.writes.rise();
-        Ok(())
+        overlay::put(&mut self.petitions, &mut self.writes, key, None)
     }
 }

@@ -1,11 +1,13 @@
 //! Changes over a map that stays as it is.
 
-ghost use Rattle.std.specs.Prelude.{◌≡◌, ◌↔◌, IsTrue, option_map, Some, None};
+ghost use Rattle.std.specs.Prelude.{◌≡◌, ◌↔◌, ◌+◌, IsTrue, OnErr, OnOk, option_map, Some, None};
 ghost use Rattle.std.specs.FinMap as map;
 ghost use Rattle.moo_ordered.specs.Ordered.{contents, IsNextAt};
 ghost use Rattle.moo_draft.specs.Overlay.{row_over, IsNextOfEither};
 
 use moo_ordered::OrderedKey;
+use moo_rows::Writes;
+use std::alloc::AllocError;
 use std::collections::BTreeMap;
 
 /// The map below the changes.
@@ -81,4 +83,19 @@ fn is_removed<K: OrderedKey, V>(changes: &BTreeMap<K, Option<V>>, key: K) -> boo
         Some(None) => true,
         _ => false,
     }
+}
+
+/// Sets the new row of a key, or `None` if its row is removed, and counts it. After an `Err`, a lack of memory, nothing has changed.
+pub fn put<K: OrderedKey, V: Drop>(
+    changes: &mut BTreeMap<K, Option<V>>,
+    writes: &mut Writes,
+    key: K,
+    row: Option<V>,
+) -> Result<(), AllocError>
+    ensures ok { OnOk result ((contents K.cmp changes.new ≡ map.insert (contents K.cmp changes.old) key row) × (writes.new.count ≡ writes.old.count + 1)) }
+    ensures err { OnErr result ((contents K.cmp changes.new ≡ contents K.cmp changes.old) × (writes.new.count ≡ writes.old.count)) }
+{
+    moo_ordered::put(changes, key, row)?;
+    writes.rise();
+    Ok(())
 }

@@ -14,15 +14,15 @@ use std::marker::Model;
 const NOTHING: ObjNo = ObjNo(-1);
 
 /// The number of a property: 1 and up, in the order of definition, and never used again.
-#[derive(Clone, Copy, Debug, PartialEq, Eq, PartialOrd, Ord)]
+#[derive(Clone, Copy, PartialEq, Eq, PartialOrd, Ord)]
 pub struct PropId(pub u32);
 
 /// The number of a verb: 1 and up, in the order of its object's list of verbs, and never used again.
-#[derive(Clone, Copy, Debug, PartialEq, Eq, PartialOrd, Ord)]
+#[derive(Clone, Copy, PartialEq, Eq, PartialOrd, Ord)]
 pub struct VerbId(pub u32);
 
 /// The number of a petition: 1 and up, in the order in which they were made, and never used again.
-#[derive(Clone, Copy, Debug, PartialEq, Eq, PartialOrd, Ord)]
+#[derive(Clone, Copy, PartialEq, Eq, PartialOrd, Ord)]
 pub struct PetitionId(pub u32);
 
 /// A list of objects, in the order given. Objects may be in it more than once.
@@ -69,7 +69,7 @@ impl ObjList {
 /// An object. Its children and contents are those objects whose rows name it as parent and location.
 ///
 /// LambdaMOO Programmer's Manual, 'Fundamental Object Attributes' and 'Properties on Objects' in the chapter on the database.
-#[derive(Clone, PartialEq, Drop)]
+#[derive(PartialEq, Drop)]
 pub struct ObjRow {
     pub name: MooStr,
     pub owner: ObjNo,
@@ -88,6 +88,20 @@ pub struct ObjRow {
     pub f: bool,
     /// The objects that it takes in, with all their descendants; if there is no list, its parent's list counts.
     pub accept: Option<ObjList>,
+}
+
+impl Clone for ObjRow {
+    ghost is_clone = { λ row copy. copy ≡ row };
+
+    fn clone(&self) -> Result<ObjRow, AllocError> {
+        let name = self.name.clone()?;
+        let accept = self.accept.clone()?;
+        Ok(ObjRow {
+            name,
+            accept,
+            ..*self
+        })
+    }
 }
 
 impl ObjRow {
@@ -118,7 +132,7 @@ impl ObjRow {
 }
 
 /// What an object is looked up by, beside its number: its parent, its location, or that it is a player.
-#[derive(Clone, Copy, Debug, PartialEq, Eq)]
+#[derive(Clone, Copy, PartialEq, Eq)]
 pub enum Link {
     ChildOf(ObjNo),
     Within(ObjNo),
@@ -139,7 +153,7 @@ impl Link {
 }
 
 /// What ties an object to others.
-#[derive(Clone, Copy, Debug, PartialEq, Eq)]
+#[derive(Clone, Copy, PartialEq, Eq)]
 pub struct Ties {
     pub parent: ObjNo,
     pub location: ObjNo,
@@ -182,7 +196,7 @@ pub struct PropRow {
 /// The rights on a property.
 ///
 /// LambdaMOO Programmer's Manual, 'Properties on Objects' in the chapter on the database.
-#[derive(Clone, Copy, Debug, PartialEq, Eq)]
+#[derive(Clone, Copy, PartialEq, Eq)]
 pub struct Bits {
     /// Whether everybody may read it.
     pub r: bool,
@@ -211,7 +225,7 @@ pub struct SlotRow {
 /// The rights on a verb.
 ///
 /// LambdaMOO Programmer's Manual, 'Verbs on Objects' in the chapter on the database.
-#[derive(Clone, Copy, Debug, PartialEq, Eq)]
+#[derive(Clone, Copy, PartialEq, Eq)]
 pub struct VerbBits {
     /// Whether everybody may read it.
     pub r: bool,
@@ -226,7 +240,7 @@ pub struct VerbBits {
 /// What a verb asks of its direct or indirect object: this object, any, or none at all.
 ///
 /// LambdaMOO Programmer's Manual, 'Verbs on Objects': an object specifier.
-#[derive(Clone, Copy, Debug, PartialEq, Eq)]
+#[derive(Clone, Copy, PartialEq, Eq)]
 pub enum ObjectSpec {
     This,
     Any,
@@ -234,7 +248,7 @@ pub enum ObjectSpec {
 }
 
 /// A set of prepositions that stand for one another, named for its first one.
-#[derive(Clone, Copy, Debug, PartialEq, Eq)]
+#[derive(Clone, Copy, PartialEq, Eq)]
 pub enum PrepositionSet {
     With,
     At,
@@ -254,7 +268,7 @@ pub enum PrepositionSet {
 }
 
 /// The preposition of a verb's arguments.
-#[derive(Clone, Copy, Debug, PartialEq, Eq)]
+#[derive(Clone, Copy, PartialEq, Eq)]
 pub enum Preposition {
     None,
     Any,
@@ -262,7 +276,7 @@ pub enum Preposition {
 }
 
 /// The arguments that a verb takes.
-#[derive(Clone, Copy, Debug, PartialEq, Eq)]
+#[derive(Clone, Copy, PartialEq, Eq)]
 pub struct ArgSpec {
     pub dobj: ObjectSpec,
     pub prep: Preposition,
@@ -270,13 +284,22 @@ pub struct ArgSpec {
 }
 
 /// A verb.
-#[derive(Clone, PartialEq, Drop)]
+#[derive(PartialEq, Drop)]
 pub struct VerbRow {
     /// Its names, between spaces.
     pub names: MooStr,
     pub owner: ObjNo,
     pub bits: VerbBits,
     pub args: ArgSpec,
+}
+
+impl Clone for VerbRow {
+    ghost is_clone = { λ row copy. copy ≡ row };
+
+    fn clone(&self) -> Result<VerbRow, AllocError> {
+        let names = self.names.clone()?;
+        Ok(VerbRow { names, ..*self })
+    }
 }
 
 /// A petition: calls that one programmer asks a wizard to make.
@@ -289,7 +312,7 @@ pub struct PetitionRow {
 }
 
 /// The counters.
-#[derive(Clone, Copy, Debug, PartialEq, Eq)]
+#[derive(Clone, Copy, PartialEq, Eq)]
 pub struct Head {
     /// The greatest object number that was ever given, -1 if none was.
     pub top: i32,

@@ -28,9 +28,8 @@ impl<'a, R: Rows> Iterator for Walk<'a, R, ObjNo> {
 
     fn next(&mut self) -> Option<(ObjNo, &'a ObjRow)> {
         let key = self.rows.next_object(self.last)?;
-        let row = self.rows.object(key)?;
         self.last = Some(key);
-        Some((key, row))
+        Some(key).zip(self.rows.object(key))
     }
 }
 
@@ -50,9 +49,8 @@ impl<'a, R: Rows> Iterator for Walk<'a, R, PropId> {
 
     fn next(&mut self) -> Option<(PropId, &'a PropRow)> {
         let key = self.rows.next_prop(self.last)?;
-        let row = self.rows.prop(key)?;
         self.last = Some(key);
-        Some((key, row))
+        Some(key).zip(self.rows.prop(key))
     }
 }
 
@@ -72,9 +70,8 @@ impl<'a, R: Rows> Iterator for Walk<'a, R, (ObjNo, PropId)> {
 
     fn next(&mut self) -> Option<((ObjNo, PropId), &'a SlotRow)> {
         let key = self.rows.next_slot(self.last)?;
-        let row = self.rows.slot(key)?;
         self.last = Some(key);
-        Some((key, row))
+        Some(key).zip(self.rows.slot(key))
     }
 }
 
@@ -94,9 +91,8 @@ impl<'a, R: Rows> Iterator for Walk<'a, R, (ObjNo, VerbId)> {
 
     fn next(&mut self) -> Option<((ObjNo, VerbId), &'a VerbRow)> {
         let key = self.rows.next_verb(self.last)?;
-        let row = self.rows.verb(key)?;
         self.last = Some(key);
-        Some((key, row))
+        Some(key).zip(self.rows.verb(key))
     }
 }
 
@@ -116,9 +112,8 @@ impl<'a, R: Rows> Iterator for Walk<'a, R, PetitionId> {
 
     fn next(&mut self) -> Option<(PetitionId, &'a PetitionRow)> {
         let key = self.rows.next_petition(self.last)?;
-        let row = self.rows.petition(key)?;
         self.last = Some(key);
-        Some((key, row))
+        Some(key).zip(self.rows.petition(key))
     }
 }
 
@@ -149,9 +144,8 @@ impl<'a, R: Rows> Iterator for WalkOf<'a, R, PropId> {
         if key.0 != self.object {
             return None;
         }
-        let row = self.rows.slot(key)?;
         self.last = key.1;
-        Some((key, row))
+        Some(key).zip(self.rows.slot(key))
     }
 }
 
@@ -174,9 +168,8 @@ impl<'a, R: Rows> Iterator for WalkOf<'a, R, VerbId> {
         if key.0 != self.object {
             return None;
         }
-        let row = self.rows.verb(key)?;
         self.last = key.1;
-        Some((key, row))
+        Some(key).zip(self.rows.verb(key))
     }
 }
 
@@ -204,9 +197,8 @@ impl<'a, R: Rows> Iterator for WalkLinked<'a, R> {
 
     fn next(&mut self) -> Option<(ObjNo, &'a ObjRow)> {
         let key = self.rows.next_linked(self.link, self.last)?;
-        let row = self.rows.object(key)?;
         self.last = key;
-        Some((key, row))
+        Some(key).zip(self.rows.object(key))
     }
 }
 
@@ -234,9 +226,8 @@ impl<'a, R: Rows> Iterator for WalkDefined<'a, R> {
 
     fn next(&mut self) -> Option<(PropId, &'a PropRow)> {
         let key = self.rows.next_defined(self.definer, self.last)?;
-        let row = self.rows.prop(key)?;
         self.last = key;
-        Some((key, row))
+        Some(key).zip(self.rows.prop(key))
     }
 }
 

@@ -1,16 +1,21 @@
-use Rattle.std.proofs.Common.{◌≡◌, None, sym, rules}
-use Rattle.moo_rows.proofs.Walking.{petitions-end, petitions-step}
+use Rattle.moo_rows.proofs.Words.{get, petitions_left}
+use Rattle.moo_rows.proofs.Walking.{petitions-end, petitions-step, gives-row, progress}
 use Rattle.moo_rows.proofs.walk.WalkPetitionIdIterator.next.Goals as goal
 
 pub returns-in_err-key-clause-steps : goal.returns-in_err-key-clause-steps
 returns-in_err-key-clause-steps g c =
-    let e = petitions-end (g.R.Rows.held c.args.self.now.rows.now).maps c.args.self.now.last c.in_err-key.ensures in
-    let none : c.from_residual.result ≡ None = search rules in rw none (e, e)
+    let s = c.args.self.now in
+    let e = petitions-end (g.R.Rows.held s.rows.now).maps s.last c.in_err-key.ensures in rw c.from_residual.ensures (e, e)
+
+pub returns-in_err-key-clause-goes : goal.returns-in_err-key-clause-goes
+returns-in_err-key-clause-goes g c = progress (λ p. (p.0, p.1.now)) (λ s. petitions_left s.last (g.R.Rows.held s.rows.now).maps) _ _ _ (returns-in_err-key-clause-steps g c)
 
 pub returns-clause-steps : goal.returns-clause-steps
-returns-clause-steps g c = petitions-step (g.R.Rows.held c.args.self.now.rows.now).maps c.args.self.now.last c.in_ok-key.key c.in_ok-row.row.now c.in_ok-key.ensures (sym c.in_ok-row.ensures)
+returns-clause-steps g c =
+    let s = c.args.self.now in
+    let maps = (g.R.Rows.held s.rows.now).maps in
+    gives-row _ _ c.in_ok-key.key (get maps.petitions c.in_ok-key.key) c.petition.result c.zip.result c.zip.ensures c.petition.ensures c.in_ok-key.ensures.0
+    (λ row held. petitions-step maps s.last c.in_ok-key.key row c.in_ok-key.ensures held)
 
 pub returns-clause-goes : goal.returns-clause-goes
-returns-clause-goes g c =
-    let e = petitions-step (g.R.Rows.held c.args.self.now.rows.now).maps c.args.self.now.last c.in_ok-key.key c.in_ok-row.row.now c.in_ok-key.ensures (sym c.in_ok-row.ensures) in
-    search rules
+returns-clause-goes g c = progress (λ p. (p.0, p.1.now)) (λ s. petitions_left s.last (g.R.Rows.held s.rows.now).maps) _ _ _ (returns-clause-steps g c)

@@ -1,0 +1,21 @@
+use Rattle.moo_rows.proofs.Words.{◌≡◌, Bool, Some, true, false, refl, ap, ◌∙◌}
+use Rattle.std.proofs.Common.{rules}
+use Rattle.moo_rows.specs.Bits.{bits_of, letters_of}
+use Rattle.moo_rows.proofs.row.Bits.letters.Goals as goal
+
+-- the letters of rights are read as these rights
+read_back : (r w c : Bool) → bits_of (letters_of (record { r = r; w = w; c = c })) ≡ Some (record { r = r; w = w; c = c })
+read_back true true true = refl
+read_back true true false = refl
+read_back true false true = refl
+read_back true false false = refl
+read_back false true true = refl
+read_back false true false = refl
+read_back false false true = refl
+read_back false false false = refl
+
+pub returns-clause-letters : goal.returns-clause-letters
+returns-clause-letters c = search rules
+
+pub returns-clause-read_again : goal.returns-clause-read_again
+returns-clause-read_again c = ap bits_of (returns-clause-letters c) ∙ read_back c.args.self.r c.args.self.w c.args.self.c

@@ -1,0 +1,29 @@
+use Rattle.moo_rows.proofs.Words.{◌≡◌, Bool, Some, true, false, refl, ap, ◌∙◌}
+use Rattle.std.proofs.Common.{rules}
+use Rattle.moo_rows.specs.Bits.{verb_bits_of, verb_letters_of}
+use Rattle.moo_rows.proofs.row.VerbBits.letters.Goals as goal
+
+-- the letters of rights are read as these rights
+read_back : (r w x d : Bool) → verb_bits_of (verb_letters_of (record { r = r; w = w; x = x; d = d })) ≡ Some (record { r = r; w = w; x = x; d = d })
+read_back true true true true = refl
+read_back true true true false = refl
+read_back true true false true = refl
+read_back true true false false = refl
+read_back true false true true = refl
+read_back true false true false = refl
+read_back true false false true = refl
+read_back true false false false = refl
+read_back false true true true = refl
+read_back false true true false = refl
+read_back false true false true = refl
+read_back false true false false = refl
+read_back false false true true = refl
+read_back false false true false = refl
+read_back false false false true = refl
+read_back false false false false = refl
+
+pub returns-clause-letters : goal.returns-clause-letters
+returns-clause-letters c = search rules
+
+pub returns-clause-read_again : goal.returns-clause-read_again
+returns-clause-read_again c = ap verb_bits_of (returns-clause-letters c) ∙ read_back c.args.self.r c.args.self.w c.args.self.x c.args.self.d
