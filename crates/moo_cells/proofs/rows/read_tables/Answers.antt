@@ -1,4 +1,4 @@
-use Rattle.moo_cells.proofs.Words.{◌≡◌, ◌∙◌, sym, ap, subst, err_from_is_err_and, Maps, tables_of, has_rowid, ReadsPetition, HoldsTable, SaysUnread, IsLess, petition_key, petition_number, SaysOfCells}
+use Rattle.moo_cells.proofs.Words.{◌∙◌, sym, ap, subst, err_from_is_err_and, Maps, tables_of, has_rowid, ReadsPetition, HoldsTable, SaysUnread, IsLess, petition_key, petition_number, SaysOfCells}
 use Rattle.std.proofs.lemmas.Result.{on_ok_weaker}
 use Rattle.sqlite_rules.proofs.ViewLemmas.{on_ok_both}
 use Rattle.moo_cells.proofs.Exits.{err_then}
