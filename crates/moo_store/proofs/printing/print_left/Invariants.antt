@@ -1,4 +1,4 @@
-use Rattle.std.proofs.Common.{List, None, length}
+use Rattle.std.proofs.Common.{None, length}
 use Rattle.moo_store.proofs.AllRows.{ArePrinted}
 use Rattle.moo_store.proofs.printing.print_left.Given as goal
 
