@@ -17,7 +17,7 @@ use crate::head::read_head;
 use crate::showing::show_each;
 use moo_damage::{Key, first_difference};
 use moo_flat::Flat;
-use moo_rows::{Head, Rows, each_object, each_petition, each_prop, each_slot, each_verb};
+use moo_rows::{Head, ObjRow, PetitionRow, PropRow, Rows, SlotRow, VerbRow};
 use moo_tables::{CellLists as Cells, Version};
 use sqlite::Row;
 use std::alloc::{AllocError, Global};
@@ -48,19 +48,19 @@ fn show_rows(alloc: Global, lists: &Cells, rows: &Flat) -> Result<bool, AllocErr
     ) {
         return Ok(false);
     }
-    if !show_each(alloc, lists.version, &lists.object, each_object(rows))? {
+    if !show_each::<ObjRow>(alloc, lists.version, &lists.object, rows)? {
         return Ok(false);
     }
-    if !show_each(alloc, lists.version, &lists.prop, each_prop(rows))? {
+    if !show_each::<PropRow>(alloc, lists.version, &lists.prop, rows)? {
         return Ok(false);
     }
-    if !show_each(alloc, lists.version, &lists.slot, each_slot(rows))? {
+    if !show_each::<SlotRow>(alloc, lists.version, &lists.slot, rows)? {
         return Ok(false);
     }
-    if !show_each(alloc, lists.version, &lists.verb, each_verb(rows))? {
+    if !show_each::<VerbRow>(alloc, lists.version, &lists.verb, rows)? {
         return Ok(false);
     }
-    show_each(alloc, lists.version, &lists.petition, each_petition(rows))
+    show_each::<PetitionRow>(alloc, lists.version, &lists.petition, rows)
 }
 
 /// The first row in which the tables differ from the rows of a world, in the order of `first_difference`, or none if they show these.
@@ -77,10 +77,11 @@ pub fn compare_cells(alloc: Global, lists: Cells, own: &Flat) -> Result<Option<K
     ensures whole { ShowsRows (tables_of lists) own.now.maps → IfOk result (λ o. o ≡ None) }
     ensures memory { ShowsRows (tables_of lists) own.now.maps → IfErr result (λ fault. fault ≡ CellFault.OutOfMemory) }
 {
-    let shown = show_rows(alloc, &lists, own)?;
-    if shown {
+    if show_rows(alloc, &lists, own)? {
         return Ok(None);
     }
-    let found = read_cells(alloc, lists)?;
-    Ok(first_difference(own, &found))
+    match read_cells(alloc, lists) {
+        Ok(found) => Ok(first_difference(own, &found)),
+        Err(fault) => Err(fault),
+    }
 }

@@ -11,13 +11,11 @@ use std::alloc::AllocError;
 use thiserror::Error;
 
 /// Why the cells of one row can't be read.
-#[derive(Clone, Copy, Debug, PartialEq, Eq, Drop, Error)]
+#[derive(Clone, Copy, Drop)]
 pub enum RowFault {
     /// They show no row within its limits.
-    #[error("the cells show no row")]
     Unreadable,
     /// Memory ran out.
-    #[error("out of memory")]
     OutOfMemory,
 }
 
@@ -41,7 +39,7 @@ impl From<LiteralFault> for RowFault {
 }
 
 /// Why cells give no rows.
-#[derive(Clone, Copy, Debug, PartialEq, Eq, Drop, Error)]
+#[derive(Clone, Copy, Debug, Drop, Error)]
 pub enum CellFault {
     /// The first kind of damage that is met, with the least key at which it is.
     #[error("{0} at {1}")]

@@ -40,7 +40,11 @@ fn objects_in(alloc: Global, values: &[Value]) -> Result<ObjList, RowFault>
     let mut objects = Vec::new(alloc);
     for value in values {
         match value {
-            Value::Obj(object) => objects.push(*object).map_err(|_| RowFault::OutOfMemory)?,
+            Value::Obj(object) => {
+                if objects.push(*object).is_err() {
+                    return Err(RowFault::OutOfMemory);
+                }
+            }
             _ => return Err(RowFault::Unreadable),
         }
     }

@@ -59,11 +59,11 @@ pub fn read_object(
         return Err(RowFault::Unreadable);
     }
     let number = object_at(cells, 0)?;
-    let name = string_at(alloc, cells, 1)?;
     let owner = object_at(cells, 2)?;
     let parent = object_at(cells, 3)?;
     let location = object_at(cells, 4)?;
     let flags = flags_of(cells)?;
+    let name = string_at(alloc, cells, 1)?;
     let accept = accept_at(alloc, cells, 11)?;
     let row = ObjRow {
         name,

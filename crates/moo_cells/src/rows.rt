@@ -1,10 +1,13 @@
 //! The rows of all tables.
 
-ghost use Rattle.std.specs.Prelude.{◌≡◌, ◌<◌, ◌^◌, IfOk, IfErr, OnOk};
+ghost use Rattle.std.specs.Prelude.{◌≡◌, ◌<◌, ◌^◌, find, IfOk, IfErr, OnOk};
+ghost use Rattle.sqlite.specs.Tree.{has_rowid};
 ghost use Rattle.moo_rows.specs.Maps.{no_maps};
 ghost use Rattle.moo_tables.specs.Listing.{AreListed, tables_of};
+ghost use Rattle.moo_tables.specs.Version.{version_number};
 ghost use Rattle.moo_damage.specs.Kinds.{NoneBefore};
 ghost use Rattle.moo_damage.specs.Limits.{AreWithin};
+ghost use Rattle.moo_cells.specs.Head.{HeadIs, ReadsHead, ReadsCounter};
 ghost use Rattle.moo_cells.specs.Shows.{ShowsRows};
 ghost use Rattle.moo_cells.specs.Damage.{IsMet, IsNewer, SaysOfCells};
 
@@ -25,8 +28,36 @@ fn under(alloc: Global, head: Head) -> Flat
     rows
 }
 
-/// The rows that the tables show, within their limits; whether they are those of a world isn't tested. The cells of the rows are
-/// let go soon after they are read.
+/// Puts what each table shows, one after another, in rows that have a head alone. The cells of the rows are let go soon after
+/// they are read.
+fn read_tables(alloc: Global, lists: Cells, rows: &mut Flat) -> Result<(), CellFault>
+    requires listed { AreListed lists }
+    requires head { (cells : _) × HeadIs (λ n. find (has_rowid n) lists.head.items) cells × ReadsHead (version_number lists.version) rows.old.maps.head cells }
+    requires counter { ReadsCounter lists.version (λ n. find (has_rowid n) lists.petition_head.items) rows.old.maps.head.next_petition }
+    requires none { rows.old.maps ≡ record no_maps { head = rows.old.maps.head } }
+    ensures head { OnOk result (rows.new.maps.head ≡ rows.old.maps.head) }
+    ensures shown { OnOk result (ShowsRows (tables_of lists) rows.new.maps) }
+    ensures within { OnOk result (AreWithin rows.new.maps) }
+    ensures read { OnOk result (¬ (IsNewer (tables_of lists)) × NoneBefore (IsMet (tables_of lists)) 3) }
+    ensures fault { IfErr result (SaysOfCells (tables_of lists)) }
+{
+    let Cells {
+        version,
+        object,
+        prop,
+        slot,
+        verb,
+        petition,
+        ..
+    } = lists;
+    read_objects(alloc, version, object, rows)?;
+    read_props(alloc, version, prop, rows)?;
+    read_slots(alloc, version, slot, rows)?;
+    read_verbs(alloc, version, verb, rows)?;
+    read_petitions(alloc, version, petition, rows)
+}
+
+/// The rows that the tables show, within their limits; whether they are those of a world isn't tested.
 ///
 /// Errors: `Damaged` with `BadHead` or `BadCell`, the first of the two that is met, and its least key; `NewerVersion`;
 /// `OutOfMemory`.
@@ -39,22 +70,10 @@ pub fn read_rows(alloc: Global, lists: Cells) -> Result<Flat, CellFault>
     ensures read { OnOk result (¬ (IsNewer (tables_of lists)) × NoneBefore (IsMet (tables_of lists)) 3) }
     ensures fault { IfErr result (SaysOfCells (tables_of lists)) }
 {
-    let Cells {
-        version,
-        head,
-        object,
-        prop,
-        slot,
-        verb,
-        petition,
-        petition_head,
-    } = lists;
-    let head = read_head(version, &head, &petition_head)?;
+    let head = read_head(lists.version, &lists.head, &lists.petition_head)?;
     let mut rows = under(alloc, head);
-    read_objects(alloc, version, object, &mut rows)?;
-    read_props(alloc, version, prop, &mut rows)?;
-    read_slots(alloc, version, slot, &mut rows)?;
-    read_verbs(alloc, version, verb, &mut rows)?;
-    read_petitions(alloc, version, petition, &mut rows)?;
-    Ok(rows)
+    match read_tables(alloc, lists, &mut rows) {
+        Ok(()) => Ok(rows),
+        Err(fault) => Err(fault),
+    }
 }

@@ -1,11 +1,11 @@
 //! The rows of a table, compared with rows that were known before.
 
-ghost use Rattle.std.specs.Prelude.{◌≡◌, true, List, IfOk};
-ghost use Rattle.std.specs.Iterator.{YieldsFirstBy, IsFinite};
+ghost use Rattle.std.specs.Prelude.{◌≡◌, true, None, IfOk};
 ghost use Rattle.moo_cells.specs.Each.{ShowEach};
 
 use crate::fault::RowFault;
 use crate::table_row::ReadRow;
+use moo_flat::Flat;
 use moo_rows::Row as _;
 use moo_tables::Version;
 use sqlite::Row;
@@ -28,25 +28,27 @@ fn shows<R: ReadRow>(
     }
 }
 
-/// Whether the rows of a table of this version show the entries that are left, one for one. An `Err` means that memory ran out.
-pub(crate) fn show_each<'a, R: ReadRow + 'a, I: Iterator<Item = (R::Key, &'a R)> + Drop>(
+/// Whether the rows of a table of this version show all rows of their kind, one for one. An `Err` means that memory ran out.
+pub(crate) fn show_each<R: ReadRow>(
     alloc: Global,
     version: Version,
     cells: &[Row],
-    mut left: I,
+    rows: &Flat,
 ) -> Result<bool, AllocError>
-    requires can_next { I.can_next left × IsFinite (I.remaining left) }
-    ensures { IfOk result (λ show. show ≡ true → (rest : I → List (R.Key × R)) → ((it next : I) (item : _) → I.next_gives it item next → YieldsFirstBy (λ e. (e.0, e.1.now)) rest it item next) → ShowEach (R.reads version) cells.now (rest left)) }
+    ensures { IfOk result (λ show. show ≡ true → ShowEach (R.reads version) cells.now (R.left None rows.now.maps)) }
 {
+    let mut last = None;
     for row in cells {
-        match left.next() {
-            None => return Ok(false),
-            Some((key, held)) => {
-                if !shows(alloc, version, row, key, held)? {
-                    return Ok(false);
-                }
-            }
+        let Some(key) = R::next(rows, last) else {
+            return Ok(false);
+        };
+        let Some(held) = R::find(rows, key) else {
+            return Ok(false);
+        };
+        if !shows(alloc, version, row, key, held)? {
+            return Ok(false);
         }
+        last = Some(key);
     }
-    Ok(left.next().is_none())
+    Ok(R::next(rows, last).is_none())
 }

@@ -45,13 +45,13 @@ pub fn read_verb(
     }
     let object = object_at(cells, 0)?;
     let id = id_at(cells, 1)?;
+    let owner = object_at(cells, 3)?;
+    let bits = verb_bits_at(cells, 4)?;
+    let args = args_of(cells)?;
     let names = string_at(alloc, cells, 2)?;
     if check_names(&names).is_err() {
         return Err(RowFault::Unreadable);
     }
-    let owner = object_at(cells, 3)?;
-    let bits = verb_bits_at(cells, 4)?;
-    let args = args_of(cells)?;
     Ok((
         (object, VerbId(id)),
         VerbRow {

@@ -1,5 +1,5 @@
 -- What tables become as they are opened.
-use Rattle.moo_store.proofs.Words.{◌≡◌, List, Option, None, refl, sym, ◌∙◌, ObjNo, Head, PropId, Maps, SlotCells, IsEarlier, Tables, migrated, Rests, IsCurrent, ShowsRows, PrintEach, PrintsSlot, all_of}
+use Rattle.moo_store.proofs.Words.{◌≡◌, List, Option, None, refl, ObjNo, Head, PropId, Maps, SlotCells, IsEarlier, Tables, migrated, Rests, IsCurrent, ShowsRows, PrintEach, PrintsSlot, all_of}
 use Rattle.sqlite.specs.State.{State as Database}
 use Rattle.moo_store.specs.Current.{RestsCurrent}
 use Rattle.moo_store.proofs.Migrated.{shows}

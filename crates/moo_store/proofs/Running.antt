@@ -1,7 +1,7 @@
 -- One batch, and then a list of them.
 use Rattle.moo_store.proofs.Words.{◌≡◌, inl, inr, ℕ, zero, suc, ◌+◌, ◌≤◌, ◌<◌, Bool, List, [], ◌∷◌, ◌++◌, take, drop, length, get_or, append_assoc, length-append, Result, Ok, Err, OnOk, OnErr, IfErr, true, false, refl, sym, ap, subst, ◌∙◌, arith, is_err, ⊤, IsTrue, map, append-nil, take_more, HasCleanDisk, Ghosts, Batch, Reply, Value, nat_lt, if◌then◌else◌, State, Ran, Through, FailedAt, FullAt, Verdict, Accepted, Refused, NoRoom, Stale, is_due, last_seq, run_calls, verdict_of, judge, left_by, after, LeavesState, reply_of, state_behind, IsRun, AnsweredOne, Answered, acknowledged, added, Stand, Works, Failed, StoreFailed, state_at, VerdictLeaves, RunsBatch, Turns, StandsBehind, RunsAll, answer_to, store_of, IsAt, StandsAt, Left, LeftOrNext, MatchStore, World, StoreFault, Store, Damaged, NewerVersion, OutOfMemory, Closed}
 use Rattle.moo_store.proofs.Crashes.{IsSettled, left_at_rest}
-use Rattle.std.proofs.Math.Seq.{drop-append_seam, drop-cons}
+use Rattle.std.proofs.Math.Seq.{drop-append_seam, drop-cons, take-append_seam}
 use Rattle.sqlite.specs.declared.error.Error.{Error}
 use Rattle.moo_text.specs.declared.reply.Reply.TheVariants as reply
 use borrow.Author.Tests.{ltb-true}
@@ -319,3 +319,25 @@ runs_stopped g old now new all count before replies batch Closed low is fails st
 -- at a fault, fewer batches have a reply than there are
 pub fewer : {S : Type 0} (g : Ghosts S) (old now : World S) (all : List Batch) (count : ℕ) (before replies : List Reply) → count < length all → Progress g old now all count before replies → length (added before replies) < length all
 fewer g old now all count before replies low p = subst (λ n. n < length all) (sym (ap length (added_is g old now all count before replies p) ∙ p.each)) low
+
+-- ---- what is said of each end of a run
+
+pub stood : {S : Type 0} (g : Ghosts S) (old now : World S) (all : List Batch) (count : ℕ) (before replies : List Reply) → Progress g old now all count before replies → take (length before) replies ≡ before
+stood g old now all count before replies p = ap (λ rs. take (length before) rs) p.whole ∙ take-append_seam before p.new
+
+pub all_answered : {S : Type 0} (g : Ghosts S) (old now : World S) (all : List Batch) (count : ℕ) (before replies : List Reply) → Progress g old now all count before replies → count ≡ length all → length (added before replies) ≡ length all
+all_answered g old now all count before replies p done = ap length (added_is g old now all count before replies p) ∙ p.each ∙ done
+
+-- a fault of a batch fails the World, and isn't want of memory
+pub has_failed : {S : Type 0} (g : Ghosts S) (old new : World S) (fault : StoreFault) → FailsAtStore g old new (let r : Result Reply StoreFault = Err fault in r) → IsTrue new.failed
+has_failed g old new (Store error) it = it.1
+has_failed {S} g old new Closed it = ap (λ (w : World S). w.failed) it.1 ∙ it.0
+has_failed g old new (Damaged kind key) it = absurd it
+has_failed g old new NewerVersion it = absurd it
+has_failed g old new OutOfMemory it = absurd it
+
+pub no_memory : {S : Type 0} (g : Ghosts S) (old new : World S) (fault : StoreFault) → fault ≡ OutOfMemory → FailsAtStore g old new (let r : Result Reply StoreFault = Err fault in r) → ⊥
+no_memory g old new fault is it = subst (λ f. FailsAtStore g old new (let r : Result Reply StoreFault = Err f in r)) is it
+
+pub same_fault : {T : Type 0} (f g : StoreFault) → (let r : Result T StoreFault = Err f in let s : Result T StoreFault = Err g in r ≡ s) → f ≡ g
+same_fault f g e = cc

@@ -1,20 +1,22 @@
 //! Answering the items of a text in turn.
 
-ghost use Rattle.std.specs.Prelude.{◌≡◌, Bool, false, IsTrue, IfOk, IfErr, IfSome, IfNone};
+ghost use Rattle.std.specs.Prelude.{◌≡◌, ◌≢◌, ◌⊎◌, ℕ, ◌+◌, ◌<◌, ◌^◌, Bool, true, false, cond, take, IsTrue, IfOk, IfErr, IfSome, IfNone};
+ghost use Rattle.std.specs.Io.KnownBytes.{Appends};
 ghost use Rattle.moo_world.specs.Judge.{state_of};
 ghost use Rattle.moo_store.specs.World.{StandsFor};
 ghost use Rattle.moo_world.specs.Rows.{IsGood};
 ghost use Rattle.moo_world.specs.declared.call.Batch.{Batch};
 ghost use Rattle.moo_text.specs.declared.reply.Answer.{Answer};
+ghost use Rattle.moo_text.specs.Replies.{answer_text};
 ghost use Rattle.moo_store.specs.Text.{answer_to};
-ghost use Rattle.moo_store.specs.Turns.{Turn, Completes, Halts};
+ghost use Rattle.moo_store.specs.Turns.{Turn, Completes, Halts, is_batch, is_lost_answer};
 
 use crate::fault::StoreFault;
 use crate::output::put_answer;
 use crate::tally::Tally;
 use crate::world::World;
 use moo_flat::Flat;
-use moo_text::{Answer, Feed, Next, Notes, Reply, TextFault};
+use moo_text::{Answer, Feed, Marks, Next, Notes, Reply, TextFault};
 use moo_world::Batch;
 use sqlite::Alter;
 use std::alloc::Global;
@@ -71,6 +73,37 @@ fn answer_item<A: Answering>(answering: &mut A, item: &Next) -> Option<Answer>
     }
 }
 
+/// Answers one item of a text, writes the answer, and tells the notes of it. Answers whether the text goes on: its end has no answer.
+fn answer_and_note<W: Write, A: Answering, N: Notes>(
+    alloc: Global,
+    item: &Next,
+    marks: &Marks,
+    writer: &mut W,
+    answering: &mut A,
+    notes: &mut N,
+    tally: &mut Tally,
+) -> Result<bool, TextFault>
+    requires room { tally.old.batches < 2 ^ 63 }
+    requires room_lost { tally.old.lost < 2 ^ 63 }
+    ensures goes_on { IfOk result (λ more. more ≡ true → (answer : Answer) × Turn A.answered answering.old item.now answer answering.new × Appends (W.contents writer.old) (W.contents writer.new) (answer_text answer)
+        × (tally.new.batches ≡ tally.old.batches + cond (is_batch answer) 1 0) × (tally.new.lost ≡ tally.old.lost + cond (is_lost_answer answer) 1 0)) }
+    ensures ends { IfOk result (λ more. more ≡ false → (item.now ≡ Next.End) × (answering.new ≡ answering.old) × (writer.new ≡ writer.old) × (tally.new ≡ tally.old)) }
+    ensures halts { IfErr result (λ fault. (answer : Answer) × (count : ℕ) × Turn A.answered answering.old item.now answer answering.new × Appends (W.contents writer.old) (W.contents writer.new) (take count (answer_text answer))
+        × ((fault ≡ TextFault.Write) ⊎ (fault ≡ TextFault.OutOfMemory)) × (fault ≢ TextFault.Write → count ≡ 0)) }
+{
+    let Some(answer) = answer_item(answering, item) else {
+        return Ok(false);
+    };
+    tally.count(&answer);
+    match put_answer(alloc, writer, &answer) {
+        Ok(()) => {
+            notes.note(answering.rows(), item, marks, &answer);
+            Ok(true)
+        }
+        Err(fault) => Err(fault),
+    }
+}
+
 /// Answers each item of a text, and writes its answer before the next item is read. Then the notes are told of it.
 pub(crate) fn answer_all<R: Read + Drop, W: Write, A: Answering, N: Notes>(
     alloc: Global,
@@ -85,12 +118,22 @@ pub(crate) fn answer_all<R: Read + Drop, W: Write, A: Answering, N: Notes>(
     let mut feed = Feed::new(alloc, reader);
     let mut tally = Tally::new();
     loop {
-        let item = feed.next_batch()?;
-        let Some(answer) = answer_item(answering, &item) else {
-            return Ok(tally);
+        let item = match feed.next_batch() {
+            Ok(item) => item,
+            Err(fault) => return Err(fault),
         };
-        tally.count(&answer);
-        put_answer(alloc, writer, &answer)?;
-        notes.note(answering.rows(), &item, feed.marks(), &answer);
+        match answer_and_note(
+            alloc,
+            &item,
+            feed.marks(),
+            writer,
+            answering,
+            notes,
+            &mut tally,
+        ) {
+            Ok(true) => {}
+            Ok(false) => return Ok(tally),
+            Err(fault) => return Err(fault),
+        }
     }
 }

@@ -31,7 +31,7 @@ fn literal_cell(alloc: Global, value: &Value) -> Result<Vec<u8>, AllocError>
 fn object_list(alloc: Global, objects: &[ObjNo]) -> Result<Value, AllocError>
     ensures { IfOk result (λ value. value ≡ object_list objects.now) }
 {
-    let mut values = Vec::with_capacity(alloc, objects.len())?;
+    let mut values = Vec::new(alloc);
     for x in objects {
         values.push(Value::Obj(*x))?;
     }

@@ -11,7 +11,7 @@ use sqlite::Alter;
 use std::io::Write;
 
 /// Why a dump stopped.
-#[derive(Clone, Copy, Debug, PartialEq, Eq)]
+#[derive(Clone, Copy)]
 pub enum DumpFault {
     /// The writer failed, or took no bytes.
     Write,

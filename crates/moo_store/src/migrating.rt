@@ -17,7 +17,7 @@ use crate::fault::StoreFault;
 use crate::printing::print_left;
 use crate::reading::failure_of;
 use moo_flat::Flat;
-use moo_rows::{PropId, Rows, each_slot};
+use moo_rows::{PropId, Rows, SlotRow};
 use moo_tables::{SlotCells, Version, migrate};
 use moo_value::ObjNo;
 use sqlite::{Alter, Connection};
@@ -30,7 +30,7 @@ fn print_slots(
 ) -> Result<Vec<((ObjNo, PropId), Option<SlotCells>)>, AllocError>
     ensures { IfOk result (λ cells. PrintEach (λ key. PrintsSlot None) cells.items (all_of rows.now.maps.slots)) }
 {
-    print_left(alloc, each_slot(rows))
+    print_left::<(ObjNo, PropId), SlotCells, SlotRow>(alloc, rows)
 }
 
 /// Migrates tables of an earlier version, which show these rows, to the present one in one transaction.

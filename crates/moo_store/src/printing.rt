@@ -1,7 +1,6 @@
 //! Rows that change, printed as the cells of their tables.
 
-ghost use Rattle.std.specs.Prelude.{◌≡◌, List, Option, Some, None, IfOk, option_map};
-ghost use Rattle.std.specs.Iterator.{YieldsFirstBy, IsFinite};
+ghost use Rattle.std.specs.Prelude.{◌≡◌, List, [], ◌∷◌, Option, Some, None, IfOk, IfSome, IfNone, option_map};
 ghost use Rattle.moo_cells.specs.Shows.{ShowsOrNone};
 ghost use Rattle.moo_rows.specs.Maps.{Maps, no_maps};
 ghost use Rattle.moo_store.specs.Printed.{PrintEach, Prints, new_number, as_changes, all_changes};
@@ -11,7 +10,6 @@ use moo_draft::{ChangeList, Changes};
 use moo_flat::Flat;
 use moo_rows::{
     ObjRow, PetitionId, PetitionRow, PropId, PropRow, Row, Rows, SlotRow, VerbId, VerbRow,
-    each_object, each_petition, each_prop, each_slot, each_verb,
 };
 use moo_tables::{CellChanges, ObjectCells, PetitionCells, PropCells, SlotCells, VerbCells};
 use moo_value::ObjNo;
@@ -26,9 +24,17 @@ trait Print<K, C> {
     /// The rows of this kind.
     ghost held: { Maps → K → Option Self };
 
+    /// Those past a key, with their keys and in the order of these; past none all of them.
+    ghost left: { Option K → Maps → List (K × Self) };
+
     /// The row with a key.
     fn find(rows: &Flat, key: K) -> Option<&Self>
         ensures { option_map (λ row. row.now) result ≡ held rows.now.maps key };
+
+    /// The first key past another, or the first of all.
+    fn next(rows: &Flat, last: Option<K>) -> Option<K>
+        ensures some { IfSome result (λ key. (row : Self) × (held rows.now.maps key ≡ Some row) × (left last rows.now.maps ≡ (key, row) ∷ left (Some key) rows.now.maps)) }
+        ensures none { IfNone result (left last rows.now.maps ≡ []) };
 
     /// A column with several spellings of one value is printed only if its value changes. The only error is out of memory.
     fn cells(&self, alloc: Global, old: Option<&Self>) -> Result<C, AllocError>
@@ -37,14 +43,25 @@ trait Print<K, C> {
 
 impl Print<ObjNo, ObjectCells> for ObjRow {
     ghost use Rattle.std.specs.FinMap.{get};
+    ghost use Rattle.moo_rows.specs.declared.row.ObjRow.{ObjRow};
+    ghost use Rattle.moo_rows.specs.Walk.{objects_left};
     ghost use Rattle.moo_store.specs.Printed.{PrintsObject};
 
     ghost prints = { PrintsObject };
 
     ghost held = { λ rows key. get rows.objects key };
 
+    ghost left = { objects_left };
+
     fn find(rows: &Flat, key: ObjNo) -> Option<&ObjRow> {
         rows.object(key)
+    }
+
+    fn next(rows: &Flat, last: Option<ObjNo>) -> Option<ObjNo>
+        ensures some { IfSome result (λ key. (row : ObjRow) × (get rows.now.maps.objects key ≡ Some row) × (objects_left last rows.now.maps ≡ (key, row) ∷ objects_left (Some key) rows.now.maps)) }
+        ensures none { IfNone result (objects_left last rows.now.maps ≡ []) }
+    {
+        rows.next_object(last)
     }
 
     fn cells(&self, alloc: Global, old: Option<&ObjRow>) -> Result<ObjectCells, AllocError> {
@@ -56,14 +73,25 @@ impl Print<ObjNo, ObjectCells> for ObjRow {
 
 impl Print<PropId, PropCells> for PropRow {
     ghost use Rattle.std.specs.FinMap.{get};
+    ghost use Rattle.moo_rows.specs.declared.row.PropRow.{PropRow};
+    ghost use Rattle.moo_rows.specs.Walk.{props_left};
     ghost use Rattle.moo_store.specs.Printed.{PrintsProp};
 
     ghost prints = { PrintsProp };
 
     ghost held = { λ rows key. get rows.props key };
 
+    ghost left = { props_left };
+
     fn find(rows: &Flat, key: PropId) -> Option<&PropRow> {
         rows.prop(key)
+    }
+
+    fn next(rows: &Flat, last: Option<PropId>) -> Option<PropId>
+        ensures some { IfSome result (λ key. (row : PropRow) × (get rows.now.maps.props key ≡ Some row) × (props_left last rows.now.maps ≡ (key, row) ∷ props_left (Some key) rows.now.maps)) }
+        ensures none { IfNone result (props_left last rows.now.maps ≡ []) }
+    {
+        rows.next_prop(last)
     }
 
     fn cells(&self, alloc: Global, _old: Option<&PropRow>) -> Result<PropCells, AllocError> {
@@ -77,14 +105,25 @@ impl Print<PropId, PropCells> for PropRow {
 
 impl Print<(ObjNo, PropId), SlotCells> for SlotRow {
     ghost use Rattle.std.specs.FinMap.{get};
+    ghost use Rattle.moo_rows.specs.declared.row.SlotRow.{SlotRow};
+    ghost use Rattle.moo_rows.specs.Walk.{slots_left};
     ghost use Rattle.moo_store.specs.Printed.{PrintsSlot};
 
     ghost prints = { PrintsSlot };
 
     ghost held = { λ rows key. get rows.slots key };
 
+    ghost left = { slots_left };
+
     fn find(rows: &Flat, key: (ObjNo, PropId)) -> Option<&SlotRow> {
         rows.slot(key)
+    }
+
+    fn next(rows: &Flat, last: Option<(ObjNo, PropId)>) -> Option<(ObjNo, PropId)>
+        ensures some { IfSome result (λ key. (row : SlotRow) × (get rows.now.maps.slots key ≡ Some row) × (slots_left last rows.now.maps ≡ (key, row) ∷ slots_left (Some key) rows.now.maps)) }
+        ensures none { IfNone result (slots_left last rows.now.maps ≡ []) }
+    {
+        rows.next_slot(last)
     }
 
     fn cells(&self, alloc: Global, old: Option<&SlotRow>) -> Result<SlotCells, AllocError> {
@@ -99,14 +138,25 @@ impl Print<(ObjNo, PropId), SlotCells> for SlotRow {
 
 impl Print<(ObjNo, VerbId), VerbCells> for VerbRow {
     ghost use Rattle.std.specs.FinMap.{get};
+    ghost use Rattle.moo_rows.specs.declared.row.VerbRow.{VerbRow};
+    ghost use Rattle.moo_rows.specs.Walk.{verbs_left};
     ghost use Rattle.moo_store.specs.Printed.{PrintsVerb};
 
     ghost prints = { PrintsVerb };
 
     ghost held = { λ rows key. get rows.verbs key };
 
+    ghost left = { verbs_left };
+
     fn find(rows: &Flat, key: (ObjNo, VerbId)) -> Option<&VerbRow> {
         rows.verb(key)
+    }
+
+    fn next(rows: &Flat, last: Option<(ObjNo, VerbId)>) -> Option<(ObjNo, VerbId)>
+        ensures some { IfSome result (λ key. (row : VerbRow) × (get rows.now.maps.verbs key ≡ Some row) × (verbs_left last rows.now.maps ≡ (key, row) ∷ verbs_left (Some key) rows.now.maps)) }
+        ensures none { IfNone result (verbs_left last rows.now.maps ≡ []) }
+    {
+        rows.next_verb(last)
     }
 
     fn cells(&self, alloc: Global, old: Option<&VerbRow>) -> Result<VerbCells, AllocError> {
@@ -128,14 +178,25 @@ impl Print<(ObjNo, VerbId), VerbCells> for VerbRow {
 
 impl Print<PetitionId, PetitionCells> for PetitionRow {
     ghost use Rattle.std.specs.FinMap.{get};
+    ghost use Rattle.moo_rows.specs.declared.row.PetitionRow.{PetitionRow};
+    ghost use Rattle.moo_rows.specs.Walk.{petitions_left};
     ghost use Rattle.moo_store.specs.Printed.{PrintsPetition};
 
     ghost prints = { PrintsPetition };
 
     ghost held = { λ rows key. get rows.petitions key };
 
+    ghost left = { petitions_left };
+
     fn find(rows: &Flat, key: PetitionId) -> Option<&PetitionRow> {
         rows.petition(key)
+    }
+
+    fn next(rows: &Flat, last: Option<PetitionId>) -> Option<PetitionId>
+        ensures some { IfSome result (λ key. (row : PetitionRow) × (get rows.now.maps.petitions key ≡ Some row) × (petitions_left last rows.now.maps ≡ (key, row) ∷ petitions_left (Some key) rows.now.maps)) }
+        ensures none { IfNone result (petitions_left last rows.now.maps ≡ []) }
+    {
+        rows.next_petition(last)
     }
 
     fn cells(&self, alloc: Global, old: Option<&PetitionRow>) -> Result<PetitionCells, AllocError> {
@@ -167,7 +228,7 @@ fn print_each<K: Copy + Drop, C: Drop, V: Print<K, C>>(
 ) -> Result<Vec<(K, Option<C>)>, AllocError>
     ensures { IfOk result (λ cells. PrintEach (λ key. V.prints (V.held rows.now.maps key)) cells.items changes.now) }
 {
-    let mut cells = Vec::with_capacity(alloc, changes.items().len())?;
+    let mut cells = Vec::new(alloc);
     for (key, row) in changes.items() {
         let old = V::find(rows, *key);
         cells.push((*key, print_row(alloc, old, row)?))?;
@@ -183,21 +244,22 @@ fn new_cells<'a, K, C, V: Print<K, C>>(alloc: Global, row: &'a V) -> Result<C, A
     row.cells(alloc, none)
 }
 
-/// The cells of rows that come one after another, each with its key. The only error is out of memory.
-pub(crate) fn print_left<
-    'a,
-    K: Copy + Drop,
-    C: Drop,
-    V: Print<K, C> + 'a,
-    I: Iterator<Item = (K, &'a V)> + Drop,
->(alloc: Global, left: I) -> Result<Vec<(K, Option<C>)>, AllocError>
-    requires can_next { I.can_next left × IsFinite (I.remaining left) }
-    ensures { IfOk result (λ cells. (rest : I → List (K × V)) → ((it next : I) (item : _) → I.next_gives it item next → YieldsFirstBy (λ e. (e.0, e.1.now)) rest it item next) → PrintEach (λ key. V.prints None) cells.items (as_changes (rest left))) }
+/// The cells of all rows of one kind, each with its key. The only error is out of memory.
+pub(crate) fn print_left<K: Copy + Drop, C: Drop, V: Print<K, C>>(
+    alloc: Global,
+    rows: &Flat,
+) -> Result<Vec<(K, Option<C>)>, AllocError>
+    ensures { IfOk result (λ cells. PrintEach (λ key. V.prints None) cells.items (as_changes (V.left None rows.now.maps))) }
 {
     let mut cells = Vec::new(alloc);
-    for (key, row) in left {
+    let mut last = None;
+    while let Some(key) = V::next(rows, last) {
+        let Some(row) = V::find(rows, key) else {
+            unreachable!();
+        };
         let printed = new_cells::<K, C, V>(alloc, row)?;
         cells.push((key, Some(printed)))?;
+        last = Some(key);
     }
     Ok(cells)
 }
@@ -207,11 +269,11 @@ pub(crate) fn print_all(alloc: Global, rows: &Flat) -> Result<CellChanges, Alloc
     ensures { IfOk result (λ cells. Prints None no_maps cells (all_changes rows.now.maps)) }
 {
     let head = rows.head();
-    let objects = print_left(alloc, each_object(rows))?;
-    let props = print_left(alloc, each_prop(rows))?;
-    let slots = print_left(alloc, each_slot(rows))?;
-    let verbs = print_left(alloc, each_verb(rows))?;
-    let petitions = print_left(alloc, each_petition(rows))?;
+    let objects = print_left::<ObjNo, ObjectCells, ObjRow>(alloc, rows)?;
+    let props = print_left::<PropId, PropCells, PropRow>(alloc, rows)?;
+    let slots = print_left::<(ObjNo, PropId), SlotCells, SlotRow>(alloc, rows)?;
+    let verbs = print_left::<(ObjNo, VerbId), VerbCells, VerbRow>(alloc, rows)?;
+    let petitions = print_left::<PetitionId, PetitionCells, PetitionRow>(alloc, rows)?;
     Ok(CellChanges {
         head,
         next_petition: Some(head.next_petition),

@@ -6,7 +6,7 @@ ghost use Rattle.moo_store.specs.Turns.{is_batch, is_lost_answer};
 use moo_text::Answer;
 
 /// How many batches of a text were read whole, and how many of them were answered `fault` or `closed`.
-#[derive(Clone, Copy, Debug)]
+#[derive(Clone, Copy)]
 pub struct Tally {
     pub batches: u64,
     pub lost: u64,

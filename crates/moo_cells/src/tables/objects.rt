@@ -1,7 +1,9 @@
 //! The table of objects.
 
-ghost use Rattle.std.specs.Prelude.{◌≡◌, IfErr, OnOk};
-ghost use Rattle.std.specs.FinMap.{empty};
+ghost use Rattle.std.specs.Prelude.{◌≡◌, [], ◌∷◌, Some, IfErr, IfSome, IfNone, OnOk};
+ghost use Rattle.std.specs.FinMap.{empty, get};
+ghost use Rattle.moo_rows.specs.declared.row.ObjRow.{ObjRow};
+ghost use Rattle.moo_rows.specs.Walk.{objects_left};
 ghost use Rattle.sqlite.specs.Tree.{has_rowid};
 ghost use Rattle.moo_tables.specs.Inside.{AreKeyed};
 ghost use Rattle.moo_cells.specs.Reading.{ReadsObject, IsRead};
@@ -26,8 +28,23 @@ impl ReadRow for ObjRow {
 
     ghost reads = { ReadsObject };
 
+    ghost held = { λ rows key. get rows.objects key };
+
+    ghost left = { objects_left };
+
     fn read(alloc: Global, version: Version, cells: &Row) -> Result<(ObjNo, ObjRow), RowFault> {
         read_object(alloc, version, cells)
+    }
+
+    fn find(rows: &Flat, key: ObjNo) -> Option<&ObjRow> {
+        rows.object(key)
+    }
+
+    fn next(rows: &Flat, last: Option<ObjNo>) -> Option<ObjNo>
+        ensures some { IfSome result (λ key. (row : ObjRow) × (get rows.now.maps.objects key ≡ Some row) × (objects_left last rows.now.maps ≡ (key, row) ∷ objects_left (Some key) rows.now.maps)) }
+        ensures none { IfNone result (objects_left last rows.now.maps ≡ []) }
+    {
+        rows.next_object(last)
     }
 }
 

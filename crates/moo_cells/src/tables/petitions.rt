@@ -1,7 +1,9 @@
 //! The table of petitions.
 
-ghost use Rattle.std.specs.Prelude.{◌≡◌, IfErr, OnOk};
-ghost use Rattle.std.specs.FinMap.{empty};
+ghost use Rattle.std.specs.Prelude.{◌≡◌, [], ◌∷◌, Some, IfErr, IfSome, IfNone, OnOk};
+ghost use Rattle.std.specs.FinMap.{empty, get};
+ghost use Rattle.moo_rows.specs.declared.row.PetitionRow.{PetitionRow};
+ghost use Rattle.moo_rows.specs.Walk.{petitions_left};
 ghost use Rattle.sqlite.specs.Tree.{has_rowid};
 ghost use Rattle.moo_tables.specs.Inside.{AreKeyed};
 ghost use Rattle.moo_cells.specs.Reading.{ReadsPetition, IsRead};
@@ -25,12 +27,27 @@ impl ReadRow for PetitionRow {
 
     ghost reads = { ReadsPetition };
 
+    ghost held = { λ rows key. get rows.petitions key };
+
+    ghost left = { petitions_left };
+
     fn read(
         alloc: Global,
         version: Version,
         cells: &Row,
     ) -> Result<(PetitionId, PetitionRow), RowFault> {
         read_petition(alloc, version, cells)
+    }
+
+    fn find(rows: &Flat, key: PetitionId) -> Option<&PetitionRow> {
+        rows.petition(key)
+    }
+
+    fn next(rows: &Flat, last: Option<PetitionId>) -> Option<PetitionId>
+        ensures some { IfSome result (λ key. (row : PetitionRow) × (get rows.now.maps.petitions key ≡ Some row) × (petitions_left last rows.now.maps ≡ (key, row) ∷ petitions_left (Some key) rows.now.maps)) }
+        ensures none { IfNone result (petitions_left last rows.now.maps ≡ []) }
+    {
+        rows.next_petition(last)
     }
 }
 

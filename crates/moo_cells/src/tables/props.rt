@@ -1,7 +1,9 @@
 //! The table of properties.
 
-ghost use Rattle.std.specs.Prelude.{◌≡◌, IfErr, OnOk};
-ghost use Rattle.std.specs.FinMap.{empty};
+ghost use Rattle.std.specs.Prelude.{◌≡◌, [], ◌∷◌, Some, IfErr, IfSome, IfNone, OnOk};
+ghost use Rattle.std.specs.FinMap.{empty, get};
+ghost use Rattle.moo_rows.specs.declared.row.PropRow.{PropRow};
+ghost use Rattle.moo_rows.specs.Walk.{props_left};
 ghost use Rattle.sqlite.specs.Tree.{has_rowid};
 ghost use Rattle.moo_tables.specs.Inside.{AreKeyed};
 ghost use Rattle.moo_cells.specs.Reading.{ReadsProp, IsRead};
@@ -25,8 +27,23 @@ impl ReadRow for PropRow {
 
     ghost reads = { ReadsProp };
 
+    ghost held = { λ rows key. get rows.props key };
+
+    ghost left = { props_left };
+
     fn read(alloc: Global, version: Version, cells: &Row) -> Result<(PropId, PropRow), RowFault> {
         read_prop(alloc, version, cells)
+    }
+
+    fn find(rows: &Flat, key: PropId) -> Option<&PropRow> {
+        rows.prop(key)
+    }
+
+    fn next(rows: &Flat, last: Option<PropId>) -> Option<PropId>
+        ensures some { IfSome result (λ key. (row : PropRow) × (get rows.now.maps.props key ≡ Some row) × (props_left last rows.now.maps ≡ (key, row) ∷ props_left (Some key) rows.now.maps)) }
+        ensures none { IfNone result (props_left last rows.now.maps ≡ []) }
+    {
+        rows.next_prop(last)
     }
 }
 

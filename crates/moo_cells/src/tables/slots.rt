@@ -1,7 +1,9 @@
 //! The table of slots.
 
-ghost use Rattle.std.specs.Prelude.{◌≡◌, IfErr, OnOk};
-ghost use Rattle.std.specs.FinMap.{empty};
+ghost use Rattle.std.specs.Prelude.{◌≡◌, [], ◌∷◌, Some, IfErr, IfSome, IfNone, OnOk};
+ghost use Rattle.std.specs.FinMap.{empty, get};
+ghost use Rattle.moo_rows.specs.declared.row.SlotRow.{SlotRow};
+ghost use Rattle.moo_rows.specs.Walk.{slots_left};
 ghost use Rattle.moo_tables.specs.Listing.{has_key_pair, ArePaired};
 ghost use Rattle.moo_cells.specs.Reading.{ReadsSlot, IsRead};
 ghost use Rattle.moo_cells.specs.Holding.{slot_number, slot_key, IsPairLess, HoldsTable, SaysUnread, TakesRow};
@@ -25,12 +27,27 @@ impl ReadRow for SlotRow {
 
     ghost reads = { ReadsSlot };
 
+    ghost held = { λ rows key. get rows.slots key };
+
+    ghost left = { slots_left };
+
     fn read(
         alloc: Global,
         version: Version,
         cells: &Row,
     ) -> Result<((ObjNo, PropId), SlotRow), RowFault> {
         read_slot(alloc, version, cells)
+    }
+
+    fn find(rows: &Flat, key: (ObjNo, PropId)) -> Option<&SlotRow> {
+        rows.slot(key)
+    }
+
+    fn next(rows: &Flat, last: Option<(ObjNo, PropId)>) -> Option<(ObjNo, PropId)>
+        ensures some { IfSome result (λ key. (row : SlotRow) × (get rows.now.maps.slots key ≡ Some row) × (slots_left last rows.now.maps ≡ (key, row) ∷ slots_left (Some key) rows.now.maps)) }
+        ensures none { IfNone result (slots_left last rows.now.maps ≡ []) }
+    {
+        rows.next_slot(last)
     }
 }
 

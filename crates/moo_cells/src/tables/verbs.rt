@@ -1,7 +1,9 @@
 //! The table of verbs.
 
-ghost use Rattle.std.specs.Prelude.{◌≡◌, IfErr, OnOk};
-ghost use Rattle.std.specs.FinMap.{empty};
+ghost use Rattle.std.specs.Prelude.{◌≡◌, [], ◌∷◌, Some, IfErr, IfSome, IfNone, OnOk};
+ghost use Rattle.std.specs.FinMap.{empty, get};
+ghost use Rattle.moo_rows.specs.declared.row.VerbRow.{VerbRow};
+ghost use Rattle.moo_rows.specs.Walk.{verbs_left};
 ghost use Rattle.moo_tables.specs.Listing.{has_key_pair, ArePaired};
 ghost use Rattle.moo_cells.specs.Reading.{ReadsVerb, IsRead};
 ghost use Rattle.moo_cells.specs.Holding.{verb_number, verb_key, IsPairLess, HoldsTable, SaysUnread, TakesRow};
@@ -25,12 +27,27 @@ impl ReadRow for VerbRow {
 
     ghost reads = { ReadsVerb };
 
+    ghost held = { λ rows key. get rows.verbs key };
+
+    ghost left = { verbs_left };
+
     fn read(
         alloc: Global,
         version: Version,
         cells: &Row,
     ) -> Result<((ObjNo, VerbId), VerbRow), RowFault> {
         read_verb(alloc, version, cells)
+    }
+
+    fn find(rows: &Flat, key: (ObjNo, VerbId)) -> Option<&VerbRow> {
+        rows.verb(key)
+    }
+
+    fn next(rows: &Flat, last: Option<(ObjNo, VerbId)>) -> Option<(ObjNo, VerbId)>
+        ensures some { IfSome result (λ key. (row : VerbRow) × (get rows.now.maps.verbs key ≡ Some row) × (verbs_left last rows.now.maps ≡ (key, row) ∷ verbs_left (Some key) rows.now.maps)) }
+        ensures none { IfNone result (verbs_left last rows.now.maps ≡ []) }
+    {
+        rows.next_verb(last)
     }
 }
 

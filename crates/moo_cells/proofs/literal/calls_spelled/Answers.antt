@@ -26,3 +26,6 @@ returns-else-may_be_held-clause-err c = λ unreadable calls fits spells.
     let spelled : Spells (a_list c.in-List.calls) c.args.bytes.now = subst (λ (v : Value). Spells v c.args.bytes.now) c.in-List.is c.in_ok-calls.ensures.spelled.0 in
     let same = same_values c.in-List.calls calls (one_spelled c.args.bytes.now (a_list c.in-List.calls) (a_list calls) own (calls_within calls fits) spelled spells) in
     let held = subst (λ (v : Values). (list_all is_named (spread v) && (are_few v && are_shallow v)) ≡ true) (sym same) (calls_may calls fits) in true≢false (sym held ∙ (sym c.may_be_held.ensures ∙ c.if-may_be_held.false))
+
+pub returns-then-may_be_held-clause-ok : goal.returns-then-may_be_held-clause-ok
+returns-then-may_be_held-clause-ok c = subst (λ (v : Value). Spells v c.args.bytes.now) c.in-List.is c.in_ok-calls.ensures.spelled.0

@@ -37,3 +37,6 @@ returns-in-Ok-clause-left g c s shown left clean =
 
 pub returns-in-Err-clause-left_refused : goal.returns-in-Err-clause-left_refused
 returns-in-Err-clause-left_refused g c s shown left clean = left_still (state g.S.Store c.args.conn) (state g.S.Store c.open_rows.new.conn) s c.open_rows.ensures.crash shown left clean
+
+pub returns-in-Err-clause-whole : goal.returns-in-Err-clause-whole
+returns-in-Err-clause-whole g c s it clean = c.in-Err.ensures.whole clean it.tables it.rows it.rests it.shows it.good

@@ -2,13 +2,13 @@ use Rattle.moo_store.proofs.Words.{◌≡◌, ◌+◌, ◌≤◌, None, feed_sid
 use Rattle.moo_store.proofs.Going.{Going}
 use Rattle.moo_store.proofs.answering.answer_all.Given as goal
 
-abbrev pub invariant-loop-feed : goal.invariant-loop-feed
-invariant-loop-feed g l = record {
+abbrev pub invariant-loop-item : goal.invariant-loop-item
+invariant-loop-item g l = record {
   going : Going g.A.Answering.answered l.fn.answering (g.R.Read.remaining l.fn.reader) (g.W.Write.contents l.fn.writer) l.answering (feed_side g.R.Read.remaining l.feed) (g.W.Write.contents l.writer) l.tally.batches l.tally.lost;
   works : l.feed.fault ≡ None;
   batches : l.tally.batches + feed_room l.feed ≤ 1073741824;
   lost : l.tally.lost + feed_room l.feed ≤ 1073741824;
 }
 
-abbrev pub decreases-loop-feed : goal.decreases-loop-feed
-decreases-loop-feed g l = feed_room l.feed
+abbrev pub decreases-loop-item : goal.decreases-loop-item
+decreases-loop-item g l = feed_room l.feed

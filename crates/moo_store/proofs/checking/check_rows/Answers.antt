@@ -2,7 +2,7 @@ use Rattle.moo_store.proofs.Words.{subst, state, present, Rests, ShowsRows}
 use Rattle.std.proofs.lemmas.Result.{on_ok_weaker}
 use Rattle.moo_tables.specs.Listing.{tables_of}
 use Rattle.moo_store.specs.Checked.{SaysInCheck}
-use Rattle.moo_store.proofs.AdoptLemmas.{on_each_err}
+use Rattle.moo_store.proofs.AdoptLemmas.{on_each_err, rests_still}
 use Rattle.moo_store.proofs.CheckLemmas.{whole_here}
 use Rattle.moo_store.proofs.Versions.{version_is}
 use Rattle.moo_store.proofs.checking.check_rows.Goals as goal
@@ -23,3 +23,13 @@ pub returns-in-Ok-read_lists-clause-whole : goal.returns-in-Ok-read_lists-clause
 returns-in-Ok-read_lists-clause-whole g c clean =
     whole_here (tables_of c.in-Ok-read_lists.lists) (Rests (state g.S.Store c.args.conn.now)) c.args.own.now.maps c.compare_lists.result c.compare_lists.ensures.whole
     (λ tables rests. c.in-Ok-read_lists.ensures.listed clean tables (version_is (state g.S.Store c.args.conn.now) present tables c.in-Ok.ensures.ours rests) rests)
+
+pub returns-in-Ok-read_lists-clause-kept : goal.returns-in-Ok-read_lists-clause-kept
+returns-in-Ok-read_lists-clause-kept g c clean opened tables rests =
+    rests_still g.S.Store c.args.conn.now c.read_lists.new.conn present c.args.own.now.maps c.in-Ok.ensures.ours c.in-Ok-read_lists.ensures.read clean tables rests
+
+pub returns-in-Ok-read_lists-clause-crash : goal.returns-in-Ok-read_lists-clause-crash
+returns-in-Ok-read_lists-clause-crash g c = c.in-Ok-read_lists.ensures.read.crash (λ _. c.in-Ok.ensures.ours)
+
+pub returns-in-Err-read_lists-clause-crash : goal.returns-in-Err-read_lists-clause-crash
+returns-in-Err-read_lists-clause-crash g c = c.in-Err-read_lists.ensures.failed.crash (λ _. c.in-Ok.ensures.ours)

@@ -1,4 +1,4 @@
-use Rattle.moo_store.proofs.Words.{◌⊎◌, true, subst, IfOk, IfErr, ◌≡◌, Survives, state, state_of, LeavesState, store_of, StandsFor}
+use Rattle.moo_store.proofs.Words.{◌⊎◌, inl, true, refl, subst, IfOk, IfErr, ◌≡◌, Survives, state, state_of, LeavesState, store_of, StandsFor}
 use Rattle.moo_store.proofs.creating.create_in.Goals as goal
 
 pub load_in-requires-clause-good : goal.load_in-requires-clause-good
@@ -17,3 +17,17 @@ returns-clause-crash_refused g c =
 
 pub returns-clause-rows : goal.returns-clause-rows
 returns-clause-rows g c = subst (λ m. IfOk c.load_in.result (λ world. world.rows.maps ≡ m)) c.in-Ok.ensures c.load_in.ensures.rows
+
+-- what is refused at once comes back as it is
+
+pub returns-then-not-is_new-clause-undone : goal.returns-then-not-is_new-clause-undone
+returns-then-not-is_new-clause-undone g c = inl refl
+
+pub returns-then-not-is_new-clause-crash_refused : goal.returns-then-not-is_new-clause-crash_refused
+returns-then-not-is_new-clause-crash_refused g c = inl refl
+
+pub returns-in_default-clause-undone : goal.returns-in_default-clause-undone
+returns-in_default-clause-undone g c = inl refl
+
+pub returns-in_default-clause-crash_refused : goal.returns-in_default-clause-crash_refused
+returns-in_default-clause-crash_refused g c = inl refl

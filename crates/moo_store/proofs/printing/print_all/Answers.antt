@@ -1,4 +1,5 @@
-use Rattle.moo_store.proofs.Words.{Some, None, List, Option, ap, sym, subst, FinMap, empty, get, get-empty, Head, object_cmp, prop_cmp, slot_cmp, verb_cmp, petition_cmp, objects_left, props_left, slots_left, verbs_left, petitions_left, PrintEach, PrintsObject, PrintsProp, PrintsSlot, PrintsVerb, PrintsPetition, as_changes}
+use Rattle.moo_store.proofs.Words.{Some, None, List, Option, ap, sym, subst, FinMap, empty, get, get-empty, Head, object_cmp, prop_cmp, slot_cmp, verb_cmp, petition_cmp, entries, PrintEach, PrintsObject, PrintsProp, PrintsSlot, PrintsVerb, PrintsPetition, as_changes}
+use Rattle.moo_store.proofs.AllRows.{left_all}
 use Rattle.std.specs.declared.cmp.Ordering.{Ordering}
 use Rattle.moo_store.proofs.printing.print_all.Goals as goal
 
@@ -10,9 +11,9 @@ pub returns : goal.returns
 returns c = record {
   head = c.head-head.ensures;
   next_petition = ap (λ (h : Head). Some h.next_petition) c.head-head.ensures;
-  objects = from_empty object_cmp PrintsObject _ _ (subst (λ rows. PrintEach (λ key. PrintsObject None) c.in_ok-objects.objects.items (as_changes rows)) c.each_object.ensures (c.in_ok-objects.ensures (λ w. objects_left w.last w.rows.now.maps) (λ it next item gives. gives)));
-  props = from_empty prop_cmp PrintsProp _ _ (subst (λ rows. PrintEach (λ key. PrintsProp None) c.in_ok-props.props.items (as_changes rows)) c.each_prop.ensures (c.in_ok-props.ensures (λ w. props_left w.last w.rows.now.maps) (λ it next item gives. gives)));
-  slots = from_empty slot_cmp PrintsSlot _ _ (subst (λ rows. PrintEach (λ key. PrintsSlot None) c.in_ok-slots.slots.items (as_changes rows)) c.each_slot.ensures (c.in_ok-slots.ensures (λ w. slots_left w.last w.rows.now.maps) (λ it next item gives. gives)));
-  verbs = from_empty verb_cmp PrintsVerb _ _ (subst (λ rows. PrintEach (λ key. PrintsVerb None) c.in_ok-verbs.verbs.items (as_changes rows)) c.each_verb.ensures (c.in_ok-verbs.ensures (λ w. verbs_left w.last w.rows.now.maps) (λ it next item gives. gives)));
-  petitions = from_empty petition_cmp PrintsPetition _ _ (subst (λ rows. PrintEach (λ key. PrintsPetition None) c.in_ok-petitions.petitions.items (as_changes rows)) c.each_petition.ensures (c.in_ok-petitions.ensures (λ w. petitions_left w.last w.rows.now.maps) (λ it next item gives. gives)));
+  objects = from_empty object_cmp PrintsObject _ _ (subst (λ rows. PrintEach (λ key. PrintsObject None) c.in_ok-objects.objects.items (as_changes rows)) (left_all object_cmp (entries c.args.rows.now.maps.objects)) c.in_ok-objects.ensures);
+  props = from_empty prop_cmp PrintsProp _ _ (subst (λ rows. PrintEach (λ key. PrintsProp None) c.in_ok-props.props.items (as_changes rows)) (left_all prop_cmp (entries c.args.rows.now.maps.props)) c.in_ok-props.ensures);
+  slots = from_empty slot_cmp PrintsSlot _ _ (subst (λ rows. PrintEach (λ key. PrintsSlot None) c.in_ok-slots.slots.items (as_changes rows)) (left_all slot_cmp (entries c.args.rows.now.maps.slots)) c.in_ok-slots.ensures);
+  verbs = from_empty verb_cmp PrintsVerb _ _ (subst (λ rows. PrintEach (λ key. PrintsVerb None) c.in_ok-verbs.verbs.items (as_changes rows)) (left_all verb_cmp (entries c.args.rows.now.maps.verbs)) c.in_ok-verbs.ensures);
+  petitions = from_empty petition_cmp PrintsPetition _ _ (subst (λ rows. PrintEach (λ key. PrintsPetition None) c.in_ok-petitions.petitions.items (as_changes rows)) (left_all petition_cmp (entries c.args.rows.now.maps.petitions)) c.in_ok-petitions.ensures);
 }

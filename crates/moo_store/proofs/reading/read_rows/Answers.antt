@@ -28,3 +28,6 @@ returns-in-Err-read_lists-clause-other g c none = absurd (none c.in-Ok.version c
 
 pub returns-in-Err-rows_of-clause-other : goal.returns-in-Err-rows_of-clause-other
 returns-in-Err-rows_of-clause-other g c none = absurd (none c.in-Ok.version c.in-Ok.ensures.ours)
+
+pub returns-in-Ok-rows_of-clause-other : goal.returns-in-Ok-rows_of-clause-other
+returns-in-Ok-rows_of-clause-other g c none = absurd (none c.in-Ok.version c.in-Ok.ensures.ours)

@@ -1,5 +1,5 @@
-use Rattle.moo_store.proofs.Words.{◌≡◌, ◌+◌, vec_len, refl, sym, ◌∙◌, subst, arith, true, false, Ok, Err, ⊤, OutOfMemory, Closed, acknowledged, added, LeavesLed, store_of, World, IsGood}
-use Rattle.moo_store.proofs.Running.{when_ok, starts, goes_on, answers, is_at_end, stops, left_at, fails_of, runs_one, runs_through, runs_stopped, next_in_hand, fewer}
+use Rattle.moo_store.proofs.Words.{◌≡◌, ◌+◌, inr, vec_len, refl, sym, ◌∙◌, subst, arith, true, false, Ok, Err, ⊤, OutOfMemory, Closed, acknowledged, added, LeavesLed, store_of, World, IsGood}
+use Rattle.moo_store.proofs.Running.{when_ok, starts, goes_on, answers, is_at_end, stops, left_at, fails_of, runs_one, runs_through, runs_stopped, next_in_hand, fewer, stood, all_answered, has_failed, no_memory, same_fault}
 use Rattle.moo_store.proofs.Untouched.{is_over, wrote_at_start, wrote_on, wrote_stopped, same_stopped, led_over, led_stopped}
 use Rattle.moo_store.proofs.Stopped.{faults_same, faults_then, stopped_since, was_open}
 use Rattle.moo_store.proofs.world.World.run.Goals as goal
@@ -190,3 +190,22 @@ returns-in-Err-clause-cause g c s it clean =
     stopped_since (store_of g.S.Store c.args.self.now) mid (store_of g.S.Store c.run_one.new.self) c.in-Err.fault c.loop-batch.invariant.kept
     (λ e is. was_open c.loop-batch.self.failed mid c.in-Err.fault e is (λ failed. (c.in-Err.ensures.closed failed).0) (λ works. (at.shown refl works (c.in-Err.ensures.cells.clean clean)).rests.is_open))
     (c.in-Err.ensures.cause clean (λ works. at.shown refl works))
+
+-- the replies
+
+pub returns-in-Err-clause-stood : goal.returns-in-Err-clause-stood
+returns-in-Err-clause-stood g c = stood g.S.Store c.args.self.now c.loop-batch.self c.args.batches.now c.loop-batch.batch-index c.args.replies.now.items c.loop-batch.replies.items c.loop-batch.invariant.progress
+
+pub returns-clause-stood : goal.returns-clause-stood
+returns-clause-stood g c = stood g.S.Store c.args.self.now c.loop-batch.self c.args.batches.now c.loop-batch.batch-index c.args.replies.now.items c.loop-batch.replies.items c.loop-batch.invariant.progress
+
+pub returns-clause-each : goal.returns-clause-each
+returns-clause-each g c = all_answered g.S.Store c.args.self.now c.loop-batch.self c.args.batches.now c.loop-batch.batch-index c.args.replies.now.items c.loop-batch.replies.items c.loop-batch.invariant.progress (omega (arith, c.loop-batch-test.false, c.loop-batch.auto.batch-index-end))
+
+-- the fault of a batch
+
+pub returns-in-Err-clause-failed : goal.returns-in-Err-clause-failed
+returns-in-Err-clause-failed g c = inr (has_failed g.S.Store c.loop-batch.self c.run_one.new.self c.in-Err.fault (fails_of g.S.Store c.loop-batch.self c.run_one.new.self (Err c.in-Err.fault) c.in-Err.ensures.closed c.in-Err.ensures.fails))
+
+pub returns-in-Err-clause-memory : goal.returns-in-Err-clause-memory
+returns-in-Err-clause-memory g c is = absurd (no_memory g.S.Store c.loop-batch.self c.run_one.new.self c.in-Err.fault (same_fault c.in-Err.fault OutOfMemory is) (fails_of g.S.Store c.loop-batch.self c.run_one.new.self (Err c.in-Err.fault) c.in-Err.ensures.closed c.in-Err.ensures.fails))
