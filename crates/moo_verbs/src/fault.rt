@@ -1,7 +1,7 @@
 //! Why something said of a verb is refused.
 
 /// Why something said of a verb is refused.
-#[derive(Clone, Copy, Debug, PartialEq, Eq)]
+#[derive(Clone, Copy)]
 pub enum VerbFault {
     /// The names are empty or all spaces.
     BadNames,
