@@ -6,7 +6,7 @@ ghost use Rattle.moo_world.specs.Objects.{same_text, folded};
 ghost use Rattle.moo_world.specs.Names.{spelling, all_names, call_name_of, petition_call};
 
 /// The calls on the world, those that only read first, and then those of petitions.
-#[derive(Clone, Copy, Debug, PartialEq, Eq)]
+#[derive(Clone, Copy)]
 pub enum CallName {
     Valid,
     Parent,
@@ -44,7 +44,7 @@ pub enum CallName {
 }
 
 /// The calls of petitions.
-#[derive(Clone, Copy, Debug, PartialEq, Eq)]
+#[derive(Clone, Copy)]
 pub enum PetitionCall {
     Petition,
     Petitions,
