@@ -7,7 +7,7 @@ ghost use Rattle.moo_rows.specs.declared.row.ObjectSpec.{ObjectSpec};
 ghost use Rattle.moo_rows.specs.declared.row.Preposition.{Preposition};
 ghost use Rattle.moo_world.specs.Prepositions.{set_text, prep_text, object_spec_text};
 
-use crate::prep::{print_object_spec, set_text};
+use crate::prep::set_text;
 use crate::reading::ALL_SETS;
 use moo_rows::{ObjectSpec, Preposition, PrepositionSet};
 
@@ -16,9 +16,16 @@ pub fn read_place_cell(bytes: &[u8]) -> Option<ObjectSpec>
     ensures found { IfSome result (λ place. bytes.now ≡ object_spec_text place) }
     ensures only { (place : ObjectSpec) → bytes.now ≡ object_spec_text place → result ≡ Some place }
 {
-    [ObjectSpec::This, ObjectSpec::Any, ObjectSpec::None]
-        .into_iter()
-        .find(|place| print_object_spec(*place).as_bytes() == bytes)
+    if bytes == b"this".as_slice() {
+        return Some(ObjectSpec::This);
+    }
+    if bytes == b"any".as_slice() {
+        return Some(ObjectSpec::Any);
+    }
+    if bytes == b"none".as_slice() {
+        return Some(ObjectSpec::None);
+    }
+    None
 }
 
 /// The first of these sets whose phrases, with slashes between them, are the bytes.

@@ -9,7 +9,7 @@ ghost use Rattle.moo_world.specs.VerbReading.{is_slash, has_phrase, first_with, 
 
 use crate::fault::VerbFault;
 use crate::matching::{first, same_name};
-use crate::prep::{print_object_spec, set_text};
+use crate::prep::set_text;
 use moo_rows::{ArgSpec, ObjectSpec, Preposition, PrepositionSet, VerbBits};
 use moo_value::MooStr;
 
@@ -117,9 +117,16 @@ fn prep_named(text: &[u8]) -> Option<Preposition>
 fn object_spec_named(text: &[u8]) -> Option<ObjectSpec>
     ensures { result ≡ object_spec_of text.now }
 {
-    [ObjectSpec::This, ObjectSpec::Any, ObjectSpec::None]
-        .into_iter()
-        .find(|place| same_name(text, print_object_spec(*place).as_bytes()))
+    if same_name(text, b"this") {
+        return Some(ObjectSpec::This);
+    }
+    if same_name(text, b"any") {
+        return Some(ObjectSpec::Any);
+    }
+    if same_name(text, b"none") {
+        return Some(ObjectSpec::None);
+    }
+    None
 }
 
 /// The arguments that three texts name.
