@@ -37,11 +37,10 @@ pub(crate) fn decline<R: Rows>(
     ensures kept { OnOk result (KeepsGoodRows KeepsNumbers (R.held rows.old) (R.held rows.new)) }
 {
     let number = one_integer(args)?;
-    let (id, who) = match petition_at(rows, number) {
-        Some((id, row)) => (id, row.who),
-        None => return Err(Fault::Moo(Code::InvalidArgument)),
+    let Some((id, row)) = petition_at(rows, number) else {
+        return Err(Fault::Moo(Code::InvalidArgument));
     };
-    if !may_decline(rows, programmer, who) {
+    if !may_decline(rows, programmer, row.who) {
         return Err(Fault::Moo(Code::Permission));
     }
     rows.remove_petition(id)?;

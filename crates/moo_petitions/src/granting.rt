@@ -76,10 +76,10 @@ pub(crate) fn grant<R: Rows>(
     if !is_wizard(rows, programmer) {
         return Err(Fault::Moo(Code::Permission));
     }
-    let (id, row) = match petition_at(rows, number) {
-        Some((id, row)) => (id, row.copy(alloc)?),
-        None => return Err(Fault::Moo(Code::InvalidArgument)),
+    let Some((id, row)) = petition_at(rows, number) else {
+        return Err(Fault::Moo(Code::InvalidArgument));
     };
+    let row = row.copy(alloc)?;
     rows.remove_petition(id)?;
     held_steps(rows, alloc, programmer, row.calls.items())
 }

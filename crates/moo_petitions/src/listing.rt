@@ -27,6 +27,13 @@ fn listed(alloc: Global, id: PetitionId, row: &PetitionRow) -> Result<Value, All
     Ok(list_of(vec![in alloc; number, Value::Obj(row.who), calls]?))
 }
 
+/// Whether a petition is listed for a programmer who sees all, or sees those of its own.
+fn is_listed(row: &PetitionRow, all: bool, programmer: ObjNo) -> bool
+    ensures { result ≡ (all || same_object row.now.who programmer) }
+{
+    all || row.who == programmer
+}
+
 /// The petitions of a programmer, or all of them, as they are listed.
 fn all_listed<R: Rows>(
     rows: &R,
@@ -38,7 +45,7 @@ fn all_listed<R: Rows>(
 {
     let mut found = Vec::new(alloc);
     for (id, row) in each_petition(rows) {
-        if all || row.who == programmer {
+        if is_listed(row, all, programmer) {
             found.push(listed(alloc, id, row)?)?;
         }
     }

@@ -1,4 +1,4 @@
-use Rattle.std.proofs.Common.{◌≡◌, true, Ok, Some, sym, ap, ◌∙◌, rules}
+use Rattle.std.proofs.Common.{◌≡◌, true, Ok, None, Some, sym, ap, ◌∙◌, rules}
 use Rattle.std.specs.Prelude.{◌||◌}
 use Rattle.moo_value.specs.declared.code.Code.TheVariants.{Permission, InvalidArgument}
 use Rattle.moo_world.specs.Answers.{zero}
@@ -9,6 +9,23 @@ use Rattle.moo_world.specs.Rights.{is_wizard}
 use Rattle.moo_petitions.specs.Outcomes.{state_in}
 use Rattle.moo_petitions.proofs.Beside.{removed-keeps, removed-state}
 use Rattle.moo_petitions.proofs.declining.decline.Goals as goal
+
+pub returns-in_default-clause-reaches : goal.returns-in_default-clause-reaches
+returns-in_default-clause-reaches g c =
+    let s = state_in (g.R.Rows.held c.args.rows.now) in
+    let p = c.args.programmer in
+    let none : petition_at s c.in_ok-number.number ≡ None = search rules in
+    ap (λ r. given_to r (decline s p)) (sym c.in_ok-number.ensures)
+    ∙ ap (λ o. found_or o InvalidArgument (λ e. check (same_object e.1.who p || is_wizard s.world p) (Failed Permission) (Done zero (without e.0 s)))) none
+
+pub returns-then-not-may_decline-clause-reaches : goal.returns-then-not-may_decline-clause-reaches
+returns-then-not-may_decline-clause-reaches g c =
+    let s = state_in (g.R.Rows.held c.args.rows.now) in
+    let p = c.args.programmer in
+    let found : petition_at s c.in_ok-number.number ≡ Some (c.in-Some.id, c.in-Some.row.now) = search rules in
+    ap (λ r. given_to r (decline s p)) (sym c.in_ok-number.ensures)
+    ∙ ap (λ o. found_or o InvalidArgument (λ e. check (same_object e.1.who p || is_wizard s.world p) (Failed Permission) (Done zero (without e.0 s)))) found
+    ∙ ap (λ b. check b (Failed Permission) (Done zero (without c.in-Some.id s))) (sym c.may_decline.ensures ∙ c.if-not-may_decline.true)
 
 pub returns-clause-reaches : goal.returns-clause-reaches
 returns-clause-reaches g c =

@@ -27,7 +27,7 @@ held_steps-requires-clause-fit g c =
     let found : petition_at s c.in_ok-number.number ≡ Some (c.in-Some.id, c.in-Some.row.now) = search rules in
     let there = found_there s c.in_ok-number.number (c.in-Some.id, c.in-Some.row.now) found in
     let fit = held_fit c.in-Some.row.now (c.requires.good.petitions.fit c.in-Some.id c.in-Some.row.now there) in
-    subst (λ helds. list_all fits helds ≡ true) (sym (c.items.ensures.plain ∙ ap (λ (r : PetitionRow). spread r.calls) c.in_ok-copy-in-Some.ensures)) fit
+    subst (λ helds. list_all fits helds ≡ true) (sym (c.items.ensures.plain ∙ ap (λ (r : PetitionRow). spread r.calls) c.in_ok-row.ensures)) fit
 
 pub returns-clause-reaches : goal.returns-clause-reaches
 returns-clause-reaches g c =
@@ -41,7 +41,7 @@ returns-clause-reaches g c =
     let wizard : is_wizard s.world p ≡ true = search rules in
     let found : petition_at s n ≡ Some (c.in-Some.id, c.in-Some.row.now) = search rules in
     let is = removed-state old mid c.in-Some.id c.in_ok-remove_petition.ensures.ok in
-    let helds : c.items.result.now ≡ spread c.in-Some.row.now.calls = c.items.ensures.plain ∙ ap (λ (r : PetitionRow). spread r.calls) c.in_ok-copy-in-Some.ensures in
+    let helds : c.items.result.now ≡ spread c.in-Some.row.now.calls = c.items.ensures.plain ∙ ap (λ (r : PetitionRow). spread r.calls) c.in_ok-row.ensures in
     let comes = subst (λ (w : World). ComesInTurn (held_steps w p (spread c.in-Some.row.now.calls)) new c.held_steps.result) (ap (λ (t : State). t.world) is)
     (subst (λ (l : List Value). ComesInTurn (held_steps (world_in mid) p l) new c.held_steps.result) helds c.held_steps.ensures.comes) in
     subst (λ effect. Reaches effect new c.held_steps.result)
@@ -60,7 +60,7 @@ returns-clause-kept g c =
     let e : PetitionId × PetitionRow = (c.in-Some.id, c.in-Some.row.now) in
     let given : one_integer c.args.args.now ≡ Ok n = search rules in
     let found : petition_at (state_in old) n ≡ Some e = search rules in
-    let helds : c.items.result.now ≡ spread c.in-Some.row.now.calls = c.items.ensures.plain ∙ ap (λ (r : PetitionRow). spread r.calls) c.in_ok-copy-in-Some.ensures in
+    let helds : c.items.result.now ≡ spread c.in-Some.row.now.calls = c.items.ensures.plain ∙ ap (λ (r : PetitionRow). spread r.calls) c.in_ok-row.ensures in
     let removed = removed-keeps old mid c.in-Some.id c.in_ok-remove_petition.ensures.ok c.requires.good in
     on_ok c.held_steps.result
     (λ kept. granted-keeps p c.args.args.now n e old mid new given found c.in_ok-remove_petition.ensures.ok removed (subst (λ l. KeepInTurn p l mid new) helds kept))
