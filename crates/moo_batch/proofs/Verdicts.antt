@@ -1,12 +1,18 @@
 -- Verdicts by their cases, and rows whose number of batches is raised.
-use Rattle.std.proofs.Common.{◌≡◌, ℕ, ◌<◌, ◌≤◌, true, false, refl, sym, ap, ◌∙◌, subst}
+use Rattle.std.proofs.Common.{◌≡◌, ℕ, Err, ◌<◌, ◌≤◌, true, false, refl, sym, ap, ◌∙◌, subst}
 use Rattle.std.specs.Prelude.{if◌then◌else◌, nat_lt}
 use Rattle.std.proofs.lemmas.Bool.{lt-ltb, le-ltb}
 use Rattle.moo_rows.specs.Maps.{Maps}
 use Rattle.moo_world.specs.declared.call.Batch.{Batch}
 use Rattle.moo_world.specs.World.{IsWellFormed}
 use Rattle.moo_world.specs.Rows.{world_of, world_shown, IsGood}
-use Rattle.moo_world.specs.Judge.{State, NoRoom, Stale, is_due, last_seq, run_calls, verdict_of, judge}
+use Rattle.moo_world.specs.Judge.{State, Ran, NoRoom, Stale, is_due, last_seq, run_calls, state_of, verdict_of, judge}
+use Rattle.moo_value.specs.declared.code.Code.{Code}
+use Rattle.moo_batch.specs.declared.judging.Stop.{Stop}
+use Rattle.moo_batch.specs.declared.judging.Stop.TheVariants.{Refused as refused_at, Full as full_at, OutOfMemory as no_memory}
+use Rattle.moo_batch.specs.declared.judging.Verdict.{Verdict}
+use Rattle.moo_batch.specs.declared.judging.Verdict.TheVariants.{Refused, Full, OutOfMemory}
+use Rattle.moo_batch.specs.Judge.{ComeTo, IsVerdict}
 
 pub judge-stale : (s : State) (b : Batch) → is_due b.at s.seq ≡ false → judge s b ≡ Stale s.seq
 unfolding judge
@@ -38,3 +44,11 @@ good-with_seq n t h = record {
   formed = subst IsWellFormed (sym (world_of-with_seq n t)) h.formed;
   petitions = h.petitions;
 }
+
+-- the verdict on a batch whose calls stopped
+module _ (base : Maps) (b : Batch) (after : State) (ran : Ran) (verdict : Verdict) (judged : judge (state_of base) b ≡ verdict_of base.head.seq ran) (none : IsVerdict base b OutOfMemory) where
+  pub stopped-so : (stop : Stop) → ((call : ℕ) (code : Code) → stop ≡ refused_at call code → verdict ≡ Refused call code) → ((call : ℕ) → stop ≡ full_at call → verdict ≡ Full call)
+      → (stop ≡ no_memory → verdict ≡ OutOfMemory) → ComeTo ran after (Err stop) → IsVerdict base b verdict
+  stopped-so (refused_at call code) refused full memory comes = subst (IsVerdict base b) (sym (refused call code refl)) (judged ∙ ap (verdict_of base.head.seq) comes)
+  stopped-so (full_at call) refused full memory comes = subst (IsVerdict base b) (sym (full call refl)) (judged ∙ ap (verdict_of base.head.seq) comes)
+  stopped-so no_memory refused full memory comes = subst (IsVerdict base b) (sym (memory refl)) none

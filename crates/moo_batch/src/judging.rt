@@ -1,6 +1,7 @@
 //! What a batch comes to.
 
-ghost use Rattle.std.specs.Prelude.{◌≡◌, ◌+◌, ◌<◌, ◌≤◌, length, OnOk};
+ghost use Rattle.std.specs.Prelude.{◌≡◌, ◌+◌, ◌<◌, ◌≤◌, ℕ, length, OnOk};
+ghost use Rattle.moo_value.specs.declared.code.Code.{Code};
 ghost use Rattle.moo_rows.specs.Maps.{Maps};
 ghost use Rattle.moo_draft.specs.Changes.{AreChanges};
 ghost use Rattle.moo_world.specs.Rows.{IsGood};
@@ -98,6 +99,19 @@ fn counted(alloc: Global, head: Head) -> Changes
     }
 }
 
+/// The verdict on a batch whose calls stopped.
+fn stopped(stop: Stop) -> Verdict
+    ensures refused { (call : ℕ) (code : Code) → stop ≡ Stop.Refused call code → result ≡ Verdict.Refused call code }
+    ensures full { (call : ℕ) → stop ≡ Stop.Full call → result ≡ Verdict.Full call }
+    ensures memory { stop ≡ Stop.OutOfMemory → result ≡ Verdict.OutOfMemory }
+{
+    match stop {
+        Stop::Refused { call, code } => Verdict::Refused { call, code },
+        Stop::Full { call } => Verdict::Full { call },
+        Stop::OutOfMemory => Verdict::OutOfMemory,
+    }
+}
+
 /// The verdict on a batch on these rows, which stay as they are: stale if it names another number than the present
 /// one, else full if [`LAST_SEQ`] batches were accepted, else refused or full at the first call that isn't done, else
 /// accepted. A lack of memory comes only if a call is run. If it is accepted, what stays keeps its number, and what is new
@@ -123,9 +137,7 @@ pub fn judge<R: Rows>(alloc: Global, rows: &R, batch: &Batch) -> Verdict
     let mut draft = Draft::new(alloc, rows);
     let answers = match run_calls(&mut draft, alloc, batch.programmer, calls) {
         Ok(answers) => answers,
-        Err(Stop::Refused { call, code }) => return Verdict::Refused { call, code },
-        Err(Stop::Full { call }) => return Verdict::Full { call },
-        Err(Stop::OutOfMemory) => return Verdict::OutOfMemory,
+        Err(stop) => return stopped(stop),
     };
     let mut next = draft.head();
     next.seq = head.seq + 1;

@@ -6,7 +6,9 @@ use Rattle.moo_world.specs.Between.{CallsLead}
 use Rattle.moo_world.specs.Judge.{is_due, last_seq, verdict_of, run_calls, Accepted}
 use Rattle.moo_draft.specs.Changes.{AreChanges}
 use Rattle.moo_world.specs.Judge.{state_of}
-use Rattle.moo_batch.proofs.Verdicts.{judge-stale, judge-full, judge-run, with_seq, good-with_seq, world_of-with_seq}
+use Rattle.moo_batch.specs.Judge.{IsVerdict}
+use Rattle.moo_batch.specs.declared.judging.Verdict.TheVariants.{OutOfMemory}
+use Rattle.moo_batch.proofs.Verdicts.{judge-stale, judge-full, judge-run, with_seq, good-with_seq, world_of-with_seq, stopped-so}
 use Rattle.moo_batch.proofs.judging.judge.Goals as goal
 
 pub returns-then-not-is_due : goal.returns-then-not-is_due
@@ -21,27 +23,16 @@ returns-then-head-ge-LAST_SEQ g c =
     let due : is_due c.args.batch.now.at t.head.seq ≡ true = ap (λ (h : Head). is_due c.args.batch.now.at h.seq) (sym c.head-head.ensures) ∙ sym c.is_due.ensures ∙ search rules in
     judge-full (state_of t) c.args.batch.now due (rw c.head-head.ensures at c.if-head-ge-LAST_SEQ.true)
 
-pub returns-in-Err-Refused : goal.returns-in-Err-Refused
-returns-in-Err-Refused g c =
+pub returns-in-Err : goal.returns-in-Err
+returns-in-Err g c =
     let t = (g.R.Rows.held c.args.rows.now).maps in
     let batch = c.args.batch.now in
     let due : is_due c.args.batch.now.at t.head.seq ≡ true = ap (λ (h : Head). is_due c.args.batch.now.at h.seq) (sym c.head-head.ensures) ∙ sym c.is_due.ensures ∙ search rules in
     let room : t.head.seq < last_seq = rw c.head-head.ensures at c.if-head-ge-LAST_SEQ.false in
-    let same : run_calls (state_of t) batch.programmer batch.calls ≡ run_calls (state_of c.new-draft.result.maps) batch.programmer c.items-calls.result.now =
-    λ i. run_calls (state_of (sym c.new-draft.ensures.maps i)) batch.programmer (sym c.items-calls.ensures.value i) in
-    let run = rw c.in-Err-Refused.field-0-is at c.in-Err-Refused.ensures.comes in
-    rw c.in-Err-Refused.field-0-is (judge-run (state_of t) batch due room ∙ ap (verdict_of t.head.seq) (same ∙ run))
-
-pub returns-in-Err-Full : goal.returns-in-Err-Full
-returns-in-Err-Full g c =
-    let t = (g.R.Rows.held c.args.rows.now).maps in
-    let batch = c.args.batch.now in
-    let due : is_due c.args.batch.now.at t.head.seq ≡ true = ap (λ (h : Head). is_due c.args.batch.now.at h.seq) (sym c.head-head.ensures) ∙ sym c.is_due.ensures ∙ search rules in
-    let room : t.head.seq < last_seq = rw c.head-head.ensures at c.if-head-ge-LAST_SEQ.false in
-    let same : run_calls (state_of t) batch.programmer batch.calls ≡ run_calls (state_of c.new-draft.result.maps) batch.programmer c.items-calls.result.now =
-    λ i. run_calls (state_of (sym c.new-draft.ensures.maps i)) batch.programmer (sym c.items-calls.ensures.value i) in
-    let run = rw c.in-Err-Full.field-0-is at c.in-Err-Full.ensures.comes in
-    rw c.in-Err-Full.field-0-is (judge-run (state_of t) batch due room ∙ ap (verdict_of t.head.seq) (same ∙ run))
+    let ran = run_calls (state_of c.new-draft.result.maps) batch.programmer c.items-calls.result.now in
+    let same : run_calls (state_of t) batch.programmer batch.calls ≡ ran = λ i. run_calls (state_of (sym c.new-draft.ensures.maps i)) batch.programmer (sym c.items-calls.ensures.value i) in
+    let none : IsVerdict t batch OutOfMemory = search rules in
+    stopped-so t batch (state_of c.run_calls.new.rows.maps) ran c.stopped.result (judge-run (state_of t) batch due room ∙ ap (verdict_of t.head.seq) same) none c.in-Err.stop c.stopped.ensures.refused c.stopped.ensures.full c.stopped.ensures.memory c.in-Err.ensures.comes
 
 pub returns-in-Ok-into_changes : goal.returns-in-Ok-into_changes
 returns-in-Ok-into_changes g c =
