@@ -8,7 +8,7 @@ ghost use Rattle.moo_world.specs.BuiltIns.{field_name, built_in};
 use moo_value::MooStr;
 
 /// The built-in properties.
-#[derive(Clone, Copy)]
+#[derive(Clone, Copy, PartialEq, Eq)]
 pub enum BuiltIn {
     Name,
     Owner,
