@@ -11,11 +11,13 @@ use std::alloc::AllocError;
 use thiserror::Error;
 
 /// Why the cells of one row can't be read.
-#[derive(Clone, Copy, Drop)]
+#[derive(Clone, Copy, Debug, Drop, Error)]
 pub enum RowFault {
     /// They show no row within its limits.
+    #[error("the cells show no row")]
     Unreadable,
     /// Memory ran out.
+    #[error("out of memory")]
     OutOfMemory,
 }
 
