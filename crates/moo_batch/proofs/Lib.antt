@@ -1,2 +1,6 @@
 pub mod Running
 pub mod Verdicts
+pub mod Beside
+pub mod HeldCalls
+pub mod InTurn
+pub mod Chosen

@@ -11,7 +11,7 @@ use Rattle.moo_world.specs.Outcomes.{Outcome, Done, Failed, Full}
 use Rattle.moo_world.specs.Requests.{State, batch_call}
 use Rattle.moo_world.specs.Judge.{Ran, Through, FailedAt, FullAt, after_one, run_calls}
 use Rattle.moo_world.specs.Names.{is_grant}
-use Rattle.moo_petitions.specs.Outcomes.{state_in, KeepsGoodRows}
+use Rattle.moo_batch.specs.Outcomes.{state_in, KeepsGoodRows}
 use Rattle.moo_batch.specs.Judge.{HaveKept}
 
 -- answers, and then what the later calls come to

@@ -13,7 +13,7 @@ use Rattle.moo_batch.specs.declared.judging.Stop.{Stop}
 use Rattle.moo_batch.specs.declared.judging.Stop.TheVariants.{Refused as refused_at, Full as full_at, OutOfMemory as no_memory}
 use Rattle.moo_batch.specs.declared.judging.Verdict.{Verdict}
 use Rattle.moo_batch.specs.declared.judging.Verdict.TheVariants.{Accepted, Refused, Full, Stale, OutOfMemory}
-use Rattle.moo_draft.specs.Changes.{AreChanges}
+use Rattle.moo_memory.specs.Changes.{AreChanges}
 
 -- what is answered if calls come to this: their answers, with the state that they leave, or the first call that isn't done
 abbrev pub ComeTo : model.Ran → State → Result (List Value) Stop → Type 0

@@ -1,1 +1,3 @@
 pub mod Judge
+pub mod Outcomes
+pub mod Checks

@@ -3,15 +3,15 @@
 ghost use Rattle.std.specs.Prelude.{◌≡◌, ◌+◌, ◌<◌, ◌≤◌, ℕ, length, OnOk};
 ghost use Rattle.moo_value.specs.declared.code.Code.{Code};
 ghost use Rattle.moo_rows.specs.Maps.{Maps};
-ghost use Rattle.moo_draft.specs.Changes.{AreChanges};
+ghost use Rattle.moo_memory.specs.Changes.{AreChanges};
 ghost use Rattle.moo_world.specs.Rows.{IsGood};
 ghost use Rattle.moo_world.specs.Judge.{is_due, run_calls};
-ghost use Rattle.moo_petitions.specs.Outcomes.{state_in};
+ghost use Rattle.moo_batch.specs.Outcomes.{state_in};
 ghost use Rattle.moo_batch.specs.Judge.{ComeTo, HaveKept, IsVerdict};
 
 use moo_call_parts::Fault;
-use moo_draft::{ChangeList, Changes, Draft};
-use moo_petitions::step;
+use moo_memory::{ChangeList, Changes, Draft};
+use crate::stepping::step;
 use moo_rows::{Head, Rows};
 use moo_value::{Code, ObjNo, Value};
 use moo_world::{Answers, Batch, Call};

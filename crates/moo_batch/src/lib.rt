@@ -1,6 +1,16 @@
-//! Batches: the verdict on a batch.
-#![tactic(auto)]
+//! Batches: the verdict on a batch, the step that takes any call of one, and the calls of petitions.
+#![tactic(auto, unfolding(moo_world::specs::Rows::world_shown, moo_world::specs::Objects::same_object))]
 
+mod args;
+mod asking;
+mod declining;
+mod granting;
+mod held;
 mod judging;
+mod listing;
+mod looking;
+mod stepping;
 
+pub use held::held_call;
 pub use judging::{LAST_SEQ, Verdict, judge};
+pub use stepping::step;

@@ -3,7 +3,7 @@ use Rattle.moo_cells.proofs.Words.{◌≡◌, ℕ, ◌<◌, ◌+◌, suc, length
 use Rattle.std.specs.FinMap.Entries.{find as entry_at}
 use Rattle.std.proofs.Math.Seq.{drop-cons}
 use Rattle.std.specs.Prelude.{IsSome, IfNone}
-use Rattle.moo_ordered.specs.Ordered.{IsNext}
+use Rattle.moo_rows.specs.Ordered.{IsNext}
 use Rattle.moo_rows.specs.Walk.{entries_past}
 use Rattle.moo_cells.proofs.Table.{Bears, tied}
 

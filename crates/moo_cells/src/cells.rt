@@ -12,7 +12,7 @@ ghost use Rattle.moo_damage.specs.declared.kind.Key.{Key};
 use crate::fault::CellFault;
 use crate::rows::read_rows;
 use moo_damage::damage_of;
-use moo_flat::Flat;
+use moo_memory::Flat;
 use moo_tables::CellLists as Cells;
 use std::alloc::Global;
 

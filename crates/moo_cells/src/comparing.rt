@@ -16,7 +16,7 @@ use crate::fault::CellFault;
 use crate::head::read_head;
 use crate::showing::show_each;
 use moo_damage::{Key, first_difference};
-use moo_flat::Flat;
+use moo_memory::Flat;
 use moo_rows::{Head, ObjRow, PetitionRow, PropRow, Rows, SlotRow, VerbRow};
 use moo_tables::{CellLists as Cells, Version};
 use sqlite::Row;

@@ -14,7 +14,7 @@ ghost use Rattle.moo_cells.specs.Damage.{IsMet, IsNewer, SaysOfCells};
 use crate::fault::CellFault;
 use crate::head::read_head;
 use crate::tables::{read_objects, read_petitions, read_props, read_slots, read_verbs};
-use moo_flat::Flat;
+use moo_memory::Flat;
 use moo_rows::{Head, Rows};
 use moo_tables::CellLists as Cells;
 use std::alloc::Global;

@@ -5,7 +5,7 @@ ghost use Rattle.moo_cells.specs.Each.{ShowEach};
 
 use crate::fault::RowFault;
 use crate::table_row::ReadRow;
-use moo_flat::Flat;
+use moo_memory::Flat;
 use moo_rows::Row as _;
 use moo_tables::Version;
 use sqlite::Row;

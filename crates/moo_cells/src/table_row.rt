@@ -6,8 +6,8 @@ ghost use Rattle.moo_rows.specs.Maps.{Maps};
 ghost use Rattle.moo_tables.specs.declared.version.Version.{Version};
 
 use crate::fault::RowFault;
-use moo_flat::Flat;
-use moo_ordered::OrderedKey;
+use moo_memory::Flat;
+use moo_rows::ordered::OrderedKey;
 use moo_tables::Version;
 use sqlite::Row;
 use std::alloc::Global;

@@ -14,7 +14,7 @@ pub use Rattle.std.specs.Map.{lookup}
 pub use Rattle.std.specs.Option.{MatchOption, option_and_then, option_map}
 pub use Rattle.std.specs.Ordering.{eq_by_cmp, int_cmp, int_eq, is_eq, is_lt, match_ordering, nat_cmp, ordering_reverse, ordering_then}
 pub use Rattle.std.specs.Prelude.{IfNone, IfSome, IsSome, IsTrue, if◌then◌else◌, int_lt, is_some, nat_eq, nat_le, nat_lt, not, unwrap_or, ⊤, ◌<ℤ◌, ◌↔◌, ◌≤ℤ◌}
-pub use Rattle.moo_ordered.specs.Ordered.{contents, lesser}
+pub use Rattle.moo_rows.specs.Ordered.{contents, lesser}
 pub use Rattle.moo_props.proofs.Gains.{defines_pair, slot_on_heir}
 pub use Rattle.moo_props.proofs.Owing.{any_owed, entries_held}
 pub use Rattle.moo_props.proofs.Walked.{any_held, walk, walk_held}

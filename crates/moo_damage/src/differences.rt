@@ -6,7 +6,8 @@ ghost use Rattle.moo_damage.specs.Differences.{IsFirstDifference, IsFirstUnlike}
 ghost use Rattle.moo_damage.specs.First.{IsLeastBad};
 
 use crate::kind::{Key, object_key, petition_key, prop_key, slot_key, verb_key};
-use moo_flat::Flat;
+use moo_memory::Flat;
+use moo_rows::ordered;
 use moo_rows::{
     PetitionId, PropId, Row, Rows, VerbId, each_object, each_petition, each_prop, each_slot,
     each_verb,
@@ -86,31 +87,31 @@ fn petition_unlike<R: Rows>(rows: &R, there: &R) -> Option<PetitionId>
 fn object_differing<R: Rows>(own: &R, found: &R) -> Option<ObjNo>
     ensures { IsFirstUnlike (R.held own.now).maps.objects (R.held found.now).maps.objects result }
 {
-    moo_ordered::least(object_unlike(own, found), object_unlike(found, own))
+    ordered::least(object_unlike(own, found), object_unlike(found, own))
 }
 
 fn prop_differing<R: Rows>(own: &R, found: &R) -> Option<PropId>
     ensures { IsFirstUnlike (R.held own.now).maps.props (R.held found.now).maps.props result }
 {
-    moo_ordered::least(prop_unlike(own, found), prop_unlike(found, own))
+    ordered::least(prop_unlike(own, found), prop_unlike(found, own))
 }
 
 fn slot_differing<R: Rows>(own: &R, found: &R) -> Option<(ObjNo, PropId)>
     ensures { IsFirstUnlike (R.held own.now).maps.slots (R.held found.now).maps.slots result }
 {
-    moo_ordered::least(slot_unlike(own, found), slot_unlike(found, own))
+    ordered::least(slot_unlike(own, found), slot_unlike(found, own))
 }
 
 fn verb_differing<R: Rows>(own: &R, found: &R) -> Option<(ObjNo, VerbId)>
     ensures { IsFirstUnlike (R.held own.now).maps.verbs (R.held found.now).maps.verbs result }
 {
-    moo_ordered::least(verb_unlike(own, found), verb_unlike(found, own))
+    ordered::least(verb_unlike(own, found), verb_unlike(found, own))
 }
 
 fn petition_differing<R: Rows>(own: &R, found: &R) -> Option<PetitionId>
     ensures { IsFirstUnlike (R.held own.now).maps.petitions (R.held found.now).maps.petitions result }
 {
-    moo_ordered::least(petition_unlike(own, found), petition_unlike(found, own))
+    ordered::least(petition_unlike(own, found), petition_unlike(found, own))
 }
 
 /// The first row in which two lots of rows differ, or none.

@@ -5,11 +5,12 @@ ghost use Rattle.std.specs.FinMap.{get};
 ghost use Rattle.moo_rows.specs.declared.row.PropId.{PropId};
 ghost use Rattle.moo_rows.specs.declared.row.PropRow.{PropRow};
 ghost use Rattle.moo_rows.specs.Maps.{object_cmp};
-ghost use Rattle.moo_ordered.specs.Ordered.{contents};
+ghost use Rattle.moo_rows.specs.Ordered.{contents};
 ghost use Rattle.moo_world.specs.Objects.{Name, same_text, folded};
 ghost use Rattle.moo_world.specs.Rows.{IsSound};
 ghost use Rattle.moo_damage.specs.Apart.{AreApart, NamesApart, NotesProp, is_alone, noted_as};
 
+use moo_rows::ordered;
 use moo_rows::{PropId, Rows, each_prop, each_slot_of};
 use moo_value::{MooStr, ObjNo};
 use std::alloc::{AllocError, Global};
@@ -74,14 +75,14 @@ fn seen_apart<R: Rows>(
     ensures apart { IfOk result (λ apart. apart ≡ true → NamesApart (R.held rows.now).maps x) }
     ensures sound { IsSound (R.held rows.now).maps → IfOk result (λ apart. apart ≡ true) }
 {
-    if moo_ordered::get(known, x).is_some() {
+    if ordered::get(known, x).is_some() {
         return Ok(true);
     }
     let apart = names_apart_on(alloc, rows, x)?;
     if !apart {
         return Ok(false);
     }
-    moo_ordered::put(known, x, ())?;
+    ordered::put(known, x, ())?;
     Ok(true)
 }
 

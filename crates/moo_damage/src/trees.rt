@@ -3,7 +3,7 @@
 ghost use Rattle.std.specs.Prelude.{◌≡◌, ◌≤◌, IfOk, IfSome, IfNone, OnOk, true, is_some, length};
 ghost use Rattle.std.specs.List.{AllByRecursion};
 ghost use Rattle.std.specs.FinMap.{entries, get};
-ghost use Rattle.moo_ordered.specs.Ordered.{contents};
+ghost use Rattle.moo_rows.specs.Ordered.{contents};
 ghost use Rattle.moo_rows.specs.Maps.{Maps, object_cmp};
 ghost use Rattle.moo_damage.specs.First.{IsLeastBad};
 ghost use Rattle.moo_damage.specs.Damage.{link_of, HasEnd, Loops, LinksHold};
@@ -12,6 +12,7 @@ ghost use Rattle.moo_damage.specs.Noted.{AreEnding};
 ghost use Rattle.moo_damage.specs.declared.trees.TreeLink.{TreeLink};
 
 use crate::kind::Kind;
+use moo_rows::ordered;
 use moo_rows::{ObjRow, Rows, each_object};
 use moo_value::ObjNo;
 use std::alloc::{AllocError, Global};
@@ -90,7 +91,7 @@ fn climb<R: Rows>(
             None => return Ok(Some(path)),
             Some(row) => row,
         };
-        if moo_ordered::get(known, at).is_some() {
+        if ordered::get(known, at).is_some() {
             return Ok(Some(path));
         }
         path.push(at)?;
@@ -107,7 +108,7 @@ fn note(known: &mut BTreeMap<ObjNo, ()>, path: &[ObjNo]) -> Result<(), AllocErro
     ensures { OnOk result ((link : TreeLink) (m : Maps) → AllByRecursion (HasEnd link m) path.now → AreEnding link m (contents object_cmp known.old) → AreEnding link m (contents object_cmp known.new)) }
 {
     for x in path {
-        moo_ordered::put(known, *x, ())?;
+        ordered::put(known, *x, ())?;
     }
     Ok(())
 }

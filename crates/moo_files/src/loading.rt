@@ -18,7 +18,7 @@ ghost use Rattle.moo_files.specs.Remains.{IfNotOpened, IsCleanRemains, MayStopAs
 use crate::making::make_from;
 use crate::paths::WorldFiles;
 use crate::remains::Remains;
-use moo_flat::Flat;
+use moo_memory::Flat;
 use moo_store::{StoreFault, World};
 use sqlite::{FileStore, Start};
 use std::alloc::Global;

@@ -21,7 +21,7 @@ ghost use Rattle.moo_files.specs.Remains.{IfNotOpened, IsCleanRemains, MayStopAs
 
 use crate::paths::WorldFiles;
 use crate::remains::{Remains, open_new};
-use moo_flat::Flat;
+use moo_memory::Flat;
 use moo_store::{StoreFault, World, create_in, load_in};
 use sqlite::{Alter, Connection, Error, ErrorCode, FileStore, Start, Unknown};
 use sqlite_disk::Disk;

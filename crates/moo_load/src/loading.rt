@@ -14,7 +14,7 @@ use crate::place::line_at;
 use crate::reading::read_rows;
 use moo_damage::damage_of;
 use moo_dump::{CompareFault, compare};
-use moo_flat::Flat;
+use moo_memory::Flat;
 use moo_rows::Rows;
 use std::alloc::Global;
 

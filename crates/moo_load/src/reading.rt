@@ -18,7 +18,7 @@ use crate::fault::{LineFault, LoadFault};
 use crate::heading::read_heading;
 use crate::line::{Word, is_end, next_line, split_word, values_of};
 use crate::taking::{LastSlot, take_object, take_petition, take_property, take_slot, take_verb};
-use moo_flat::Flat;
+use moo_memory::Flat;
 use moo_rows::{PropId, Rows};
 use moo_value::ObjNo;
 use std::alloc::Global;

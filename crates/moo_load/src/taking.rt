@@ -25,7 +25,7 @@ use crate::petition::read_petition;
 use crate::property::read_property;
 use crate::slot::{SlotLine, dumped_slot};
 use crate::verb::read_verb;
-use moo_flat::Flat;
+use moo_memory::Flat;
 use moo_rows::{PetitionId, PropId, Rows, VerbId};
 use moo_value::{ObjNo, Value};
 use std::alloc::Global;

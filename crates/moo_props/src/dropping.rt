@@ -18,7 +18,7 @@ ghost use Rattle.moo_props.specs.Present.{ArePresent, AreAbsent, AreAscending};
 ghost use Rattle.moo_props.specs.Touched.{props_of};
 
 use crate::slots::{SlotKeys, remove_on};
-use moo_ordered::least;
+use moo_rows::ordered::least;
 use moo_rows::{
     Link, ObjList, PropId, Row, Rows, VerbId, each_defined, each_slot_of, each_verb_of,
 };

@@ -11,7 +11,7 @@ pub use Rattle.std.specs.Option.{option_map}
 pub use Rattle.std.specs.Ordering.{eq_by_cmp, int_eq, is_eq, is_lt, match_ordering, nat_cmp, ordering_reverse, ordering_then}
 pub use Rattle.std.specs.Prelude.{OnErr, OnOk, nat_le, ⊤, ◌==◌}
 pub use Rattle.moo_value.specs.declared.value.ObjNo.{ObjNo}
-pub use Rattle.moo_ordered.specs.Ordered.{IsNext, IsPast, lesser}
+pub use Rattle.moo_rows.specs.Ordered.{IsNext, IsPast, lesser}
 pub use Rattle.moo_rows.specs.Exact.{object_exact, petition_exact, prop_exact, slot_exact, tie_exact, verb_exact}
 pub use Rattle.moo_rows.specs.Links.{AreCovered, AreOfDefiners, IsFirst, LinkSets, defined_left, has_link, is_candidate, is_definer, is_kept, is_linked, is_to_nothing, linked_left, may_have, row_defined, row_has, tie_cmp, ties_have, ties_of}
 pub use Rattle.moo_rows.specs.Maps.{Maps, object_cmp, petition_cmp, prop_cmp, slot_cmp, verb_cmp}

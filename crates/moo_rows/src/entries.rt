@@ -6,7 +6,7 @@ ghost use Rattle.moo_rows.specs.ObjectRow.{object_row-exact, object_clone};
 ghost use Rattle.moo_rows.specs.SameRows.{prop_row-exact, slot_row-exact, verb_row-exact, petition_row-exact};
 
 use crate::row::{ObjRow, PetitionId, PetitionRow, PropId, PropRow, SlotRow, VerbId, VerbRow};
-use moo_ordered::OrderedKey;
+use crate::ordered::OrderedKey;
 use std::alloc::{AllocError, Global};
 
 /// A row that `==` tells from every other, and whose clones equal it.

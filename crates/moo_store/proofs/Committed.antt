@@ -2,7 +2,7 @@
 use Rattle.moo_store.proofs.Words.{◌≡◌, ◌⊎◌, inl, inr, Bool, true, false, Some, Result, Ok, Err, OnOk, refl, subst, arith, Trees, Maps, Tables, tables_with, Rests, Leaves, IsCurrent, no_tables, CellChanges, clean_before, AreChanges, ShowsRows, Prints, KeepsRows, LeavesRows, KeepsCells}
 use Rattle.sqlite.specs.State.{State as Database, HasCleanDisk, Survives}
 use Rattle.sqlite_trees.specs.View.{doubt}
-use Rattle.moo_draft.specs.declared.changes.Changes.{Changes}
+use Rattle.moo_memory.specs.declared.changes.Changes.{Changes}
 use Rattle.moo_store.proofs.Shown.{shows-written, keeps-written}
 use Rattle.moo_store.proofs.Versions.{one_tables}
 

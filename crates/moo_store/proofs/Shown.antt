@@ -9,7 +9,7 @@ use Rattle.moo_rows.specs.declared.row.PetitionId.{PetitionId}
 use Rattle.moo_rows.specs.Exact.{object_exact, prop_exact, slot_exact, verb_exact, petition_exact}
 use Rattle.moo_rows.proofs.Orders.{prop_total, slot_total, verb_total, petition_total}
 use Rattle.moo_world.proofs.Shown.MapLaws.{decided_alike, key-Decides}
-use Rattle.moo_draft.specs.declared.changes.Changes.{Changes}
+use Rattle.moo_memory.specs.declared.changes.Changes.{Changes}
 use Rattle.moo_store.proofs.AllRows.{all_changed}
 use Rattle.moo_store.proofs.Laid.{lays_object, lays_prop, lays_slot, lays_verb, lays_petition, head_columns, object_stays, prop_stays, slot_stays, verb_stays, petition_stays}
 use Rattle.moo_store.proofs.Written.{written, stays, elsewhere}

@@ -5,7 +5,7 @@ pub use Rattle.std.specs.FinMap.{FinMap, empty, entries, entries_sorted, find, g
 pub use Rattle.std.specs.Ordering.{eq_by_cmp, is_eq, is_lt}
 pub use Rattle.std.specs.Prelude.{IfNone, MatchResult, if◌then◌else◌, is_err, nat_lt, ⊤}
 pub use Rattle.moo_cells.specs.Shows.{ShowsAccept, ShowsCounter, ShowsMaps, ShowsObject, ShowsOrNone, ShowsPetition, ShowsProp, ShowsRows, ShowsSlot, ShowsSlotState, ShowsVerb}
-pub use Rattle.moo_draft.specs.Changes.{AreChanges, IsChanges}
+pub use Rattle.moo_memory.specs.Changes.{AreChanges, IsChanges}
 pub use Rattle.moo_rows.specs.Maps.{Maps, no_maps, object_cmp, petition_cmp, prop_cmp, slot_cmp, verb_cmp}
 pub use Rattle.moo_rows.specs.Walk.{objects_left, petitions_left, props_left, slots_left, verbs_left}
 pub use Rattle.moo_rows.specs.declared.row.Head.{Head}

@@ -15,7 +15,7 @@ use Rattle.moo_tables.specs.declared.slot.SlotCells.{SlotCells}
 use Rattle.moo_tables.specs.declared.verb.VerbCells.{VerbCells}
 use Rattle.moo_tables.specs.declared.petition.PetitionCells.{PetitionCells}
 use Rattle.moo_tables.specs.declared.cells.CellChanges.{CellChanges}
-use Rattle.moo_draft.specs.declared.changes.Changes.{Changes}
+use Rattle.moo_memory.specs.declared.changes.Changes.{Changes}
 use Rattle.moo_cells.specs.Shows.{ShowsAccept, ShowsSlotState, ShowsOrNone}
 use Rattle.moo_rows.specs.Bits.{bits_number, verb_bits_of}
 use Rattle.moo_value.specs.Literal.{Spells}

@@ -19,7 +19,7 @@ use crate::fault::StoreFault;
 use crate::migrating::make_current;
 use crate::reading::read_rows;
 use crate::world::World;
-use moo_flat::Flat;
+use moo_memory::Flat;
 use sqlite::{Alter, Connection};
 use std::alloc::Global;
 

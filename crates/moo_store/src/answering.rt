@@ -15,7 +15,7 @@ use crate::fault::StoreFault;
 use crate::output::put_answer;
 use crate::tally::Tally;
 use crate::world::World;
-use moo_flat::Flat;
+use moo_memory::Flat;
 use moo_text::{Answer, Feed, Marks, Next, Notes, Reply, TextFault};
 use moo_world::Batch;
 use sqlite::Alter;

@@ -8,7 +8,7 @@ ghost use Rattle.moo_store.specs.Text.{RunsAndAnswers, Applies, StopsRun};
 use crate::answering::{Answering, answer_all, answered_by};
 use crate::tally::Tally;
 use crate::world::World;
-use moo_flat::Flat;
+use moo_memory::Flat;
 use moo_text::{Answer, Notes, TextFault};
 use moo_world::Batch;
 use sqlite::Alter;

@@ -18,7 +18,7 @@ use crate::reading::{read_lists, test_current};
 use crate::world::World;
 use moo_cells::{CellFault, compare_cells};
 use moo_damage::Kind;
-use moo_flat::Flat;
+use moo_memory::Flat;
 use moo_rows::{Rows, each_object};
 use moo_tables::{CellLists, Version, are_listed};
 use sqlite::{Alter, Connection, Error, ErrorCode};

@@ -4,8 +4,8 @@ ghost use Rattle.std.specs.Prelude.{◌≡◌, ◌<◌, ◌≤◌, ◌^◌, IsTr
 ghost use Rattle.sqlite.specs.State.{HasCleanDisk, Survives};
 ghost use Rattle.sqlite.specs.Held.{state};
 ghost use Rattle.moo_rows.specs.Maps.{Maps};
-ghost use Rattle.moo_draft.specs.declared.changes.Changes.{Changes};
-ghost use Rattle.moo_draft.specs.Changes.{AreChanges};
+ghost use Rattle.moo_memory.specs.declared.changes.Changes.{Changes};
+ghost use Rattle.moo_memory.specs.Changes.{AreChanges};
 ghost use Rattle.moo_cells.specs.Shows.{ShowsRows};
 ghost use Rattle.moo_store.specs.Printed.{Prints};
 ghost use Rattle.moo_store.specs.States.{KeepsRows, LeavesRows};

@@ -13,7 +13,7 @@ ghost use Rattle.moo_store.specs.World.{store_of, StandsFor};
 use crate::fault::StoreFault;
 use crate::loading::{TAKEN, is_new, load_in};
 use crate::world::World;
-use moo_flat::opening_world;
+use moo_memory::opening_world;
 use moo_world::laws::good_opening;
 use sqlite::{Alter, Connection, Error, ErrorCode};
 use std::alloc::Global;

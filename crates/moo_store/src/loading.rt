@@ -13,7 +13,7 @@ ghost use Rattle.moo_store.specs.World.{store_of, StandsFor};
 use crate::fault::StoreFault;
 use crate::printing::print_all;
 use crate::world::World;
-use moo_flat::Flat;
+use moo_memory::Flat;
 use moo_tables::create_in as create_tables;
 use sqlite::{Alter, Connection, Error, ErrorCode};
 use std::alloc::Global;

@@ -16,7 +16,7 @@ ghost use Rattle.moo_store.specs.Printed.{PrintEach, PrintsSlot, all_of};
 use crate::fault::StoreFault;
 use crate::printing::print_left;
 use crate::reading::failure_of;
-use moo_flat::Flat;
+use moo_memory::Flat;
 use moo_rows::{PropId, Rows, SlotRow};
 use moo_tables::{SlotCells, Version, migrate};
 use moo_value::ObjNo;

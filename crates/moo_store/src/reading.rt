@@ -14,7 +14,7 @@ ghost use Rattle.moo_store.specs.Opening.{Says, IsOfStore, not_ours};
 
 use crate::fault::StoreFault;
 use moo_cells::{CellFault, read_cells};
-use moo_flat::Flat;
+use moo_memory::Flat;
 use moo_tables::{CellLists, Version, are_listed, read_tables, version_of};
 use sqlite::{Alter, Connection, Error, ErrorCode};
 use std::alloc::Global;

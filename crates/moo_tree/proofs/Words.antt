@@ -12,7 +12,7 @@ pub use Rattle.std.specs.Option.{option_map}
 pub use Rattle.std.specs.Ordering.{eq_by_cmp, int_eq, is_eq, is_lt}
 pub use Rattle.std.specs.Prelude.{if◌then◌else◌, is_some, slice_index_or, unwrap_or, ◌+◌, ◌≤ℤ◌}
 pub use Rattle.moo_value.specs.declared.value.ObjNo.{ObjNo}
-pub use Rattle.moo_ordered.specs.Ordered.{contents}
+pub use Rattle.moo_rows.specs.Ordered.{contents}
 pub use Rattle.moo_rows.proofs.Orders.{object_total}
 pub use Rattle.moo_rows.specs.Exact.{object_exact}
 pub use Rattle.moo_rows.specs.Links.{has_link, linked_left, ties_of}

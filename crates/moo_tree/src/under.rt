@@ -4,7 +4,7 @@ ghost use Rattle.std.specs.Prelude.{◌≡◌, ◌++◌, true, Some, IfOk, OnOk}
 ghost use Rattle.std.specs.FinMap.{get, insert};
 ghost use Rattle.moo_rows.specs.declared.row.ObjRow.{ObjRow};
 ghost use Rattle.moo_rows.specs.Maps.{object_cmp};
-ghost use Rattle.moo_ordered.specs.Ordered.{contents};
+ghost use Rattle.moo_rows.specs.Ordered.{contents};
 ghost use Rattle.moo_world.specs.ObjectLists.{children_of, subtree_of};
 ghost use Rattle.moo_world.specs.Rows.{world_of};
 ghost use Rattle.moo_world.specs.World.{IsTree, is_object};
@@ -12,6 +12,7 @@ ghost use Rattle.moo_tree.specs.Under.{IsFound, owners_under};
 
 use crate::lists::list_linked;
 use crate::numbers::valid;
+use moo_rows::ordered;
 use moo_rows::{Link, Rows};
 use moo_value::ObjNo;
 use std::alloc::{AllocError, Global};
@@ -33,7 +34,7 @@ fn visit<R: Rows>(
         None => unreachable!(),
         Some(row) => row,
     };
-    moo_ordered::put(found, y, row.owner)?;
+    ordered::put(found, y, row.owner)?;
     list_linked(rows, Link::ChildOf(y), below)
 }
 

@@ -7,7 +7,7 @@ ghost use Rattle.std.specs.Prelude.{IfOk};
 ghost use Rattle.moo_world.specs.Rows.{IsGood};
 
 use moo_cells::read_cells;
-use moo_flat::Flat;
+use moo_memory::Flat;
 use moo_store::{World, apply_text, create_in};
 use moo_tables::{Version, are_listed, read_tables};
 use moo_text::NoNotes;

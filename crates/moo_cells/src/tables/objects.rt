@@ -16,7 +16,7 @@ use crate::object::read_object;
 use crate::spent::Spent;
 use crate::table_row::ReadRow;
 use moo_damage::{Key, Kind};
-use moo_flat::Flat;
+use moo_memory::Flat;
 use moo_rows::{ObjRow, Rows};
 use moo_tables::Version;
 use moo_value::ObjNo;

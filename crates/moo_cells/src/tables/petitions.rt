@@ -16,7 +16,7 @@ use crate::petition::read_petition;
 use crate::spent::Spent;
 use crate::table_row::ReadRow;
 use moo_damage::{Key, Kind};
-use moo_flat::Flat;
+use moo_memory::Flat;
 use moo_rows::{PetitionId, PetitionRow, Rows};
 use moo_tables::Version;
 use sqlite::Row;

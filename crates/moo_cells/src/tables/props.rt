@@ -16,7 +16,7 @@ use crate::prop::read_prop;
 use crate::spent::Spent;
 use crate::table_row::ReadRow;
 use moo_damage::{Key, Kind};
-use moo_flat::Flat;
+use moo_memory::Flat;
 use moo_rows::{PropId, PropRow, Rows};
 use moo_tables::Version;
 use sqlite::Row;

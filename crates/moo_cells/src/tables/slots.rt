@@ -15,7 +15,7 @@ use crate::slot::read_slot;
 use crate::spent::Spent;
 use crate::table_row::ReadRow;
 use moo_damage::{Key, Kind};
-use moo_flat::Flat;
+use moo_memory::Flat;
 use moo_rows::{PropId, Rows, SlotRow};
 use moo_tables::Version;
 use moo_value::ObjNo;

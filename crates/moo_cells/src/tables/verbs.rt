@@ -15,7 +15,7 @@ use crate::spent::Spent;
 use crate::table_row::ReadRow;
 use crate::verb::read_verb;
 use moo_damage::{Key, Kind};
-use moo_flat::Flat;
+use moo_memory::Flat;
 use moo_rows::{Rows, VerbId, VerbRow};
 use moo_tables::Version;
 use moo_value::ObjNo;

@@ -6,7 +6,7 @@ ghost use Rattle.moo_world.specs.Rows.{IsGood};
 
 use super::counting::{Counting, NONE};
 use super::steps::{READ, added, made, set};
-use moo_flat::{Flat, opening_world};
+use moo_memory::{Flat, opening_world};
 use moo_rows::{PropId, Rows};
 use moo_value::{LiteralFault, ObjNo};
 use moo_world::laws::good_opening;

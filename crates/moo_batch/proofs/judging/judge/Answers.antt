@@ -4,7 +4,7 @@ use Rattle.moo_rows.specs.Maps.{Held}
 use Rattle.moo_rows.specs.declared.row.Head.{Head}
 use Rattle.moo_world.specs.Between.{CallsLead}
 use Rattle.moo_world.specs.Judge.{is_due, last_seq, verdict_of, run_calls, Accepted}
-use Rattle.moo_draft.specs.Changes.{AreChanges}
+use Rattle.moo_memory.specs.Changes.{AreChanges}
 use Rattle.moo_world.specs.Judge.{state_of}
 use Rattle.moo_batch.specs.Judge.{IsVerdict}
 use Rattle.moo_batch.specs.declared.judging.Verdict.TheVariants.{OutOfMemory}

@@ -1,0 +1,133 @@
+-- The calls of a petition, one after another.
+use Rattle.std.proofs.Common.{◌≡◌, ℤ, Bool, true, false, OnOk, Some, None, List, [], ◌∷◌, Result, Ok, Err, refl, sym, ap, ◌∙◌, subst}
+use Rattle.std.specs.List.{list_all}
+use Rattle.std.proofs.lemmas.Bool.{and_parts, true≢false}
+use Rattle.moo_value.specs.declared.value.ObjNo.{ObjNo}
+use Rattle.moo_value.specs.declared.value.Value.{Value}
+use Rattle.moo_value.specs.Value.{spread}
+use Rattle.moo_rows.specs.declared.row.PetitionId.{PetitionId}
+use Rattle.moo_rows.specs.declared.row.PetitionRow.{PetitionRow}
+use Rattle.moo_rows.specs.Maps.{Maps, Held, without_petition}
+use Rattle.moo_world.specs.declared.call.Call.{Call}
+use Rattle.moo_world.specs.Answers.{zero}
+use Rattle.moo_world.specs.Arguments.{fits}
+use Rattle.moo_world.specs.Between.{HeldCallsLead, GrantLeads, CallKeepsNumbers}
+use Rattle.moo_world.specs.Keeps.{Keeps, beside_world}
+use Rattle.moo_world.specs.Names.{grants, is_grant, petition_call}
+use Rattle.moo_world.specs.Numbers.{KeepsNumbers}
+use Rattle.moo_world.specs.Outcomes.{Outcome, Done, Failed, Full}
+use Rattle.moo_world.specs.Requests.{State, in_world, held_step, held_steps, one_integer, petition_at, batch_call}
+use Rattle.moo_world.specs.Rows.{IsGood}
+use Rattle.moo_world.specs.World.{World}
+use Rattle.moo_world.specs.Calls.{world_call}
+use Rattle.moo_world.proofs.Batches.Requested.{request_steps}
+use Rattle.moo_call_parts.specs.declared.fault.Fault.{Fault}
+use Rattle.moo_call_parts.specs.declared.fault.Fault.TheVariants.{Moo, Full as none_left, OutOfMemory}
+use Rattle.moo_call_parts.specs.Outcomes.{world_in, ComesTo}
+use Rattle.moo_batch.specs.Outcomes.{state_in, ComesInTurn, KeepInTurn, KeepsGoodRows, Reaches}
+
+-- all calls come to what those that are left come to
+pub record HaveStepped (before : Held) (p : ObjNo) (all : List Value) (now : Held) (left : List Value) : Type 0 where
+  pub steps : held_steps (world_in before) p all ≡ held_steps (world_in now) p left
+  pub good : IsGood now.maps
+  pub beside : beside_world now.maps ≡ beside_world before.maps
+  pub base : now.base ≡ before.base
+  pub numbers : (last : Maps) → HeldCallsLead p left now.maps last → HeldCallsLead p all before.maps last
+  pub fit : list_all fits left ≡ true
+
+pub stepped-none : (before : Held) (p : ObjNo) (all : List Value) → IsGood before.maps → list_all fits all ≡ true → HaveStepped before p all before all
+stepped-none before p all good fit = record {
+  steps = refl;
+  good = good;
+  beside = refl;
+  base = refl;
+  numbers = λ last lead. lead;
+  fit = fit;
+}
+
+-- the state of rows that differ from others in their world alone
+with_world : (mid new : Held) → beside_world new.maps ≡ beside_world mid.maps → record (state_in mid) { world = world_in new } ≡ state_in new
+with_world mid new same = ap (λ b. record { world = world_in new; petitions = b.1.1; next_petition = b.1.0; seq = b.0 }) (sym same)
+
+-- what the first of some calls makes of them
+first_of : ObjNo → List Value → Outcome World → Outcome World
+first_of p left o = elim o [ Done v next ↦ held_steps next p left | Failed code ↦ Failed code | Full ↦ Full ]
+
+first_is : (w : World) (p : ObjNo) (held : Value) (left : List Value) (o : Outcome World) → held_step w p held ≡ o → held_steps w p (held ∷ left) ≡ first_of p left o
+unfolding first_of
+first_is w p held left o e = ap (first_of p left) e
+
+module _ {before : Held} {p : ObjNo} {all : List Value} {now : Held} where
+  pub stepped-one : (held : Value) (left : List Value) (v : Value) (next : Held) → HaveStepped before p all now (held ∷ left)
+      → held_step (world_in now) p held ≡ Done v (world_in next) → Keeps now next → HaveStepped before p all next left
+  unfolding first_of
+  stepped-one held left v next h done kept = record {
+    steps = h.steps ∙ first_is (world_in now) p held left (Done v (world_in next)) done;
+    good = kept.good;
+    beside = kept.beside ∙ h.beside;
+    base = kept.base ∙ h.base;
+    numbers = λ last lead. h.numbers last (v, next.maps, ap (in_world (state_in now)) done ∙ ap (Done v) (with_world now next kept.beside), kept.good, kept.numbers, lead);
+    fit = (and_parts (fits held) (list_all fits left) h.fit).1;
+  }
+
+  pub stepped-fits : (held : Value) (left : List Value) → HaveStepped before p all now (held ∷ left) → fits held ≡ true
+  stepped-fits held left h = (and_parts (fits held) (list_all fits left) h.fit).0
+
+  pub stepped-all : HaveStepped before p all now [] → held_steps (world_in before) p all ≡ Done zero (world_in now)
+  stepped-all h = h.steps
+
+  pub stepped-kept : HaveStepped before p all now [] → KeepInTurn p all before now
+  stepped-kept h = record { good = h.good; beside = h.beside; base = h.base; numbers = h.numbers now.maps refl }
+
+  -- the first that isn't done stops them
+  pub stepped-stopped : (held : Value) (left : List Value) (fault : Fault) (new : Held) → HaveStepped before p all now (held ∷ left)
+      → ComesTo (held_step (world_in now) p held) now new (Err fault) → ComesInTurn (held_steps (world_in before) p all) new (Err fault)
+  unfolding first_of
+  stepped-stopped held left (Moo code) new h comes = h.steps ∙ first_is (world_in now) p held left (Failed code) comes.0
+  stepped-stopped held left none_left new h comes = h.steps ∙ first_is (world_in now) p held left Full comes.0
+  stepped-stopped held left OutOfMemory new h comes = tt
+
+-- ---- a petition that is granted
+
+-- the calls were made behind the removal of the petition
+pub granted-reaches : (s : State) (p : ObjNo) (helds : List Value) (mid new : Held) (o : Outcome World) (r : Result Value Fault)
+    → state_in mid ≡ s → ComesInTurn o new r → OnOk r (KeepInTurn p helds mid new) → Reaches (in_world s o) new r
+granted-reaches s p helds mid new o (Ok v) is comes kept =
+    ap (in_world s) comes ∙ ap (λ (t : State). Done v (record t { world = world_in new })) (sym is) ∙ ap (Done v) (with_world mid new kept.beside)
+granted-reaches s p helds mid new o (Err (Moo code)) is comes kept = ap (in_world s) comes
+granted-reaches s p helds mid new o (Err none_left) is comes kept = ap (in_world s) comes
+granted-reaches s p helds mid new o (Err OutOfMemory) is comes kept = tt
+
+module _ (p : ObjNo) (args : List Value) (n : ℤ) (e : PetitionId × PetitionRow) (old mid new : Held) where
+  pub granted-keeps : one_integer args ≡ Ok n → petition_at (state_in old) n ≡ Some e → mid ≡ without_petition old e.0 → KeepsGoodRows KeepsNumbers old mid
+      → KeepInTurn p (spread e.1.calls) mid new → KeepsGoodRows (GrantLeads p args) old new
+  granted-keeps given found gone removed kept = record {
+    good = kept.good;
+    seq = ap (λ b. b.0) kept.beside ∙ removed.seq;
+    base = kept.base ∙ removed.base;
+    numbers = (n, e, given, found, subst (λ (held : Held). HeldCallsLead p (spread e.1.calls) held.maps new.maps) gone kept.numbers);
+  }
+
+-- ---- a call on the world
+
+pub on_ok : {A E P Q : Type 0} (r : Result A E) → (P → Q) → OnOk r P → OnOk r Q
+on_ok (Ok a) f h = f h
+on_ok (Err e) f h = tt
+
+-- what a call on the world comes to, beside the petitions
+pub stepped-reaches : (call : Call) (p : ObjNo) (old new : Held) (r : Result Value Fault) → petition_call call.name ≡ None
+    → ComesTo (world_call (world_in old) p call) old new r → OnOk r (Keeps old new) → Reaches (batch_call (state_in old) p call) new r
+stepped-reaches call p old new (Ok v) on_world comes kept = request_steps (state_in old) p call on_world ∙ ap (in_world (state_in old)) comes ∙ ap (Done v) (with_world old new kept.beside)
+stepped-reaches call p old new (Err (Moo code)) on_world comes kept = request_steps (state_in old) p call on_world ∙ ap (in_world (state_in old)) comes.0
+stepped-reaches call p old new (Err none_left) on_world comes kept = request_steps (state_in old) p call on_world ∙ ap (in_world (state_in old)) comes.0
+stepped-reaches call p old new (Err OutOfMemory) on_world comes kept = tt
+
+-- a call on the world grants nothing
+world-keeps : (grants : Bool) (p : ObjNo) (args : List Value) (old new : Held) → grants ≡ false → Keeps old new → KeepsGoodRows (CallKeepsNumbers grants p args) old new
+world-keeps true p args old new none kept = absurd (true≢false none)
+world-keeps false p args old new none kept = record { good = kept.good; seq = ap (λ b. b.0) kept.beside; base = kept.base; numbers = kept.numbers }
+
+pub stepped-keeps : (call : Call) (p : ObjNo) (old new : Held) → petition_call call.name ≡ None → Keeps old new
+    → KeepsGoodRows (CallKeepsNumbers (is_grant call.name) p call.args) old new
+stepped-keeps call p old new on_world kept =
+    world-keeps (is_grant call.name) p call.args old new (ap (λ o. elim o [ None ↦ false | Some c ↦ grants c ]) on_world) kept

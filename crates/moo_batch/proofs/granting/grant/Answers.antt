@@ -1,0 +1,67 @@
+use Rattle.std.proofs.Common.{◌≡◌, true, Ok, Some, List, sym, ap, ◌∙◌, subst, rules}
+use Rattle.std.specs.List.{list_all}
+use Rattle.moo_value.specs.declared.code.Code.TheVariants.{Permission, InvalidArgument}
+use Rattle.moo_value.specs.declared.value.Value.{Value}
+use Rattle.moo_value.specs.Value.{spread}
+use Rattle.moo_rows.specs.declared.row.PetitionId.{PetitionId}
+use Rattle.moo_rows.specs.declared.row.PetitionRow.{PetitionRow}
+use Rattle.moo_world.specs.Arguments.{fits}
+use Rattle.moo_world.specs.Outcomes.{Failed, check, found_or, given as given_to}
+use Rattle.moo_world.specs.Requests.{State, grant, held_steps, in_world, one_integer, petition_at, without}
+use Rattle.moo_world.specs.Rights.{is_wizard}
+use Rattle.moo_world.specs.World.{World}
+use Rattle.moo_world.proofs.Batches.Requested.{found_there}
+use Rattle.moo_world.proofs.Form.Petitions.{held_fit}
+use Rattle.moo_call_parts.specs.Outcomes.{world_in}
+use Rattle.moo_batch.specs.Outcomes.{state_in, ComesInTurn, KeepInTurn, Reaches}
+use Rattle.moo_batch.proofs.Beside.{removed-keeps, removed-state}
+use Rattle.moo_batch.proofs.InTurn.{granted-reaches, granted-keeps, on_ok}
+use Rattle.moo_batch.proofs.granting.grant.Goals as goal
+
+pub held_steps-requires-clause-good : goal.held_steps-requires-clause-good
+held_steps-requires-clause-good g c = (removed-keeps (g.R.Rows.held c.args.rows.now) (g.R.Rows.held c.remove_petition.new.self) c.in-Some.id c.in_ok-remove_petition.ensures.ok c.requires.good).good
+
+pub held_steps-requires-clause-fit : goal.held_steps-requires-clause-fit
+held_steps-requires-clause-fit g c =
+    let s = state_in (g.R.Rows.held c.args.rows.now) in
+    let found : petition_at s c.in_ok-number.number ≡ Some (c.in-Some.id, c.in-Some.row.now) = search rules in
+    let there = found_there s c.in_ok-number.number (c.in-Some.id, c.in-Some.row.now) found in
+    let fit = held_fit c.in-Some.row.now (c.requires.good.petitions.fit c.in-Some.id c.in-Some.row.now there) in
+    subst (λ helds. list_all fits helds ≡ true) (sym (c.items.ensures.plain ∙ ap (λ (r : PetitionRow). spread r.calls) c.in_ok-row.ensures)) fit
+
+pub returns-clause-reaches : goal.returns-clause-reaches
+returns-clause-reaches g c =
+    let old = g.R.Rows.held c.args.rows.now in
+    let mid = g.R.Rows.held c.remove_petition.new.self in
+    let new = g.R.Rows.held c.held_steps.new.rows in
+    let s = state_in old in
+    let p = c.args.programmer in
+    let n = c.in_ok-number.number in
+    let given : one_integer c.args.args.now ≡ Ok n = search rules in
+    let wizard : is_wizard s.world p ≡ true = search rules in
+    let found : petition_at s n ≡ Some (c.in-Some.id, c.in-Some.row.now) = search rules in
+    let is = removed-state old mid c.in-Some.id c.in_ok-remove_petition.ensures.ok in
+    let helds : c.items.result.now ≡ spread c.in-Some.row.now.calls = c.items.ensures.plain ∙ ap (λ (r : PetitionRow). spread r.calls) c.in_ok-row.ensures in
+    let comes = subst (λ (w : World). ComesInTurn (held_steps w p (spread c.in-Some.row.now.calls)) new c.held_steps.result) (ap (λ (t : State). t.world) is)
+    (subst (λ (l : List Value). ComesInTurn (held_steps (world_in mid) p l) new c.held_steps.result) helds c.held_steps.ensures.comes) in
+    subst (λ effect. Reaches effect new c.held_steps.result)
+    (sym (ap (λ r. given_to r (grant s p)) given
+    ∙ ap (λ b. check b (Failed Permission) (found_or (petition_at s n) InvalidArgument (λ e. in_world (without e.0 s) (held_steps s.world p (spread e.1.calls))))) wizard
+    ∙ ap (λ o. found_or o InvalidArgument (λ e. in_world (without e.0 s) (held_steps s.world p (spread e.1.calls)))) found))
+    (granted-reaches (without c.in-Some.id s) p c.items.result.now mid new (held_steps s.world p (spread c.in-Some.row.now.calls)) c.held_steps.result is comes c.held_steps.ensures.kept)
+
+pub returns-clause-kept : goal.returns-clause-kept
+returns-clause-kept g c =
+    let old = g.R.Rows.held c.args.rows.now in
+    let mid = g.R.Rows.held c.remove_petition.new.self in
+    let new = g.R.Rows.held c.held_steps.new.rows in
+    let p = c.args.programmer in
+    let n = c.in_ok-number.number in
+    let e : PetitionId × PetitionRow = (c.in-Some.id, c.in-Some.row.now) in
+    let given : one_integer c.args.args.now ≡ Ok n = search rules in
+    let found : petition_at (state_in old) n ≡ Some e = search rules in
+    let helds : c.items.result.now ≡ spread c.in-Some.row.now.calls = c.items.ensures.plain ∙ ap (λ (r : PetitionRow). spread r.calls) c.in_ok-row.ensures in
+    let removed = removed-keeps old mid c.in-Some.id c.in_ok-remove_petition.ensures.ok c.requires.good in
+    on_ok c.held_steps.result
+    (λ kept. granted-keeps p c.args.args.now n e old mid new given found c.in_ok-remove_petition.ensures.ok removed (subst (λ l. KeepInTurn p l mid new) helds kept))
+    c.held_steps.ensures.kept

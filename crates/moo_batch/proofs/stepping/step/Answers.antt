@@ -1,0 +1,14 @@
+use Rattle.std.proofs.Common.{◌≡◌, None, rules}
+use Rattle.moo_world.specs.Names.{petition_call}
+use Rattle.moo_batch.proofs.InTurn.{on_ok, stepped-keeps, stepped-reaches}
+use Rattle.moo_batch.proofs.stepping.step.Goals as goal
+
+pub returns-in_default-clause-reaches : goal.returns-in_default-clause-reaches
+returns-in_default-clause-reaches g c =
+    let on_world : petition_call c.args.call.now.name ≡ None = search rules in
+    stepped-reaches c.args.call.now c.args.programmer (g.R.Rows.held c.args.rows.now) (g.R.Rows.held c.step.new.rows) c.step.result on_world c.step.ensures.comes c.step.ensures.kept
+
+pub returns-in_default-clause-kept : goal.returns-in_default-clause-kept
+returns-in_default-clause-kept g c =
+    let on_world : petition_call c.args.call.now.name ≡ None = search rules in
+    on_ok c.step.result (stepped-keeps c.args.call.now c.args.programmer (g.R.Rows.held c.args.rows.now) (g.R.Rows.held c.step.new.rows) on_world) c.step.ensures.kept

@@ -1,0 +1,85 @@
+//! `grant`.
+
+ghost use Rattle.std.specs.Prelude.{◌≡◌, true, OnOk};
+ghost use Rattle.std.specs.List.{list_all};
+ghost use Rattle.moo_world.specs.Arguments.{fits};
+ghost use Rattle.moo_world.specs.Between.{GrantLeads};
+ghost use Rattle.moo_world.specs.Keeps.{Keeps};
+ghost use Rattle.moo_world.specs.Outcomes.{given};
+ghost use Rattle.moo_world.specs.Requests.{grant, held_step, held_steps, one_integer};
+ghost use Rattle.moo_world.specs.Rows.{IsGood};
+ghost use Rattle.moo_call_parts.specs.Outcomes.{world_in, ComesTo};
+ghost use Rattle.moo_batch.specs.Outcomes.{state_in, ComesInTurn, KeepInTurn, KeepsGoodRows, Reaches};
+
+use crate::args::one_integer;
+use crate::held::held_call;
+use crate::looking::petition_at;
+use moo_call_parts::rights::is_wizard;
+use moo_call_parts::{Fault, ZERO};
+use moo_calls::step_named;
+use moo_rows::{Row, Rows};
+use moo_value::{Code, ObjNo, Value};
+use std::alloc::Global;
+
+/// One call that a petition holds, by the wizard who grants it. E_INVARG if it names no call on the world.
+fn held_step<R: Rows>(
+    rows: &mut R,
+    alloc: Global,
+    wizard: ObjNo,
+    held: &Value,
+) -> Result<Value, Fault>
+    requires good { IsGood (R.held rows.old).maps }
+    requires fit { fits held.now ≡ true }
+    ensures comes { ComesTo (held_step (world_in (R.held rows.old)) wizard held.now) (R.held rows.old) (R.held rows.new) result }
+    ensures kept { OnOk result (Keeps (R.held rows.old) (R.held rows.new)) }
+{
+    match held_call(held) {
+        Some((name, args)) => step_named(rows, alloc, wizard, name, args),
+        None => Err(Fault::Moo(Code::InvalidArgument)),
+    }
+}
+
+/// The calls that a petition holds, one after another, up to the first that isn't done: those before it have changed the rows then.
+fn held_steps<R: Rows>(
+    rows: &mut R,
+    alloc: Global,
+    wizard: ObjNo,
+    helds: &[Value],
+) -> Result<Value, Fault>
+    requires good { IsGood (R.held rows.old).maps }
+    requires fit { list_all fits helds.now ≡ true }
+    ensures comes { ComesInTurn (held_steps (world_in (R.held rows.old)) wizard helds.now) (R.held rows.new) result }
+    ensures kept { OnOk result (KeepInTurn wizard helds.now (R.held rows.old) (R.held rows.new)) }
+{
+    for held in helds {
+        held_step(rows, alloc, wizard, held)?;
+    }
+    Ok(ZERO)
+}
+
+/// `grant(number)`: takes a petition away and makes its calls, one after another, on the wizard's authority. It answers 0.
+///
+/// E_PERM if the programmer isn't a wizard; then E_INVARG if there is no petition of this number; then the first error or Full of its calls,
+/// each of which asks first, as any call does, that the wizard is an object. The rows may then be half changed, and the caller drops
+/// them. This server's own.
+pub(crate) fn grant<R: Rows>(
+    rows: &mut R,
+    alloc: Global,
+    programmer: ObjNo,
+    args: &[Value],
+) -> Result<Value, Fault>
+    requires good { IsGood (R.held rows.old).maps }
+    ensures reaches { Reaches (given (one_integer args.now) (grant (state_in (R.held rows.old)) programmer)) (R.held rows.new) result }
+    ensures kept { OnOk result (KeepsGoodRows (GrantLeads programmer args.now) (R.held rows.old) (R.held rows.new)) }
+{
+    let number = one_integer(args)?;
+    if !is_wizard(rows, programmer) {
+        return Err(Fault::Moo(Code::Permission));
+    }
+    let Some((id, row)) = petition_at(rows, number) else {
+        return Err(Fault::Moo(Code::InvalidArgument));
+    };
+    let row = row.copy(alloc)?;
+    rows.remove_petition(id)?;
+    held_steps(rows, alloc, programmer, row.calls.items())
+}

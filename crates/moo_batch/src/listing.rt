@@ -1,0 +1,70 @@
+//! `petitions`.
+
+ghost use Rattle.std.specs.Prelude.{◌≡◌, map, ◌||◌, IfOk, OnOk};
+ghost use Rattle.std.specs.List.{filter};
+ghost use Rattle.std.specs.FinMap.{entries};
+ghost use Rattle.moo_world.specs.Arguments.{no_values};
+ghost use Rattle.moo_world.specs.Numbers.{KeepsNumbers};
+ghost use Rattle.moo_world.specs.Objects.{same_object};
+ghost use Rattle.moo_world.specs.Outcomes.{given};
+ghost use Rattle.moo_world.specs.Requests.{listed, petitions};
+ghost use Rattle.moo_world.specs.Rights.{is_wizard};
+ghost use Rattle.moo_world.specs.Rows.{IsGood};
+ghost use Rattle.moo_batch.specs.Outcomes.{state_in, KeepsGoodRows, Reaches};
+
+use moo_call_parts::rights::is_wizard;
+use moo_call_parts::{Fault, list_of, no_values};
+use moo_rows::{PetitionId, PetitionRow, Rows, each_petition};
+use moo_value::{ObjNo, Value};
+use std::alloc::{AllocError, Global};
+
+/// A petition as it is listed: its number, who asks, and the calls.
+fn listed(alloc: Global, id: PetitionId, row: &PetitionRow) -> Result<Value, AllocError>
+    ensures { IfOk result (λ v. v ≡ listed (id, row.now)) }
+{
+    let number = Value::Int(i64::from(id.0));
+    let calls = Value::List(row.calls.clone()?);
+    Ok(list_of(vec![in alloc; number, Value::Obj(row.who), calls]?))
+}
+
+/// Whether a petition is listed for a programmer who sees all, or sees those of its own.
+fn is_listed(row: &PetitionRow, all: bool, programmer: ObjNo) -> bool
+    ensures { result ≡ (all || same_object row.now.who programmer) }
+{
+    all || row.who == programmer
+}
+
+/// The petitions of a programmer, or all of them, as they are listed.
+fn all_listed<R: Rows>(
+    rows: &R,
+    alloc: Global,
+    all: bool,
+    programmer: ObjNo,
+) -> Result<Vec<Value>, AllocError>
+    ensures { IfOk result (λ found. found.items ≡ map listed (filter (λ e. all || same_object e.1.who programmer) (entries (R.held rows.now).maps.petitions))) }
+{
+    let mut found = Vec::new(alloc);
+    for (id, row) in each_petition(rows) {
+        if is_listed(row, all, programmer) {
+            found.push(listed(alloc, id, row)?)?;
+        }
+    }
+    Ok(found)
+}
+
+/// `petitions()`: a list of `{number, who, calls}` for each petition, ascending: all of them for a wizard, else the programmer's own. It
+/// has no error. This server's own.
+pub(crate) fn petitions<R: Rows>(
+    rows: &R,
+    alloc: Global,
+    programmer: ObjNo,
+    args: &[Value],
+) -> Result<Value, Fault>
+    requires good { IsGood (R.held rows.now).maps }
+    ensures reaches { Reaches (given (no_values args.now) (λ _. petitions (state_in (R.held rows.now)) programmer)) (R.held rows.now) result }
+    ensures kept { OnOk result (KeepsGoodRows KeepsNumbers (R.held rows.now) (R.held rows.now)) }
+{
+    no_values(args)?;
+    let found = all_listed(rows, alloc, is_wizard(rows, programmer), programmer)?;
+    Ok(list_of(found))
+}

@@ -1,0 +1,19 @@
+//! Petitions by number.
+
+ghost use Rattle.std.specs.Prelude.{◌≡◌, Some, None, IfSome, IfNone};
+ghost use Rattle.moo_world.specs.Requests.{petition_at};
+ghost use Rattle.moo_world.specs.Rows.{IsGood};
+ghost use Rattle.moo_batch.specs.Outcomes.{state_in};
+
+use moo_rows::{PetitionId, PetitionRow, Rows};
+
+/// The petition of a number, if there is one.
+pub(crate) fn petition_at<R: Rows>(rows: &R, number: i64) -> Option<(PetitionId, &PetitionRow)>
+    requires { IsGood (R.held rows.now).maps }
+    ensures some { IfSome result (λ found. petition_at (state_in (R.held rows.now)) number ≡ Some (found.0, found.1.now)) }
+    ensures none { IfNone result (petition_at (state_in (R.held rows.now)) number ≡ None) }
+{
+    let id = PetitionId(u32::try_from(number).ok()?);
+    let row = rows.petition(id)?;
+    Some((id, row))
+}

@@ -1,0 +1,70 @@
+//! Any call of a batch.
+
+ghost use Rattle.std.specs.Prelude.{◌≡◌, true, false, OnOk};
+ghost use Rattle.std.specs.List.{list_all};
+ghost use Rattle.moo_world.specs.Arguments.{fits};
+ghost use Rattle.moo_world.specs.Between.{CallKeepsNumbers};
+ghost use Rattle.moo_world.specs.Names.{grants, is_grant};
+ghost use Rattle.moo_world.specs.Requests.{petition_call_by, batch_call};
+ghost use Rattle.moo_world.specs.Rows.{IsGood};
+ghost use Rattle.moo_world.specs.World.{is_object};
+ghost use Rattle.moo_call_parts.specs.Outcomes.{world_in};
+ghost use Rattle.moo_batch.specs.Outcomes.{state_in, KeepsGoodRows, Reaches, Stays};
+
+use crate::asking::petition;
+use crate::declining::decline;
+use crate::granting::grant;
+use crate::listing::petitions;
+use moo_call_parts::Fault;
+use moo_rows::Rows;
+use moo_tree::valid;
+use moo_value::{Code, ObjNo, Value};
+use moo_world::{Call, PetitionCall};
+use std::alloc::Global;
+
+/// A call of petitions, by a programmer who is an object.
+fn petition_call<R: Rows>(
+    rows: &mut R,
+    alloc: Global,
+    programmer: ObjNo,
+    call: PetitionCall,
+    args: &[Value],
+) -> Result<Value, Fault>
+    requires good { IsGood (R.held rows.old).maps }
+    requires there { is_object (world_in (R.held rows.old)) programmer ≡ true }
+    requires fit { list_all fits args.now ≡ true }
+    ensures reaches { Reaches (petition_call_by (state_in (R.held rows.old)) programmer call args.now) (R.held rows.new) result }
+    ensures stays { grants call ≡ false → Stays (R.held rows.old) (R.held rows.new) result }
+    ensures kept { OnOk result (KeepsGoodRows (CallKeepsNumbers (grants call) programmer args.now) (R.held rows.old) (R.held rows.new)) }
+{
+    match call {
+        PetitionCall::Petition => petition(rows, programmer, args),
+        PetitionCall::Petitions => petitions(rows, alloc, programmer, args),
+        PetitionCall::Grant => grant(rows, alloc, programmer, args),
+        PetitionCall::Decline => decline(rows, programmer, args),
+    }
+}
+
+/// One call of the programmer's, of any kind. E_PERM if the programmer isn't an object; then E_ARGS and E_TYPE; then the errors of the
+/// call. At an error, and if a number is wanted and none is left (Full), the rows are as they were, unless a petition was to be granted:
+/// then they may be half changed, as they may be out of memory, and the caller drops them.
+#[tactic(auto, unfolding(moo_world::specs::Requests::batch_call))]
+pub fn step<R: Rows>(
+    rows: &mut R,
+    alloc: Global,
+    programmer: ObjNo,
+    call: &Call,
+) -> Result<Value, Fault>
+    requires good { IsGood (R.held rows.old).maps }
+    ensures reaches { Reaches (batch_call (state_in (R.held rows.old)) programmer call.now) (R.held rows.new) result }
+    ensures stays { is_grant call.now.name ≡ false → Stays (R.held rows.old) (R.held rows.new) result }
+    ensures kept { OnOk result (KeepsGoodRows (CallKeepsNumbers (is_grant call.now.name) programmer call.now.args) (R.held rows.old) (R.held rows.new)) }
+{
+    let Some(of_petitions) = call.name.petition_call() else {
+        return moo_calls::step(rows, alloc, programmer, call);
+    };
+    if !valid(rows, programmer) {
+        return Err(Fault::Moo(Code::Permission));
+    }
+    petition_call(rows, alloc, programmer, of_petitions, call.args.items())
+}

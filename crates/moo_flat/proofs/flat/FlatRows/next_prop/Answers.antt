@@ -1,4 +1,0 @@
-use Rattle.moo_flat.proofs.flat.FlatRows.next_prop.Goals as goal
-
-pub returns : goal.returns
-returns c = rw (← c.self.view_is) c.next.ensures

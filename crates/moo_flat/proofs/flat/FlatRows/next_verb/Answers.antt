@@ -1,4 +1,0 @@
-use Rattle.moo_flat.proofs.flat.FlatRows.next_verb.Goals as goal
-
-pub returns : goal.returns
-returns c = rw (← c.self.view_is) c.next.ensures

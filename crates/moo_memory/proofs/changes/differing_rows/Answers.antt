@@ -1,0 +1,29 @@
+use Rattle.std.proofs.Common.{◌≡◌, Option, sym, ◌∙◌, subst, rules}
+use Rattle.moo_memory.specs.Without.{Without}
+use Rattle.moo_memory.proofs.Changing.{one-kept, one-left_out, all-seen, without-changes}
+use Rattle.moo_memory.proofs.changes.differing_rows.Goals as goal
+
+pub loop-key-preserved-in-Continue-1 : goal.loop-key-preserved-in-Continue-1
+loop-key-preserved-in-Continue-1 g c =
+    let differs : ¬ (g.B.Base.row_at c.args.base c.in-Some.key ≡ c.in-Some.row) = λ e. let t = c.has_row.ensures.1 (c.get.ensures ∙ e) in cc in
+    one-kept (λ e. g.B.Base.row_at c.args.base e.0 ≡ e.1) c.args.changes.entries c.loop-key.changed.items c.loop-key.key-iterator (c.in-Some.key, c.in-Some.row) c.push.new.self.items c.next.new.self
+    c.in-Some.ensures.steps c.in_ok-push.ensures.items differs c.loop-key.invariant
+
+pub loop-key-preserved : goal.loop-key-preserved
+loop-key-preserved g c =
+    let same : g.B.Base.row_at c.args.base c.in-Some.key ≡ c.in-Some.row = sym c.get.ensures ∙ c.has_row.ensures.0 (search rules) in
+    one-left_out (λ e. g.B.Base.row_at c.args.base e.0 ≡ e.1) c.args.changes.entries c.loop-key.changed.items c.loop-key.key-iterator (c.in-Some.key, c.in-Some.row) c.next.new.self
+    c.in-Some.ensures.steps same c.loop-key.invariant
+
+pub loop-key-preserved-else-not-has_row : goal.loop-key-preserved-else-not-has_row
+loop-key-preserved-else-not-has_row g c =
+    let same : g.B.Base.row_at c.args.base c.in-Some.key ≡ c.in-Some.row = sym c.get.ensures ∙ c.has_row.ensures.0 (search rules) in
+    one-left_out (λ e. g.B.Base.row_at c.args.base e.0 ≡ e.1) c.args.changes.entries c.loop-key.changed.items c.loop-key.key-iterator (c.in-Some.key, c.in-Some.row) c.next.new.self
+    c.in-Some.ensures.steps same c.loop-key.invariant
+
+pub returns : goal.returns
+returns g c =
+    let P = λ (e : g.row.K.Denot × Option g.row.V.Denot). g.B.Base.row_at c.args.base e.0 ≡ e.1 in
+    let all = all-seen P c.args.changes.entries c.loop-key.changed.items c.loop-key.key-iterator c.in-None.ensures.steps.0 c.loop-key.invariant in
+    without-changes g.met.K.Ord.total g.met.K.OrderedKey.exact (g.B.Base.row_at c.args.base) c.args.changes c.from_vec.result c.into_iter-key-iterator.ensures.into_iter_gives.5
+    (subst (Without P c.args.changes.entries) (sym c.from_vec.ensures) all)

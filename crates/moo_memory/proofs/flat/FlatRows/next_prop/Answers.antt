@@ -1,0 +1,4 @@
+use Rattle.moo_memory.proofs.flat.FlatRows.next_prop.Goals as goal
+
+pub returns : goal.returns
+returns c = rw (← c.self.view_is) c.next.ensures

@@ -1,0 +1,18 @@
+-- The laws of the definitions that functions of this crate promise.
+use Rattle.std.specs.Prelude.{◌≡◌, []}
+use Rattle.moo_rows.specs.Maps.{Maps}
+use Rattle.moo_memory.specs.declared.changes.Changes.{Changes}
+use Rattle.moo_memory.specs.Changes.{AreChanges}
+
+-- from some rows to others there are no two lists of changes
+abbrev pub ChangesAreUnique : Type 0
+ChangesAreUnique = (base new : Maps) (a b : Changes) → AreChanges base new a → AreChanges base new b → a ≡ b
+
+-- and changes lead from some rows to no two others
+abbrev pub ChangesGiveTheRows : Type 0
+ChangesGiveTheRows = (base new other : Maps) (changes : Changes) → AreChanges base new changes → AreChanges base other changes → new ≡ other
+
+-- if every row is as it was, only the head is among the changes
+abbrev pub UndoneIsNoChange : Type 0
+UndoneIsNoChange = (base new : Maps) (changes : Changes) → new ≡ record base { head = new.head } → AreChanges base new changes
+    → changes ≡ record { head = new.head; objects = []; props = []; slots = []; verbs = []; petitions = [] }

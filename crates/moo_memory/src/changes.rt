@@ -1,0 +1,205 @@
+//! What changed from some rows to others: exactly the keys whose rows differ.
+
+ghost use Rattle.std.specs.Prelude.{◌≡◌, ◌↔◌, IsTrue, IfOk, OnOk, option_map};
+ghost use Rattle.std.specs.FinMap as map;
+ghost use Rattle.moo_rows.specs.Ordered.{contents};
+ghost use Rattle.moo_rows.specs.Maps.{Maps};
+ghost use Rattle.moo_memory.specs.Overlay.{row_over};
+ghost use Rattle.moo_memory.specs.Changes.{IsChanges, AreChanges, changed_each};
+
+use crate::overlay::Base;
+use crate::flat::Flat;
+use moo_rows::ordered::OrderedKey;
+use moo_rows::{
+    Head, ObjRow, PetitionId, PetitionRow, PropId, PropRow, Row, Rows, SlotRow, VerbId, VerbRow,
+};
+use moo_value::ObjNo;
+use std::alloc::{AllocError, Global};
+use std::collections::BTreeMap;
+use std::marker::Model;
+
+/// Keys, each with its new row, or `None` if the row was removed. `Draft::into_changes` gives them ascending, each once.
+#[derive(Drop)]
+pub struct ChangeList<K, V> {
+    items: Vec<(K, Option<V>)>,
+}
+
+impl<K, V> Model for ChangeList<K, V> {
+    ghost use Rattle.std.specs.Prelude.{List, Option};
+
+    ghost Value = { List (K × Option V) };
+
+    ghost view = { λ a. a.items.items };
+}
+
+impl<K, V> ChangeList<K, V> {
+    /// The list of these changes, in this order.
+    pub fn from_vec(items: Vec<(K, Option<V>)>) -> ChangeList<K, V>
+        ensures { result ≡ items.items }
+    {
+        ChangeList { items }
+    }
+
+    /// The changes, in order.
+    pub fn items(&self) -> &[(K, Option<V>)]
+        ensures { result.now ≡ self.now }
+    {
+        self.items.as_slice()
+    }
+
+    /// The changes, in order.
+    pub fn into_vec(self) -> Vec<(K, Option<V>)>
+        ensures { result.items ≡ self }
+    {
+        self.items
+    }
+}
+
+/// What changed from some rows to others: the new head, and of each map the keys whose rows differ.
+#[derive(Drop)]
+pub struct Changes {
+    pub head: Head,
+    pub objects: ChangeList<ObjNo, ObjRow>,
+    pub props: ChangeList<PropId, PropRow>,
+    pub slots: ChangeList<(ObjNo, PropId), SlotRow>,
+    pub verbs: ChangeList<(ObjNo, VerbId), VerbRow>,
+    pub petitions: ChangeList<PetitionId, PetitionRow>,
+}
+
+/// Whether a key has this row, or isn't there if this is `None`.
+fn has_row<V: Row>(held: Option<&V>, row: &Option<V>) -> bool
+    ensures { IsTrue result ↔ (option_map (λ held. held.now) held.entry ≡ row.now) }
+{
+    match (held, row) {
+        (None, None) => true,
+        (Some(a), Some(b)) => a.equals(b),
+        _ => false,
+    }
+}
+
+/// The keys of these changes whose rows differ from the base, with their new rows. The only error is that memory runs out.
+fn differing_rows<'a, K: OrderedKey, V: Row + 'a, B: Base<'a, K, V>>(
+    alloc: Global,
+    base: B,
+    changes: BTreeMap<K, Option<V>>,
+) -> Result<ChangeList<K, V>, AllocError>
+    ensures { IfOk result (λ list. IsChanges K.cmp (B.row_at base) (row_over (B.row_at base) (contents K.cmp changes)) list) }
+{
+    let mut changed = Vec::new(alloc);
+    for (key, row) in changes {
+        if !has_row(base.get(key), &row) {
+            changed.push((key, row))?;
+        }
+    }
+    Ok(ChangeList::from_vec(changed))
+}
+
+/// The keys whose rows differ from the base, with their new rows. The only error is that memory runs out. Most drafts change rows of one
+/// map or two, so that a map without changes isn't gone over.
+pub(crate) fn changed_rows<'a, K: OrderedKey, V: Row + 'a, B: Base<'a, K, V>>(
+    alloc: Global,
+    base: B,
+    changes: BTreeMap<K, Option<V>>,
+) -> Result<ChangeList<K, V>, AllocError>
+    ensures { IfOk result (λ list. IsChanges K.cmp (B.row_at base) (row_over (B.row_at base) (contents K.cmp changes)) list) }
+{
+    if changes.is_empty() {
+        return Ok(ChangeList::from_vec(Vec::new(alloc)));
+    }
+    differing_rows(alloc, base, changes)
+}
+
+fn apply_objects<R: Rows>(
+    rows: &mut R,
+    changes: ChangeList<ObjNo, ObjRow>,
+) -> Result<(), AllocError>
+    ensures { OnOk result ((R.held rows.new).maps ≡ record ((R.held rows.old).maps) { objects = changed_each (R.held rows.old).maps.objects changes }) }
+{
+    for (key, row) in changes.into_vec() {
+        match row {
+            Some(row) => rows.put_object(key, row)?,
+            None => rows.remove_object(key)?,
+        }
+    }
+    Ok(())
+}
+
+fn apply_props<R: Rows>(
+    rows: &mut R,
+    changes: ChangeList<PropId, PropRow>,
+) -> Result<(), AllocError>
+    ensures { OnOk result ((R.held rows.new).maps ≡ record ((R.held rows.old).maps) { props = changed_each (R.held rows.old).maps.props changes }) }
+{
+    for (key, row) in changes.into_vec() {
+        match row {
+            Some(row) => rows.put_prop(key, row)?,
+            None => rows.remove_prop(key)?,
+        }
+    }
+    Ok(())
+}
+
+fn apply_slots<R: Rows>(
+    rows: &mut R,
+    changes: ChangeList<(ObjNo, PropId), SlotRow>,
+) -> Result<(), AllocError>
+    ensures { OnOk result ((R.held rows.new).maps ≡ record ((R.held rows.old).maps) { slots = changed_each (R.held rows.old).maps.slots changes }) }
+{
+    for (key, row) in changes.into_vec() {
+        match row {
+            Some(row) => rows.put_slot(key, row)?,
+            None => rows.remove_slot(key)?,
+        }
+    }
+    Ok(())
+}
+
+fn apply_verbs<R: Rows>(
+    rows: &mut R,
+    changes: ChangeList<(ObjNo, VerbId), VerbRow>,
+) -> Result<(), AllocError>
+    ensures { OnOk result ((R.held rows.new).maps ≡ record ((R.held rows.old).maps) { verbs = changed_each (R.held rows.old).maps.verbs changes }) }
+{
+    for (key, row) in changes.into_vec() {
+        match row {
+            Some(row) => rows.put_verb(key, row)?,
+            None => rows.remove_verb(key)?,
+        }
+    }
+    Ok(())
+}
+
+fn apply_petitions<R: Rows>(
+    rows: &mut R,
+    changes: ChangeList<PetitionId, PetitionRow>,
+) -> Result<(), AllocError>
+    ensures { OnOk result ((R.held rows.new).maps ≡ record ((R.held rows.old).maps) { petitions = changed_each (R.held rows.old).maps.petitions changes }) }
+{
+    for (key, row) in changes.into_vec() {
+        match row {
+            Some(row) => rows.put_petition(key, row)?,
+            None => rows.remove_petition(key)?,
+        }
+    }
+    Ok(())
+}
+
+/// Makes the changes of all maps, and sets the head.
+fn apply_all<R: Rows>(rows: &mut R, changes: Changes) -> Result<(), AllocError>
+    ensures { OnOk result ((new : Maps) → AreChanges (R.held rows.old).maps new changes → (R.held rows.new).maps ≡ new) }
+{
+    rows.set_head(changes.head);
+    apply_objects(rows, changes.objects)?;
+    apply_props(rows, changes.props)?;
+    apply_slots(rows, changes.slots)?;
+    apply_verbs(rows, changes.verbs)?;
+    apply_petitions(rows, changes.petitions)
+}
+
+/// Makes the changes in the rows that they are changes of. The only error is that memory runs out, and then some are made
+/// and some are not.
+pub fn apply_changes(rows: &mut Flat, changes: Changes) -> Result<(), AllocError>
+    ensures { OnOk result ((new : Maps) → AreChanges rows.old.maps new changes → rows.new.maps ≡ new) }
+{
+    apply_all(rows, changes)
+}

@@ -1,0 +1,316 @@
+//! Drafts: rows changed over others that stay as they are.
+
+ghost use Rattle.std.specs.Prelude.{◌≡◌, IfOk};
+ghost use Rattle.std.specs.FinMap as map;
+ghost use Rattle.moo_rows.specs.Ordered.{IsNext};
+ghost use Rattle.moo_memory.specs.Changes.{AreChanges};
+
+use crate::changes::{Changes, changed_rows};
+use crate::either::{next_defined_of_either, next_linked_of_either};
+use crate::overlay;
+use crate::overlay::Base;
+use crate::own::OwnLinks;
+use crate::links::{row_defined, row_has};
+use moo_rows::ordered;
+use moo_rows::{
+    Head, Link, ObjRow, PetitionId, PetitionRow, PropId, PropRow, Rows, SlotRow, VerbId, VerbRow,
+    Writes,
+};
+use moo_value::ObjNo;
+use std::alloc::{AllocError, Global};
+use std::collections::BTreeMap;
+use std::marker::Model;
+
+/// Changes over rows that stay as they are: for each changed key a new row, or `None` if it is removed.
+///
+/// The links and definers are those of changed rows; those that a later change removed may still be among them.
+#[derive(Drop)]
+pub struct Draft<'a, R: Rows> {
+    alloc: Global,
+    base: &'a R,
+    head: Head,
+    objects: BTreeMap<ObjNo, Option<ObjRow>>,
+    props: BTreeMap<PropId, Option<PropRow>>,
+    slots: BTreeMap<(ObjNo, PropId), Option<SlotRow>>,
+    verbs: BTreeMap<(ObjNo, VerbId), Option<VerbRow>>,
+    petitions: BTreeMap<PetitionId, Option<PetitionRow>>,
+    links: OwnLinks,
+    definers: BTreeMap<(ObjNo, PropId), ()>,
+    writes: Writes,
+}
+
+impl<'a, R: Rows> Model for Draft<'a, R> {
+    ghost use Rattle.moo_rows.specs.Maps.{Held, coded_held, object_cmp, prop_cmp, slot_cmp, verb_cmp, petition_cmp};
+    ghost use Rattle.moo_rows.specs.Ordered.{contents};
+    ghost use Rattle.moo_memory.specs.Overlay.{overlaid};
+
+    ghost Value = { Held };
+
+    ghost coded = { coded_held };
+
+    ghost view = { λ d. let below = (R.held d.base.now).maps in record {
+      maps = record {
+        head = d.head;
+        objects = overlaid below.objects (contents object_cmp d.objects);
+        props = overlaid below.props (contents prop_cmp d.props);
+        slots = overlaid below.slots (contents slot_cmp d.slots);
+        verbs = overlaid below.verbs (contents verb_cmp d.verbs);
+        petitions = overlaid below.petitions (contents petition_cmp d.petitions);
+      };
+      writes = d.writes.count;
+      base = below;
+    } };
+
+    ghost use Rattle.std.specs.FinMap as map;
+    ghost use Rattle.moo_rows.specs.Links.{AreOfDefiners};
+    ghost use Rattle.moo_memory.specs.Either.{EitherCovers, of_changes};
+
+    ghost invariant = { λ d.
+        EitherCovers (map.get (R.held d.base.now).maps.objects) (of_changes (contents object_cmp d.objects)) d.links
+        × AreOfDefiners (of_changes (contents prop_cmp d.props)) (contents slot_cmp d.definers) };
+}
+
+impl<'a, R: Rows> Draft<'a, R> {
+    /// A draft without changes.
+    pub fn new(alloc: Global, base: &'a R) -> Draft<'a, R>
+        ensures maps { result.maps ≡ (R.held base.now).maps }
+        ensures base { result.base ≡ (R.held base.now).maps }
+        ensures writes { result.writes ≡ 0 }
+    {
+        Draft {
+            alloc,
+            base,
+            head: base.head(),
+            objects: BTreeMap::new(alloc),
+            props: BTreeMap::new(alloc),
+            slots: BTreeMap::new(alloc),
+            verbs: BTreeMap::new(alloc),
+            petitions: BTreeMap::new(alloc),
+            links: OwnLinks::new(alloc),
+            definers: BTreeMap::new(alloc),
+            writes: Writes::new(),
+        }
+    }
+
+    /// The changes that make the base into the draft: a row that is put back isn't a change, nor is the removal of a row
+    /// that the base doesn't have. The only error is that memory runs out.
+    pub fn into_changes(self) -> Result<Changes, AllocError>
+        ensures { IfOk result (λ changes. AreChanges self.entry.base self.entry.maps changes) }
+    {
+        match (
+            changed_rows(self.alloc, self.base, self.objects),
+            changed_rows(self.alloc, self.base, self.props),
+            changed_rows(self.alloc, self.base, self.slots),
+            changed_rows(self.alloc, self.base, self.verbs),
+            changed_rows(self.alloc, self.base, self.petitions),
+        ) {
+            (Ok(objects), Ok(props), Ok(slots), Ok(verbs), Ok(petitions)) => Ok(Changes {
+                head: self.head,
+                objects,
+                props,
+                slots,
+                verbs,
+                petitions,
+            }),
+            _ => Err(AllocError),
+        }
+    }
+}
+
+impl<'a, R: Rows> Base<'a, ObjNo, ObjRow> for &'a R {
+    ghost row_at = { λ s. map.get (R.held s.now).maps.objects };
+
+    fn get(self, key: ObjNo) -> Option<&'a ObjRow> {
+        self.object(key)
+    }
+
+    fn next(self, from: Option<ObjNo>) -> Option<ObjNo>
+        ensures { IsNext (R.held self.entry.now).maps.objects from result }
+    {
+        self.next_object(from)
+    }
+}
+
+impl<'a, R: Rows> Base<'a, PropId, PropRow> for &'a R {
+    ghost row_at = { λ s. map.get (R.held s.now).maps.props };
+
+    fn get(self, key: PropId) -> Option<&'a PropRow> {
+        self.prop(key)
+    }
+
+    fn next(self, from: Option<PropId>) -> Option<PropId>
+        ensures { IsNext (R.held self.entry.now).maps.props from result }
+    {
+        self.next_prop(from)
+    }
+}
+
+impl<'a, R: Rows> Base<'a, (ObjNo, PropId), SlotRow> for &'a R {
+    ghost row_at = { λ s. map.get (R.held s.now).maps.slots };
+
+    fn get(self, key: (ObjNo, PropId)) -> Option<&'a SlotRow> {
+        self.slot(key)
+    }
+
+    fn next(self, from: Option<(ObjNo, PropId)>) -> Option<(ObjNo, PropId)>
+        ensures { IsNext (R.held self.entry.now).maps.slots from result }
+    {
+        self.next_slot(from)
+    }
+}
+
+impl<'a, R: Rows> Base<'a, (ObjNo, VerbId), VerbRow> for &'a R {
+    ghost row_at = { λ s. map.get (R.held s.now).maps.verbs };
+
+    fn get(self, key: (ObjNo, VerbId)) -> Option<&'a VerbRow> {
+        self.verb(key)
+    }
+
+    fn next(self, from: Option<(ObjNo, VerbId)>) -> Option<(ObjNo, VerbId)>
+        ensures { IsNext (R.held self.entry.now).maps.verbs from result }
+    {
+        self.next_verb(from)
+    }
+}
+
+impl<'a, R: Rows> Base<'a, PetitionId, PetitionRow> for &'a R {
+    ghost row_at = { λ s. map.get (R.held s.now).maps.petitions };
+
+    fn get(self, key: PetitionId) -> Option<&'a PetitionRow> {
+        self.petition(key)
+    }
+
+    fn next(self, from: Option<PetitionId>) -> Option<PetitionId>
+        ensures { IsNext (R.held self.entry.now).maps.petitions from result }
+    {
+        self.next_petition(from)
+    }
+}
+
+impl<'a, R: Rows> Rows for Draft<'a, R> {
+    ghost held = { λ d. d };
+
+    fn head(&self) -> Head {
+        self.head
+    }
+
+    fn set_head(&mut self, head: Head) {
+        self.head = head;
+    }
+
+    fn object(&self, key: ObjNo) -> Option<&ObjRow> {
+        overlay::get(self.base, &self.objects, key)
+    }
+
+    fn next_object(&self, from: Option<ObjNo>) -> Option<ObjNo> {
+        overlay::next(self.base, &self.objects, from)
+    }
+
+    fn next_linked(&self, link: Link, after: ObjNo) -> Option<ObjNo> {
+        let mut last = after;
+        loop {
+            let key = match next_linked_of_either(
+                self.base,
+                &self.objects,
+                &self.links,
+                link,
+                last,
+            ) {
+                None => return None,
+                Some(key) => key,
+            };
+            if row_has(overlay::get(self.base, &self.objects, key), link) {
+                return Some(key);
+            }
+            last = key;
+        }
+    }
+
+    fn put_object(&mut self, key: ObjNo, row: ObjRow) -> Result<(), AllocError> {
+        self.links.add(self.base, key, row.ties())?;
+        overlay::put(&mut self.objects, &mut self.writes, key, Some(row))
+    }
+
+    fn remove_object(&mut self, key: ObjNo) -> Result<(), AllocError> {
+        overlay::put(&mut self.objects, &mut self.writes, key, None)
+    }
+
+    fn prop(&self, key: PropId) -> Option<&PropRow> {
+        overlay::get(self.base, &self.props, key)
+    }
+
+    fn next_prop(&self, from: Option<PropId>) -> Option<PropId> {
+        overlay::next(self.base, &self.props, from)
+    }
+
+    fn next_defined(&self, x: ObjNo, after: PropId) -> Option<PropId> {
+        let mut last = after;
+        loop {
+            let key = match next_defined_of_either(self.base, &self.definers, x, last) {
+                None => return None,
+                Some(key) => key,
+            };
+            if row_defined(overlay::get(self.base, &self.props, key), x) {
+                return Some(key);
+            }
+            last = key;
+        }
+    }
+
+    fn put_prop(&mut self, key: PropId, row: PropRow) -> Result<(), AllocError> {
+        ordered::put(&mut self.definers, (row.definer, key), ())?;
+        overlay::put(&mut self.props, &mut self.writes, key, Some(row))
+    }
+
+    fn remove_prop(&mut self, key: PropId) -> Result<(), AllocError> {
+        overlay::put(&mut self.props, &mut self.writes, key, None)
+    }
+
+    fn slot(&self, key: (ObjNo, PropId)) -> Option<&SlotRow> {
+        overlay::get(self.base, &self.slots, key)
+    }
+
+    fn next_slot(&self, from: Option<(ObjNo, PropId)>) -> Option<(ObjNo, PropId)> {
+        overlay::next(self.base, &self.slots, from)
+    }
+
+    fn put_slot(&mut self, key: (ObjNo, PropId), row: SlotRow) -> Result<(), AllocError> {
+        overlay::put(&mut self.slots, &mut self.writes, key, Some(row))
+    }
+
+    fn remove_slot(&mut self, key: (ObjNo, PropId)) -> Result<(), AllocError> {
+        overlay::put(&mut self.slots, &mut self.writes, key, None)
+    }
+
+    fn verb(&self, key: (ObjNo, VerbId)) -> Option<&VerbRow> {
+        overlay::get(self.base, &self.verbs, key)
+    }
+
+    fn next_verb(&self, from: Option<(ObjNo, VerbId)>) -> Option<(ObjNo, VerbId)> {
+        overlay::next(self.base, &self.verbs, from)
+    }
+
+    fn put_verb(&mut self, key: (ObjNo, VerbId), row: VerbRow) -> Result<(), AllocError> {
+        overlay::put(&mut self.verbs, &mut self.writes, key, Some(row))
+    }
+
+    fn remove_verb(&mut self, key: (ObjNo, VerbId)) -> Result<(), AllocError> {
+        overlay::put(&mut self.verbs, &mut self.writes, key, None)
+    }
+
+    fn petition(&self, key: PetitionId) -> Option<&PetitionRow> {
+        overlay::get(self.base, &self.petitions, key)
+    }
+
+    fn next_petition(&self, from: Option<PetitionId>) -> Option<PetitionId> {
+        overlay::next(self.base, &self.petitions, from)
+    }
+
+    fn put_petition(&mut self, key: PetitionId, row: PetitionRow) -> Result<(), AllocError> {
+        overlay::put(&mut self.petitions, &mut self.writes, key, Some(row))
+    }
+
+    fn remove_petition(&mut self, key: PetitionId) -> Result<(), AllocError> {
+        overlay::put(&mut self.petitions, &mut self.writes, key, None)
+    }
+}

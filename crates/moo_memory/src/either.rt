@@ -1,0 +1,46 @@
+//! What may have a link or a definer: rows of the base that have it, and changed ones.
+
+ghost use Rattle.std.specs.Prelude.{◌||◌, is_some};
+ghost use Rattle.std.specs.FinMap as map;
+ghost use Rattle.moo_rows.specs.Links.{IsFirst, is_definer};
+ghost use Rattle.moo_rows.specs.Maps.{object_cmp, prop_cmp, slot_cmp};
+ghost use Rattle.moo_rows.specs.Ordered.{contents};
+ghost use Rattle.moo_memory.specs.Either.{is_candidate_of_either};
+
+use crate::own::OwnLinks;
+use crate::links::next_defined;
+use moo_rows::ordered;
+use moo_rows::{Link, ObjRow, PropId, Rows};
+use moo_value::ObjNo;
+use std::collections::BTreeMap;
+
+/// The next object that has the link in the base, or is changed and to be looked at for it. Takes no memory.
+pub(crate) fn next_linked_of_either<R: Rows>(
+    base: &R,
+    changes: &BTreeMap<ObjNo, Option<ObjRow>>,
+    links: &OwnLinks,
+    link: Link,
+    after: ObjNo,
+) -> Option<ObjNo>
+    ensures { IsFirst object_cmp (is_candidate_of_either (map.get (R.held base.now).maps.objects) (contents object_cmp changes.now) links.now link) after result }
+{
+    ordered::least(
+        base.next_linked(link, after),
+        links.next(changes, link, after),
+    )
+}
+
+/// The next property that x defines in the base, or may define among the changes. Takes no memory.
+pub(crate) fn next_defined_of_either<R: Rows>(
+    base: &R,
+    definers: &BTreeMap<(ObjNo, PropId), ()>,
+    x: ObjNo,
+    after: PropId,
+) -> Option<PropId>
+    ensures { IsFirst prop_cmp (λ q. is_definer (R.held base.now).maps x q || is_some (map.get (contents slot_cmp definers.now) (x, q))) after result }
+{
+    ordered::least(
+        base.next_defined(x, after),
+        next_defined(definers, x, after),
+    )
+}

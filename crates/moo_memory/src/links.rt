@@ -1,0 +1,248 @@
+//! Objects by their links, and properties by who defines them: those that may have one, whose rows are still to be looked at.
+
+ghost use Rattle.std.specs.Prelude.{◌≡◌, ◌≢◌, ◌↔◌, true, false, Some, is_some, option_map, IfOk, IsTrue, OnOk};
+ghost use Rattle.std.specs.FinMap as map;
+ghost use Rattle.moo_value.specs.declared.value.ObjNo.{ObjNo};
+ghost use Rattle.moo_rows.specs.declared.row.Link.{Link};
+ghost use Rattle.moo_rows.specs.declared.row.PropId.{PropId};
+ghost use Rattle.moo_rows.specs.Maps.{object_cmp, prop_cmp, slot_cmp};
+ghost use Rattle.moo_rows.specs.Ordered.{contents};
+ghost use Rattle.moo_rows.specs.Links.{IsFirst, tie_cmp, has_link, is_candidate, is_kept, may_have, row_defined, row_has, ties_have, ties_of};
+
+use moo_rows::ordered;
+use moo_rows::{Link, ObjRow, PropId, PropRow, Ties};
+use moo_value::ObjNo;
+use std::alloc::{AllocError, Global};
+use std::collections::BTreeMap;
+use std::marker::Model;
+
+/// Which objects may have a link. Those that have it are among them, whoever keeps this; others may be too. A link to `#-1` each
+/// object may have: hardly anybody asks for those, and most objects have one, so that none is kept for it.
+#[derive(Drop)]
+pub struct Links {
+    parents: BTreeMap<(ObjNo, ObjNo), ()>,
+    locations: BTreeMap<(ObjNo, ObjNo), ()>,
+    players: BTreeMap<ObjNo, ()>,
+}
+
+impl Model for Links {
+    ghost use Rattle.moo_rows.specs.Maps.{object_cmp};
+    ghost use Rattle.moo_rows.specs.Links.{LinkSets, coded_link_sets, tie_cmp};
+    ghost use Rattle.moo_rows.specs.Ordered.{contents};
+
+    ghost Value = { LinkSets };
+
+    ghost coded = { coded_link_sets };
+
+    ghost view = { λ l. record {
+      parents = contents tie_cmp l.parents;
+      locations = contents tie_cmp l.locations;
+      players = contents object_cmp l.players;
+    } };
+}
+
+/// The ties of a row, if there is one.
+pub fn ties_of(row: Option<&ObjRow>) -> Option<Ties>
+    ensures { result ≡ option_map ties_of (option_map (λ row. row.now) row.entry) }
+{
+    match row {
+        None => None,
+        Some(row) => Some(row.ties()),
+    }
+}
+
+/// Whether these are the old ties.
+pub fn are_same(old: Option<Ties>, ties: Ties) -> bool
+    ensures { IsTrue result ↔ (old ≡ Some ties) }
+{
+    old == Some(ties)
+}
+
+/// Whether there is a row, and it has the link.
+pub fn row_has(row: Option<&ObjRow>, link: Link) -> bool
+    ensures { result ≡ row_has link (option_map (λ row. row.now) row.entry) }
+{
+    match row {
+        None => false,
+        Some(row) => row.ties().have(link),
+    }
+}
+
+/// Whether there is a row, and x defines it.
+pub fn row_defined(row: Option<&PropRow>, x: ObjNo) -> bool
+    ensures { result ≡ row_defined x (option_map (λ row. row.now) row.entry) }
+{
+    match row {
+        None => false,
+        Some(row) => row.definer == x,
+    }
+}
+
+/// The next object that is paired with x.
+fn next_tied(pairs: &BTreeMap<(ObjNo, ObjNo), ()>, x: ObjNo, after: ObjNo) -> Option<ObjNo>
+    ensures { IsFirst object_cmp (λ q. is_some (map.get (contents tie_cmp pairs.now) (x, q))) after result }
+{
+    let (of, key) = ordered::next(pairs, Some((x, after)))?;
+    if of == x { Some(key) } else { None }
+}
+
+/// The next object of a map.
+fn next_of<V>(objects: &BTreeMap<ObjNo, V>, after: ObjNo) -> Option<ObjNo>
+    ensures { IsFirst object_cmp (λ q. is_some (map.get (contents object_cmp objects.now) q)) after result }
+{
+    ordered::next(objects, Some(after))
+}
+
+/// The next property that is paired with x.
+pub fn next_defined(
+    pairs: &BTreeMap<(ObjNo, PropId), ()>,
+    x: ObjNo,
+    after: PropId,
+) -> Option<PropId>
+    ensures { IsFirst prop_cmp (λ q. is_some (map.get (contents slot_cmp pairs.now) (x, q))) after result }
+{
+    let (of, key) = ordered::next(pairs, Some((x, after)))?;
+    if of == x { Some(key) } else { None }
+}
+
+/// Who defines the property of a row, if there is one.
+pub fn definer_of(row: Option<&PropRow>) -> Option<ObjNo>
+    ensures { result ≡ option_map (λ r. r.definer) (option_map (λ row. row.now) row.entry) }
+{
+    match row {
+        None => None,
+        Some(row) => Some(row.definer),
+    }
+}
+
+/// Forgets that a property may be defined by one who defined it, if anyone did. Takes no memory.
+pub fn forget_defined(
+    pairs: &mut BTreeMap<(ObjNo, PropId), ()>,
+    definer: Option<ObjNo>,
+    key: PropId,
+)
+    ensures { (x : ObjNo) (id : PropId) → id ≢ key → is_some (map.get (contents slot_cmp pairs.new) (x, id)) ≡ false → is_some (map.get (contents slot_cmp pairs.old) (x, id)) ≡ false }
+{
+    let definer = match definer {
+        None => return,
+        Some(definer) => definer,
+    };
+    ordered::remove(pairs, (definer, key));
+}
+
+/// Whether there are ties, and they have the link.
+fn have_link(ties: Option<Ties>, link: Link) -> bool
+    ensures { result ≡ ties_have link ties }
+{
+    match ties {
+        None => false,
+        Some(ties) => ties.have(link),
+    }
+}
+
+impl Links {
+    /// No object is kept for a link.
+    pub fn new(alloc: Global) -> Links
+        ensures { (link : Link) (key : ObjNo) → is_kept result link key ≡ false }
+    {
+        Links {
+            parents: BTreeMap::new(alloc),
+            locations: BTreeMap::new(alloc),
+            players: BTreeMap::new(alloc),
+        }
+    }
+
+    /// The same. An `Err` is a lack of memory.
+    pub fn copy(&self) -> Result<Links, AllocError>
+        ensures { IfOk result (λ copy. copy ≡ self.now) }
+    {
+        Ok(Links {
+            parents: self.parents.clone()?,
+            locations: self.locations.clone()?,
+            players: self.players.clone()?,
+        })
+    }
+
+    /// The next object that is kept for the link. Takes no memory.
+    fn next_kept(&self, link: Link, after: ObjNo) -> Option<ObjNo>
+        ensures { IsFirst object_cmp (is_kept self.now link) after result }
+    {
+        match link {
+            Link::ChildOf(x) => next_tied(&self.parents, x, after),
+            Link::Within(x) => next_tied(&self.locations, x, after),
+            Link::Player => next_of(&self.players, after),
+        }
+    }
+
+    /// The next object that is to be looked at for the link: of all that are held if it is to `#-1`, else of those that are kept
+    /// for it. Takes no memory.
+    pub fn next<V>(&self, held: &BTreeMap<ObjNo, V>, link: Link, after: ObjNo) -> Option<ObjNo>
+        ensures { IsFirst object_cmp (is_candidate self.now (contents object_cmp held.now) link) after result }
+    {
+        if link.is_to_nothing() {
+            next_of(held, after)
+        } else {
+            self.next_kept(link, after)
+        }
+    }
+
+    /// From now on the object may have the link.
+    fn add_one(&mut self, link: Link, key: ObjNo) -> Result<(), AllocError>
+        ensures others { (l : Link) (q : ObjNo) → may_have self.new l q ≡ false → may_have self.old l q ≡ false }
+        ensures there { OnOk result (may_have self.new link key ≡ true) }
+    {
+        if link.is_to_nothing() {
+            return Ok(());
+        }
+        match link {
+            Link::ChildOf(x) => ordered::put(&mut self.parents, (x, key), ()),
+            Link::Within(x) => ordered::put(&mut self.locations, (x, key), ()),
+            Link::Player => ordered::put(&mut self.players, key, ()),
+        }
+    }
+
+    /// From now on the object may have the links that go with these ties.
+    pub fn add(&mut self, key: ObjNo, ties: Ties) -> Result<(), AllocError>
+        ensures others { (l : Link) (q : ObjNo) → may_have self.new l q ≡ false → may_have self.old l q ≡ false }
+        ensures there { OnOk result ((l : Link) → has_link l ties ≡ true → may_have self.new l key ≡ true) }
+    {
+        self.add_one(Link::ChildOf(ties.parent), key)?;
+        self.add_one(Link::Within(ties.location), key)?;
+        if ties.player {
+            self.add_one(Link::Player, key)?;
+        }
+        Ok(())
+    }
+
+    /// Forgets that the object may have the link, unless it has it by these ties. Takes no memory.
+    fn forget_one(&mut self, link: Link, key: ObjNo, stays: Option<Ties>)
+        ensures { (l : Link) (q : ObjNo) → (q ≡ key → ties_have l stays ≡ true) → may_have self.new l q ≡ false → may_have self.old l q ≡ false }
+    {
+        if link.is_to_nothing() {
+            return;
+        }
+        if have_link(stays, link) {
+            return;
+        }
+        match link {
+            Link::ChildOf(x) => ordered::remove(&mut self.parents, (x, key)),
+            Link::Within(x) => ordered::remove(&mut self.locations, (x, key)),
+            Link::Player => ordered::remove(&mut self.players, key),
+        }
+    }
+
+    /// Forgets the links that went with old ties, if there were any, but for those that the object has by these. Takes no memory.
+    pub fn forget(&mut self, key: ObjNo, old: Option<Ties>, stays: Option<Ties>)
+        ensures { (l : Link) (q : ObjNo) → (q ≡ key → ties_have l stays ≡ true) → may_have self.new l q ≡ false → may_have self.old l q ≡ false }
+    {
+        let old = match old {
+            None => return,
+            Some(old) => old,
+        };
+        self.forget_one(Link::ChildOf(old.parent), key, stays);
+        self.forget_one(Link::Within(old.location), key, stays);
+        if old.player {
+            self.forget_one(Link::Player, key, stays);
+        }
+    }
+}

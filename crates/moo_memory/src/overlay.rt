@@ -1,0 +1,102 @@
+//! Changes over a map that stays as it is.
+
+ghost use Rattle.std.specs.Prelude.{◌≡◌, ◌↔◌, ◌+◌, IsTrue, OnErr, OnOk, option_map, Some, None};
+ghost use Rattle.std.specs.FinMap as map;
+ghost use Rattle.moo_rows.specs.Ordered.{contents, IsNextAt};
+ghost use Rattle.moo_memory.specs.Overlay.{row_over, IsNextOfEither};
+
+use moo_rows::ordered;
+use moo_rows::ordered::OrderedKey;
+use moo_rows::Writes;
+use std::alloc::AllocError;
+use std::collections::BTreeMap;
+
+/// The map below the changes.
+pub trait Base<'a, K: OrderedKey, V>: Copy + Drop {
+    ghost use Rattle.std.specs.Prelude.{◌≡◌, Option, option_map};
+    ghost use Rattle.moo_rows.specs.Ordered.{IsNextAt};
+
+    /// The row of each key that has one.
+    ghost row_at: { Self → K → Option V };
+
+    /// The row of a key.
+    fn get(self, key: K) -> Option<&'a V>
+        ensures { option_map (λ row. row.now) result ≡ row_at self key };
+
+    /// The next held key.
+    fn next(self, from: Option<K>) -> Option<K>
+        ensures { IsNextAt K.cmp (row_at self) from result };
+}
+
+/// The row of a key.
+pub fn get<'a, K: OrderedKey, V, B: Base<'a, K, V>>(
+    base: B,
+    changes: &'a BTreeMap<K, Option<V>>,
+    key: K,
+) -> Option<&'a V>
+    ensures { option_map (λ row. row.now) result
+        ≡ row_over (B.row_at base) (contents K.cmp changes.now) key }
+{
+    match ordered::get(changes, key) {
+        Some(Some(row)) => Some(row),
+        Some(None) => None,
+        None => base.get(key),
+    }
+}
+
+/// The next key that is in the base or changed.
+fn next_of_either<'a, K: OrderedKey, V, B: Base<'a, K, V>>(
+    base: B,
+    changes: &BTreeMap<K, Option<V>>,
+    from: Option<K>,
+) -> Option<K>
+    ensures { IsNextOfEither (B.row_at base) (contents K.cmp changes.now) from result }
+{
+    ordered::least(base.next(from), ordered::next(changes, from))
+}
+
+/// The next held key.
+pub fn next<'a, K: OrderedKey, V, B: Base<'a, K, V>>(
+    base: B,
+    changes: &BTreeMap<K, Option<V>>,
+    from: Option<K>,
+) -> Option<K>
+    ensures { IsNextAt K.cmp (row_over (B.row_at base) (contents K.cmp changes.now)) from result }
+{
+    let mut last = from;
+    loop {
+        let key = match next_of_either(base, changes, last) {
+            None => return None,
+            Some(key) => key,
+        };
+        if !is_removed(changes, key) {
+            return Some(key);
+        }
+        last = Some(key);
+    }
+}
+
+/// Whether the changes remove the row of a key.
+fn is_removed<K: OrderedKey, V>(changes: &BTreeMap<K, Option<V>>, key: K) -> bool
+    ensures { IsTrue result ↔ (map.get (contents K.cmp changes.now) key ≡ Some None) }
+{
+    match ordered::get(changes, key) {
+        Some(None) => true,
+        _ => false,
+    }
+}
+
+/// Sets the new row of a key, or `None` if its row is removed, and counts it. After an `Err`, a lack of memory, nothing has changed.
+pub fn put<K: OrderedKey, V: Drop>(
+    changes: &mut BTreeMap<K, Option<V>>,
+    writes: &mut Writes,
+    key: K,
+    row: Option<V>,
+) -> Result<(), AllocError>
+    ensures ok { OnOk result ((contents K.cmp changes.new ≡ map.insert (contents K.cmp changes.old) key row) × (writes.new.count ≡ writes.old.count + 1)) }
+    ensures err { OnErr result ((contents K.cmp changes.new ≡ contents K.cmp changes.old) × (writes.new.count ≡ writes.old.count)) }
+{
+    ordered::put(changes, key, row)?;
+    writes.rise();
+    Ok(())
+}

@@ -1,0 +1,84 @@
+//! Changed objects by their links.
+
+ghost use Rattle.std.specs.Prelude.{◌≡◌, ◌||◌, true, false, OnOk};
+ghost use Rattle.moo_value.specs.declared.value.ObjNo.{ObjNo};
+ghost use Rattle.moo_rows.specs.declared.row.Link.{Link};
+ghost use Rattle.moo_rows.specs.Links.{IsFirst, has_link, is_candidate, is_linked};
+ghost use Rattle.moo_rows.specs.Maps.{object_cmp};
+ghost use Rattle.moo_rows.specs.Ordered.{contents};
+ghost use Rattle.moo_memory.specs.Either.{is_that, may_have_own};
+
+use crate::links::{Links, are_same, ties_of};
+use moo_rows::ordered;
+use moo_rows::{Link, ObjRow, Rows, Ties};
+use moo_value::ObjNo;
+use std::alloc::{AllocError, Global};
+use std::cmp::Ordering;
+use std::collections::BTreeMap;
+
+/// Which changed objects may have a link. The first one that was changed may have any, and nothing is kept for it: most drafts
+/// change one object.
+#[derive(Drop)]
+pub(crate) struct OwnLinks {
+    first: Option<ObjNo>,
+    others: Links,
+}
+
+/// The object, if it is past another one.
+fn past(object: Option<ObjNo>, after: ObjNo) -> Option<ObjNo>
+    ensures { IsFirst object_cmp (is_that object) after result }
+{
+    let object = object?;
+    match after.cmp(&object) {
+        Ordering::Less => Some(object),
+        _ => None,
+    }
+}
+
+impl OwnLinks {
+    /// No object is changed.
+    pub(crate) fn new(alloc: Global) -> OwnLinks {
+        OwnLinks {
+            first: None,
+            others: Links::new(alloc),
+        }
+    }
+
+    /// From now on the object may have the links that go with these ties, except those that it has in the base.
+    pub(crate) fn add<R: Rows>(
+        &mut self,
+        base: &R,
+        key: ObjNo,
+        ties: Ties,
+    ) -> Result<(), AllocError>
+        ensures others { (l : Link) (q : ObjNo) → may_have_own self.new l q ≡ false → may_have_own self.old l q ≡ false }
+        ensures there { OnOk result ((l : Link) → has_link l ties ≡ true → is_linked (R.held base.now).maps l key ≡ false → may_have_own self.new l key ≡ true) }
+    {
+        let first = match self.first {
+            None => {
+                self.first = Some(key);
+                return Ok(());
+            }
+            Some(first) => first,
+        };
+        if key == first || are_same(ties_of(base.object(key)), ties) {
+            return Ok(());
+        }
+        self.others.add(key, ties)
+    }
+
+    /// The next changed object that is to be looked at for the link. Takes no memory.
+    pub(crate) fn next(
+        &self,
+        changes: &BTreeMap<ObjNo, Option<ObjRow>>,
+        link: Link,
+        after: ObjNo,
+    ) -> Option<ObjNo>
+        ensures { IsFirst object_cmp (λ q. is_that self.now.first q || is_candidate self.now.others (contents object_cmp changes.now) link q) after result }
+    {
+        ordered::least(
+            past(self.first, after),
+            self.others.next(changes, link, after),
+        )
+    }
+}

@@ -1,4 +1,0 @@
-pub mod Beside
-pub mod HeldCalls
-pub mod InTurn
-pub mod Chosen

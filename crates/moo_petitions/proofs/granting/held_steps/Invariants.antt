@@ -1,7 +1,0 @@
-use Rattle.std.proofs.Common.{drop}
-use Rattle.moo_petitions.proofs.InTurn.{HaveStepped}
-use Rattle.moo_petitions.proofs.granting.held_steps.Given as goal
-
--- the calls so far are done
-abbrev pub invariant-loop-held : goal.invariant-loop-held
-invariant-loop-held g l = HaveStepped (g.R.Rows.held l.fn.rows) l.wizard l.helds (g.R.Rows.held l.rows) (drop l.held-index l.helds)
