@@ -1,19 +1,8 @@
 -- Rows with other petitions and another counter of theirs.
-use Rattle.std.proofs.Common.{◌≡◌, ℕ, ◌+◌, ◌<◌, true, refl, sym, ap, ◌∙◌, subst}
-use Rattle.std.specs.FinMap.{FinMap, insert, remove}
-use Rattle.moo_value.specs.declared.value.ObjNo.{ObjNo}
-use Rattle.moo_value.specs.Values.{Values}
-use Rattle.moo_rows.specs.declared.row.Head.{Head}
-use Rattle.moo_rows.specs.declared.row.PetitionId.{PetitionId}
-use Rattle.moo_rows.specs.declared.row.PetitionRow.{PetitionRow}
-use Rattle.moo_rows.specs.Maps.{Maps, Held, petition_cmp, with_petition, without_petition}
-use Rattle.moo_world.specs.Petitions.{PetitionsStand, petition_fits}
-use Rattle.moo_world.specs.Requests.{state_of, asked, petition_id, without}
-use Rattle.moo_world.specs.Rows.{IsGood, world_of, world_shown}
-use Rattle.moo_world.specs.World.{IsWellFormed}
-use Rattle.moo_world.specs.Numbers.{KeepsNumbers}
-use Rattle.moo_world.proofs.Form.Petitions.{one_more_stands, still_stand}
-use Rattle.moo_world.proofs.Shown.NumbersKept.{numbers_same}
+use Rattle.std.{proofs.Common.{◌≡◌, ℕ, ◌+◌, ◌<◌, true, refl, sym, ap, ◌∙◌, subst}, specs.FinMap.{FinMap, insert, remove}}
+use Rattle.moo_value.{specs.declared.value.ObjNo.{ObjNo}, specs.Values.{Values}}
+use Rattle.moo_rows.{specs.declared.row.Head.{Head}, specs.declared.row.PetitionId.{PetitionId}, specs.declared.row.PetitionRow.{PetitionRow}, specs.Maps.{Maps, Held, petition_cmp, with_petition, without_petition}}
+use Rattle.moo_world.{specs.Petitions.{PetitionsStand, petition_fits}, specs.Requests.{state_of, asked, petition_id, without}, specs.Rows.{IsGood, world_of, world_shown}, specs.World.{IsWellFormed}, specs.Numbers.{KeepsNumbers}, proofs.Form.Petitions.{one_more_stands, still_stand}, proofs.Shown.NumbersKept.{numbers_same}}
 use Rattle.moo_batch.specs.Outcomes.{state_in, KeepsGoodRows}
 
 abbrev pub beside_by : FinMap petition_cmp PetitionRow → ℕ → Maps → Maps

@@ -1,7 +1,5 @@
 -- Petitions listed one after another.
-use Rattle.std.proofs.Common.{◌≡◌, Bool, true, false, cond, List, [], ◌∷◌, ◌++◌, append_assoc, map, sym, ap, ◌∙◌}
-use Rattle.std.proofs.lemmas.List.{append-nil}
-use Rattle.std.specs.List.{filter}
+use Rattle.std.{proofs.Common.{◌≡◌, Bool, true, false, cond, List, [], ◌∷◌, ◌++◌, append_assoc, map, sym, ap, ◌∙◌}, proofs.lemmas.List.{append-nil}, specs.List.{filter}}
 
 module _ {A B : Type 0} (test : A → Bool) (f : A → B) where
   abbrev pub chosen : List A → List B

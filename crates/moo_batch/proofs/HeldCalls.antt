@@ -1,16 +1,7 @@
 -- A call by its name and what it is given.
-use Rattle.std.proofs.Common.{◌≡◌, false, List, [], ◌∷◌, Option, None, Some, refl, sym, ap, ◌∙◌}
-use Rattle.std.specs.Prelude.{is_some, if◌then◌else◌}
-use Rattle.std.specs.Option.{option_and_then, option_map}
-use Rattle.std.proofs.lemmas.Bool.{true≢false}
-use Rattle.moo_value.specs.declared.value.Value.{Value}
-use Rattle.moo_value.specs.declared.value.Value.TheVariants.{Int, Obj, Str, Error, List as a_list}
-use Rattle.moo_world.specs.declared.call.Call.{Call}
-use Rattle.moo_world.specs.declared.name.CallName.{CallName}
-use Rattle.moo_world.specs.declared.name.PetitionCall.{PetitionCall}
-use Rattle.moo_world.specs.Names.{call_name_of, petition_call}
-use Rattle.moo_world.specs.Petitions.{begins_with_text}
-use Rattle.moo_world.specs.Requests.{call_in}
+use Rattle.std.{proofs.Common.{◌≡◌, false, List, [], ◌∷◌, Option, None, Some, refl, sym, ap, ◌∙◌}, specs.Prelude.{is_some, if◌then◌else◌}, specs.Option.{option_and_then, option_map}, proofs.lemmas.Bool.{true≢false}}
+use Rattle.moo_value.{specs.declared.value.Value.{Value}, specs.declared.value.Value.TheVariants.{Int, Obj, Str, Error, List as a_list}}
+use Rattle.moo_world.{specs.declared.call.Call.{Call}, specs.declared.name.CallName.{CallName}, specs.declared.name.PetitionCall.{PetitionCall}, specs.Names.{call_name_of, petition_call}, specs.Petitions.{begins_with_text}, specs.Requests.{call_in}}
 
 -- the name of a call on the world
 abbrev pub on_world : Option CallName → Option CallName

@@ -1,29 +1,9 @@
 -- The calls of a petition, one after another.
-use Rattle.std.proofs.Common.{◌≡◌, ℤ, Bool, true, false, OnOk, Some, None, List, [], ◌∷◌, Result, Ok, Err, refl, sym, ap, ◌∙◌, subst}
-use Rattle.std.specs.List.{list_all}
-use Rattle.std.proofs.lemmas.Bool.{and_parts, true≢false}
-use Rattle.moo_value.specs.declared.value.ObjNo.{ObjNo}
-use Rattle.moo_value.specs.declared.value.Value.{Value}
-use Rattle.moo_value.specs.Value.{spread}
-use Rattle.moo_rows.specs.declared.row.PetitionId.{PetitionId}
-use Rattle.moo_rows.specs.declared.row.PetitionRow.{PetitionRow}
-use Rattle.moo_rows.specs.Maps.{Maps, Held, without_petition}
-use Rattle.moo_world.specs.declared.call.Call.{Call}
-use Rattle.moo_world.specs.Answers.{zero}
-use Rattle.moo_world.specs.Arguments.{fits}
-use Rattle.moo_world.specs.Between.{HeldCallsLead, GrantLeads, CallKeepsNumbers}
-use Rattle.moo_world.specs.Keeps.{Keeps, beside_world}
-use Rattle.moo_world.specs.Names.{grants, is_grant, petition_call}
-use Rattle.moo_world.specs.Numbers.{KeepsNumbers}
-use Rattle.moo_world.specs.Outcomes.{Outcome, Done, Failed, Full}
-use Rattle.moo_world.specs.Requests.{State, in_world, held_step, held_steps, one_integer, petition_at, batch_call}
-use Rattle.moo_world.specs.Rows.{IsGood}
-use Rattle.moo_world.specs.World.{World}
-use Rattle.moo_world.specs.Calls.{world_call}
-use Rattle.moo_world.proofs.Batches.Requested.{request_steps}
-use Rattle.moo_call_parts.specs.declared.fault.Fault.{Fault}
-use Rattle.moo_call_parts.specs.declared.fault.Fault.TheVariants.{Moo, Full as none_left, OutOfMemory}
-use Rattle.moo_call_parts.specs.Outcomes.{world_in, ComesTo}
+use Rattle.std.{proofs.Common.{◌≡◌, ℤ, Bool, true, false, OnOk, Some, None, List, [], ◌∷◌, Result, Ok, Err, refl, sym, ap, ◌∙◌, subst}, specs.List.{list_all}, proofs.lemmas.Bool.{and_parts, true≢false}}
+use Rattle.moo_value.{specs.declared.value.ObjNo.{ObjNo}, specs.declared.value.Value.{Value}, specs.Value.{spread}}
+use Rattle.moo_rows.{specs.declared.row.PetitionId.{PetitionId}, specs.declared.row.PetitionRow.{PetitionRow}, specs.Maps.{Maps, Held, without_petition}}
+use Rattle.moo_world.{specs.declared.call.Call.{Call}, specs.Answers.{zero}, specs.Arguments.{fits}, specs.Between.{HeldCallsLead, GrantLeads, CallKeepsNumbers}, specs.Keeps.{Keeps, beside_world}, specs.Names.{grants, is_grant, petition_call}, specs.Numbers.{KeepsNumbers}, specs.Outcomes.{Outcome, Done, Failed, Full}, specs.Requests.{State, in_world, held_step, held_steps, one_integer, petition_at, batch_call}, specs.Rows.{IsGood}, specs.World.{World}, specs.Calls.{world_call}, proofs.Batches.Requested.{request_steps}}
+use Rattle.moo_call_parts.{specs.declared.fault.Fault.{Fault}, specs.declared.fault.Fault.TheVariants.{Moo, Full as none_left, OutOfMemory}, specs.Outcomes.{world_in, ComesTo}}
 use Rattle.moo_batch.specs.Outcomes.{state_in, ComesInTurn, KeepInTurn, KeepsGoodRows, Reaches}
 
 -- all calls come to what those that are left come to

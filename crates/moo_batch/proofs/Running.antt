@@ -1,18 +1,9 @@
 -- The calls of a batch, one after another.
 use Rattle.std.proofs.Common.{◌≡◌, ◌+◌, List, [], ◌∷◌, ◌++◌, length, refl, sym, ap, ◌∙◌, arith}
-use Rattle.moo_value.specs.declared.value.ObjNo.{ObjNo}
-use Rattle.moo_value.specs.declared.value.Value.{Value}
-use Rattle.moo_value.specs.declared.code.Code.{Code}
+use Rattle.moo_value.{specs.declared.value.ObjNo.{ObjNo}, specs.declared.value.Value.{Value}, specs.declared.code.Code.{Code}}
 use Rattle.moo_rows.specs.Maps.{Maps, Held}
-use Rattle.moo_world.specs.declared.call.Call.{Call}
-use Rattle.moo_world.specs.Between.{CallsLead, CallKeepsNumbers}
-use Rattle.moo_world.specs.Rows.{IsGood}
-use Rattle.moo_world.specs.Outcomes.{Outcome, Done, Failed, Full}
-use Rattle.moo_world.specs.Requests.{State, batch_call}
-use Rattle.moo_world.specs.Judge.{Ran, Through, FailedAt, FullAt, after_one, run_calls}
-use Rattle.moo_world.specs.Names.{is_grant}
-use Rattle.moo_batch.specs.Outcomes.{state_in, KeepsGoodRows}
-use Rattle.moo_batch.specs.Judge.{HaveKept}
+use Rattle.moo_world.{specs.declared.call.Call.{Call}, specs.Between.{CallsLead, CallKeepsNumbers}, specs.Rows.{IsGood}, specs.Outcomes.{Outcome, Done, Failed, Full}, specs.Requests.{State, batch_call}, specs.Judge.{Ran, Through, FailedAt, FullAt, after_one, run_calls}, specs.Names.{is_grant}}
+use Rattle.moo_batch.{specs.Outcomes.{state_in, KeepsGoodRows}, specs.Judge.{HaveKept}}
 
 -- answers, and then what the later calls come to
 abbrev pub after_all : List Value → Ran → Ran

@@ -1,12 +1,8 @@
 -- The accept list that counts, one object further up.
-use Rattle.std.proofs.Common.{◌≡◌, sym, ◌∙◌, ap, Some, None}
-use Rattle.std.specs.Option.{option_map, option_and_then, option_or}
+use Rattle.std.{proofs.Common.{◌≡◌, sym, ◌∙◌, ap, Some, None}, specs.Option.{option_map, option_and_then, option_or}}
 use Rattle.moo_value.specs.declared.value.ObjNo.{ObjNo}
 use Rattle.moo_rows.specs.declared.row.ObjRow.{ObjRow}
-use Rattle.moo_world.specs.World.{IsTree, row_of, chain}
-use Rattle.moo_world.specs.Rows.{LookUps, world_shown, object_shown}
-use Rattle.moo_world.specs.Rights.{accept_along}
-use Rattle.moo_world.proofs.Shown.Seen.{chain_of_row, chain_of_no_row}
+use Rattle.moo_world.{specs.World.{IsTree, row_of, chain}, specs.Rows.{LookUps, world_shown, object_shown}, specs.Rights.{accept_along}, proofs.Shown.Seen.{chain_of_row, chain_of_no_row}}
 
 module _ (m : LookUps) where
   list_of_row : (at : ObjNo) (row : ObjRow) → Some row ≡ m.object at → option_and_then (λ r. r.accept) (row_of (world_shown m) at) ≡ row.accept

@@ -1,20 +1,9 @@
 -- A row put for an object, and the world that the rows then show.
-use Rattle.std.proofs.Common.{◌≡◌, Bool, true, false, refl, sym, ◌∙◌, ap, subst, Some}
-use Rattle.std.specs.Prelude.{is_some, if◌then◌else◌}
-use Rattle.std.specs.FinMap.{get, insert}
+use Rattle.std.{proofs.Common.{◌≡◌, Bool, true, false, refl, sym, ◌∙◌, ap, subst, Some}, specs.Prelude.{is_some, if◌then◌else◌}, specs.FinMap.{get, insert}}
 use Rattle.moo_value.specs.declared.value.ObjNo.{ObjNo}
-use Rattle.moo_rows.specs.declared.row.ObjRow.{ObjRow}
-use Rattle.moo_rows.specs.Maps.{Maps, Held, wrote}
-use Rattle.moo_world.specs.Objects.{same_object}
-use Rattle.moo_world.specs.Rows.{LookUps, world_shown, look_ups, with_object_row as with_row_put, AreSound, IsSound, IsGood}
-use Rattle.moo_world.specs.World.{IsWellFormed}
-use Rattle.moo_world.specs.Fields.{with_row}
-use Rattle.moo_world.proofs.Shown.RowLaws.{world_shown-with_object_row}
-use Rattle.moo_world.proofs.Shown.MapLaws.{look_ups-put_object}
+use Rattle.moo_rows.{specs.declared.row.ObjRow.{ObjRow}, specs.Maps.{Maps, Held, wrote}}
+use Rattle.moo_world.{specs.Objects.{same_object}, specs.Rows.{LookUps, world_shown, look_ups, with_object_row as with_row_put, AreSound, IsSound, IsGood}, specs.World.{IsWellFormed}, specs.Fields.{with_row}, proofs.Shown.RowLaws.{world_shown-with_object_row}, proofs.Shown.MapLaws.{look_ups-put_object}, specs.Keeps.{Keeps, beside_world}, proofs.Shown.Beside.{petitions_stay}, proofs.Shown.NumbersKept.{numbers_same}}
 use Rattle.moo_call_parts.specs.Outcomes.{world_in}
-use Rattle.moo_world.specs.Keeps.{Keeps, beside_world}
-use Rattle.moo_world.proofs.Shown.Beside.{petitions_stay}
-use Rattle.moo_world.proofs.Shown.NumbersKept.{numbers_same}
 
 AreSound-with_object_row : (m : LookUps) (x : ObjNo) (row : ObjRow) → AreSound m → AreSound (with_row_put m x row)
 AreSound-with_object_row m x row s = record {

@@ -1,11 +1,7 @@
 -- The quota of an owner once an object is made.
-use Rattle.std.proofs.Common.{◌≡◌, Bool, true, false, ◌∙◌, refl, sym, ap, inl, inr}
-use Rattle.std.specs.Prelude.{◌||◌, None, if◌then◌else◌}
-use Rattle.std.proofs.lemmas.Bool.{both_ways, or_cases}
+use Rattle.std.{proofs.Common.{◌≡◌, Bool, true, false, ◌∙◌, refl, sym, ap, inl, inr}, specs.Prelude.{◌||◌, None, if◌then◌else◌}, proofs.lemmas.Bool.{both_ways, or_cases}}
 use Rattle.moo_value.specs.declared.value.ObjNo.{ObjNo}
-use Rattle.moo_world.specs.Objects.{Name, nothing, same_object}
-use Rattle.moo_world.specs.World.{World, is_object, read_of}
-use Rattle.moo_world.specs.Quota.{quota_in, quota_name, quota_of}
+use Rattle.moo_world.{specs.Objects.{Name, nothing, same_object}, specs.World.{World, is_object, read_of}, specs.Quota.{quota_in, quota_name, quota_of}}
 use Rattle.moo_calls.specs.Quotas.{quota_given}
 
 -- the quota given in w is the same where all objects of w read what they did

@@ -1,11 +1,7 @@
 -- Rows that show the entries of a map, one for one, hold it.
-use Rattle.moo_cells.proofs.Words.{◌≡◌, ℕ, ◌<◌, ◌+◌, suc, length, List, [], ◌∷◌, Bool, true, false, cond, find, drop, get_or, add-one, Option, None, Some, IfSome, option_map, get, refl, sym, ap, subst, ◌∙◌, true≢false, AllByRecursion, is_eq, eq_by_cmp, IsTotalOrder, tied_itself, Ordering, FinMap, entries, get-entries, IsAntisymmetric, Row, ShowEach, HoldsTable, IsRead, ShowsOrNone}
-use Rattle.std.specs.FinMap.Entries.{find as entry_at}
-use Rattle.std.proofs.Math.Seq.{drop-cons}
-use Rattle.std.specs.Prelude.{IsSome, IfNone}
-use Rattle.moo_rows.specs.Ordered.{IsNext}
-use Rattle.moo_rows.specs.Walk.{entries_past}
-use Rattle.moo_cells.proofs.Table.{Bears, tied}
+use Rattle.moo_cells.{proofs.Words.{◌≡◌, ℕ, ◌<◌, ◌+◌, suc, length, List, [], ◌∷◌, Bool, true, false, cond, find, drop, get_or, add-one, Option, None, Some, IfSome, option_map, get, refl, sym, ap, subst, ◌∙◌, true≢false, AllByRecursion, is_eq, eq_by_cmp, IsTotalOrder, tied_itself, Ordering, FinMap, entries, get-entries, IsAntisymmetric, Row, ShowEach, HoldsTable, IsRead, ShowsOrNone}, proofs.Table.{Bears, tied}}
+use Rattle.std.{specs.FinMap.Entries.{find as entry_at}, proofs.Math.Seq.{drop-cons}, specs.Prelude.{IsSome, IfNone}}
+use Rattle.moo_rows.{specs.Ordered.{IsNext}, specs.Walk.{entries_past}}
 
 -- what is left shows what is left, so that all shows all
 abbrev pub ShowRest : {K X : Type 0} → (K → Row → X → Type 0) → (left all : List Row) (es every : List (K × X)) → Type 0

@@ -1,11 +1,7 @@
 -- Tables beside rows that were known before.
-use Rattle.moo_cells.proofs.Words.{find, Option, None, Some, IfSome, entries, Row, has_rowid, Maps, object_exact, prop_exact, slot_exact, verb_exact, petition_exact, object_total, prop_total, slot_total, verb_total, petition_total, IsGood, tables_of, Tables, version_number, Key, ShowEach, HeadIs, ReadsHead, ReadsCounter, ReadsObject, ReadsProp, ReadsSlot, ReadsVerb, ReadsPetition, ShowsRows}
+use Rattle.moo_cells.{proofs.Words.{find, Option, None, Some, IfSome, entries, Row, has_rowid, Maps, object_exact, prop_exact, slot_exact, verb_exact, petition_exact, object_total, prop_total, slot_total, verb_total, petition_total, IsGood, tables_of, Tables, version_number, Key, ShowEach, HeadIs, ReadsHead, ReadsCounter, ReadsObject, ReadsProp, ReadsSlot, ReadsVerb, ReadsPetition, ShowsRows}, specs.Compared.{IsMismatch}, proofs.Beside.{each_held}, proofs.Keys.{objects_bear, props_bear, slots_bear, verbs_bear, petitions_bear}, proofs.RowsLemmas.{rows_shown}}
 use Rattle.moo_tables.specs.declared.reading.CellLists.{CellLists}
 use Rattle.moo_damage.specs.Differences.{IsFirstDifference}
-use Rattle.moo_cells.specs.Compared.{IsMismatch}
-use Rattle.moo_cells.proofs.Beside.{each_held}
-use Rattle.moo_cells.proofs.Keys.{objects_bear, props_bear, slots_bear, verbs_bear, petitions_bear}
-use Rattle.moo_cells.proofs.RowsLemmas.{rows_shown}
 
 -- tables whose rows show a head, its number of the next petition and the entries of five maps show these rows
 pub all_shown : (lists : CellLists) (m : Maps) → (cells : Row) × HeadIs (λ n. find (has_rowid n) lists.head.items) cells × ReadsHead (version_number lists.version) m.head cells

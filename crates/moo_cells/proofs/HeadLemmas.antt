@@ -1,16 +1,9 @@
 -- The head, from the rows of its table, and the number of the next petition, from those of its own.
-use Rattle.moo_cells.proofs.Words.{◌≡◌, ◌≢◌, inl, inr, ℕ, ℤ, pos, ◌<ℤ◌, ◌≤ℤ◌, List, [], ◌∷◌, length, get_or, find, cond, Bool, true, false, true≢false, Option, Some, None, refl, sym, ap, subst, ◌∙◌, arith, IsTrue, ints, Row, column, rowid, has_rowid, Head, Version, First, Second, version_number, petition_head_cells, greatest, head_row, HeadIs, ReadsHead, ReadsNewer, ReadsKnown, IsNewerThan, HasHead, IsCounter, ReadsCounter, HasCounter, SaysOfHead, ShowsCounter, CellFault, Damaged, NewerVersion, OutOfMemory, has_petitions, ShowsNext}
-use Rattle.sqlite.specs.declared.types.Value.TheVariants.{Int as Number}
-use Rattle.sqlite_rules.specs.Lists.{Has}
-use Rattle.sqlite_rules.proofs.ListLemmas.{all_has}
+use Rattle.moo_cells.{proofs.Words.{◌≡◌, ◌≢◌, inl, inr, ℕ, ℤ, pos, ◌<ℤ◌, ◌≤ℤ◌, List, [], ◌∷◌, length, get_or, find, cond, Bool, true, false, true≢false, Option, Some, None, refl, sym, ap, subst, ◌∙◌, arith, IsTrue, ints, Row, column, rowid, has_rowid, Head, Version, First, Second, version_number, petition_head_cells, greatest, head_row, HeadIs, ReadsHead, ReadsNewer, ReadsKnown, IsNewerThan, HasHead, IsCounter, ReadsCounter, HasCounter, SaysOfHead, ShowsCounter, CellFault, Damaged, NewerVersion, OutOfMemory, has_petitions, ShowsNext}, specs.HeadCells.{cells_of, IsHead}, specs.declared.head.HeadCells.{HeadCells}, proofs.Keys.{self_tied, tied_number, number_apart}, proofs.Texts.{int_inj}}
+use Rattle.sqlite.{specs.declared.types.Value.TheVariants.{Int as Number}, specs.Edit.{id_in}}
+use Rattle.sqlite_rules.{specs.Lists.{Has}, proofs.ListLemmas.{all_has}}
 use Rattle.sqlite_trees.specs.View.{is_int}
-use Rattle.sqlite.specs.Edit.{id_in}
-use Rattle.moo_tables.specs.Inside.{AreKeyed}
-use Rattle.moo_tables.proofs.KeyLemmas.{int_value}
-use Rattle.moo_cells.specs.HeadCells.{cells_of, IsHead}
-use Rattle.moo_cells.specs.declared.head.HeadCells.{HeadCells}
-use Rattle.moo_cells.proofs.Keys.{self_tied, tied_number, number_apart}
-use Rattle.moo_cells.proofs.Texts.{int_inj}
+use Rattle.moo_tables.{specs.Inside.{AreKeyed}, proofs.KeyLemmas.{int_value}}
 
 -- ---- the numbers of a head
 

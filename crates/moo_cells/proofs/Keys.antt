@@ -1,8 +1,7 @@
 -- How the rows of each table bear their keys.
-use Rattle.moo_cells.proofs.Words.{◌≡◌, inl, inr, ℕ, ℤ, pos, negsuc, ◌<ℤ◌, true, refl, sym, ap, ◌∙◌, arith, is_eq, int_cmp, ordering_then, int_ranked, tied_itself, alike_right, Ordering, Less, Equal, Greater, and_parts, and_from, ints, Value, Row, column, value_cmp, rowid, has_rowid, Version, has_key_pair, IsRowBelow, ReadsObject, ReadsProp, ReadsSlot, ReadsVerb, ReadsPetition, object_number, prop_number, slot_number, verb_number, petition_number, IsLess, IsPairLess}
+use Rattle.moo_cells.{proofs.Words.{◌≡◌, inl, inr, ℕ, ℤ, pos, negsuc, ◌<ℤ◌, true, refl, sym, ap, ◌∙◌, arith, is_eq, int_cmp, ordering_then, int_ranked, tied_itself, alike_right, Ordering, Less, Equal, Greater, and_parts, and_from, ints, Value, Row, column, value_cmp, rowid, has_rowid, Version, has_key_pair, IsRowBelow, ReadsObject, ReadsProp, ReadsSlot, ReadsVerb, ReadsPetition, object_number, prop_number, slot_number, verb_number, petition_number, IsLess, IsPairLess}, proofs.Table.{Bears, tied}}
 use Rattle.sqlite.specs.declared.types.Value.TheVariants.{Int}
 use Rattle.sqlite_value.proofs.OrderLemmas.{value_cmp_total, value_cmp-Int}
-use Rattle.moo_cells.proofs.Table.{Bears, tied}
 
 -- a value that ties with a number orders as it does
 ties : (a b : Value) (m n : ℤ) → value_cmp a (Int m) ≡ Equal → value_cmp b (Int n) ≡ Equal → value_cmp a b ≡ int_cmp m n

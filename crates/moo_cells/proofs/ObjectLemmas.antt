@@ -1,13 +1,8 @@
 -- The cells of an object, column by column.
-use Rattle.moo_cells.proofs.Words.{◌≡◌, ℕ, true, List, [], ◌∷◌, Option, length, ap, sym, subst, ◌∙◌, and_parts, Row, column, ObjNo, row_fits, IsRead, ReadsObject, Version}
+use Rattle.moo_cells.{proofs.Words.{◌≡◌, ℕ, true, List, [], ◌∷◌, Option, length, ap, sym, subst, ◌∙◌, and_parts, Row, column, ObjNo, row_fits, IsRead, ReadsObject, Version}, specs.declared.object.Flags.{Flags}, specs.Object.{HasFlags, ShowsAccept, ShowsObject}, proofs.Columns.{all_columns}, proofs.OneCells.{flag_inj, accept_one, text_at}, proofs.Texts.{int_inj}}
 use Rattle.sqlite.specs.declared.types.Value.TheVariants.{Int as Number, Text}
 use Rattle.moo_rows.specs.declared.row.ObjRow.{ObjRow}
-use Rattle.moo_cells.specs.declared.object.Flags.{Flags}
-use Rattle.moo_cells.specs.Object.{HasFlags, ShowsAccept, ShowsObject}
 use Rattle.moo_tables.specs.Object.{object_row_cells}
-use Rattle.moo_cells.proofs.Columns.{all_columns}
-use Rattle.moo_cells.proofs.OneCells.{flag_inj, accept_one, text_at}
-use Rattle.moo_cells.proofs.Texts.{int_inj}
 
 -- a row with these flags
 abbrev pub row_with : List ℕ → ObjNo → ObjNo → ObjNo → Flags → Option (List ObjNo) → ObjRow

@@ -1,25 +1,10 @@
 -- A cell shows one thing within the limits at most.
-use Rattle.moo_cells.proofs.Words.{◌≡◌, ℕ, pos, List, [], ◌∷◌, map, find, Bool, true, false, Option, Some, None, Result, Ok, Err, refl, sym, ap, subst, ◌∙◌, Value, Row, column, ObjNo, Spells, Fits, spread, one_spelled, whole, accept_fits, state_fits, fits_tested, Version, flag_cell, object_list, ShowsAccept, ShowsBits, ShowsSlotState, has_lettered_bits, ShowsRights}
+use Rattle.moo_cells.{proofs.Words.{◌≡◌, ℕ, pos, List, [], ◌∷◌, map, find, Bool, true, false, Option, Some, None, Result, Ok, Err, refl, sym, ap, subst, ◌∙◌, Value, Row, column, ObjNo, Spells, Fits, spread, one_spelled, whole, accept_fits, state_fits, fits_tested, Version, flag_cell, object_list, ShowsAccept, ShowsBits, ShowsSlotState, has_lettered_bits, ShowsRights}, proofs.Texts.{int_inj, text_inj, fits_list, spread_objects}}
 use Rattle.std.specs.Str.{bytes_eq}
 use Rattle.sqlite.specs.declared.types.Value.TheVariants.{Null, Int as Number, Real, Text, Blob}
-use Rattle.moo_value.specs.declared.value.Value.{Value as MooValue}
-use Rattle.moo_value.specs.declared.value.Value.TheVariants.{Obj, List as a_list}
-use Rattle.moo_value.specs.Reading.{literal_at}
-use Rattle.moo_value.specs.declared.fault.LiteralFault.{LiteralFault}
-use Rattle.moo_value.specs.declared.fault.LiteralFault.TheVariants.{NotALiteral}
-use Rattle.moo_value.proofs.Literals.{front_again}
-use Rattle.moo_rows.specs.declared.row.SlotState.{SlotState}
-use Rattle.moo_rows.specs.declared.row.SlotState.TheVariants.{Clear, Set}
-use Rattle.moo_rows.specs.declared.row.ObjectSpec.{ObjectSpec}
-use Rattle.moo_rows.specs.declared.row.ObjectSpec.TheVariants.{This, Any as any_object, None as no_object}
-use Rattle.moo_rows.specs.declared.row.Preposition.{Preposition}
-use Rattle.moo_rows.specs.declared.row.Preposition.TheVariants.{None as no_preposition, Any as any_preposition, Set as a_set}
-use Rattle.moo_rows.specs.declared.row.PrepositionSet.TheVariants.{With, At, InFrontOf, In, OnTopOf, OutOf, Over, Through, Under, Behind, Beside, For, Is, As, Off}
-use Rattle.moo_rows.specs.Bits.{bits_of}
-use Rattle.moo_rows.specs.declared.row.Bits.{Bits}
-use Rattle.moo_rows.proofs.BitsNumber.{bits_number-injective}
+use Rattle.moo_value.{specs.declared.value.Value.{Value as MooValue}, specs.declared.value.Value.TheVariants.{Obj, List as a_list}, specs.Reading.{literal_at}, specs.declared.fault.LiteralFault.{LiteralFault}, specs.declared.fault.LiteralFault.TheVariants.{NotALiteral}, proofs.Literals.{front_again}}
+use Rattle.moo_rows.{specs.declared.row.SlotState.{SlotState}, specs.declared.row.SlotState.TheVariants.{Clear, Set}, specs.declared.row.ObjectSpec.{ObjectSpec}, specs.declared.row.ObjectSpec.TheVariants.{This, Any as any_object, None as no_object}, specs.declared.row.Preposition.{Preposition}, specs.declared.row.Preposition.TheVariants.{None as no_preposition, Any as any_preposition, Set as a_set}, specs.declared.row.PrepositionSet.TheVariants.{With, At, InFrontOf, In, OnTopOf, OutOf, Over, Through, Under, Behind, Beside, For, Is, As, Off}, specs.Bits.{bits_of}, specs.declared.row.Bits.{Bits}, proofs.BitsNumber.{bits_number-injective}}
 use Rattle.moo_world.specs.Prepositions.{all_sets, prep_text, object_spec_text}
-use Rattle.moo_cells.proofs.Texts.{int_inj, text_inj, fits_list, spread_objects}
 
 pub one_some : {A : Type 0} (x y : A) → Some x ≡ Some y → x ≡ y
 one_some x y e = cc

@@ -1,11 +1,8 @@
 -- The rows of all tables.
-use Rattle.moo_cells.proofs.Words.{◌≡◌, ◌⊎◌, inl, inr, ℕ, ℤ, pos, negsuc, ◌<◌, find, Option, Some, None, refl, sym, ap, subst, ◌∙◌, arith, get, AllByRecursion, Row, has_rowid, Maps, and_from, Tables, tables_of, has_key_pair, version_number, Kind, BadHead, BadCell, PastHead, NoParent, ParentLoop, NoPlace, PlaceLoop, NoDefiner, DoubleName, StrangeSlot, MissingSlot, ClearDefiner, StrangeVerb, Mismatch, Key, Object, Prop, Slot, Verb, Petition, rank, IsBelow, NoneBefore, AreWithin, HeadIs, ReadsHead, HasHead, ReadsCounter, HasCounter, SaysOfHead, IsRead, ReadsObject, ReadsProp, ReadsSlot, ReadsVerb, ReadsPetition, ShowsOrNone, ShowsObject, ShowsProp, ShowsSlot, ShowsVerb, ShowsPetition, ShowsRows, HoldsTable, SaysUnread, object_number, prop_number, slot_number, verb_number, petition_number, object_key, prop_key, slot_key, verb_key, petition_key, IsLess, IsPairLess, IsNewer, IsBadCell, IsMet, SaysOfCells, CellFault, Damaged, NewerVersion, OutOfMemory}
+use Rattle.moo_cells.{proofs.Words.{◌≡◌, ◌⊎◌, inl, inr, ℕ, ℤ, pos, negsuc, ◌<◌, find, Option, Some, None, refl, sym, ap, subst, ◌∙◌, arith, get, AllByRecursion, Row, has_rowid, Maps, and_from, Tables, tables_of, has_key_pair, version_number, Kind, BadHead, BadCell, PastHead, NoParent, ParentLoop, NoPlace, PlaceLoop, NoDefiner, DoubleName, StrangeSlot, MissingSlot, ClearDefiner, StrangeVerb, Mismatch, Key, Object, Prop, Slot, Verb, Petition, rank, IsBelow, NoneBefore, AreWithin, HeadIs, ReadsHead, HasHead, ReadsCounter, HasCounter, SaysOfHead, IsRead, ReadsObject, ReadsProp, ReadsSlot, ReadsVerb, ReadsPetition, ShowsOrNone, ShowsObject, ShowsProp, ShowsSlot, ShowsVerb, ShowsPetition, ShowsRows, HoldsTable, SaysUnread, object_number, prop_number, slot_number, verb_number, petition_number, object_key, prop_key, slot_key, verb_key, petition_key, IsLess, IsPairLess, IsNewer, IsBadCell, IsMet, SaysOfCells, CellFault, Damaged, NewerVersion, OutOfMemory}, proofs.Keys.{objects_bear, props_bear, slots_bear, verbs_bear, petitions_bear}, proofs.HeadLemmas.{head_known, head_not_newer}, proofs.Table.{none_unread, no_other}}
 use Rattle.moo_rows.specs.declared.row.Head.{Head as HeadRow}
 use Rattle.moo_tables.specs.declared.reading.CellLists.{CellLists}
 use Rattle.moo_damage.specs.declared.kind.Key.TheVariants.{Head}
-use Rattle.moo_cells.proofs.Keys.{objects_bear, props_bear, slots_bear, verbs_bear, petitions_bear}
-use Rattle.moo_cells.proofs.HeadLemmas.{head_known, head_not_newer}
-use Rattle.moo_cells.proofs.Table.{none_unread, no_other}
 
 shows_of : {X : Type 0} (reads shows : Row → X → Type 0) → ((c : Row) (x : X) → reads c x → shows c x) → (o : Option Row) (x : Option X) → ShowsOrNone reads o x → ShowsOrNone shows o x
 shows_of reads shows f None None h = h

@@ -1,10 +1,8 @@
 -- A table read row by row, whatever its keys are.
-use Rattle.moo_cells.proofs.Words.{◌≡◌, inl, inr, length, List, [], ◌∷◌, ◌++◌, Bool, true, false, cond, find, append_assoc, append-nil, arith, Option, None, Some, refl, sym, ap, subst, ◌∙◌, true≢false, AllByRecursion, option_or, is_eq, eq_by_cmp, IsTotalOrder, tied_itself, Ordering, Less, Equal, Greater, FinMap, empty, get, insert, get-empty, get-insert, IsAntisymmetric, Row, IsRead, ShowsOrNone, HoldsTable, TakesRow}
+use Rattle.moo_cells.{proofs.Words.{◌≡◌, inl, inr, length, List, [], ◌∷◌, ◌++◌, Bool, true, false, cond, find, append_assoc, append-nil, arith, Option, None, Some, refl, sym, ap, subst, ◌∙◌, true≢false, AllByRecursion, option_or, is_eq, eq_by_cmp, IsTotalOrder, tied_itself, Ordering, Less, Equal, Greater, FinMap, empty, get, insert, get-empty, get-insert, IsAntisymmetric, Row, IsRead, ShowsOrNone, HoldsTable, TakesRow}, specs.Unread.{IsUnread, FirstUnread}}
 use Rattle.std.proofs.lemmas.List.Folds.{find-append}
-use Rattle.sqlite_rules.specs.Lists.{Has}
-use Rattle.sqlite_rules.proofs.ListLemmas.{all_has, has_found}
+use Rattle.sqlite_rules.{specs.Lists.{Has}, proofs.ListLemmas.{all_has, has_found}}
 use Rattle.sqlite_trees.specs.Tree.{IsAscending}
-use Rattle.moo_cells.specs.Unread.{IsUnread, FirstUnread}
 
 -- how rows in ascending order bear the keys of a table
 pub record Bears {J K X : Type 0} (has : J → Row → Bool) (number : K → J) (reads : K → Row → X → Type 0) (up : Row → Row → Type 0) (below : J → J → Type 0) : Type 0 where

@@ -1,6 +1,5 @@
 -- A row that a loop takes has what all rows of its table have.
-use Rattle.moo_cells.proofs.Words.{◌≡◌, List, [], ◌∷◌, ◌++◌, sym, subst, AllByRecursion, Row}
-use Rattle.moo_cells.proofs.Table.{takes_next}
+use Rattle.moo_cells.{proofs.Words.{◌≡◌, List, [], ◌∷◌, ◌++◌, sym, subst, AllByRecursion, Row}, proofs.Table.{takes_next}}
 
 between : (P : Row → Type 0) (front : List Row) (r : Row) (rest : List Row) → AllByRecursion P (front ++ r ∷ rest) → P r
 between P [] r rest all = all.0

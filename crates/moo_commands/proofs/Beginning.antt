@@ -1,14 +1,9 @@
 -- The world that a task begins with.
-use Rattle.moo_commands.proofs.Words.{◌≡◌, ◌⊎◌, inl, inr, ℕ, List, Option, Some, Bor, codes, refl, sym, ap, subst, ◌∙◌, ◌<◌, ◌^◌, true, false, ◌||◌, bytes_eq, true≢false, Maps, opening_maps, IsGood, State, state_of, Ghosts, Image, IsHeld, Stand, LeavesState, Task, Given, Leads, makes_world, begins_anew, is_load, dump_word, is_input, reads_input, ReadsFile, IsDumpedAs, BeginsWith, BeginsNumbered, RunsFrom, FailsAtOnce, RefusesDump, FailsToBegin, RunsNew, Failure}
+use Rattle.moo_commands.{proofs.Words.{◌≡◌, ◌⊎◌, inl, inr, ℕ, List, Option, Some, Bor, codes, refl, sym, ap, subst, ◌∙◌, ◌<◌, ◌^◌, true, false, ◌||◌, bytes_eq, true≢false, Maps, opening_maps, IsGood, State, state_of, Ghosts, Image, IsHeld, Stand, LeavesState, Task, Given, Leads, makes_world, begins_anew, is_load, dump_word, is_input, reads_input, ReadsFile, IsDumpedAs, BeginsWith, BeginsNumbered, RunsFrom, FailsAtOnce, RefusesDump, FailsToBegin, RunsNew, Failure}, proofs.Connections.{unseen}}
 use Rattle.sqlite.specs.Tree.{Trees}
 use Rattle.moo_load.specs.RowsOf.{AreRowsOf}
-use Rattle.moo_files.specs.Remains.{KeepsSuch, KeepsNothingBut}
-use Rattle.moo_files.specs.declared.remains.Remains.{Remains}
-use Rattle.moo_files.proofs.RemainsLemmas.{keeps_more, blank_more}
-use Rattle.moo_words.specs.declared.task.Action.{Action}
-use Rattle.moo_words.specs.declared.task.Action.TheVariants.{Load}
-use Rattle.moo_words.specs.Tasks.{text_word}
-use Rattle.moo_commands.proofs.Connections.{unseen}
+use Rattle.moo_files.{specs.Remains.{KeepsSuch, KeepsNothingBut}, specs.declared.remains.Remains.{Remains}, proofs.RemainsLemmas.{keeps_more, blank_more}}
+use Rattle.moo_words.{specs.declared.task.Action.{Action}, specs.declared.task.Action.TheVariants.{Load}, specs.Tasks.{text_word}}
 
 pub begins_opening : (action : Action) (given : Given) → is_load action ≡ false → BeginsWith action given (state_of opening_maps)
 begins_opening (Load dump) given other = absurd (true≢false other)

@@ -2,9 +2,7 @@
 use Rattle.moo_commands.proofs.Words.{◌≡◌, ℕ, List, Option, refl, sym, subst, ⊤, Ghosts, Image, HasCleanDisk, Held, file_state, Maps, IsGood, state_of, LeavesLed, CrashLeaves, Task, Given, RunsFrom, HoldsRows, RunsRows}
 use Rattle.sqlite_store.specs.declared.store.FileStore.{FileStore}
 use Rattle.moo_tables.specs.Tables.{Tables}
-use Rattle.moo_cells.specs.Shows.{ShowsRows}
-use Rattle.moo_cells.proofs.CellsLemmas.{one_good}
-use Rattle.moo_cells.proofs.GoodRows.{good_within}
+use Rattle.moo_cells.{specs.Shows.{ShowsRows}, proofs.CellsLemmas.{one_good}, proofs.GoodRows.{good_within}}
 use Rattle.moo_files.specs.Contents.{HoldsTables, HoldsState}
 
 -- files that hold rows hold their tables and their state

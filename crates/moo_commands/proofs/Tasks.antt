@@ -1,12 +1,8 @@
 -- From what was done to a World to how a task ends.
 use Rattle.moo_commands.proofs.Words.{◌≡◌, inl, inr, ℕ, ◌≤◌, Bool, true, false, List, [], Option, Result, Ok, Err, IfOk, IfErr, OnOk, sym, ap, subst, arith, IsTrue, if◌then◌else◌, codes, bytes_eq, HasCleanDisk, Survives, Batch, IsGood, State, World, Stand, Works, store_of, StandsFor, CrashLeaves, text_failure, Texts, texts_by, lost_status, AppliesText, StopsApplying, MayLead, EndsTask, Failure}
-use Rattle.sqlite.specs.State.{State as Database}
-use Rattle.sqlite.specs.Store.{Ghosts}
+use Rattle.sqlite.{specs.State.{State as Database}, specs.Store.{Ghosts}}
 use Rattle.moo_text.specs.declared.fault.TextFault.{TextFault}
-use Rattle.moo_store.specs.Untouched.{IsMovedBy}
-use Rattle.moo_store.proofs.Crashes.{IsSettled}
-use Rattle.moo_store.proofs.Untouched.{written_none}
-use Rattle.moo_store.specs.Text.{Applies, StopsRun}
+use Rattle.moo_store.{specs.Untouched.{IsMovedBy}, proofs.Crashes.{IsSettled}, proofs.Untouched.{written_none}, specs.Text.{Applies, StopsRun}}
 
 pub given_input : (batches : List ℕ) (input : Option (List ℕ)) (files : Texts) → bytes_eq batches (codes "-") ≡ true → texts_by input files batches ≡ input
 given_input batches input files e = ap (λ (b : Bool). if b then input else files batches) e

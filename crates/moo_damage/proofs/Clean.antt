@@ -1,9 +1,7 @@
 -- With good rows nothing is wrong.
-use Rattle.moo_damage.proofs.Words.{◌≡◌, ℕ, ◌<◌, ℤ, pos, Bool, true, false, ◌||◌, ◌&&◌, Option, None, Some, List, [], ◌∷◌, refl, sym, ap, ◌∙◌, subst, inl, inr, arith, ◌≤ℤ◌, int_lt, nat_lt, nat_le, not, is_some, unwrap_or, option_map, get, entries, false≢true, and_parts, or_cases, nat_tests, ints, none-some, same_Some, ObjNo, ObjRow, PropId, PropRow, SlotRow, Clear, Maps, Property, same_object, same_text, folded, is_among, same_object-Decides, same_text-Decides, IsGood, look_ups, world_of, world_shown, prop_id, World, Climbs, Chain, is_object, chain, defined_by_any, property_named, some_of, is_object_seen, Chain-chain, chain_of_none, nothing_is_no_object, entries_held, is_clear, share_name, is_double, is_owed, IsClean, defines, Set, slot_seen, named_owed, definer_among, slot_shown, slot_on_heir}
+use Rattle.moo_damage.{proofs.Words.{◌≡◌, ℕ, ◌<◌, ℤ, pos, Bool, true, false, ◌||◌, ◌&&◌, Option, None, Some, List, [], ◌∷◌, refl, sym, ap, ◌∙◌, subst, inl, inr, arith, ◌≤ℤ◌, int_lt, nat_lt, nat_le, not, is_some, unwrap_or, option_map, get, entries, false≢true, and_parts, or_cases, nat_tests, ints, none-some, same_Some, ObjNo, ObjRow, PropId, PropRow, SlotRow, Clear, Maps, Property, same_object, same_text, folded, is_among, same_object-Decides, same_text-Decides, IsGood, look_ups, world_of, world_shown, prop_id, World, Climbs, Chain, is_object, chain, defined_by_any, property_named, some_of, is_object_seen, Chain-chain, chain_of_none, nothing_is_no_object, entries_held, is_clear, share_name, is_double, is_owed, IsClean, defines, Set, slot_seen, named_owed, definer_among, slot_shown, slot_on_heir}, proofs.Apart.{one_passing}, proofs.Good.{parents_seen, places_seen}}
 use Rattle.moo_rows.specs.declared.row.SlotState.{SlotState}
 use Rattle.moo_world.specs.World.{Slot}
-use Rattle.moo_damage.proofs.Apart.{one_passing}
-use Rattle.moo_damage.proofs.Good.{parents_seen, places_seen}
 
 not_past : (x top : ℤ) → (pos 0 ≤ℤ x) × (x ≤ℤ top) → (int_lt x (pos 0) || int_lt top x) ≡ false
 not_past x top h = by (int_lt x (pos 0)) refl (int_lt top x) refl

@@ -1,6 +1,5 @@
 -- Where two lots of rows differ first.
-use Rattle.moo_damage.proofs.Words.{◌≡◌, pos, negsuc, None, Some, arith, get, ObjNo, PetitionId, PropId, VerbId, object_exact, prop_exact, slot_exact, verb_exact, petition_exact, Maps, object_total, prop_total, slot_total, verb_total, petition_total, Key, Head, Object, Prop, Verb, Petition, IsFirstUnlike, IsBelow, same_map, Slot, AgreeAt, IsFirstDifference}
-use Rattle.moo_damage.proofs.Least.{number_less, pair_less}
+use Rattle.moo_damage.{proofs.Words.{◌≡◌, pos, negsuc, None, Some, arith, get, ObjNo, PetitionId, PropId, VerbId, object_exact, prop_exact, slot_exact, verb_exact, petition_exact, Maps, object_total, prop_total, slot_total, verb_total, petition_total, Key, Head, Object, Prop, Verb, Petition, IsFirstUnlike, IsBelow, same_map, Slot, AgreeAt, IsFirstDifference}, proofs.Least.{number_less, pair_less}}
 
 module _ (a b : Maps) where
   -- a key at which they differ, and below which no row of any map does

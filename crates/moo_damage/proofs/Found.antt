@@ -1,6 +1,5 @@
 -- The first row of a map that a test finds, as a loop over the rows answers it.
-use Rattle.moo_damage.proofs.Words.{◌≡◌, Bool, true, false, None, Some, List, [], ◌∷◌, Ordering, sym, ◌∙◌, subst, IsTotalOrder, FinMap, entries, CmpEqualImpliesEq, IsLeastBad}
-use Rattle.moo_damage.proofs.Firsts.{FirstIn, FirstLeft, went_on, ended, stopped}
+use Rattle.moo_damage.{proofs.Words.{◌≡◌, Bool, true, false, None, Some, List, [], ◌∷◌, Ordering, sym, ◌∙◌, subst, IsTotalOrder, FinMap, entries, CmpEqualImpliesEq, IsLeastBad}, proofs.Firsts.{FirstIn, FirstLeft, went_on, ended, stopped}}
 
 module _ {K X : Type 0} {cmp : K → K → Ordering} (test : K → X → Bool) (m : FinMap cmp X) where
   -- the first that the test finds among those that are left is the first of all

@@ -1,12 +1,6 @@
 -- Rows within the limits that nothing is wrong with are sound, their world is well formed, and petitions stand as they may.
-use Rattle.moo_damage.proofs.Words.{◌≡◌, ◌≢◌, ℕ, ◌<◌, ◌≤◌, ℤ, pos, negsuc, Bool, true, false, ◌||◌, ◌&&◌, Option, None, Some, List, [], ◌∷◌, refl, sym, ap, ◌∙◌, subst, ◌⊎◌, inl, inr, arith, ◌≤ℤ◌, int_lt, nat_lt, nat_le, not, is_some, unwrap_or, if◌then◌else◌, option_map, filter_map, list_any, list_all, IsDistinct, AllByRecursion, get, entries, get-entries, false≢true, both_ways, and_parts, or_parts, or_cases, or_left, or_right, cases_lt, nat_tests, ints, none-some, same_Some, ObjNo, ObjRow, PropRow, SlotRow, Clear, prop_exact, Maps, prop_cmp, prop_total, Name, Property, nothing, same_object, same_text, folded, is_among, same_object-Decides, same_text-Decides, IsGood, look_ups, world_of, world_shown, numbers_below, prop_id, World, Climbs, IsTree, Chain, is_object, parent_of, chain, defined_by_any, property_named, Climbs-once, some_of, is_object_seen, chain_is, Chain-chain, chain_of_none, no_parent, entries_held, any_held, TreeLink, Parent, Location, is_clear, next_of, link_of, share_name, is_double, is_clear_definer, is_lost, LinksEnd, LinksHold, IsClean, option_and_then, LookUps, AreSound, object_shown, name_on, verb_id, WorldObject, KeepsLimits, NamesDiffer, location_of, property_names_of, defined_by, slot_of, slot_fits, row_fits, verb_fits, is_property_name, without_slots, named_so, found_among, names_shown, defines_pair, any_owed, NumbersGiven}
-use Rattle.moo_world.specs.Petitions.{PetitionsStand}
-use Rattle.moo_world.specs.World.{Slot}
-use Rattle.moo_world.proofs.Inheritance.Keeping.{named_is}
-use Rattle.moo_world.proofs.Shown.Slots.{SlotHere, slot_from, no_slot_from}
-use Rattle.moo_world.proofs.Ancestry.Subtrees.{owed_listed}
-use Rattle.moo_damage.specs.Limits.{AreWithin}
-use Rattle.moo_damage.proofs.Apart.{both_true, all_map, none_any, one_passing, all_made, distinct_append, all_numbers, distinct_numbers, distinct_mapped}
+use Rattle.moo_damage.{proofs.Words.{◌≡◌, ◌≢◌, ℕ, ◌<◌, ◌≤◌, ℤ, pos, negsuc, Bool, true, false, ◌||◌, ◌&&◌, Option, None, Some, List, [], ◌∷◌, refl, sym, ap, ◌∙◌, subst, ◌⊎◌, inl, inr, arith, ◌≤ℤ◌, int_lt, nat_lt, nat_le, not, is_some, unwrap_or, if◌then◌else◌, option_map, filter_map, list_any, list_all, IsDistinct, AllByRecursion, get, entries, get-entries, false≢true, both_ways, and_parts, or_parts, or_cases, or_left, or_right, cases_lt, nat_tests, ints, none-some, same_Some, ObjNo, ObjRow, PropRow, SlotRow, Clear, prop_exact, Maps, prop_cmp, prop_total, Name, Property, nothing, same_object, same_text, folded, is_among, same_object-Decides, same_text-Decides, IsGood, look_ups, world_of, world_shown, numbers_below, prop_id, World, Climbs, IsTree, Chain, is_object, parent_of, chain, defined_by_any, property_named, Climbs-once, some_of, is_object_seen, chain_is, Chain-chain, chain_of_none, no_parent, entries_held, any_held, TreeLink, Parent, Location, is_clear, next_of, link_of, share_name, is_double, is_clear_definer, is_lost, LinksEnd, LinksHold, IsClean, option_and_then, LookUps, AreSound, object_shown, name_on, verb_id, WorldObject, KeepsLimits, NamesDiffer, location_of, property_names_of, defined_by, slot_of, slot_fits, row_fits, verb_fits, is_property_name, without_slots, named_so, found_among, names_shown, defines_pair, any_owed, NumbersGiven}, specs.Limits.{AreWithin}, proofs.Apart.{both_true, all_map, none_any, one_passing, all_made, distinct_append, all_numbers, distinct_numbers, distinct_mapped}}
+use Rattle.moo_world.{specs.Petitions.{PetitionsStand}, specs.World.{Slot}, proofs.Inheritance.Keeping.{named_is}, proofs.Shown.Slots.{SlotHere, slot_from, no_slot_from}, proofs.Ancestry.Subtrees.{owed_listed}}
 
 not_false : (b : Bool) → not b ≡ false → b ≡ true
 not_false true e = refl

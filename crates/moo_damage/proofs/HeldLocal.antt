@@ -1,7 +1,5 @@
 -- Slots that are just those that are owed, with names apart, hold locally.
-use Rattle.moo_damage.proofs.Words.{◌≡◌, ◌<◌, ◌≤◌, Bool, true, false, ◌||◌, ◌&&◌, Option, None, Some, List, [], ◌∷◌, refl, sym, ap, ◌∙◌, subst, ◌⊎◌, inl, inr, arith, nat_lt, not, is_some, unwrap_or, option_map, get, entries, get-entries, false≢true, both_ways, or_cases, or_left, or_right, cases_lt, nat_tests, none-some, same_Some, ObjNo, ObjRow, PropId, PropRow, prop_exact, Maps, prop_cmp, prop_total, same_object, folded, is_among, same_object-Decides, same_text-Decides, look_ups, world_of, World, IsTree, Chain, is_object, parent_of, chain, some_of, is_object_seen, Chain-chain, chain_is, chain_of_none, no_parent, defines, any_held, Parent, link_of, lacks_definer, share_name, is_double, has_slot, comes_down, AreLocal, SlotsHold}
-use Rattle.moo_damage.proofs.Apart.{both_true}
-use Rattle.moo_damage.proofs.Good.{parents_seen}
+use Rattle.moo_damage.{proofs.Words.{◌≡◌, ◌<◌, ◌≤◌, Bool, true, false, ◌||◌, ◌&&◌, Option, None, Some, List, [], ◌∷◌, refl, sym, ap, ◌∙◌, subst, ◌⊎◌, inl, inr, arith, nat_lt, not, is_some, unwrap_or, option_map, get, entries, get-entries, false≢true, both_ways, or_cases, or_left, or_right, cases_lt, nat_tests, none-some, same_Some, ObjNo, ObjRow, PropId, PropRow, prop_exact, Maps, prop_cmp, prop_total, same_object, folded, is_among, same_object-Decides, same_text-Decides, look_ups, world_of, World, IsTree, Chain, is_object, parent_of, chain, some_of, is_object_seen, Chain-chain, chain_is, chain_of_none, no_parent, defines, any_held, Parent, link_of, lacks_definer, share_name, is_double, has_slot, comes_down, AreLocal, SlotsHold}, proofs.Apart.{both_true}, proofs.Good.{parents_seen}}
 
 not_false : (b : Bool) → not b ≡ false → b ≡ true
 not_false true e = refl

@@ -1,6 +1,5 @@
 -- The first slot that is missing, as the least key at which one is.
-use Rattle.moo_damage.proofs.Words.{◌≡◌, Bool, true, false, Option, None, Some, Less, sym, ap, subst, inl, inr, ◌<ℤ◌, not, pos, is_some, unwrap_or, ◌⊎◌, int_cmp_is, option_map, get, false≢true, and_parts, both_ways, ObjNo, PropId, PropRow, Maps, is_among, world_of, chain, some_of, MissingSlot, is_owed, is_missing, AtSlot, InRows, IsLeast, IsFirstMissing, Misses, Slot}
-use Rattle.moo_damage.proofs.Least.{least_at, number_less}
+use Rattle.moo_damage.{proofs.Words.{◌≡◌, Bool, true, false, Option, None, Some, Less, sym, ap, subst, inl, inr, ◌<ℤ◌, not, pos, is_some, unwrap_or, ◌⊎◌, int_cmp_is, option_map, get, false≢true, and_parts, both_ways, ObjNo, PropId, PropRow, Maps, is_among, world_of, chain, some_of, MissingSlot, is_owed, is_missing, AtSlot, InRows, IsLeast, IsFirstMissing, Misses, Slot}, proofs.Least.{least_at, number_less}}
 
 mapped_some : {A : Type 0} (o : Option A) (f : A → Bool) → unwrap_or (option_map f o) false ≡ true → is_some o ≡ true
 mapped_some None f e = absurd (false≢true e)

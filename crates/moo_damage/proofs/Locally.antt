@@ -1,8 +1,5 @@
 -- Slots that hold locally are just those that are owed, and their names are apart.
-use Rattle.moo_damage.proofs.Words.{◌≡◌, ◌<◌, Bool, true, false, ◌||◌, ◌&&◌, Option, None, Some, List, [], ◌∷◌, refl, sym, ap, ◌∙◌, subst, ◌⊎◌, inl, inr, arith, nat_lt, not, is_some, unwrap_or, option_map, get, entries, false≢true, and_parts, or_cases, or_left, or_right, nat_tests, none-some, same_Some, ObjNo, ObjRow, PropId, PropRow, prop_exact, Maps, prop_total, same_object, same_text, folded, is_among, same_object-Decides, same_text-Decides, look_ups, world_of, World, IsTree, Chain, is_object, parent_of, chain, some_of, is_object_seen, Chain-chain, chain_of_none, nothing_is_no_object, defines, Parent, link_of, share_name, is_double, has_slot, AreLocal, SlotsHold}
-use Rattle.moo_damage.proofs.Apart.{one_passing}
-use Rattle.moo_damage.proofs.Firsts.{held_entries}
-use Rattle.moo_damage.proofs.Good.{parents_seen}
+use Rattle.moo_damage.{proofs.Words.{◌≡◌, ◌<◌, Bool, true, false, ◌||◌, ◌&&◌, Option, None, Some, List, [], ◌∷◌, refl, sym, ap, ◌∙◌, subst, ◌⊎◌, inl, inr, arith, nat_lt, not, is_some, unwrap_or, option_map, get, entries, false≢true, and_parts, or_cases, or_left, or_right, nat_tests, none-some, same_Some, ObjNo, ObjRow, PropId, PropRow, prop_exact, Maps, prop_total, same_object, same_text, folded, is_among, same_object-Decides, same_text-Decides, look_ups, world_of, World, IsTree, Chain, is_object, parent_of, chain, some_of, is_object_seen, Chain-chain, chain_of_none, nothing_is_no_object, defines, Parent, link_of, share_name, is_double, has_slot, AreLocal, SlotsHold}, proofs.Apart.{one_passing}, proofs.Firsts.{held_entries}, proofs.Good.{parents_seen}}
 
 module _ (m : Maps) (t : IsTree (world_of m)) (h : AreLocal m) where
   abbrev w : World

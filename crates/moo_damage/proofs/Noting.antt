@@ -1,9 +1,6 @@
 -- Names that are noted as an object's slots are gone over.
-use Rattle.moo_damage.proofs.Words.{◌≡◌, ◌<◌, ℕ, Bool, true, false, cond, Option, None, Some, List, [], ◌∷◌, map, Ordering, Less, Equal, Greater, refl, sym, ap, ◌∙◌, subst, ◌⊎◌, inl, inr, is_some, nat_eq, if◌then◌else◌, to_ascii_lowercase, FinMap, get, insert, get-insert, list_any, AllByRecursion, lookup, nat_cmp, int_eq, is_eq, eq_by_cmp, match_ordering, both_ways, or_cases, false≢true, Decides-int_eq, none-some, same_Some, ObjNo, PropId, PropRow, SlotRow, object_exact, Maps, object_cmp, object_total, Name, same_text, folded, same_text-Decides, key-Decides, some_of, walk, has_slot, AreApart, NamesApart, noted_as, is_alone, NotesProp, unsigned_Decides, IsSound, walk_held, Noted}
-use Rattle.std.specs.BTreeMap.{insert_entry, is_at}
-use Rattle.std.specs.Cmp.Lexicographic.{slice_cmp, texts_ties}
-use Rattle.std.specs.Global.{Vec}
-use Rattle.moo_damage.proofs.Nearby.{met}
+use Rattle.moo_damage.{proofs.Words.{◌≡◌, ◌<◌, ℕ, Bool, true, false, cond, Option, None, Some, List, [], ◌∷◌, map, Ordering, Less, Equal, Greater, refl, sym, ap, ◌∙◌, subst, ◌⊎◌, inl, inr, is_some, nat_eq, if◌then◌else◌, to_ascii_lowercase, FinMap, get, insert, get-insert, list_any, AllByRecursion, lookup, nat_cmp, int_eq, is_eq, eq_by_cmp, match_ordering, both_ways, or_cases, false≢true, Decides-int_eq, none-some, same_Some, ObjNo, PropId, PropRow, SlotRow, object_exact, Maps, object_cmp, object_total, Name, same_text, folded, same_text-Decides, key-Decides, some_of, walk, has_slot, AreApart, NamesApart, noted_as, is_alone, NotesProp, unsigned_Decides, IsSound, walk_held, Noted}, proofs.Nearby.{met}}
+use Rattle.std.{specs.BTreeMap.{insert_entry, is_at}, specs.Cmp.Lexicographic.{slice_cmp, texts_ties}, specs.Global.{Vec}}
 
 -- ---- a map by name
 

@@ -1,6 +1,5 @@
 -- Where no property has a clear slot on its definer, no slot is one.
-use Rattle.moo_damage.proofs.Words.{◌≡◌, Bool, true, false, ◌&&◌, Option, None, Some, refl, sym, ap, ◌∙◌, unwrap_or, option_map, list_any, get, entries, ObjNo, PropId, PropRow, SlotRow, prop_exact, Maps, prop_cmp, prop_total, same_object, same_object-Decides, is_clear, is_clear_definer, has_clear}
-use Rattle.moo_damage.proofs.Nearby.{none_held}
+use Rattle.moo_damage.{proofs.Words.{◌≡◌, Bool, true, false, ◌&&◌, Option, None, Some, refl, sym, ap, ◌∙◌, unwrap_or, option_map, list_any, get, entries, ObjNo, PropId, PropRow, SlotRow, prop_exact, Maps, prop_cmp, prop_total, same_object, same_object-Decides, is_clear, is_clear_definer, has_clear}, proofs.Nearby.{none_held}}
 
 and_none : (b : Bool) → (b && false) ≡ false
 and_none true = refl

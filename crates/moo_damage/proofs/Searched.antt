@@ -1,8 +1,5 @@
 -- What each search found, as the least key at which its kind is met.
-use Rattle.moo_damage.proofs.Words.{◌≡◌, pos, Bool, true, false, Option, None, Some, sym, subst, option_map, both_ways, arith, ObjNo, PetitionId, PropId, VerbId, Maps, Kind, BadHead, BadCell, PastHead, NoParent, ParentLoop, NoPlace, PlaceLoop, NoDefiner, DoubleName, StrangeSlot, MissingSlot, ClearDefiner, StrangeVerb, Mismatch, Key, Object, Prop, Verb, Petition, TreeLink, Parent, Location, HasEnd, Loops, is_object_past, is_prop_past, is_verb_past, is_petition_past, is_lost, lacks_definer, is_strange, is_clear_definer, is_strange_verb, IsLeastBad, rank, lost_kind, loop_kind, InRows, NoneBefore, IsLeast, IsFirstMet, IsFirstMissing, Slot}
-use Rattle.moo_damage.proofs.InTurn.{none_more}
-use Rattle.moo_damage.proofs.Lacking.{none_missing, missing_first}
-use Rattle.moo_damage.proofs.Least.{no_bad, none_met, object_first, prop_first, slot_first, verb_first, petition_first}
+use Rattle.moo_damage.{proofs.Words.{◌≡◌, pos, Bool, true, false, Option, None, Some, sym, subst, option_map, both_ways, arith, ObjNo, PetitionId, PropId, VerbId, Maps, Kind, BadHead, BadCell, PastHead, NoParent, ParentLoop, NoPlace, PlaceLoop, NoDefiner, DoubleName, StrangeSlot, MissingSlot, ClearDefiner, StrangeVerb, Mismatch, Key, Object, Prop, Verb, Petition, TreeLink, Parent, Location, HasEnd, Loops, is_object_past, is_prop_past, is_verb_past, is_petition_past, is_lost, lacks_definer, is_strange, is_clear_definer, is_strange_verb, IsLeastBad, rank, lost_kind, loop_kind, InRows, NoneBefore, IsLeast, IsFirstMet, IsFirstMissing, Slot}, proofs.InTurn.{none_more}, proofs.Lacking.{none_missing, missing_first}, proofs.Least.{no_bad, none_met, object_first, prop_first, slot_first, verb_first, petition_first}}
 
 abbrev pub of_object : Option ObjNo → Option Key
 of_object o = option_map (λ x. Object x.0) o

@@ -1,10 +1,5 @@
 -- Of good rows the tests of each row and its neighbours find nothing.
-use Rattle.moo_damage.proofs.Words.{◌≡◌, Bool, true, false, ◌&&◌, Some, Ordering, refl, sym, ap, ◌∙◌, subst, not, is_some, IsTotalOrder, int_eq, list_any, FinMap, get, entries, both_ways, Decides-int_eq, CmpEqualImpliesEq, ObjNo, PropId, SlotRow, object_exact, prop_exact, slot_exact, Maps, slot_cmp, slots_of_left, is_past, object_total, prop_total, slot_total, IsGood, has_slot, comes_down, lacks_one_of, AreLocal}
-use Rattle.moo_damage.proofs.Apart.{one_passing}
-use Rattle.moo_damage.proofs.Clean.{clean}
-use Rattle.moo_damage.proofs.Firsts.{held_entries}
-use Rattle.moo_damage.proofs.HeldLocal.{are_local as held_local}
-use Rattle.moo_damage.proofs.Nearby.{any_filtered}
+use Rattle.moo_damage.{proofs.Words.{◌≡◌, Bool, true, false, ◌&&◌, Some, Ordering, refl, sym, ap, ◌∙◌, subst, not, is_some, IsTotalOrder, int_eq, list_any, FinMap, get, entries, both_ways, Decides-int_eq, CmpEqualImpliesEq, ObjNo, PropId, SlotRow, object_exact, prop_exact, slot_exact, Maps, slot_cmp, slots_of_left, is_past, object_total, prop_total, slot_total, IsGood, has_slot, comes_down, lacks_one_of, AreLocal}, proofs.Apart.{one_passing}, proofs.Clean.{clean}, proofs.Firsts.{held_entries}, proofs.HeldLocal.{are_local as held_local}, proofs.Nearby.{any_filtered}}
 
 -- where no row passes, none of all does
 any_none : {K X : Type 0} {cmp : K → K → Ordering} (total : IsTotalOrder cmp) (exact : CmpEqualImpliesEq cmp) (rows : FinMap cmp X) (test : K × X → Bool) → ((k : K) (v : X) → get rows k ≡ Some v → test (k, v) ≡ false) → list_any test (entries rows) ≡ false

@@ -1,9 +1,5 @@
 -- With clean rows no kind of damage is met.
-use Rattle.moo_damage.proofs.Words.{◌≡◌, Bool, true, ◌&&◌, List, [], ◌∷◌, Some, sym, ap, ◌∙◌, subst, not, option_map, get, and_parts, both_ways, none-some, same_Some, ObjNo, ObjRow, PropId, Maps, nothing, same_object, same_object-Decides, look_ups, world_of, Climbs, is_object, some_of, is_object_seen, Kind, BadHead, BadCell, PastHead, NoParent, ParentLoop, NoPlace, PlaceLoop, NoDefiner, DoubleName, StrangeSlot, MissingSlot, ClearDefiner, StrangeVerb, Mismatch, Key, TreeLink, Parent, Location, link_of, next_of, HasEnd, is_missing, IsClean, InRows, IsSome}
-use Rattle.moo_damage.proofs.Ending.{some_mapped}
-use Rattle.moo_damage.proofs.Good.{nothing_there}
-use Rattle.moo_damage.proofs.Least.{none_met}
-use Rattle.moo_damage.proofs.Lacking.{owed_prop}
+use Rattle.moo_damage.{proofs.Words.{◌≡◌, Bool, true, ◌&&◌, List, [], ◌∷◌, Some, sym, ap, ◌∙◌, subst, not, option_map, get, and_parts, both_ways, none-some, same_Some, ObjNo, ObjRow, PropId, Maps, nothing, same_object, same_object-Decides, look_ups, world_of, Climbs, is_object, some_of, is_object_seen, Kind, BadHead, BadCell, PastHead, NoParent, ParentLoop, NoPlace, PlaceLoop, NoDefiner, DoubleName, StrangeSlot, MissingSlot, ClearDefiner, StrangeVerb, Mismatch, Key, TreeLink, Parent, Location, link_of, next_of, HasEnd, is_missing, IsClean, InRows, IsSome}, proofs.Ending.{some_mapped}, proofs.Good.{nothing_there}, proofs.Least.{none_met}, proofs.Lacking.{owed_prop}}
 
 not_true : (b : Bool) → not b ≡ true → b ≡ true → ⊥
 not_true b n e = both_ways (not b) (ap not e) n

@@ -1,6 +1,5 @@
 -- Where two maps differ first.
-use Rattle.moo_damage.proofs.Words.{◌≡◌, ◌≢◌, Bool, true, false, Option, None, Some, List, [], ◌∷◌, Ordering, Less, Equal, Greater, refl, sym, ap, ◌∙◌, subst, IsTrue, ◌↔◌, IsTotalOrder, match_ordering, ordering_reverse, FinMap, entries, get, false≢true, CmpEqualImpliesEq, IsFirstUnlike, IsLeastBad, lesser}
-use Rattle.moo_damage.proofs.Firsts.{FirstIn, FirstLeft, went_on, ended, stopped}
+use Rattle.moo_damage.{proofs.Words.{◌≡◌, ◌≢◌, Bool, true, false, Option, None, Some, List, [], ◌∷◌, Ordering, Less, Equal, Greater, refl, sym, ap, ◌∙◌, subst, IsTrue, ◌↔◌, IsTotalOrder, match_ordering, ordering_reverse, FinMap, entries, get, false≢true, CmpEqualImpliesEq, IsFirstUnlike, IsLeastBad, lesser}, proofs.Firsts.{FirstIn, FirstLeft, went_on, ended, stopped}}
 
 pub is_bad : {X : Type 0} (b : Bool) (held : Option X) (row : X) (at : Option X) → (IsTrue b ↔ (held ≡ Some row)) → b ≡ false → held ≡ at → at ≢ Some row
 is_bad b held row at h n is e = false≢true (sym n ∙ h.1 (is ∙ e))

@@ -1,10 +1,6 @@
 -- A text that is compared with what it is to be, piece by piece.
 use Rattle.moo_dump.proofs.Words.{◌≡◌, ℕ, ◌+◌, ◌<◌, ◌≤◌, List, ◌++◌, length, take, drop, get_or, Some, refl, sym, ap, subst, ◌∙◌, append_assoc, arith, slice_get, codes, take-append-le, take-append-drop, take-take, CompareFault, PartAt, TellsDifference, heading, dump, objects_text, petitions_text, Maps, state_of}
-use Rattle.std.proofs.Common.{◌≢◌, inl, inr}
-use Rattle.std.proofs.Math.Seq.{take-append-add}
-use Rattle.std.proofs.lemmas.Bool.{cases_lt}
-use Rattle.std.proofs.lemmas.List.{length-take-le, length-append, get_or-append-add, get_or_append_left}
-use Rattle.std.proofs.lemmas.Option.{slice_get_past, slice_get-get_or, none-some}
+use Rattle.std.{proofs.Common.{◌≢◌, inl, inr}, proofs.Math.Seq.{take-append-add}, proofs.lemmas.Bool.{cases_lt}, proofs.lemmas.List.{length-take-le, length-append, get_or-append-add, get_or_append_left}, proofs.lemmas.Option.{slice_get_past, slice_get-get_or, none-some}}
 
 get_first : (xs ys : List ℕ) (n : ℕ) → n < length xs → slice_get (xs ++ ys) n ≡ slice_get xs n
 get_first xs ys n less =

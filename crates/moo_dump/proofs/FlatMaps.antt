@@ -1,8 +1,6 @@
 -- Lists joined of the lists that are made of elements.
 use Rattle.moo_dump.proofs.Words.{◌≡◌, ℕ, ◌+◌, ◌<◌, ◌≤◌, Bool, true, false, cond, List, [], ◌∷◌, ◌++◌, refl, sym, ap, ◌∙◌, append_assoc, take_all, get_or, length, take, filter, flat_map, AllByRecursion}
-use Rattle.std.proofs.Common.{map}
-use Rattle.std.proofs.lemmas.List.{flat_map_more, take_more}
-use Rattle.std.proofs.lemmas.List.Concat.{flat_map-append}
+use Rattle.std.{proofs.Common.{map}, proofs.lemmas.List.{flat_map_more, take_more}, proofs.lemmas.List.Concat.{flat_map-append}}
 
 pub flat_map-map : {A B C : Type 0} (f : B → List C) (g : A → B) (l : List A) → flat_map f (map g l) ≡ flat_map (λ a. f (g a)) l
 flat_map-map f g [] = refl

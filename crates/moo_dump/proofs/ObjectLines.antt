@@ -1,26 +1,10 @@
 -- The lines that are printed from the rows are those of the world.
-use Rattle.moo_dump.proofs.Words.{◌||◌, ◌≡◌, ℕ, Bool, true, false, Option, Some, None, List, [], ◌∷◌, ◌++◌, refl, sym, ap, ◌∙◌, unwrap_or, option_map, filter, flat_map, AllByRecursion, entries, ObjNo, ObjRow, PropId, Maps, same_object, same_object-Decides, world_of, Entry, walk, verb_line, object_lines, ids_defined, property_line_of, slot_line_of, slot_lines_over, objects_text}
-use Rattle.std.specs.Prelude.{is_some}
-use Rattle.std.specs.FinMap.{get-entries, entries_sorted, find, get}
-use Rattle.std.proofs.lemmas.Bool.{or_right, false≢true}
-use Rattle.moo_rows.specs.declared.row.PropRow.{PropRow}
-use Rattle.moo_rows.specs.declared.row.SlotRow.{SlotRow}
-use Rattle.moo_rows.specs.Maps.{prop_cmp}
-use Rattle.moo_rows.proofs.Orders.{prop_total}
-use Rattle.moo_world.specs.Objects.{Name, folded, is_among}
-use Rattle.moo_world.specs.World.{World, WorldObject, Slot, is_object, chain, property_names_of, defined_by, defined_by_any, directory_of, slot_of}
-use Rattle.moo_world.specs.Rows.{IsSound, IsGood, look_ups, world_shown, object_shown, slot_seen}
-use Rattle.moo_world.proofs.Shown.EntriesInOrder.{own_entries, all_weaker}
-use Rattle.moo_world.proofs.Shown.ObjectEntries.{objects_listed}
-use Rattle.moo_world.proofs.Shown.PairLists.{some_of}
-use Rattle.moo_world.proofs.Shown.Seen.{object_seen}
-use Rattle.moo_props.proofs.DefinedNames.{names_listed}
-use Rattle.moo_props.proofs.Gains.{slot_on_heir}
-use Rattle.moo_props.proofs.Walked.{here_seen}
+use Rattle.moo_dump.{proofs.Words.{◌||◌, ◌≡◌, ℕ, Bool, true, false, Option, Some, None, List, [], ◌∷◌, ◌++◌, refl, sym, ap, ◌∙◌, unwrap_or, option_map, filter, flat_map, AllByRecursion, entries, ObjNo, ObjRow, PropId, Maps, same_object, same_object-Decides, world_of, Entry, walk, verb_line, object_lines, ids_defined, property_line_of, slot_line_of, slot_lines_over, objects_text}, specs.Dump.{object_line, property_line, slot_line, owed_line, record_lines}, specs.Lines.{slot_line_by}, proofs.FlatMaps.{flat_map-map, flat_map-flat_map, flat_map-alike, all_passing}}
+use Rattle.std.{specs.Prelude.{is_some}, specs.FinMap.{get-entries, entries_sorted, find, get}, proofs.lemmas.Bool.{or_right, false≢true}}
+use Rattle.moo_rows.{specs.declared.row.PropRow.{PropRow}, specs.declared.row.SlotRow.{SlotRow}, specs.Maps.{prop_cmp}, proofs.Orders.{prop_total}}
+use Rattle.moo_world.{specs.Objects.{Name, folded, is_among}, specs.World.{World, WorldObject, Slot, is_object, chain, property_names_of, defined_by, defined_by_any, directory_of, slot_of}, specs.Rows.{IsSound, IsGood, look_ups, world_shown, object_shown, slot_seen}, proofs.Shown.EntriesInOrder.{own_entries, all_weaker}, proofs.Shown.ObjectEntries.{objects_listed}, proofs.Shown.PairLists.{some_of}, proofs.Shown.Seen.{object_seen}}
+use Rattle.moo_props.{proofs.DefinedNames.{names_listed}, proofs.Gains.{slot_on_heir}, proofs.Walked.{here_seen}}
 use Rattle.moo_verbs.proofs.Found.{walked_rows}
-use Rattle.moo_dump.specs.Dump.{object_line, property_line, slot_line, owed_line, record_lines}
-use Rattle.moo_dump.specs.Lines.{slot_line_by}
-use Rattle.moo_dump.proofs.FlatMaps.{flat_map-map, flat_map-flat_map, flat_map-alike, all_passing}
 
 -- each object of a list is among them
 each_among : (l : List ObjNo) → AllByRecursion (λ d. is_among d l ≡ true) l

@@ -1,8 +1,6 @@
 -- What is written, piece by piece.
-use Rattle.moo_dump.proofs.Words.{◌≡◌, ℕ, ◌+◌, List, [], ◌++◌, length, take, drop, Option, Some, None, refl, sym, ap, subst, ◌∙◌, append_assoc, arith, Appends, append-nil, take-take, take-append-drop, AppendsFront, Maps, codes, dump, heading, objects_text, petitions_text, state_of, take_at}
-use Rattle.std.specs.Prelude.{Result, Ok, Err, OnErr}
-use Rattle.std.proofs.lemmas.List.{drop-take}
-use Rattle.moo_dump.proofs.Compared.{parts}
+use Rattle.moo_dump.{proofs.Words.{◌≡◌, ℕ, ◌+◌, List, [], ◌++◌, length, take, drop, Option, Some, None, refl, sym, ap, subst, ◌∙◌, append_assoc, arith, Appends, append-nil, take-take, take-append-drop, AppendsFront, Maps, codes, dump, heading, objects_text, petitions_text, state_of, take_at}, proofs.Compared.{parts}}
+use Rattle.std.{specs.Prelude.{Result, Ok, Err, OnErr}, proofs.lemmas.List.{drop-take}}
 
 pub Appends-then : (a b c : Option (List ℕ)) (xs ys : List ℕ) → Appends a b xs → Appends b c ys → Appends a c (xs ++ ys)
 Appends-then None b c xs ys p q = tt

@@ -1,10 +1,8 @@
 -- From what a crash left to what the next open finds.
 use Rattle.moo_files.proofs.Words.{ℕ, ◌≤◌, List, ◌++◌, take, Result, Ok, Err, IfOk, subst, Image, Trees, Maps, State, Tables, ShowsRows, LeavesState, Stand, MayLeave, CrashLeaves, HoldsTrees, HoldsTables, HoldsState, IsLeftBy}
 use Rattle.sqlite.specs.State.{State as Database}
-use Rattle.moo_world.specs.declared.call.Batch.{Batch}
-use Rattle.moo_world.specs.Rows.{IsGood}
-use Rattle.moo_cells.proofs.CellsLemmas.{one_good}
-use Rattle.moo_cells.proofs.GoodRows.{good_within}
+use Rattle.moo_world.{specs.declared.call.Batch.{Batch}, specs.Rows.{IsGood}}
+use Rattle.moo_cells.{proofs.CellsLemmas.{one_good}, proofs.GoodRows.{good_within}}
 use Rattle.moo_store.specs.Led.{BatchesLead, LeavesLed}
 
 pub held_again : (image : Image) (trees : Trees) (s : State) → HoldsTrees image trees → LeavesState trees s → HoldsState image s

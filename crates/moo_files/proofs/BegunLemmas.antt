@@ -1,10 +1,7 @@
 -- Half a first page of 1,024 bytes isn't a whole page of any database.
 use Rattle.moo_files.proofs.Words.{◌≡◌, ◌<◌, ℕ, List, [], ◌∷◌, length, slice_index, inl, inr, sym, ◌∙◌, arith, cases_eq, Image, IsIgnored, size_in_file, some_value, begun_is_not_blank, first_page, first_page_byte, stored_size, sealed, IsUnreadable, length-sealed, first_byte, NamesSize, BeginsWell, IsBlank}
-use Rattle.std.proofs.lemmas.List.{length-map}
-use Rattle.std.proofs.lemmas.List.FromFn.{length-range_with_len}
-use Rattle.std.specs.List.{range_with_len}
-use Rattle.sqlite_wal.specs.Format.{be32}
-use Rattle.sqlite_wal.proofs.FormatLemmas.{be32-part}
+use Rattle.std.{proofs.lemmas.List.{length-map}, proofs.lemmas.List.FromFn.{length-range_with_len}, specs.List.{range_with_len}}
+use Rattle.sqlite_wal.{specs.Format.{be32}, proofs.FormatLemmas.{be32-part}}
 
 -- no file names a page of one byte
 one_byte : (db : List ℕ) → size_in_file db ≡ 1 → ⊥

@@ -1,19 +1,10 @@
 -- From what the files hold to what a connection to them keeps.
-use Rattle.moo_files.proofs.Words.{◌≡◌, ◌≢◌, ◌⊎◌, inl, inr, ℕ, zero, suc, ◌≤◌, Result, Ok, Err, IfErr, [], ap, arith, sym, subst, subst₂, ◌∙◌, length, IsTrue, ∥∥₁_elim, ∥∥₁_map, Trees-set, Trees, HasCleanDisk, Survives, Opens, IsLive, Held, IsEmpty, IsNothing, file_state, empty_is_sound, Ghosts, FileStore, Error, State, Tables, schema_of, first_schema, no_schema, ShowsState, LeavesState, Left, IsOfStore, Adopts, StoreFault, IsBlank, HoldsTrees, HoldsTables, HoldsState, HasOtherTables, HasAnyTable, IsMigrated, IsKept, ReadsAs, ReadsAsOurs, HoldsNoTable}
-use Rattle.sqlite.specs.Recovery.{Image}
-use Rattle.sqlite.specs.Schema.{Schema}
-use Rattle.sqlite.specs.State.{State as Database}
-use Rattle.sqlite.specs.Start.{FindsIn}
-use Rattle.sqlite.specs.Effect.{Database as Content, IsDatabase}
+use Rattle.moo_files.{proofs.Words.{◌≡◌, ◌≢◌, ◌⊎◌, inl, inr, ℕ, zero, suc, ◌≤◌, Result, Ok, Err, IfErr, [], ap, arith, sym, subst, subst₂, ◌∙◌, length, IsTrue, ∥∥₁_elim, ∥∥₁_map, Trees-set, Trees, HasCleanDisk, Survives, Opens, IsLive, Held, IsEmpty, IsNothing, file_state, empty_is_sound, Ghosts, FileStore, Error, State, Tables, schema_of, first_schema, no_schema, ShowsState, LeavesState, Left, IsOfStore, Adopts, StoreFault, IsBlank, HoldsTrees, HoldsTables, HoldsState, HasOtherTables, HasAnyTable, IsMigrated, IsKept, ReadsAs, ReadsAsOurs, HoldsNoTable}, proofs.BlankLemmas.{holds_none}, proofs.RemainsLemmas.{found_empty, begun_empty}}
+use Rattle.sqlite.{specs.Recovery.{Image}, specs.Schema.{Schema}, specs.State.{State as Database}, specs.Start.{FindsIn}, specs.Effect.{Database as Content, IsDatabase}}
 use Rattle.sqlite_trees.specs.Objects.{catalog_tree}
 use Rattle.sqlite_catalog.specs.Listing.{IsSound}
-use Rattle.moo_tables.proofs.SchemaLemmas.{some_tables, one_schema}
-use Rattle.moo_tables.specs.declared.version.Version.{Version}
-use Rattle.moo_tables.specs.Inside.{Rests, Leaves}
-use Rattle.moo_tables.proofs.ReopenLemmas.{opened}
+use Rattle.moo_tables.{proofs.SchemaLemmas.{some_tables, one_schema}, specs.declared.version.Version.{Version}, specs.Inside.{Rests, Leaves}, proofs.ReopenLemmas.{opened}}
 use Rattle.moo_store.specs.declared.fault.StoreFault.TheVariants.{Store, OutOfMemory}
-use Rattle.moo_files.proofs.BlankLemmas.{holds_none}
-use Rattle.moo_files.proofs.RemainsLemmas.{found_empty, begun_empty}
 
 -- while it is open a crash leaves its last commit alone
 abbrev pub OnlyLeaves : Database → Type 0

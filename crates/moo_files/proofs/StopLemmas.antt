@@ -1,31 +1,18 @@
 -- From what the disk leaves of the bytes of two files to a database that their store may leave.
-use Rattle.std.proofs.Common.{◌≡◌, IsTrue, List, refl, sym, subst, ◌∙◌}
-use Rattle.std.proofs.Math.Logic.{∥∥₁_elim, ∥∥₁_map}
+use Rattle.std.{proofs.Common.{◌≡◌, IsTrue, List, refl, sym, subst, ◌∙◌}, proofs.Math.Logic.{∥∥₁_elim, ∥∥₁_map}}
 use mathlib.Core.HLevel.{Σ_prop_path}
 use Rattle.sqlite_disk.specs.declared.Disk.{Ghosts}
-use Rattle.sqlite_wal.specs.Recovery.{Image}
-use Rattle.sqlite_wal.specs.Files.{outcomes}
+use Rattle.sqlite_wal.{specs.Recovery.{Image}, specs.Files.{outcomes}}
 use Rattle.sqlite_pages.specs.PageMap.{PageMap}
-use Rattle.sqlite_pool.specs.Stored.{Recovers}
-use Rattle.sqlite_pool.specs.StoredLaws.{recovers_once}
-use Rattle.sqlite_pool.proofs.PoolLemmas.{pages_from}
-use Rattle.sqlite_pool.proofs.ResealLemmas.{adopts_of}
-use Rattle.sqlite_pool.proofs.StateLemmas.{clean_is, may_leave_is, size_is_allowed}
-use Rattle.sqlite_store.specs.Listing.{IsOurs}
-use Rattle.sqlite_store.specs.FileStore.{state, view, files, schema_in, reading, recovers}
-use Rattle.sqlite_store.specs.declared.store.FileStore.{FileStore}
+use Rattle.sqlite_pool.{specs.Stored.{Recovers}, specs.StoredLaws.{recovers_once}, proofs.PoolLemmas.{pages_from}, proofs.ResealLemmas.{adopts_of}, proofs.StateLemmas.{clean_is, may_leave_is, size_is_allowed}}
+use Rattle.sqlite_store.{specs.Listing.{IsOurs}, specs.FileStore.{state, view, files, schema_in, reading, recovers}, specs.declared.store.FileStore.{FileStore}}
 use Rattle.sqlite_trees.proofs.Doubt.{clean_of}
-use Rattle.sqlite.specs.State.{State as Database, HasCleanDisk}
-use Rattle.sqlite.specs.Held.{Held, AreDatabases}
-use Rattle.sqlite.specs.Files.{file_state}
+use Rattle.sqlite.{specs.State.{State as Database, HasCleanDisk}, specs.Held.{Held, AreDatabases}, specs.Files.{file_state}}
 use Rattle.moo_rows.specs.Maps.{Maps}
 use Rattle.moo_world.specs.declared.call.Batch.{Batch}
 use Rattle.moo_tables.specs.Tables.{schema_of}
-use Rattle.moo_store.specs.Stand.{Stand}
-use Rattle.moo_store.specs.Led.{LeavesLed}
-use Rattle.moo_store.specs.World.{CrashLeaves}
-use Rattle.moo_files.specs.Contents.{HoldsSuch, HoldsTrees, IsLeftBy}
-use Rattle.moo_files.specs.Stop.{DiskLeaves, HasNumberedTrees}
+use Rattle.moo_store.{specs.Stand.{Stand}, specs.Led.{LeavesLed}, specs.World.{CrashLeaves}}
+use Rattle.moo_files.{specs.Contents.{HoldsSuch, HoldsTrees, IsLeftBy}, specs.Stop.{DiskLeaves, HasNumberedTrees}}
 
 module _ {D : Type 0} {g : Ghosts D} (it : FileStore D g) (image : Image) where
   -- the files hold these pages, which are a file of the store's schema

@@ -1,8 +1,6 @@
 -- What came of a connection, and what the service says of all of them.
-use Rattle.moo_http.proofs.Words.{◌≡◌, ◌≢◌, inl, inr, ℕ, ◌+◌, Bool, IsTrue, List, ◌++◌, length, take, Option, Some, None, refl, sym, subst, ◌∙◌, Result, Ok, Err, is_ok, OnOk, OnErr, IfErr, IsErrAnd, Appends, Keeps, HasCleanDisk, Ghosts, Stand, World, store_of, CrashLeaves, StandsAt, ServeFault, ServiceFault, Connected, StandsAtEnd, WritesFront, SaysByResult, listening_line, served_line, Served}
+use Rattle.moo_http.{proofs.Words.{◌≡◌, ◌≢◌, inl, inr, ℕ, ◌+◌, Bool, IsTrue, List, ◌++◌, length, take, Option, Some, None, refl, sym, subst, ◌∙◌, Result, Ok, Err, is_ok, OnOk, OnErr, IfErr, IsErrAnd, Appends, Keeps, HasCleanDisk, Ghosts, Stand, World, store_of, CrashLeaves, StandsAt, ServeFault, ServiceFault, Connected, StandsAtEnd, WritesFront, SaysByResult, listening_line, served_line, Served}, specs.declared.service.ServiceFault.TheVariants as service, proofs.Serving.{appends_nothing, appends_both}}
 use Rattle.std.proofs.Math.Seq.{take-append-add, take-length}
-use Rattle.moo_http.specs.declared.service.ServiceFault.TheVariants as service
-use Rattle.moo_http.proofs.Serving.{appends_nothing, appends_both}
 
 -- by whether it was answered
 pub connected : {S : Type 0} (g : Ghosts S) (known : Bool) (old : Stand) (was world : World S) (r : Result (Unit {0}) ServeFault) (answered : Bool) (left rest before behind : Option (List ℕ)) → answered ≡ is_ok r

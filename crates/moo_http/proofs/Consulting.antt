@@ -1,26 +1,14 @@
 -- What a run of one batch, and a question, say of a World wherever it stands.
-use Rattle.moo_http.proofs.Words.{◌≡◌, ◌≢◌, inl, inr, ◌<◌, List, [], ◌∷◌, length, refl, sym, ap, subst, ◌∙◌, arith, Bool, true, false, ◌⊎◌, Result, Ok, Err, IsTrue, IsErrOf, IfOk, IfErr, OnOk, ⊤, HasCleanDisk, Ghosts, Batch, State, state_of, judge, Stand, Works, Failed, StoreFailed, RunsBatch, World, StandsOver, HasWritten, IsKnown, IsMovedBy, store_of, ShowsItsRows, IsAt, StandsFor, StandsAt, MatchStore, IsOfRun, written_none, Calls, Run, Ask, Outcome, MayAnswer, taken_by, failed_by}
+use Rattle.moo_http.{proofs.Words.{◌≡◌, ◌≢◌, inl, inr, ◌<◌, List, [], ◌∷◌, length, refl, sym, ap, subst, ◌∙◌, arith, Bool, true, false, ◌⊎◌, Result, Ok, Err, IsTrue, IsErrOf, IfOk, IfErr, OnOk, ⊤, HasCleanDisk, Ghosts, Batch, State, state_of, judge, Stand, Works, Failed, StoreFailed, RunsBatch, World, StandsOver, HasWritten, IsKnown, IsMovedBy, store_of, ShowsItsRows, IsAt, StandsFor, StandsAt, MatchStore, IsOfRun, written_none, Calls, Run, Ask, Outcome, MayAnswer, taken_by, failed_by}, specs.Settled.{ComesOfRun, lost_by}}
 use Rattle.std.specs.Result.{IsOkAnd}
 use Rattle.sqlite.specs.declared.error.Error.{Error}
 use Rattle.moo_rows.specs.Maps.{Maps}
 use Rattle.moo_world.specs.Rows.{IsGood}
-use Rattle.moo_tables.specs.Tables.{Tables}
-use Rattle.moo_tables.specs.Inside.{Rests}
-use Rattle.moo_text.specs.declared.reply.Answer.TheVariants as answered
-use Rattle.moo_text.specs.declared.reply.Reply.{Reply}
-use Rattle.moo_text.specs.declared.reply.Reply.TheVariants.{NoMemory}
-use Rattle.moo_store.specs.Answered.{answer_of, IsRun, acknowledged, added}
-use Rattle.moo_store.specs.Text.{RunsAll}
-use Rattle.moo_store.specs.Reopened.{RunLeaves}
-use Rattle.moo_store.specs.States.{KeepsRows}
-use Rattle.moo_store.specs.declared.fault.StoreFault.{StoreFault}
-use Rattle.moo_store.specs.declared.fault.StoreFault.TheVariants.{Store, Damaged, NewerVersion, OutOfMemory, Closed}
-use Rattle.moo_store.proofs.Asking.{asked_one}
-use Rattle.moo_store.proofs.Crashes.{IsSettled}
-use Rattle.moo_request.specs.declared.asked.Asked.TheVariants.{Question as Asks}
-use Rattle.moo_request.specs.declared.question.Question.{Question}
+use Rattle.moo_tables.{specs.Tables.{Tables}, specs.Inside.{Rests}}
+use Rattle.moo_text.{specs.declared.reply.Answer.TheVariants as answered, specs.declared.reply.Reply.{Reply}, specs.declared.reply.Reply.TheVariants.{NoMemory}}
+use Rattle.moo_store.{specs.Answered.{answer_of, IsRun, acknowledged, added}, specs.Text.{RunsAll}, specs.Reopened.{RunLeaves}, specs.States.{KeepsRows}, specs.declared.fault.StoreFault.{StoreFault}, specs.declared.fault.StoreFault.TheVariants.{Store, Damaged, NewerVersion, OutOfMemory, Closed}, proofs.Asking.{asked_one}, proofs.Crashes.{IsSettled}}
+use Rattle.moo_request.{specs.declared.asked.Asked.TheVariants.{Question as Asks}, specs.declared.question.Question.{Question}}
 use Rattle.moo_responses.specs.declared.outcome.Outcome.TheVariants as outcome
-use Rattle.moo_http.specs.Settled.{ComesOfRun, lost_by}
 
 -- ---- where a World stands, by whether it failed
 

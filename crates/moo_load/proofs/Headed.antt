@@ -1,7 +1,5 @@
 -- The two lines of a heading.
-use Rattle.moo_load.proofs.Words.{◌≡◌, ℕ, ◌+◌, ◌<◌, pos, negsuc, ◌≤ℤ◌, List, [], ◌∷◌, ◌++◌, length, drop, refl, sym, ap, ◌∙◌, append_assoc, length-append, arith, codes, ◌^◌, decimal, lt-ltb, ints, drop_at, drop-drop, ObjNo, Int, Obj, Fits, print, State, range_of, heading, IsHeld, IsOneLine}
-use Rattle.moo_load.proofs.One.Fitting.{fit}
-use Rattle.moo_load.proofs.OneLine.{one_line_append, integer_plain, object_plain}
+use Rattle.moo_load.{proofs.Words.{◌≡◌, ℕ, ◌+◌, ◌<◌, pos, negsuc, ◌≤ℤ◌, List, [], ◌∷◌, ◌++◌, length, drop, refl, sym, ap, ◌∙◌, append_assoc, length-append, arith, codes, ◌^◌, decimal, lt-ltb, ints, drop_at, drop-drop, ObjNo, Int, Obj, Fits, print, State, range_of, heading, IsHeld, IsOneLine}, proofs.One.Fitting.{fit}, proofs.OneLine.{one_line_append, integer_plain, object_plain}}
 
 pub count_fits : (n : ℕ) → n < 2 ^ 63 → Fits (Int (pos n))
 count_fits n limit = fit (Int (pos n)) (lt-ltb n 9223372036854775808 (omega (arith, limit)))

@@ -1,14 +1,6 @@
 -- The changes of a map are exact, and applied to it they give the new one.
-use Rattle.moo_memory.proofs.Words.{◌≡◌, ◌≢◌, Bool, true, false, cond, T, ◌&&◌, Option, None, Some, List, [], ◌∷◌, ◌++◌, append_assoc, append-nil, Less, Equal, Greater, Ordering, unwrap_or, refl, sym, ap, ◌∙◌, subst, eq_by_cmp, is_lt, is_eq, FinMap, find, get, get-from_entries, same_map, is_sorted, contents, changed, row_over, IsChanges, changed_each}
-use Rattle.std.specs.Cmp.{IsTotalOrder}
-use Rattle.std.specs.BTreeMap.{BTreeMap, IsOrdered}
-use Rattle.std.specs.FinMap.Entries.{below_all, same_entries}
-use Rattle.std.specs.List.{AllByRecursion}
-use Rattle.std.specs.List.Sorted.{IsStrictlySortedBy}
-use Rattle.std.specs.Map.{keys_of}
-use Rattle.std.proofs.lemmas.Map.Lookups.{CmpEqualImpliesEq}
-use Rattle.moo_memory.specs.Without.{Without, no_more, kept, left_out}
-use Rattle.moo_memory.proofs.Overlays.{get-changed}
+use Rattle.moo_memory.{proofs.Words.{◌≡◌, ◌≢◌, Bool, true, false, cond, T, ◌&&◌, Option, None, Some, List, [], ◌∷◌, ◌++◌, append_assoc, append-nil, Less, Equal, Greater, Ordering, unwrap_or, refl, sym, ap, ◌∙◌, subst, eq_by_cmp, is_lt, is_eq, FinMap, find, get, get-from_entries, same_map, is_sorted, contents, changed, row_over, IsChanges, changed_each}, specs.Without.{Without, no_more, kept, left_out}, proofs.Overlays.{get-changed}}
+use Rattle.std.{specs.Cmp.{IsTotalOrder}, specs.BTreeMap.{BTreeMap, IsOrdered}, specs.FinMap.Entries.{below_all, same_entries}, specs.List.{AllByRecursion}, specs.List.Sorted.{IsStrictlySortedBy}, specs.Map.{keys_of}, proofs.lemmas.Map.Lookups.{CmpEqualImpliesEq}}
 
 both : (a b : Bool) → T a → T b → T (a && b)
 both true b p q = q

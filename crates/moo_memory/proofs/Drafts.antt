@@ -1,15 +1,7 @@
 -- The links of a draft's objects, and the properties that its objects define.
-use Rattle.moo_memory.proofs.Words.{◌≡◌, Bool, true, false, ◌||◌, cond, Option, None, Some, Less, Equal, Greater, Ordering, unwrap_or, is_some, refl, sym, ap, ◌∙◌, subst, eq_by_cmp, is_eq, FinMap, get, insert, get-insert, ObjNo, PropId, object_exact, object_cmp, prop_cmp, slot_cmp, is_kept, is_candidate, is_to_nothing, has_link, ties_of, ties_have, row_has, row_defined, AreOfDefiners, or_first, or_second, object_total, prop_total, overlaid, of_changes, is_that, may_have_own, is_candidate_of_either, EitherCovers}
-use Rattle.std.specs.Prelude.{⊤, OnErr, OnOk}
-use Rattle.std.proofs.Common.{Result, Ok, Err}
-use Rattle.std.specs.Option.{option_map}
-use Rattle.std.proofs.lemmas.Bool.{true≢false}
-use Rattle.moo_rows.specs.declared.row.ObjRow.{ObjRow}
-use Rattle.moo_rows.specs.declared.row.PropRow.{PropRow}
-use Rattle.moo_rows.specs.declared.row.Link.{Link}
-use Rattle.moo_rows.proofs.Linking.{defined-put, defined-remove}
-use Rattle.moo_memory.specs.declared.own.OwnLinks.{OwnLinks}
-use Rattle.moo_memory.proofs.Overlays.{get-overlaid}
+use Rattle.moo_memory.{proofs.Words.{◌≡◌, Bool, true, false, ◌||◌, cond, Option, None, Some, Less, Equal, Greater, Ordering, unwrap_or, is_some, refl, sym, ap, ◌∙◌, subst, eq_by_cmp, is_eq, FinMap, get, insert, get-insert, ObjNo, PropId, object_exact, object_cmp, prop_cmp, slot_cmp, is_kept, is_candidate, is_to_nothing, has_link, ties_of, ties_have, row_has, row_defined, AreOfDefiners, or_first, or_second, object_total, prop_total, overlaid, of_changes, is_that, may_have_own, is_candidate_of_either, EitherCovers}, specs.declared.own.OwnLinks.{OwnLinks}, proofs.Overlays.{get-overlaid}}
+use Rattle.std.{specs.Prelude.{⊤, OnErr, OnOk}, proofs.Common.{Result, Ok, Err}, specs.Option.{option_map}, proofs.lemmas.Bool.{true≢false}}
+use Rattle.moo_rows.{specs.declared.row.ObjRow.{ObjRow}, specs.declared.row.PropRow.{PropRow}, specs.declared.row.Link.{Link}, proofs.Linking.{defined-put, defined-remove}}
 
 -- what holds whether a call succeeds or not
 pub either_way : {T E A B P : Type 0} (r : Result T E) → OnOk r A → OnErr r B → (A → P) → (B → P) → P

@@ -1,7 +1,5 @@
 -- The changes from some rows to others: one list, that leads to one result.
-use Rattle.moo_memory.proofs.Words.{[], refl, sym, ap, ◌∙◌, get, Maps, object_exact, prop_exact, slot_exact, verb_exact, petition_exact, object_total, prop_total, slot_total, verb_total, petition_total}
-use Rattle.moo_memory.specs.Laws.{ChangesAreUnique, ChangesGiveTheRows, UndoneIsNoChange}
-use Rattle.moo_memory.proofs.Changing.{changes-unique, changes-applied, no-changes}
+use Rattle.moo_memory.{proofs.Words.{[], refl, sym, ap, ◌∙◌, get, Maps, object_exact, prop_exact, slot_exact, verb_exact, petition_exact, object_total, prop_total, slot_total, verb_total, petition_total}, specs.Laws.{ChangesAreUnique, ChangesGiveTheRows, UndoneIsNoChange}, proofs.Changing.{changes-unique, changes-applied, no-changes}}
 
 pub are-changes-unique : ChangesAreUnique
 are-changes-unique base new a b h k = λ i. record {

@@ -1,10 +1,7 @@
 -- The next key of a map with changes over it.
 use Rattle.moo_memory.proofs.Words.{◌≡◌, ◌≢◌, ◌+◌, Bool, true, false, ◌||◌, Option, None, Some, List, [], ◌∷◌, cond, length, Less, Equal, Greater, Ordering, IsSome, IsTrue, unwrap_or, is_some, refl, sym, ap, ◌∙◌, subst, arith, ordering_reverse, eq_by_cmp, FinMap, get, entries, insert, empty, from_entries, find, get-entries, get-insert, get-remove, same_map, len-entries, len-empty, contents, IsNextAt, IsNext, changed, changed_all, overlaid, row_over, IsNextOfEither}
-use Rattle.std.specs.Cmp.{IsTotalOrder}
-use Rattle.std.specs.BTreeMap.{BTreeMap}
-use Rattle.std.proofs.lemmas.Map.Lookups.{CmpEqualImpliesEq}
-use Rattle.moo_rows.specs.Walk.{entries_past}
-use Rattle.moo_rows.proofs.Walking.{next-step, onward}
+use Rattle.std.{specs.Cmp.{IsTotalOrder}, specs.BTreeMap.{BTreeMap}, proofs.lemmas.Map.Lookups.{CmpEqualImpliesEq}}
+use Rattle.moo_rows.{specs.Walk.{entries_past}, proofs.Walking.{next-step, onward}}
 
 by_or : (b : Bool) → IsTrue (b || false) → IsTrue b
 by_or true h = refl

@@ -1,17 +1,7 @@
 -- The properties that an object itself defines, by its slots, and names that clash.
-use Rattle.std.proofs.Common.{◌≡◌, Bool, true, false, cond, ◌||◌, Option, None, Some, List, [], ◌∷◌, refl, sym, ap, ◌∙◌, subst}
-use Rattle.std.specs.Prelude.{is_some, unwrap_or}
-use Rattle.std.specs.Option.{option_map, option_or, option_and_then}
-use Rattle.std.specs.List.{find, list_any}
-use Rattle.std.proofs.lemmas.Bool.{both_ways}
+use Rattle.std.{proofs.Common.{◌≡◌, Bool, true, false, cond, ◌||◌, Option, None, Some, List, [], ◌∷◌, refl, sym, ap, ◌∙◌, subst}, specs.Prelude.{is_some, unwrap_or}, specs.Option.{option_map, option_or, option_and_then}, specs.List.{find, list_any}, proofs.lemmas.Bool.{both_ways}}
 use Rattle.moo_value.specs.declared.value.ObjNo.{ObjNo}
-use Rattle.moo_world.specs.Objects.{Name, Property, same_object, same_text, same_property, folded, is_among, same_object-Decides, same_property-self}
-use Rattle.moo_world.specs.World.{World, WorldObject, Slot, IsWellFormed, Chain, chain, parent_of, property_names_of, defined_by, defined_by_any, property_named, slot_of}
-use Rattle.moo_world.specs.PropertyCalls.{defines_name}
-use Rattle.moo_world.proofs.Ancestry.Chains.{Climbs-once}
-use Rattle.moo_world.proofs.Inheritance.Owed.{find-append, found_among, own_pair, definer_among, named_owed}
-use Rattle.moo_world.proofs.Ancestry.Trees.{Chain-chain, chain-step, no_parent}
-use Rattle.moo_world.proofs.Shown.PairLists.{any_map}
+use Rattle.moo_world.{specs.Objects.{Name, Property, same_object, same_text, same_property, folded, is_among, same_object-Decides, same_property-self}, specs.World.{World, WorldObject, Slot, IsWellFormed, Chain, chain, parent_of, property_names_of, defined_by, defined_by_any, property_named, slot_of}, specs.PropertyCalls.{defines_name}, proofs.Ancestry.Chains.{Climbs-once}, proofs.Inheritance.Owed.{find-append, found_among, own_pair, definer_among, named_owed}, proofs.Ancestry.Trees.{Chain-chain, chain-step, no_parent}, proofs.Shown.PairLists.{any_map}}
 
 -- whether x is the definer of a slot
 abbrev pub owns_slot : ObjNo → Option Slot → Bool

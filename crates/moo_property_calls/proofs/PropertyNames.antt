@@ -1,14 +1,8 @@
 -- The calls speak of a property by its name as a caller spells it: its folded name alone counts.
-use Rattle.std.proofs.Common.{◌≡◌, Option, None, Some, refl, ap, ◌∙◌}
-use Rattle.std.specs.Prelude.{not, map, ◌&&◌, if◌then◌else◌}
-use Rattle.std.specs.Option.{option_map}
-use Rattle.std.specs.List.{filter, list_any}
+use Rattle.std.{proofs.Common.{◌≡◌, Option, None, Some, refl, ap, ◌∙◌}, specs.Prelude.{not, map, ◌&&◌, if◌then◌else◌}, specs.Option.{option_map}, specs.List.{filter, list_any}}
 use Rattle.moo_value.specs.declared.value.ObjNo.{ObjNo}
 use Rattle.moo_rows.specs.declared.row.Bits.{Bits}
-use Rattle.moo_world.specs.Objects.{Name, nothing, same_object, same_text, folded, is_among}
-use Rattle.moo_world.specs.World.{World, WorldObject, Slot, chain, property_names_of, rebuilt, object_changed}
-use Rattle.moo_world.specs.Changes.{with_slot_of, property_removed, property_renamed, info_set}
-use Rattle.moo_world.specs.PropertyCalls.{may_define, may_rename, renamed_to}
+use Rattle.moo_world.{specs.Objects.{Name, nothing, same_object, same_text, folded, is_among}, specs.World.{World, WorldObject, Slot, chain, property_names_of, rebuilt, object_changed}, specs.Changes.{with_slot_of, property_removed, property_renamed, info_set}, specs.PropertyCalls.{may_define, may_rename, renamed_to}}
 
 module _ (w : World) (x : ObjNo) (n k : Name) (same : folded n ≡ folded k) where
   pub slot_named : (change : Slot → Slot) → with_slot_of w x n change ≡ with_slot_of w x k change

@@ -1,21 +1,9 @@
 -- What a property's owner, rights and name are changed by may be done in turn.
-use Rattle.std.proofs.Common.{◌≡◌, Bool, true, false, not, ◌&&◌, Option, None, Some, refl, sym, ap, ◌∙◌}
-use Rattle.std.specs.Prelude.{is_some}
-use Rattle.std.specs.FinMap.{get}
-use Rattle.std.proofs.lemmas.Bool.{and_parts, false≢true}
+use Rattle.std.{proofs.Common.{◌≡◌, Bool, true, false, not, ◌&&◌, Option, None, Some, refl, sym, ap, ◌∙◌}, specs.Prelude.{is_some}, specs.FinMap.{get}, proofs.lemmas.Bool.{and_parts, false≢true}}
 use Rattle.moo_value.specs.declared.value.ObjNo.{ObjNo}
-use Rattle.moo_rows.specs.declared.row.PropId.{PropId}
-use Rattle.moo_rows.specs.Maps.{Maps}
-use Rattle.moo_world.specs.Changes.{clashes, with_slot_of}
-use Rattle.moo_world.specs.Objects.{Name, folded}
-use Rattle.moo_world.specs.PropertyCalls.{defines_name, may_rename}
-use Rattle.moo_world.specs.Rows.{IsGood, world_of}
-use Rattle.moo_world.specs.World.{World, Slot, slot_of, is_property_name}
-use Rattle.moo_props.specs.Names.{spelling_of, defines as defines_property}
-use Rattle.moo_world.proofs.Form.Values.{clashes_same}
-use Rattle.moo_world.proofs.Form.Slots.{same_links}
-use Rattle.moo_props.proofs.FoundSlots.{definer_found}
-use Rattle.moo_props.proofs.Quotas.{folded_spelling}
+use Rattle.moo_rows.{specs.declared.row.PropId.{PropId}, specs.Maps.{Maps}}
+use Rattle.moo_world.{specs.Changes.{clashes, with_slot_of}, specs.Objects.{Name, folded}, specs.PropertyCalls.{defines_name, may_rename}, specs.Rows.{IsGood, world_of}, specs.World.{World, Slot, slot_of, is_property_name}, proofs.Form.Values.{clashes_same}, proofs.Form.Slots.{same_links}}
+use Rattle.moo_props.{specs.Names.{spelling_of, defines as defines_property}, proofs.FoundSlots.{definer_found}, proofs.Quotas.{folded_spelling}}
 use Rattle.moo_property_calls.proofs.OwnProperty.{owns_slot, owns_by_slot}
 
 -- what is asked of a new name

@@ -1,6 +1,5 @@
 -- Who defines a property that is found by its name.
-use Rattle.moo_props.proofs.Words.{◌≡◌, true, false, Some, sym, ap, ◌∙◌, is_some, unwrap_or, option_map, get, same_Some, ObjNo, PropId, PropRow, SlotRow, Maps, Name, same_object, Slot, slot_of, IsSound, world_of, slot_seen, name_of, defines, some_of}
-use Rattle.moo_props.proofs.Walked.{slot_here}
+use Rattle.moo_props.{proofs.Words.{◌≡◌, true, false, Some, sym, ap, ◌∙◌, is_some, unwrap_or, option_map, get, same_Some, ObjNo, PropId, PropRow, SlotRow, Maps, Name, same_object, Slot, slot_of, IsSound, world_of, slot_seen, name_of, defines, some_of}, proofs.Walked.{slot_here}}
 
 -- x defines the property of its slot just where the slot has it as definer
 pub definer_found : (t : Maps) → IsSound t → (x : ObjNo) (id : PropId) (n : Name) (s : Slot) → is_some (get t.slots (x, id)) ≡ true → name_of t id ≡ n → Some s ≡ slot_of (world_of t) x n → defines t x id ≡ same_object s.definer x

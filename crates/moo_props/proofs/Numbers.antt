@@ -1,7 +1,6 @@
 -- What a function gives over numbers, by what it gives at each.
-use Rattle.moo_props.proofs.Words.{◌≡◌, ℕ, zero, suc, ◌<◌, Bool, true, false, cond, Option, None, Some, List, [], ◌∷◌, ◌++◌, map, refl, sym, ap, ◌∙◌, arith, if◌then◌else◌, option_map, filter, filter_map, cons_option, filter_map-append, slice_get, numbers_below, LookUps, AreSound, ObjNo, PropRow, Name, name_on, option_and_then, same_object, same_object-Decides, none-some, false≢true, is_some, cond_some}
+use Rattle.moo_props.{proofs.Words.{◌≡◌, ℕ, zero, suc, ◌<◌, Bool, true, false, cond, Option, None, Some, List, [], ◌∷◌, ◌++◌, map, refl, sym, ap, ◌∙◌, arith, if◌then◌else◌, option_map, filter, filter_map, cons_option, filter_map-append, slice_get, numbers_below, LookUps, AreSound, ObjNo, PropRow, Name, name_on, option_and_then, same_object, same_object-Decides, none-some, false≢true, is_some, cond_some}, proofs.Cases.{no_value}}
 use Rattle.moo_world.proofs.Shown.Numbered.{first_from, no_first}
-use Rattle.moo_props.proofs.Cases.{no_value}
 
 -- what passes a test
 abbrev pub kept : {A : Type 0} → (A → Bool) → Option A → Option A

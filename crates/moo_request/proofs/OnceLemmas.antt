@@ -1,7 +1,5 @@
 -- What is received of bytes is determined by them.
-use Rattle.moo_request.proofs.Words.{◌≡◌, inl, inr, ℕ, List, Some, None, arith, sym, ap, subst, ◌∙◌, option_and_then, RequestHead, ReadsRequest, request_unique, Asked, Mode, Plan, Decided, Body, Request, BodyAsks, shape_asked, plan_by, is_head, PlanAsks, Receives, nothing, no_head, request, shape_of}
-use Rattle.moo_request.proofs.HeadLemmas.{no_empty_head}
-use Rattle.moo_request.specs.declared.request.Received.{Received}
+use Rattle.moo_request.{proofs.Words.{◌≡◌, inl, inr, ℕ, List, Some, None, arith, sym, ap, subst, ◌∙◌, option_and_then, RequestHead, ReadsRequest, request_unique, Asked, Mode, Plan, Decided, Body, Request, BodyAsks, shape_asked, plan_by, is_head, PlanAsks, Receives, nothing, no_head, request, shape_of}, proofs.HeadLemmas.{no_empty_head}, specs.declared.request.Received.{Received}}
 
 body-once : (mode : Mode) (bytes : List ℕ) (a b : Asked) → BodyAsks mode bytes a → BodyAsks mode bytes b → a ≡ b
 body-once mode bytes a b (None, j, e) (None, k, f) = e ∙ sym f

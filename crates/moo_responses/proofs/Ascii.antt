@@ -1,15 +1,7 @@
 -- Strings and printed literals are ASCII.
 use Rattle.moo_responses.proofs.Words.{◌≡◌, ℕ, zero, suc, ℤ, pos, negsuc, ◌<◌, ◌^◌, Bool, true, false, ◌&&◌, ◌||◌, ◌==◌, nat_lt, List, [], ◌∷◌, refl, arith, IsAscii, IsUtf8, is_allowed, IsText, Values, no_values, int, object, error, list, name, escape, print_string, print_comma, print_items, print, HoldIn, HoldInside, NumberKind, an_integer, an_object, InRange, Value, Int, Obj, Str, Error}
-use Rattle.std.specs.Prelude.{if◌then◌else◌}
-use Rattle.std.specs.Fmt.{signed_decimal}
-use Rattle.std.specs.List.{list_all, flat_map}
-use Rattle.std.proofs.lemmas.Str.{IsAscii-append, IsUtf8-from_ascii}
-use Rattle.std.proofs.lemmas.Str.Ascii.{IsAscii-nil}
-use Rattle.std.proofs.lemmas.Fmt.{IsAscii-decimal}
-use Rattle.moo_value.specs.Values.{string}
-use Rattle.moo_value.specs.declared.code.Code.{Code}
-use Rattle.moo_value.specs.declared.code.Code.TheVariants.{None, «Type», Division, Permission, PropertyNotFound, VerbNotFound, VariableNotFound, InvalidIndirection, RecursiveMove, MaxRecursion, Range, Arguments, NotAccepted, InvalidArgument, Quota, Float}
-use Rattle.moo_value.specs.declared.value.Value.TheVariants.{List as a_list}
+use Rattle.std.{specs.Prelude.{if◌then◌else◌}, specs.Fmt.{signed_decimal}, specs.List.{list_all, flat_map}, proofs.lemmas.Str.{IsAscii-append, IsUtf8-from_ascii}, proofs.lemmas.Str.Ascii.{IsAscii-nil}, proofs.lemmas.Fmt.{IsAscii-decimal}}
+use Rattle.moo_value.{specs.Values.{string}, specs.declared.code.Code.{Code}, specs.declared.code.Code.TheVariants.{None, «Type», Division, Permission, PropertyNotFound, VerbNotFound, VariableNotFound, InvalidIndirection, RecursiveMove, MaxRecursion, Range, Arguments, NotAccepted, InvalidArgument, Quota, Float}, specs.declared.value.Value.TheVariants.{List as a_list}}
 
 both : (a b : Bool) → (a && b) ≡ true → (a ≡ true) × (b ≡ true)
 both true b e = (refl, e)

@@ -1,10 +1,7 @@
 -- The bodies of answers: they hold no float, and their texts come one after another.
 use Rattle.moo_responses.proofs.Words.{◌≡◌, ◌+◌, ◌<◌, ℕ, List, [], ◌∷◌, ◌++◌, ◌∙◌, false, map, get_or, length, take, sym, ap, refl, rules, Value, print, has_float, items_have_float, string, view, strings, object_text, accepted_body, look_body}
-use Rattle.std.proofs.lemmas.List.{map-append, map_more}
-use Rattle.std.specs.Prelude.{String, string_bytes}
-use Rattle.std.specs.declared.alloc.Global.{Global}
-use Rattle.serde_json.specs.declared.value.Value.{Value as Json, the_lemmas}
-use Rattle.serde_json.specs.declared.value.Value.TheVariants.{String as a_string}
+use Rattle.std.{proofs.lemmas.List.{map-append, map_more}, specs.Prelude.{String, string_bytes}, specs.declared.alloc.Global.{Global}}
+use Rattle.serde_json.{specs.declared.value.Value.{Value as Json, the_lemmas}, specs.declared.value.Value.TheVariants.{String as a_string}}
 use Rattle.moo_dump.specs.declared.seen.Look.{Look}
 
 no_float-strings : (texts : List (List ℕ)) → items_have_float (strings texts) ≡ false

@@ -1,7 +1,5 @@
 -- Rights of one number are one.
-use Rattle.moo_rows.proofs.Words.{◌≡◌, ℤ, pos, negsuc, Bool, true, false, refl, sym, ap, ◌∙◌, nat_le, ◌==◌, ◌||◌}
-use Rattle.moo_rows.specs.Bits.{bits_number}
-use Rattle.moo_rows.specs.declared.row.Bits.{Bits}
+use Rattle.moo_rows.{proofs.Words.{◌≡◌, ℤ, pos, negsuc, Bool, true, false, refl, sym, ap, ◌∙◌, nat_le, ◌==◌, ◌||◌}, specs.Bits.{bits_number}, specs.declared.row.Bits.{Bits}}
 
 abbrev rights : Bool → Bool → Bool → Bits
 rights r w c = record { r = r; w = w; c = c }

@@ -1,10 +1,7 @@
 -- From what was read of a connection to the World over it.
-use Rattle.moo_store.proofs.Words.{◌≡◌, ◌⊎◌, inl, inr, Result, Ok, Err, IfOk, IfErr, IsTrue, false, sym, ap, subst, subst₂, ◌∙◌, true, Trees, Ghosts, Held, state, Maps, IsGood, State, state_of, Version, Tables, schema_of, Rests, RestsAt, HasTables, ReadsTables, FailsToRead, stays, clean_before, ShowsRows, KeepsState, KeepsRows, ShowsState, Says, IsOfStore, Adopts, TakesOver, StoreFault, Store, Damaged, NewerVersion, OutOfMemory, Closed, World, store_of, StandsFor, Left, IsEarlier}
-use Rattle.sqlite.specs.Effect.{Database as Content}
-use Rattle.sqlite.proofs.StateLemmas.{survives_then}
-use Rattle.sqlite.specs.State.{State as Database, HasCleanDisk, IsUnchanged, IsRolledBack, Survives}
+use Rattle.moo_store.{proofs.Words.{◌≡◌, ◌⊎◌, inl, inr, Result, Ok, Err, IfOk, IfErr, IsTrue, false, sym, ap, subst, subst₂, ◌∙◌, true, Trees, Ghosts, Held, state, Maps, IsGood, State, state_of, Version, Tables, schema_of, Rests, RestsAt, HasTables, ReadsTables, FailsToRead, stays, clean_before, ShowsRows, KeepsState, KeepsRows, ShowsState, Says, IsOfStore, Adopts, TakesOver, StoreFault, Store, Damaged, NewerVersion, OutOfMemory, Closed, World, store_of, StandsFor, Left, IsEarlier}, proofs.Versions.{version_is}}
+use Rattle.sqlite.{specs.Effect.{Database as Content}, proofs.StateLemmas.{survives_then}, specs.State.{State as Database, HasCleanDisk, IsUnchanged, IsRolledBack, Survives}}
 use Rattle.moo_tables.proofs.ReadLemmas.{rests_on}
-use Rattle.moo_store.proofs.Versions.{version_is}
 
 pub on_each_ok : {A E : Type 0} (P Q : A → Type 0) (r : Result A E) → ((a : A) → P a → Q a) → IfOk r P → IfOk r Q
 on_each_ok P Q (Ok a) f p = f a p

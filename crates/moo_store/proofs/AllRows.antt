@@ -1,11 +1,7 @@
 -- The rows of a map, each as a change from none.
-use Rattle.moo_store.proofs.Words.{◌≡◌, ◌≢◌, cond, T, ◌&&◌, List, [], ◌∷◌, ◌++◌, Option, None, Some, Ordering, refl, sym, ap, ◌∙◌, subst, true, false, eq_by_cmp, is_lt, FinMap, find, get, is_sorted, entries, entries_sorted, get-entries, IsChanges, as_changes, all_of, PrintEach}
-use Rattle.std.specs.Option.{option_map}
-use Rattle.std.specs.Prelude.{IsSome, IfSome, IfNone}
-use Rattle.moo_rows.proofs.Words.{IsNext}
-use Rattle.moo_rows.specs.Walk.{entries_past}
-use Rattle.std.specs.FinMap.Entries.{below_all}
-use Rattle.moo_store.proofs.Written.{one_more}
+use Rattle.moo_store.{proofs.Words.{◌≡◌, ◌≢◌, cond, T, ◌&&◌, List, [], ◌∷◌, ◌++◌, Option, None, Some, Ordering, refl, sym, ap, ◌∙◌, subst, true, false, eq_by_cmp, is_lt, FinMap, find, get, is_sorted, entries, entries_sorted, get-entries, IsChanges, as_changes, all_of, PrintEach}, proofs.Written.{one_more}}
+use Rattle.std.{specs.Option.{option_map}, specs.Prelude.{IsSome, IfSome, IfNone}, specs.FinMap.Entries.{below_all}}
+use Rattle.moo_rows.{proofs.Words.{IsNext}, specs.Walk.{entries_past}}
 
 module _ {K X : Type 0} (cmp : K → K → Ordering) where
   below_changes : (k : K) (es : List (K × X)) → below_all cmp k (as_changes es) ≡ below_all cmp k es

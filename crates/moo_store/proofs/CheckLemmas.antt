@@ -1,15 +1,8 @@
 -- From what a check read to the World that it leaves.
-use Rattle.moo_store.proofs.Words.{◌≡◌, inl, ◌≤◌, ◌≤ℤ◌, ℕ, ℤ, pos, negsuc, suc, zero, [], ◌∷◌, length, map, Bool, true, false, Result, Ok, Err, refl, sym, ap, subst, ◌∙◌, arith, length-append, length-map, IfErr, MatchResult, entries, HasCleanDisk, Ghosts, Held, state, Maps, IsGood, world_of, numbers_below, State, Tables, Rests, ShowsRows, KeepsRows, World, store_of, StandsFor, Says, IsOfStore, StoreFault, Store, Damaged, NewerVersion, OutOfMemory, Closed}
-use Rattle.std.proofs.lemmas.List.Sums.{count_by-le-length, length-filter}
-use Rattle.std.proofs.lemmas.Int.{ints}
-use Rattle.moo_world.specs.Objects.{object_at}
-use Rattle.moo_world.specs.ObjectLists.{objects_of}
-use Rattle.moo_world.specs.World.{is_object, numbers_to}
-use Rattle.moo_world.proofs.Shown.ObjectEntries.{objects_listed}
-use Rattle.moo_damage.specs.declared.kind.Key.{Key}
-use Rattle.moo_damage.specs.declared.kind.Key.TheVariants.{Head, Object, Prop, Slot, Verb, Petition}
-use Rattle.moo_damage.specs.Differences.{AgreeAt}
-use Rattle.moo_store.specs.Checked.{FailsWorld, SaysInCheck}
+use Rattle.moo_store.{proofs.Words.{◌≡◌, inl, ◌≤◌, ◌≤ℤ◌, ℕ, ℤ, pos, negsuc, suc, zero, [], ◌∷◌, length, map, Bool, true, false, Result, Ok, Err, refl, sym, ap, subst, ◌∙◌, arith, length-append, length-map, IfErr, MatchResult, entries, HasCleanDisk, Ghosts, Held, state, Maps, IsGood, world_of, numbers_below, State, Tables, Rests, ShowsRows, KeepsRows, World, store_of, StandsFor, Says, IsOfStore, StoreFault, Store, Damaged, NewerVersion, OutOfMemory, Closed}, specs.Checked.{FailsWorld, SaysInCheck}}
+use Rattle.std.{proofs.lemmas.List.Sums.{count_by-le-length, length-filter}, proofs.lemmas.Int.{ints}}
+use Rattle.moo_world.{specs.Objects.{object_at}, specs.ObjectLists.{objects_of}, specs.World.{is_object, numbers_to}, proofs.Shown.ObjectEntries.{objects_listed}}
+use Rattle.moo_damage.{specs.declared.kind.Key.{Key}, specs.declared.kind.Key.TheVariants.{Head, Object, Prop, Slot, Verb, Petition}, specs.Differences.{AgreeAt}}
 
 pub agrees_itself : (m : Maps) (key : Key) → AgreeAt m m key
 agrees_itself m Head = refl

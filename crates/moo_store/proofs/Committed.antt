@@ -1,10 +1,8 @@
 -- Tables of some rows, changed, are those of the next ones.
-use Rattle.moo_store.proofs.Words.{◌≡◌, ◌⊎◌, inl, inr, Bool, true, false, Some, Result, Ok, Err, OnOk, refl, subst, arith, Trees, Maps, Tables, tables_with, Rests, Leaves, IsCurrent, no_tables, CellChanges, clean_before, AreChanges, ShowsRows, Prints, KeepsRows, LeavesRows, KeepsCells}
+use Rattle.moo_store.{proofs.Words.{◌≡◌, ◌⊎◌, inl, inr, Bool, true, false, Some, Result, Ok, Err, OnOk, refl, subst, arith, Trees, Maps, Tables, tables_with, Rests, Leaves, IsCurrent, no_tables, CellChanges, clean_before, AreChanges, ShowsRows, Prints, KeepsRows, LeavesRows, KeepsCells}, proofs.Shown.{shows-written, keeps-written}, proofs.Versions.{one_tables}}
 use Rattle.sqlite.specs.State.{State as Database, HasCleanDisk, Survives}
 use Rattle.sqlite_trees.specs.View.{doubt}
 use Rattle.moo_memory.specs.declared.changes.Changes.{Changes}
-use Rattle.moo_store.proofs.Shown.{shows-written, keeps-written}
-use Rattle.moo_store.proofs.Versions.{one_tables}
 
 module _ (cells : CellChanges) (changes : Changes) (base next : Maps) (printed : Prints (Some base.head.next_petition) base cells changes) (exact : AreChanges base next changes) where
   pub shows_next : (t : Tables) → IsCurrent t → ShowsRows t base → ShowsRows (tables_with cells t) next

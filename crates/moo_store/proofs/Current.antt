@@ -1,8 +1,6 @@
 -- What tables become as they are opened.
-use Rattle.moo_store.proofs.Words.{◌≡◌, List, Option, None, refl, ObjNo, Head, PropId, Maps, SlotCells, IsEarlier, Tables, migrated, Rests, IsCurrent, ShowsRows, PrintEach, PrintsSlot, all_of}
+use Rattle.moo_store.{proofs.Words.{◌≡◌, List, Option, None, refl, ObjNo, Head, PropId, Maps, SlotCells, IsEarlier, Tables, migrated, Rests, IsCurrent, ShowsRows, PrintEach, PrintsSlot, all_of}, specs.Current.{RestsCurrent}, proofs.Migrated.{shows}}
 use Rattle.sqlite.specs.State.{State as Database}
-use Rattle.moo_store.specs.Current.{RestsCurrent}
-use Rattle.moo_store.proofs.Migrated.{shows}
 
 -- tables of the present version stay
 pub rests_already : (store : Database) (t : Tables) (m : Maps) → Rests store t → IsCurrent t → ShowsRows t m → RestsCurrent store t m

@@ -1,15 +1,7 @@
 -- How far the answering of a text has come, whatever answers its batches.
-use Rattle.moo_store.proofs.Words.{◌≡◌, ◌≢◌, ◌<◌, inl, inr, ℕ, ◌+◌, ◌≤◌, Bool, true, false, cond, length, List, [], ◌∷◌, ◌++◌, take, append_assoc, Option, Some, None, Result, Ok, Err, IfOk, zero-add, refl, sym, ap, subst, ◌∙◌, arith, ◌⊎◌, IfErr, append-nil, Batch, items, Side, untouched, IsOver, Next, Answer, TextFault, answers_text, is_batch, is_lost_answer, Turn, Turns, GivesFrontOrAll, Completes, Halts}
-use Rattle.std.specs.List.{count_by}
-use Rattle.std.specs.Io.KnownBytes.{Appends, Consumes, IsAtEnd}
-use Rattle.std.proofs.lemmas.List.Sums.{sum_by-append}
-use Rattle.std.proofs.lemmas.Grind.{flat_map-append}
-use Rattle.moo_text.specs.Replies.{answer_text}
-use Rattle.moo_text.specs.Given.{ReaderGives, Explains, BreaksOff, ReadsNext, ReadsItems}
-use Rattle.moo_text.specs.declared.next.Next.TheVariants.{End}
-use Rattle.moo_text.specs.declared.fault.TextFault.TheVariants.{Read, Write, OutOfMemory, Long}
-use Rattle.moo_text.proofs.Joining.{items_none, items_then, items_end, whole_items, all_given, items_stop}
-use Rattle.moo_store.proofs.Writing.{Appends-then, Appends-nothing}
+use Rattle.moo_store.{proofs.Words.{◌≡◌, ◌≢◌, ◌<◌, inl, inr, ℕ, ◌+◌, ◌≤◌, Bool, true, false, cond, length, List, [], ◌∷◌, ◌++◌, take, append_assoc, Option, Some, None, Result, Ok, Err, IfOk, zero-add, refl, sym, ap, subst, ◌∙◌, arith, ◌⊎◌, IfErr, append-nil, Batch, items, Side, untouched, IsOver, Next, Answer, TextFault, answers_text, is_batch, is_lost_answer, Turn, Turns, GivesFrontOrAll, Completes, Halts}, proofs.Writing.{Appends-then, Appends-nothing}}
+use Rattle.std.{specs.List.{count_by}, specs.Io.KnownBytes.{Appends, Consumes, IsAtEnd}, proofs.lemmas.List.Sums.{sum_by-append}, proofs.lemmas.Grind.{flat_map-append}}
+use Rattle.moo_text.{specs.Replies.{answer_text}, specs.Given.{ReaderGives, Explains, BreaksOff, ReadsNext, ReadsItems}, specs.declared.next.Next.TheVariants.{End}, specs.declared.fault.TextFault.TheVariants.{Read, Write, OutOfMemory, Long}, proofs.Joining.{items_none, items_then, items_end, whole_items, all_given, items_stop}}
 
 -- one turn more
 turns-push : {A : Type 0} (P : A → Batch → Answer → A → Type 0) (old now next : A) (done : List Next) (answers : List Answer) (item : Next) (a : Answer) → Turns P old done answers now → Turn P now item a next

@@ -1,12 +1,8 @@
 -- From what a crash left to the World that is found.
-use Rattle.moo_store.proofs.Words.{◌≡◌, ◌≤◌, ℕ, List, [], ◌∷◌, ◌++◌, take, drop, length, refl, sym, ap, subst, ◌∙◌, true, Ghosts, Batch, State, state_of, judge, left_by, after, Reply, MayOpenAs, Rests, Maps, IsGood, Tables, ShowsRows, BatchesLead, LeavesLed, ShowsState, LeavesRows, LeavesState, acknowledged, World, StandsFor}
-use Rattle.sqlite.specs.State.{State as Database, Opens}
-use Rattle.sqlite.specs.Effect.{IsDatabase}
+use Rattle.moo_store.{proofs.Words.{◌≡◌, ◌≤◌, ℕ, List, [], ◌∷◌, ◌++◌, take, drop, length, refl, sym, ap, subst, ◌∙◌, true, Ghosts, Batch, State, state_of, judge, left_by, after, Reply, MayOpenAs, Rests, Maps, IsGood, Tables, ShowsRows, BatchesLead, LeavesLed, ShowsState, LeavesRows, LeavesState, acknowledged, World, StandsFor}, specs.Reopened.{HoldsAcknowledged, AreLedTo, kept_of, RunsInParts, IsKeptOf}, proofs.Numbered.{led_state}}
+use Rattle.sqlite.{specs.State.{State as Database, Opens}, specs.Effect.{IsDatabase}}
 use Rattle.moo_tables.proofs.ReopenLemmas.{opened}
-use Rattle.moo_cells.proofs.CellsLemmas.{one_good}
-use Rattle.moo_cells.proofs.GoodRows.{good_within}
-use Rattle.moo_store.specs.Reopened.{HoldsAcknowledged, AreLedTo, kept_of, RunsInParts, IsKeptOf}
-use Rattle.moo_store.proofs.Numbered.{led_state}
+use Rattle.moo_cells.{proofs.CellsLemmas.{one_good}, proofs.GoodRows.{good_within}}
 
 pub after_joined : (s : State) (first second : List Batch) → after s (first ++ second) ≡ after (after s first) second
 after_joined s [] second = refl

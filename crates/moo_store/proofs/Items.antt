@@ -1,10 +1,6 @@
 -- What a run over a text leaves of a World.
-use Rattle.moo_store.proofs.Words.{◌≡◌, ℕ, Bool, true, false, IsTrue, List, [], ◌∷◌, ◌++◌, append_assoc, Option, Result, Ok, Err, sym, ap, subst, ◌∙◌, append-nil, HasCleanDisk, Ghosts, Batch, items, Next, Answer, Reply, TextFault, IsGood, Tables, Rests, store_of, ShowsItsRows, StandsAt, Stand, Works, Failed, StoreFailed, RunsBatch, World, StoreFault, Store, Damaged, NewerVersion, OutOfMemory, Closed, RunsAndAnswers, answer_to, accepted_at, accepted, faulted_at, faulted, KeepsRest, KeepsLed, Applies, StopsRun, StandsOver, taken_of, lost_of, IsMovedBy, Turn, Turns, Completes, Halts}
+use Rattle.moo_store.{proofs.Words.{◌≡◌, ℕ, Bool, true, false, IsTrue, List, [], ◌∷◌, ◌++◌, append_assoc, Option, Result, Ok, Err, sym, ap, subst, ◌∙◌, append-nil, HasCleanDisk, Ghosts, Batch, items, Next, Answer, Reply, TextFault, IsGood, Tables, Rests, store_of, ShowsItsRows, StandsAt, Stand, Works, Failed, StoreFailed, RunsBatch, World, StoreFault, Store, Damaged, NewerVersion, OutOfMemory, Closed, RunsAndAnswers, answer_to, accepted_at, accepted, faulted_at, faulted, KeepsRest, KeepsLed, Applies, StopsRun, StandsOver, taken_of, lost_of, IsMovedBy, Turn, Turns, Completes, Halts}, proofs.Crashes.{IsSettled, crash_leaves}, proofs.Following.{completes-follows, halts-follows}, proofs.Running.{FailsAtStore, fails_of}, proofs.Untouched.{is_over, written_none, written_on}}
 use Rattle.moo_text.specs.declared.next.Next.TheVariants.{Batch as Whole, Malformed, Truncated, End}
-use Rattle.moo_store.proofs.Crashes.{IsSettled, crash_leaves}
-use Rattle.moo_store.proofs.Following.{completes-follows, halts-follows}
-use Rattle.moo_store.proofs.Running.{FailsAtStore, fails_of}
-use Rattle.moo_store.proofs.Untouched.{is_over, written_none, written_on}
 
 -- ---- what is written
 

@@ -1,26 +1,11 @@
 -- A row that is printed over the cells of another shows itself, and keeps the columns that stay.
 use Rattle.moo_store.proofs.Words.{◌≡◌, ℕ, pos, List, [], ◌∷◌, Option, Some, None, Vec, refl, sym, ap, ◌∙◌, subst, subst₂, Row, column, ObjNo, Head, ObjRow, PropId, SlotRow, PetitionRow, SlotCells, present, head_cells, object_cells, prop_cells, slot_cells, verb_cells, petition_cells, ShowsAccept, ShowsSlotState, ShowsObject, ShowsProp, ShowsSlot, ShowsVerb, ShowsPetition, ShowsOrNone, IfBoth, HeadColumns, ObjectColumns, PropColumns, SlotColumns, VerbColumns, PetitionColumns, PrintsOver, PrintsObject, PrintsProp, PrintsSlot, PrintsVerb, PrintsPetition}
-use Rattle.std.specs.Option.{option_map}
-use Rattle.std.specs.declared.alloc.Global.{Global}
-use Rattle.sqlite.specs.declared.types.Value.{Value as Cell}
-use Rattle.sqlite.specs.declared.types.Value.TheVariants.{Int as Number, Text}
-use Rattle.moo_value.specs.declared.value.Value.TheVariants.{List as a_list}
-use Rattle.moo_value.specs.Literal.{Spells}
-use Rattle.moo_rows.specs.declared.row.PropRow.{PropRow}
-use Rattle.moo_rows.specs.declared.row.VerbId.{VerbId}
-use Rattle.moo_rows.specs.declared.row.VerbRow.{VerbRow}
-use Rattle.moo_rows.specs.declared.row.PetitionId.{PetitionId}
-use Rattle.moo_rows.specs.Bits.{bits_number, verb_bits_of}
+use Rattle.std.{specs.Option.{option_map}, specs.declared.alloc.Global.{Global}}
+use Rattle.sqlite.{specs.declared.types.Value.{Value as Cell}, specs.declared.types.Value.TheVariants.{Int as Number, Text}}
+use Rattle.moo_value.{specs.declared.value.Value.TheVariants.{List as a_list}, specs.Literal.{Spells}}
+use Rattle.moo_rows.{specs.declared.row.PropRow.{PropRow}, specs.declared.row.VerbId.{VerbId}, specs.declared.row.VerbRow.{VerbRow}, specs.declared.row.PetitionId.{PetitionId}, specs.Bits.{bits_number, verb_bits_of}}
 use Rattle.moo_world.specs.Prepositions.{prep_text, object_spec_text}
-use Rattle.moo_tables.specs.declared.object.ObjectCells.{ObjectCells}
-use Rattle.moo_tables.specs.declared.prop.PropCells.{PropCells}
-use Rattle.moo_tables.specs.declared.verb.VerbCells.{VerbCells}
-use Rattle.moo_tables.specs.declared.petition.PetitionCells.{PetitionCells}
-use Rattle.moo_tables.specs.Columns.{cells_over, flag_cell}
-use Rattle.moo_tables.specs.Object.{object_row}
-use Rattle.moo_tables.specs.Slot.{slot_row}
-use Rattle.moo_tables.specs.Verb.{verb_row}
-use Rattle.moo_tables.specs.Petition.{petition_row}
+use Rattle.moo_tables.{specs.declared.object.ObjectCells.{ObjectCells}, specs.declared.prop.PropCells.{PropCells}, specs.declared.verb.VerbCells.{VerbCells}, specs.declared.petition.PetitionCells.{PetitionCells}, specs.Columns.{cells_over, flag_cell}, specs.Object.{object_row}, specs.Slot.{slot_row}, specs.Verb.{verb_row}, specs.Petition.{petition_row}}
 
 -- ---- a table with one column of which a value has several spellings
 

@@ -1,11 +1,7 @@
 -- Tables of an earlier version that are migrated keep their rows.
-use Rattle.moo_store.proofs.Words.{◌≡◌, ℤ, List, Option, None, refl, sym, ap, ◌∙◌, subst, ObjNo, Head, PropId, Maps, SlotCells, Tables, tables_in, migrated, Rests, Leaves, Holds, HasTables, ShowsRows, PrintEach, PrintsSlot, all_of, KeepsRows, TakesOver, clean_before, IsEarlier, Version, schema_of}
-use Rattle.sqlite.specs.Effect.{Database as Content}
-use Rattle.sqlite.specs.State.{State as Database, HasCleanDisk, Survives}
+use Rattle.moo_store.{proofs.Words.{◌≡◌, ℤ, List, Option, None, refl, sym, ap, ◌∙◌, subst, ObjNo, Head, PropId, Maps, SlotCells, Tables, tables_in, migrated, Rests, Leaves, Holds, HasTables, ShowsRows, PrintEach, PrintsSlot, all_of, KeepsRows, TakesOver, clean_before, IsEarlier, Version, schema_of}, proofs.Shown.{shows-migrated}, proofs.AdoptLemmas.{survives_more}, proofs.Versions.{version_is}}
+use Rattle.sqlite.{specs.Effect.{Database as Content}, specs.State.{State as Database, HasCleanDisk, Survives}}
 use Rattle.moo_tables.proofs.InsideLemmas.{only_first}
-use Rattle.moo_store.proofs.Shown.{shows-migrated}
-use Rattle.moo_store.proofs.AdoptLemmas.{survives_more}
-use Rattle.moo_store.proofs.Versions.{version_is}
 
 -- tables of an earlier version have no petition
 none_earlier : (db : Content) (t : Tables) → Holds db t → IsEarlier t.version → (n : ℤ) → t.petition n ≡ None

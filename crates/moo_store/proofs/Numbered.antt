@@ -1,9 +1,6 @@
 -- The numbers of properties, verbs and petitions over accepted batches.
 use Rattle.moo_store.proofs.Words.{◌≡◌, List, [], ◌∷◌, ◌++◌, sym, ap, ◌∙◌, subst, Maps, Tables, Batch, after, IsGood, world_of, BatchesLead, Writes}
-use Rattle.moo_world.specs.Numbers.{NumbersStay}
-use Rattle.moo_world.specs.Requests.{PetitionsStay, state_of}
-use Rattle.moo_world.proofs.Batches.PetitionNumbers.{petitions_same, petitions_joined}
-use Rattle.moo_world.proofs.Shown.NumbersKept.{stay_itself, stay_joined, batches_keep_numbers}
+use Rattle.moo_world.{specs.Numbers.{NumbersStay}, specs.Requests.{PetitionsStay, state_of}, proofs.Batches.PetitionNumbers.{petitions_same, petitions_joined}, proofs.Shown.NumbersKept.{stay_itself, stay_joined, batches_keep_numbers}}
 
 pub led_stay : (rows : Maps) (batches : List Batch) (end : Maps) → BatchesLead batches rows end → NumbersStay rows end
 led_stay rows [] end led = subst (NumbersStay rows) (sym led) (stay_itself rows)

@@ -1,12 +1,7 @@
 -- The tables of a whole world.
-use Rattle.moo_store.proofs.Words.{◌≡◌, Option, None, Ordering, refl, sym, subst, FinMap, empty, get, get-empty, Maps, no_maps, object_cmp, prop_cmp, slot_cmp, verb_cmp, petition_cmp, ObjRow, SlotRow, PetitionRow, IsGood, state_of, present, no_schema, tables_with, Rests, Leaves, HasNoTables, no_tables, CellChanges, IsChanges, AreChanges, ShowsObject, ShowsProp, ShowsSlot, ShowsVerb, ShowsPetition, ShowsOrNone, ShowsMaps, ShowsRows, Prints, all_of, all_changes, KeepsRows, LeavesState}
-use Rattle.sqlite.specs.State.{State as Database, Survives}
-use Rattle.moo_rows.specs.declared.row.PropRow.{PropRow}
-use Rattle.moo_rows.specs.declared.row.VerbRow.{VerbRow}
-use Rattle.sqlite.specs.Effect.{Database as Content}
-use Rattle.moo_store.proofs.AllRows.{all_changed}
-use Rattle.moo_store.proofs.Committed.{survives-map}
-use Rattle.moo_store.proofs.Shown.{shows-written}
+use Rattle.moo_store.{proofs.Words.{◌≡◌, Option, None, Ordering, refl, sym, subst, FinMap, empty, get, get-empty, Maps, no_maps, object_cmp, prop_cmp, slot_cmp, verb_cmp, petition_cmp, ObjRow, SlotRow, PetitionRow, IsGood, state_of, present, no_schema, tables_with, Rests, Leaves, HasNoTables, no_tables, CellChanges, IsChanges, AreChanges, ShowsObject, ShowsProp, ShowsSlot, ShowsVerb, ShowsPetition, ShowsOrNone, ShowsMaps, ShowsRows, Prints, all_of, all_changes, KeepsRows, LeavesState}, proofs.AllRows.{all_changed}, proofs.Committed.{survives-map}, proofs.Shown.{shows-written}}
+use Rattle.sqlite.{specs.State.{State as Database, Survives}, specs.Effect.{Database as Content}}
+use Rattle.moo_rows.{specs.declared.row.PropRow.{PropRow}, specs.declared.row.VerbRow.{VerbRow}}
 
 -- no tables show no rows
 shows_nothing : ShowsMaps no_tables no_maps

@@ -1,12 +1,10 @@
 -- One batch, and then a list of them.
-use Rattle.moo_store.proofs.Words.{◌≡◌, inl, inr, ℕ, zero, suc, ◌+◌, ◌≤◌, ◌<◌, Bool, List, [], ◌∷◌, ◌++◌, take, drop, length, get_or, append_assoc, length-append, Result, Ok, Err, OnOk, OnErr, IfErr, true, false, refl, sym, ap, subst, ◌∙◌, arith, is_err, ⊤, IsTrue, map, append-nil, take_more, HasCleanDisk, Ghosts, Batch, Reply, Value, nat_lt, if◌then◌else◌, State, Ran, Through, FailedAt, FullAt, Verdict, Accepted, Refused, NoRoom, Stale, is_due, last_seq, run_calls, verdict_of, judge, left_by, after, LeavesState, reply_of, state_behind, IsRun, AnsweredOne, Answered, acknowledged, added, Stand, Works, Failed, StoreFailed, state_at, VerdictLeaves, RunsBatch, Turns, StandsBehind, RunsAll, answer_to, store_of, IsAt, StandsAt, Left, LeftOrNext, MatchStore, World, StoreFault, Store, Damaged, NewerVersion, OutOfMemory, Closed}
-use Rattle.moo_store.proofs.Crashes.{IsSettled, left_at_rest}
+use Rattle.moo_store.{proofs.Words.{◌≡◌, inl, inr, ℕ, zero, suc, ◌+◌, ◌≤◌, ◌<◌, Bool, List, [], ◌∷◌, ◌++◌, take, drop, length, get_or, append_assoc, length-append, Result, Ok, Err, OnOk, OnErr, IfErr, true, false, refl, sym, ap, subst, ◌∙◌, arith, is_err, ⊤, IsTrue, map, append-nil, take_more, HasCleanDisk, Ghosts, Batch, Reply, Value, nat_lt, if◌then◌else◌, State, Ran, Through, FailedAt, FullAt, Verdict, Accepted, Refused, NoRoom, Stale, is_due, last_seq, run_calls, verdict_of, judge, left_by, after, LeavesState, reply_of, state_behind, IsRun, AnsweredOne, Answered, acknowledged, added, Stand, Works, Failed, StoreFailed, state_at, VerdictLeaves, RunsBatch, Turns, StandsBehind, RunsAll, answer_to, store_of, IsAt, StandsAt, Left, LeftOrNext, MatchStore, World, StoreFault, Store, Damaged, NewerVersion, OutOfMemory, Closed}, proofs.Crashes.{IsSettled, left_at_rest}}
 use Rattle.std.proofs.Math.Seq.{drop-append_seam, drop-cons, take-append_seam}
 use Rattle.sqlite.specs.declared.error.Error.{Error}
 use Rattle.moo_text.specs.declared.reply.Reply.TheVariants as reply
 use borrow.Author.Tests.{ltb-true}
-use Rattle.moo_text.specs.declared.next.Next.TheVariants.{Batch as Whole}
-use Rattle.moo_text.specs.declared.reply.Answer.TheVariants as answer
+use Rattle.moo_text.{specs.declared.next.Next.TheVariants.{Batch as Whole}, specs.declared.reply.Answer.TheVariants as answer}
 
 pub when_ok : {T E P : Type 0} (r : Result T E) → false ≡ is_err r → OnOk r P → P
 when_ok (Ok x) e p = p

@@ -1,14 +1,10 @@
 -- What the accepted batches of a run leave of the tables, one after another.
-use Rattle.moo_store.proofs.Words.{◌≡◌, ◌⊎◌, inl, inr, ℕ, zero, suc, ◌<◌, ◌≤◌, Bool, List, [], ◌∷◌, ◌++◌, append_assoc, take, drop, length, get_or, Result, Ok, Err, OnOk, OnErr, IfOk, IfErr, IsTrue, true, false, refl, sym, ap, subst, ◌∙◌, arith, append-nil, ⊤, Ghosts, Trees, Maps, Tables, Rests, IsCurrent, Batch, Reply, Value, IsGood, State, Accepted, state_of, judge, left_by, acknowledged, added, ShowsRows, store_of, ShowsItsRows, IsAt, StandsFor, MatchStore, KeepsRows, LeavesRows, BatchesLead, LeavesLed, World, KeepsCells, Writes, StandsOver, HasWritten, WritesOne, IsKnown, taken_of, lost_of, IsMovedBy, StoreFault, Store, Damaged, NewerVersion, OutOfMemory, Closed}
+use Rattle.moo_store.{proofs.Words.{◌≡◌, ◌⊎◌, inl, inr, ℕ, zero, suc, ◌<◌, ◌≤◌, Bool, List, [], ◌∷◌, ◌++◌, append_assoc, take, drop, length, get_or, Result, Ok, Err, OnOk, OnErr, IfOk, IfErr, IsTrue, true, false, refl, sym, ap, subst, ◌∙◌, arith, append-nil, ⊤, Ghosts, Trees, Maps, Tables, Rests, IsCurrent, Batch, Reply, Value, IsGood, State, Accepted, state_of, judge, left_by, acknowledged, added, ShowsRows, store_of, ShowsItsRows, IsAt, StandsFor, MatchStore, KeepsRows, LeavesRows, BatchesLead, LeavesLed, World, KeepsCells, Writes, StandsOver, HasWritten, WritesOne, IsKnown, taken_of, lost_of, IsMovedBy, StoreFault, Store, Damaged, NewerVersion, OutOfMemory, Closed}, proofs.Crashes.{IsSettled, rows_at_rest}, proofs.Committed.{shown_by, current_by}, proofs.Numbered.{led-append, led_good, writes_led}, proofs.Running.{Progress, FailsAtStore}}
 use Rattle.std.proofs.Math.Seq.{drop-append_seam}
 use Rattle.sqlite.specs.State.{State as Database, HasCleanDisk}
 use Rattle.moo_tables.proofs.InsideLemmas.{left_by as tables_left}
 use Rattle.moo_text.specs.declared.reply.Reply.TheVariants as reply
 use Rattle.moo_world.specs.Between.{BatchLeads}
-use Rattle.moo_store.proofs.Crashes.{IsSettled, rows_at_rest}
-use Rattle.moo_store.proofs.Committed.{shown_by, current_by}
-use Rattle.moo_store.proofs.Numbered.{led-append, led_good, writes_led}
-use Rattle.moo_store.proofs.Running.{Progress, FailsAtStore}
 
 -- tables that rest in the store of a World that is at a state
 pub is_over : {S : Type 0} (g : Ghosts S) (known : Bool) (world : World S) (s : State) (tables : Tables) → IsTrue known → IsAt g known world s → HasCleanDisk (store_of g world) → Rests (store_of g world) tables → StandsOver g world tables

@@ -1,7 +1,6 @@
 -- What is printed from exact changes, written over tables that show the old rows, shows the new ones.
 use Rattle.moo_store.proofs.Words.{◌≡◌, Bool, true, false, cond, T, ◌&&◌, Option, None, Some, List, [], ◌∷◌, ◌++◌, fold, Less, Equal, Greater, Ordering, refl, sym, ap, ◌∙◌, subst, eq_by_cmp, is_lt, is_eq, find, is_sorted, Row, with_cells, cells_after, IsChanges, ShowsOrNone, IfBoth, PrintEach}
-use Rattle.std.specs.FinMap.Entries.{below_all}
-use Rattle.std.proofs.lemmas.Map.Lookups.{CmpEqualImpliesEq}
+use Rattle.std.{specs.FinMap.Entries.{below_all}, proofs.lemmas.Map.Lookups.{CmpEqualImpliesEq}}
 
 equal_of : (o : Ordering) → is_eq o ≡ true → o ≡ Equal
 equal_of Less p = cc

@@ -1,17 +1,5 @@
 -- What an update does by a number that leaves one cell of a row as it is, whichever the table is.
-use Rattle.moo_tables.proofs.Words.{◌≡◌, ◌+◌, ℕ, ℤ, List, [], ◌∷◌, map, drop, option_map, slice_get, Option, Some, None, true, ◌⊎◌, inl, inr, Result, Ok, Err, OnOk, IfOk, IsTrue, refl, sym, ap, subst, ◌∙◌, arith, list_all, IsPermutation, Value, Null, Int, Text, Error, Row, column, holds, eval_all, cast_all, cast_row, Table, Trees, rowid, has_rowid, put_row, overlay, understood, State, Executes, statement_of, runs_as, Has, Column, Tables, present_schema, numbered, number_places, cells_at, numbered_in, numbered_with, same_number, keep_text, AreKeyed, Sees, Changes, RanStatement, KeepsUnread, WritesOver}
-use Rattle.moo_tables.proofs.TextLemmas.{KeepsByNumber, number_keep, writes_where, by_number}
-use Rattle.moo_tables.proofs.CastLemmas.{fit, kept_all}
-use Rattle.moo_tables.proofs.StepLemmas.{cast_int, updates}
-use Rattle.moo_tables.proofs.OverLemmas.{number_one, itself}
-use Rattle.moo_tables.proofs.UpdateLemmas.{over_or_left}
-use Rattle.moo_tables.proofs.ListingLemmas.{find_one}
-use Rattle.moo_tables.proofs.NumberLemmas.{stored_at}
-use Rattle.moo_tables.proofs.QueryLemmas.{chosen, shows_all}
-use Rattle.moo_tables.proofs.KeyLemmas.{after_put, after_nothing, find_none, number_exact, number_apart, ties_one}
-use Rattle.moo_tables.proofs.RowLemmas.{moo_quiet, put_keyed, rest, number_free, has_itself, picks_number}
-use Rattle.moo_tables.proofs.SeenLemmas.{schema_seen, SetsTree, sees_still}
-use Rattle.moo_tables.proofs.TypedLemmas.{HasText}
+use Rattle.moo_tables.{proofs.Words.{◌≡◌, ◌+◌, ℕ, ℤ, List, [], ◌∷◌, map, drop, option_map, slice_get, Option, Some, None, true, ◌⊎◌, inl, inr, Result, Ok, Err, OnOk, IfOk, IsTrue, refl, sym, ap, subst, ◌∙◌, arith, list_all, IsPermutation, Value, Null, Int, Text, Error, Row, column, holds, eval_all, cast_all, cast_row, Table, Trees, rowid, has_rowid, put_row, overlay, understood, State, Executes, statement_of, runs_as, Has, Column, Tables, present_schema, numbered, number_places, cells_at, numbered_in, numbered_with, same_number, keep_text, AreKeyed, Sees, Changes, RanStatement, KeepsUnread, WritesOver}, proofs.TextLemmas.{KeepsByNumber, number_keep, writes_where, by_number}, proofs.CastLemmas.{fit, kept_all}, proofs.StepLemmas.{cast_int, updates}, proofs.OverLemmas.{number_one, itself}, proofs.UpdateLemmas.{over_or_left}, proofs.ListingLemmas.{find_one}, proofs.NumberLemmas.{stored_at}, proofs.QueryLemmas.{chosen, shows_all}, proofs.KeyLemmas.{after_put, after_nothing, find_none, number_exact, number_apart, ties_one}, proofs.RowLemmas.{moo_quiet, put_keyed, rest, number_free, has_itself, picks_number}, proofs.SeenLemmas.{schema_seen, SetsTree, sees_still}, proofs.TypedLemmas.{HasText}}
 
 -- The values of the statement, and the row that it makes, with its cell at the place. Each of these facts is computed, whatever the columns are.
 pub record KeepsNumbers {K C : Type 0} (t : Table) (place : ℕ) (number : K → ℤ) (values : K → C → Row) (row : K → C → Value → Row) : Type 0 where

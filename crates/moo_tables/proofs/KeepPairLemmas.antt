@@ -1,17 +1,5 @@
 -- What an update does by two columns that leaves one cell of a row as it is, whichever the table is.
-use Rattle.moo_tables.proofs.Words.{◌≡◌, ◌+◌, ℕ, ℤ, List, [], ◌∷◌, map, drop, option_map, slice_get, Option, Some, None, true, ◌⊎◌, inl, inr, Result, Ok, Err, OnOk, IfOk, IsTrue, refl, sym, ap, subst, ◌∙◌, arith, list_all, and_parts, IsPermutation, Value, Null, Int, Text, Error, Row, column, holds, eval_all, cast_all, cast_row, Table, Trees, rowid, put_row, overlay, understood, State, Executes, statement_of, runs_as, Has, Column, Tables, present_schema, paired, pair_places, has_pair, cells_at, paired_in, paired_with, same_numbers, keep_text, AreKeyed, Sees, Changes, RanStatement, KeepsUnread, WritesOver}
-use Rattle.moo_tables.proofs.TextLemmas.{KeepsByPair, pair_keep, writes_where, by_pair}
-use Rattle.moo_tables.proofs.CastLemmas.{fit, kept_all}
-use Rattle.moo_tables.proofs.StepLemmas.{cast_int, updates}
-use Rattle.moo_tables.proofs.OverLemmas.{free_beside}
-use Rattle.moo_tables.proofs.UpdateLemmas.{over_or_left}
-use Rattle.moo_tables.proofs.ListingLemmas.{exactly, find_one}
-use Rattle.moo_tables.proofs.ReadLemmas.{ArePairs}
-use Rattle.moo_tables.proofs.QueryLemmas.{chosen, shows_all}
-use Rattle.moo_tables.proofs.KeyLemmas.{after_put, after_nothing, find_none, pair_exact, pair_apart}
-use Rattle.moo_tables.proofs.RowLemmas.{moo_quiet, put_keyed, rest, pair_has, picks_pair}
-use Rattle.moo_tables.proofs.SeenLemmas.{schema_seen, SetsTree, sees_still}
-use Rattle.moo_tables.proofs.TypedLemmas.{HasText}
+use Rattle.moo_tables.{proofs.Words.{◌≡◌, ◌+◌, ℕ, ℤ, List, [], ◌∷◌, map, drop, option_map, slice_get, Option, Some, None, true, ◌⊎◌, inl, inr, Result, Ok, Err, OnOk, IfOk, IsTrue, refl, sym, ap, subst, ◌∙◌, arith, list_all, and_parts, IsPermutation, Value, Null, Int, Text, Error, Row, column, holds, eval_all, cast_all, cast_row, Table, Trees, rowid, put_row, overlay, understood, State, Executes, statement_of, runs_as, Has, Column, Tables, present_schema, paired, pair_places, has_pair, cells_at, paired_in, paired_with, same_numbers, keep_text, AreKeyed, Sees, Changes, RanStatement, KeepsUnread, WritesOver}, proofs.TextLemmas.{KeepsByPair, pair_keep, writes_where, by_pair}, proofs.CastLemmas.{fit, kept_all}, proofs.StepLemmas.{cast_int, updates}, proofs.OverLemmas.{free_beside}, proofs.UpdateLemmas.{over_or_left}, proofs.ListingLemmas.{exactly, find_one}, proofs.ReadLemmas.{ArePairs}, proofs.QueryLemmas.{chosen, shows_all}, proofs.KeyLemmas.{after_put, after_nothing, find_none, pair_exact, pair_apart}, proofs.RowLemmas.{moo_quiet, put_keyed, rest, pair_has, picks_pair}, proofs.SeenLemmas.{schema_seen, SetsTree, sees_still}, proofs.TypedLemmas.{HasText}}
 
 -- The values of the statement, and the row that it makes, with its cell at the place. Each of these facts is computed, whatever the columns are.
 pub record KeepsPairs {K C : Type 0} (t : Table) (place : ℕ) (pair : K → ℤ × ℤ) (values : K → C → Row) (row : K → C → Value → Row) : Type 0 where

@@ -1,7 +1,6 @@
 -- Keys that rise from row to row are in order.
-use Rattle.moo_tables.proofs.Words.{◌≡◌, ◌↔◌, ℕ, ℤ, ◌+◌, ◌<◌, ◌≤◌, suc, drop, length, get_or, List, [], ◌∷◌, Option, Some, None, Bool, true, false, ◌&&◌, IsTrue, refl, sym, ap, ◌∙◌, arith, true≢false, AllByRecursion, IsTotalOrder, is_lt, int_cmp, Ordering, Less, Equal, Greater, drop_all, and_parts, and_from, on_total, then_total, Value, Int, Row, column, value_cmp, IsAscending, is_int, value_cmp_total, value_cmp-Int, all_weaker, Tables, AreKeyed, ListsTables, ArePaired, AreListed, tables_of, pair_cmp, is_above, has_two_numbers}
+use Rattle.moo_tables.{proofs.Words.{◌≡◌, ◌↔◌, ℕ, ℤ, ◌+◌, ◌<◌, ◌≤◌, suc, drop, length, get_or, List, [], ◌∷◌, Option, Some, None, Bool, true, false, ◌&&◌, IsTrue, refl, sym, ap, ◌∙◌, arith, true≢false, AllByRecursion, IsTotalOrder, is_lt, int_cmp, Ordering, Less, Equal, Greater, drop_all, and_parts, and_from, on_total, then_total, Value, Int, Row, column, value_cmp, IsAscending, is_int, value_cmp_total, value_cmp-Int, all_weaker, Tables, AreKeyed, ListsTables, ArePaired, AreListed, tables_of, pair_cmp, is_above, has_two_numbers}, specs.declared.reading.CellLists.{CellLists}}
 use Rattle.std.proofs.Math.Seq.{drop-cons}
-use Rattle.moo_tables.specs.declared.reading.CellLists.{CellLists}
 
 less_of : (o : Ordering) → is_lt o ≡ true → o ≡ Less
 less_of Less h = refl

@@ -1,14 +1,6 @@
 -- What the migration does.
-use Rattle.moo_tables.proofs.Words.{◌≡◌, ℕ, List, [], ◌∷◌, filter, not, true, false, Option, Ok, Err, Result, OnOk, IsTrue, refl, sym, subst, ◌∙◌, Null, Error, Row, col, overlay, understood, State, HasCleanDisk, Shows, KeepsCounts, statement_of, runs_as, ObjNo, PropId, SlotCells, Tables, present_schema, slot_tree, with_each, with_head_cells, with_slot_cells, migrated, AreKeyed, Holds, Sees, Rests, HasTables, StaysInside, Changes, RanStatement, HasNoSlot, IsEarlier}
+use Rattle.moo_tables.{proofs.Words.{◌≡◌, ℕ, List, [], ◌∷◌, filter, not, true, false, Option, Ok, Err, Result, OnOk, IsTrue, refl, sym, subst, ◌∙◌, Null, Error, Row, col, overlay, understood, State, HasCleanDisk, Shows, KeepsCounts, statement_of, runs_as, ObjNo, PropId, SlotCells, Tables, present_schema, slot_tree, with_each, with_head_cells, with_slot_cells, migrated, AreKeyed, Holds, Sees, Rests, HasTables, StaysInside, Changes, RanStatement, HasNoSlot, IsEarlier}, proofs.TextLemmas.{empty_slots_text, empty_slots_is, empty_slots_plain, rowids_where}, proofs.InsideLemmas.{clean_before, commits, only_first}, proofs.ChangeLemmas.{slots_in_turn}, proofs.GrowLemmas.{Becomes}, proofs.QueryLemmas.{shows_all}, proofs.RowLemmas.{moo_quiet, went_out}, proofs.SeenLemmas.{SetsTree, schema_seen, sees_same}, proofs.StepLemmas.{deletes}}
 use Rattle.moo_rows.specs.declared.row.Head.{Head}
-use Rattle.moo_tables.proofs.TextLemmas.{empty_slots_text, empty_slots_is, empty_slots_plain, rowids_where}
-use Rattle.moo_tables.proofs.InsideLemmas.{clean_before, commits, only_first}
-use Rattle.moo_tables.proofs.ChangeLemmas.{slots_in_turn}
-use Rattle.moo_tables.proofs.GrowLemmas.{Becomes}
-use Rattle.moo_tables.proofs.QueryLemmas.{shows_all}
-use Rattle.moo_tables.proofs.RowLemmas.{moo_quiet, went_out}
-use Rattle.moo_tables.proofs.SeenLemmas.{SetsTree, schema_seen, sees_same}
-use Rattle.moo_tables.proofs.StepLemmas.{deletes}
 
 -- ---- a table that is emptied
 

@@ -1,15 +1,5 @@
 -- What the statements do that write a table with a number as its key, whichever it is.
-use Rattle.moo_tables.proofs.Words.{◌≡◌, ◌+◌, ◌/◌, ℕ, ℤ, List, [], ◌∷◌, ◌++◌, drop, map, length, slice_get, Option, Some, None, true, false, ◌&&◌, ◌||◌, ◌⊎◌, inl, inr, Bool, Result, Ok, Err, OnOk, IfOk, IsTrue, refl, sym, ap, subst, ◌∙◌, arith, list_all, IsPermutation, Null, Int, Error, Row, column, binary, is_true, col, holds, eval_all, Binary, Compare, Eq, with_rowid, cast_all, cast_row, Chosen, shown, Table, Trees, rowid, has_rowid, put_row, overlay, value_rows, understood, State, Executes, statement_of, runs_as, AreConflicts, conflicts, agree, Column, first_key, plain, Tables, present_schema, numbered, number_places, cells_at, numbered_in, numbered_with, same_number, update_text, put_text, remove_text, AreKeyed, Sees, Changes, RanStatement, KeepsUnread, WritesOver}
-use Rattle.moo_tables.proofs.TextLemmas.{WritesByNumber, number_terms, number_overwrite, writes_where, written_over, by_number, rowids_where}
-use Rattle.moo_tables.proofs.CastLemmas.{fit, kept_all}
-use Rattle.moo_tables.proofs.StepLemmas.{cast_int, updates, deletes}
-use Rattle.moo_tables.proofs.UpsertLemmas.{Settles, upserts}
-use Rattle.moo_tables.proofs.OverLemmas.{number_one, itself, number_settles}
-use Rattle.moo_tables.proofs.UpdateLemmas.{over_or_left}
-use Rattle.moo_tables.proofs.QueryLemmas.{chosen, shows_all}
-use Rattle.moo_tables.proofs.KeyLemmas.{after_put, after_removal, number_exact, number_apart, ties_one}
-use Rattle.moo_tables.proofs.RowLemmas.{moo_quiet, equal_number, put_keyed, rest_keyed, rest, went_out, number_free, has_itself, picks_number}
-use Rattle.moo_tables.proofs.SeenLemmas.{schema_seen, SetsTree, sees_still}
+use Rattle.moo_tables.{proofs.Words.{◌≡◌, ◌+◌, ◌/◌, ℕ, ℤ, List, [], ◌∷◌, ◌++◌, drop, map, length, slice_get, Option, Some, None, true, false, ◌&&◌, ◌||◌, ◌⊎◌, inl, inr, Bool, Result, Ok, Err, OnOk, IfOk, IsTrue, refl, sym, ap, subst, ◌∙◌, arith, list_all, IsPermutation, Null, Int, Error, Row, column, binary, is_true, col, holds, eval_all, Binary, Compare, Eq, with_rowid, cast_all, cast_row, Chosen, shown, Table, Trees, rowid, has_rowid, put_row, overlay, value_rows, understood, State, Executes, statement_of, runs_as, AreConflicts, conflicts, agree, Column, first_key, plain, Tables, present_schema, numbered, number_places, cells_at, numbered_in, numbered_with, same_number, update_text, put_text, remove_text, AreKeyed, Sees, Changes, RanStatement, KeepsUnread, WritesOver}, proofs.TextLemmas.{WritesByNumber, number_terms, number_overwrite, writes_where, written_over, by_number, rowids_where}, proofs.CastLemmas.{fit, kept_all}, proofs.StepLemmas.{cast_int, updates, deletes}, proofs.UpsertLemmas.{Settles, upserts}, proofs.OverLemmas.{number_one, itself, number_settles}, proofs.UpdateLemmas.{over_or_left}, proofs.QueryLemmas.{chosen, shows_all}, proofs.KeyLemmas.{after_put, after_removal, number_exact, number_apart, ties_one}, proofs.RowLemmas.{moo_quiet, equal_number, put_keyed, rest_keyed, rest, went_out, number_free, has_itself, picks_number}, proofs.SeenLemmas.{schema_seen, SetsTree, sees_still}}
 
 -- a row as its tree has it: the number, and the first column empty
 abbrev pub stored_at : ℤ → Row → Row

@@ -1,13 +1,6 @@
 -- The rows of one tree, after an upsert: the row stands in place of the one that has its key, or is put where none has it.
-use Rattle.moo_tables.proofs.Words.{◌≡◌, ◌≢◌, ℕ, ℤ, List, [], ◌∷◌, ◌++◌, filter, map, drop, Some, Bool, true, false, ◌&&◌, not, IsTrue, true≢false, refl, sym, ap, subst, ◌∙◌, inl, inr, arith, list_all, is_eq, Less, Equal, IsPermutation, length_permutation, not-true, and_parts, tied_itself, tied_back, Row, column, value_cmp, Null, Int, binary, is_true, Term, holds, eval_all, Binary, Compare, Eq, Trees, rowid, has_rowid, put_row, IsTable, shown, overlay, Program, IsNoIndex, id_in, without_all, put_all, next_rowid, cast_row, Given, Table, one_permutation, ids_of, AreConflicts, conflicts, is_int, Has, all_has, has_filtered, value_cmp_total, present_schema, has_pair, AreKeyed}
+use Rattle.moo_tables.{proofs.Words.{◌≡◌, ◌≢◌, ℕ, ℤ, List, [], ◌∷◌, ◌++◌, filter, map, drop, Some, Bool, true, false, ◌&&◌, not, IsTrue, true≢false, refl, sym, ap, subst, ◌∙◌, inl, inr, arith, list_all, is_eq, Less, Equal, IsPermutation, length_permutation, not-true, and_parts, tied_itself, tied_back, Row, column, value_cmp, Null, Int, binary, is_true, Term, holds, eval_all, Binary, Compare, Eq, Trees, rowid, has_rowid, put_row, IsTable, shown, overlay, Program, IsNoIndex, id_in, without_all, put_all, next_rowid, cast_row, Given, Table, one_permutation, ids_of, AreConflicts, conflicts, is_int, Has, all_has, has_filtered, value_cmp_total, present_schema, has_pair, AreKeyed}, proofs.TextLemmas.{by_given, writes_where, written_over}, proofs.QueryLemmas.{chosen, shows_all}, proofs.KeyLemmas.{is_false, both_ways, filter_same, tied_as_equal, one_row, int_value, removed, ties_one}, proofs.RowLemmas.{equal_number, rest, pair_free}, proofs.ListingLemmas.{exactly}, proofs.ReadLemmas.{ArePairs}, proofs.UpsertLemmas.{Settles, PutsIt, WritesOver}}
 use Rattle.sqlite.specs.Edit.{numbered}
-use Rattle.moo_tables.proofs.TextLemmas.{by_given, writes_where, written_over}
-use Rattle.moo_tables.proofs.QueryLemmas.{chosen, shows_all}
-use Rattle.moo_tables.proofs.KeyLemmas.{is_false, both_ways, filter_same, tied_as_equal, one_row, int_value, removed, ties_one}
-use Rattle.moo_tables.proofs.RowLemmas.{equal_number, rest, pair_free}
-use Rattle.moo_tables.proofs.ListingLemmas.{exactly}
-use Rattle.moo_tables.proofs.ReadLemmas.{ArePairs}
-use Rattle.moo_tables.proofs.UpsertLemmas.{Settles, PutsIt, WritesOver}
 
 -- two rows that both have a number tie
 pub tie_by : (x y : Row) (id : ℤ) → has_rowid id x ≡ true → has_rowid id y ≡ true → value_cmp (rowid x) (rowid y) ≡ Equal

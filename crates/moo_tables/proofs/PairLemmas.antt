@@ -1,17 +1,5 @@
 -- What the statements do that write a table with two columns as its key, whichever it is.
-use Rattle.moo_tables.proofs.Words.{◌≡◌, ◌+◌, ◌/◌, ℕ, ℤ, List, [], ◌∷◌, ◌++◌, drop, map, length, slice_get, Option, Some, None, true, false, ◌&&◌, ◌||◌, ◌⊎◌, inl, inr, Bool, Result, Ok, Err, OnOk, IfOk, IsTrue, refl, sym, ap, subst, ◌∙◌, arith, list_all, and_parts, IsPermutation, Null, Int, Error, Row, column, binary, is_true, col, holds, eval_all, Binary, Compare, Eq, with_rowid, next_rowid, cast_all, cast_row, Chosen, shown, Table, Trees, rowid, put_row, overlay, value_rows, understood, State, Executes, statement_of, runs_as, AreConflicts, conflicts, agree, Column, first_key, plain, Tables, present_schema, paired, pair_places, has_pair, cells_at, paired_in, paired_with, same_numbers, update_text, put_text, remove_text, AreKeyed, Sees, Changes, RanStatement, KeepsUnread, WritesOver}
-use Rattle.moo_tables.proofs.TextLemmas.{WritesByPair, pair_terms, pair_overwrite, writes_where, written_over, by_pair, rowids_where}
-use Rattle.moo_tables.proofs.CastLemmas.{fit, kept_all}
-use Rattle.moo_tables.proofs.StepLemmas.{cast_null, cast_int, updates, deletes}
-use Rattle.moo_tables.proofs.UpsertLemmas.{Settles, upserts}
-use Rattle.moo_tables.proofs.OverLemmas.{free_beside, pair_settles}
-use Rattle.moo_tables.proofs.UpdateLemmas.{over_or_left}
-use Rattle.moo_tables.proofs.ListingLemmas.{exactly}
-use Rattle.moo_tables.proofs.ReadLemmas.{ArePairs}
-use Rattle.moo_tables.proofs.QueryLemmas.{chosen, shows_all}
-use Rattle.moo_tables.proofs.KeyLemmas.{after_put, after_removal, pair_exact, pair_apart}
-use Rattle.moo_tables.proofs.RowLemmas.{moo_quiet, equal_number, put_keyed, rest_keyed, rest, went_out, pair_has, picks_pair}
-use Rattle.moo_tables.proofs.SeenLemmas.{schema_seen, SetsTree, sees_still}
+use Rattle.moo_tables.{proofs.Words.{◌≡◌, ◌+◌, ◌/◌, ℕ, ℤ, List, [], ◌∷◌, ◌++◌, drop, map, length, slice_get, Option, Some, None, true, false, ◌&&◌, ◌||◌, ◌⊎◌, inl, inr, Bool, Result, Ok, Err, OnOk, IfOk, IsTrue, refl, sym, ap, subst, ◌∙◌, arith, list_all, and_parts, IsPermutation, Null, Int, Error, Row, column, binary, is_true, col, holds, eval_all, Binary, Compare, Eq, with_rowid, next_rowid, cast_all, cast_row, Chosen, shown, Table, Trees, rowid, put_row, overlay, value_rows, understood, State, Executes, statement_of, runs_as, AreConflicts, conflicts, agree, Column, first_key, plain, Tables, present_schema, paired, pair_places, has_pair, cells_at, paired_in, paired_with, same_numbers, update_text, put_text, remove_text, AreKeyed, Sees, Changes, RanStatement, KeepsUnread, WritesOver}, proofs.TextLemmas.{WritesByPair, pair_terms, pair_overwrite, writes_where, written_over, by_pair, rowids_where}, proofs.CastLemmas.{fit, kept_all}, proofs.StepLemmas.{cast_null, cast_int, updates, deletes}, proofs.UpsertLemmas.{Settles, upserts}, proofs.OverLemmas.{free_beside, pair_settles}, proofs.UpdateLemmas.{over_or_left}, proofs.ListingLemmas.{exactly}, proofs.ReadLemmas.{ArePairs}, proofs.QueryLemmas.{chosen, shows_all}, proofs.KeyLemmas.{after_put, after_removal, pair_exact, pair_apart}, proofs.RowLemmas.{moo_quiet, equal_number, put_keyed, rest_keyed, rest, went_out, pair_has, picks_pair}, proofs.SeenLemmas.{schema_seen, SetsTree, sees_still}}
 
 -- The rows of the table have these cells. Each of these facts is computed, whatever the columns are.
 pub record HasPairs {K C : Type 0} (t : Table) (pair : K → ℤ × ℤ) (cells : K → C → Row) : Type 0 where

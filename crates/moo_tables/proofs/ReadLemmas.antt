@@ -1,17 +1,8 @@
 -- What the queries of the tables answer.
-use Rattle.moo_tables.proofs.Words.{◌≡◌, ◌⊎◌, ◌&&◌, None, ℕ, ℤ, List, [], ◌∷◌, map, drop, codes, option_map, true, false, not, Vec, inl, inr, Result, Ok, Err, IfOk, OnOk, OnErr, IsTrue, refl, sym, ap, subst, ◌∙◌, is_eq, ordering_then, IsPermutation, Global, Contains-permutation, IsPermutation-sym, and_parts, not-true, Null, Error, Row, column, value_cmp, Term, eval_all, Query, Output, output, output_cmp, overlay, Schema, Table, Trees, Column, AllByRecursion, Database, understood, State, HasCleanDisk, Shown, ShowsRows, Survives, CommitsShowing, IsUnchanged, IsRolledBack, timed, IsPlain, reads_as, never_commits, survives_weaker, survives_then, IsAscending, is_int, then-Equal, output_cmp_total, Datatype, NotNull, Unique, clashes, are_typed, are_present, has_computed, plain, IsSound, Has, all_has, all_from, has_contained, contains_had, ascending-map, ascending_from_map, ascending_weaker, all_map, Version, First, Second, Tables, required, schema_of, slot_tree, head_table, object_table, prop_table, petition_table, petition_head_table, slot_table, slot2_table, verb_table, has_pair, cells_at, found_in, numbered_in, paired_in, head_places, object_places, prop_places, slot_places, verb_places, petition_places, petition_head_places, select_text, AreKeyed, Holds, Rests, HasTables, ReadsTables, FailsToRead, ListsNumbers, ListsPairs, IsRowBelow, has_key_pair, has_petitions, petition_rows, if◌then◌else◌}
-use Rattle.std.proofs.Common.{Ordering, Less, Equal}
-use Rattle.std.specs.Cmp.{on_total}
+use Rattle.moo_tables.{proofs.Words.{◌≡◌, ◌⊎◌, ◌&&◌, None, ℕ, ℤ, List, [], ◌∷◌, map, drop, codes, option_map, true, false, not, Vec, inl, inr, Result, Ok, Err, IfOk, OnOk, OnErr, IsTrue, refl, sym, ap, subst, ◌∙◌, is_eq, ordering_then, IsPermutation, Global, Contains-permutation, IsPermutation-sym, and_parts, not-true, Null, Error, Row, column, value_cmp, Term, eval_all, Query, Output, output, output_cmp, overlay, Schema, Table, Trees, Column, AllByRecursion, Database, understood, State, HasCleanDisk, Shown, ShowsRows, Survives, CommitsShowing, IsUnchanged, IsRolledBack, timed, IsPlain, reads_as, never_commits, survives_weaker, survives_then, IsAscending, is_int, then-Equal, output_cmp_total, Datatype, NotNull, Unique, clashes, are_typed, are_present, has_computed, plain, IsSound, Has, all_has, all_from, has_contained, contains_had, ascending-map, ascending_from_map, ascending_weaker, all_map, Version, First, Second, Tables, required, schema_of, slot_tree, head_table, object_table, prop_table, petition_table, petition_head_table, slot_table, slot2_table, verb_table, has_pair, cells_at, found_in, numbered_in, paired_in, head_places, object_places, prop_places, slot_places, verb_places, petition_places, petition_head_places, select_text, AreKeyed, Holds, Rests, HasTables, ReadsTables, FailsToRead, ListsNumbers, ListsPairs, IsRowBelow, has_key_pair, has_petitions, petition_rows, if◌then◌else◌}, proofs.TextLemmas.{plain_query, in_order, number_order, pair_order}, proofs.SelectLemmas.{IsSelect, number_columns, pair_columns, slots_table, select_head, select_object, select_prop, select_slot, select_verb, select_petition, select_counter}, proofs.InsideLemmas.{clean_before}, proofs.StreamLemmas.{unchanged_then, failed_then}, proofs.QueryLemmas.{chosen, Selects, selects, shows_in_order, shown_rows}, proofs.SortLemmas.{rises-sort_by}, proofs.ListingLemmas.{find-map, find_alike, one_pair, two_ints, lists_numbers, no_ties}}
+use Rattle.std.{proofs.Common.{Ordering, Less, Equal}, specs.Cmp.{on_total}}
 use Rattle.sqlite_schema.specs.declared.schema.Kind.TheVariants.{Integer}
-use Rattle.sqlite_keyed.specs.Lists.{sort_by}
-use Rattle.sqlite_keyed.proofs.SortLemmas.{sorted_is-sort_by, IsPermutation-sort_by, sort_by-map}
-use Rattle.moo_tables.proofs.TextLemmas.{plain_query, in_order, number_order, pair_order}
-use Rattle.moo_tables.proofs.SelectLemmas.{IsSelect, number_columns, pair_columns, slots_table, select_head, select_object, select_prop, select_slot, select_verb, select_petition, select_counter}
-use Rattle.moo_tables.proofs.InsideLemmas.{clean_before}
-use Rattle.moo_tables.proofs.StreamLemmas.{unchanged_then, failed_then}
-use Rattle.moo_tables.proofs.QueryLemmas.{chosen, Selects, selects, shows_in_order, shown_rows}
-use Rattle.moo_tables.proofs.SortLemmas.{rises-sort_by}
-use Rattle.moo_tables.proofs.ListingLemmas.{find-map, find_alike, one_pair, two_ints, lists_numbers, no_ties}
+use Rattle.sqlite_keyed.{specs.Lists.{sort_by}, proofs.SortLemmas.{sorted_is-sort_by, IsPermutation-sort_by, sort_by-map}}
 
 pub unchanged_as : (sql : List ℕ) (params : Row) (old new : State) (rows : List Row) → IsPlain (understood old.now.schema sql) → Shown sql params old new rows → IsUnchanged old new
 unfolding Shown

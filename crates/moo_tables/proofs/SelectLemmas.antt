@@ -1,6 +1,5 @@
 -- What the texts that read a table mean.
-use Rattle.moo_tables.proofs.Words.{◌≡◌, ℕ, List, map, false, refl, Select, Schema, Table, understood, reads_listing, Term, col, IsPlain, command_of, everything, Program, Version, First, Second, first_schema, second_schema, schema_of, slot_tree, number_places, pair_places, head_table, object_table, prop_table, slot_table, slot2_table, verb_table, petition_table, petition_head_table, select_text, names, IsTrue, has_petitions, has_lettered_bits, sym, true≢false, if◌then◌else◌}
-use Rattle.moo_tables.proofs.TextLemmas.{Means, means_command, means_plain, in_order, number_order, pair_order}
+use Rattle.moo_tables.{proofs.Words.{◌≡◌, ℕ, List, map, false, refl, Select, Schema, Table, understood, reads_listing, Term, col, IsPlain, command_of, everything, Program, Version, First, Second, first_schema, second_schema, schema_of, slot_tree, number_places, pair_places, head_table, object_table, prop_table, slot_table, slot2_table, verb_table, petition_table, petition_head_table, select_text, names, IsTrue, has_petitions, has_lettered_bits, sym, true≢false, if◌then◌else◌}, proofs.TextLemmas.{Means, means_command, means_plain, in_order, number_order, pair_order}}
 
 -- the text is this query of the schema, and reads no list of tables
 pub record IsSelect (schema : Schema) (text : List ℕ) (program : Program) (names : List (List ℕ)) : Type 0 where

@@ -2,10 +2,8 @@
 use Rattle.moo_tables.proofs.Words.{◌≡◌, inl, inr, ℕ, List, [], append-nil, length, Bool, true, false, true≢false, ◌||◌, Option, Some, None, Err, Result, IsTrue, refl, sym, ap, subst, subst₂, ◌∙◌, ⊤, Error, Row, Schema, Does, Database, is_query, understood, timed, State, HasCleanDisk, Fails, HasCause, IsNotRun, IsNoStatement, IsStatement, IsMisplaced, ExecutesIn, ExecutesInside, EndsScope, RunsCommand, shows_rows, is_pragma, mode_of, text_of, IsPlain, command_of, StopsChange}
 use Rattle.sqlite.specs.declared.run.Mode.{Mode}
 use Rattle.sqlite_resolve.specs.declared.compiled.Compiled.{Compiled}
-use Rattle.sqlite_schema.specs.declared.command.Command.{Command}
-use Rattle.sqlite_schema.specs.declared.command.Command.TheVariants.{InsertOr, Update, Delete, Begin, Commit, Rollback, Release, RollbackTo}
-use Rattle.sqlite_trees.specs.declared.error.StoreError.{StoreError}
-use Rattle.sqlite_trees.specs.declared.error.StoreError.TheVariants.{OutOfMemory, Io, Corrupt, Full, Broken, Unstorable}
+use Rattle.sqlite_schema.{specs.declared.command.Command.{Command}, specs.declared.command.Command.TheVariants.{InsertOr, Update, Delete, Begin, Commit, Rollback, Release, RollbackTo}}
+use Rattle.sqlite_trees.{specs.declared.error.StoreError.{StoreError}, specs.declared.error.StoreError.TheVariants.{OutOfMemory, Io, Corrupt, Full, Broken, Unstorable}}
 pub use Rattle.moo_tables.proofs.TextLemmas.{IsOne}
 use Rattle.moo_tables.proofs.RefusalLemmas.{IsAllowed}
 

@@ -1,9 +1,6 @@
 -- No two rows of a table share a key of two columns, whichever row is put or taken out.
-use Rattle.moo_tables.proofs.Words.{◌≡◌, ◌⊎◌, inl, inr, ℤ, List, [], ◌∷◌, true, true≢false, ◌&&◌, not, IsTrue, refl, sym, ap, subst, ◌∙◌, AllByRecursion, is_eq, is_ne, and_parts, and_from, tied_itself, Int, Row, column, value_cmp, binary, is_true, Binary, Compare, Eq, id_in, rowid, put_row, agree, differ, clashes, first_key, plain, value_cmp_total, Has, all_from, some_has, is_int, has_pair}
+use Rattle.moo_tables.{proofs.Words.{◌≡◌, ◌⊎◌, inl, inr, ℤ, List, [], ◌∷◌, true, true≢false, ◌&&◌, not, IsTrue, refl, sym, ap, subst, ◌∙◌, AllByRecursion, is_eq, is_ne, and_parts, and_from, tied_itself, Int, Row, column, value_cmp, binary, is_true, Binary, Compare, Eq, id_in, rowid, put_row, agree, differ, clashes, first_key, plain, value_cmp_total, Has, all_from, some_has, is_int, has_pair}, proofs.KeyLemmas.{is_false, int_value, pair_apart, pair_exact}, proofs.RowLemmas.{equal_number}, proofs.ListingLemmas.{differ_numbers}}
 use Rattle.sqlite_rules.proofs.TableLemmas.{put_has}
-use Rattle.moo_tables.proofs.KeyLemmas.{is_false, int_value, pair_apart, pair_exact}
-use Rattle.moo_tables.proofs.RowLemmas.{equal_number}
-use Rattle.moo_tables.proofs.ListingLemmas.{differ_numbers}
 
 -- no other row has the key of one
 abbrev pub AreApart : List Row → Type 0

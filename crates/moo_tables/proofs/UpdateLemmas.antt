@@ -1,10 +1,6 @@
 -- The rows of one tree, after an update by their key: the row that has it is written over, or there is none and all stay.
-use Rattle.moo_tables.proofs.Words.{◌≡◌, ◌⊎◌, inl, inr, List, [], ◌∷◌, map, drop, length, Bool, true, false, true≢false, IsTrue, refl, sym, ap, subst, ◌∙◌, list_all, list_any, IsPermutation, Row, Int, Term, holds, eval_all, rowid, has_rowid, put_row, id_in, without_all, put_all, cast_row, Given, Table, one_permutation, ids_of, is_int, Has, all_has, some_has, some_from, AreKeyed}
+use Rattle.moo_tables.{proofs.Words.{◌≡◌, ◌⊎◌, inl, inr, List, [], ◌∷◌, map, drop, length, Bool, true, false, true≢false, IsTrue, refl, sym, ap, subst, ◌∙◌, list_all, list_any, IsPermutation, Row, Int, Term, holds, eval_all, rowid, has_rowid, put_row, id_in, without_all, put_all, cast_row, Given, Table, one_permutation, ids_of, is_int, Has, all_has, some_has, some_from, AreKeyed}, proofs.QueryLemmas.{chosen}, proofs.KeyLemmas.{is_false, both_ways, filter_same, int_value}, proofs.RowLemmas.{rest}, proofs.OverLemmas.{Found, number_one, none_kept, no_permutation, alone, itself, takes_place}}
 use Rattle.sqlite.specs.Edit.{numbered}
-use Rattle.moo_tables.proofs.QueryLemmas.{chosen}
-use Rattle.moo_tables.proofs.KeyLemmas.{is_false, both_ways, filter_same, int_value}
-use Rattle.moo_tables.proofs.RowLemmas.{rest}
-use Rattle.moo_tables.proofs.OverLemmas.{Found, number_one, none_kept, no_permutation, alone, itself, takes_place}
 
 module _ {K : Type 0} (has : K → Row → Bool) (key : K) (rows : List Row) (keyed : AreKeyed rows) where
   -- the row with the key, by its number

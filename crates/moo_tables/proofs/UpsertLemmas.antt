@@ -1,7 +1,6 @@
 -- What an upsert makes of the tables, whatever they are: it puts its row, or writes over the first row that has its key.
-use Rattle.moo_tables.proofs.Words.{◌≡◌, inl, inr, ℕ, ◌/◌, ℤ, List, [], ◌∷◌, ◌++◌, length, slice_get, Option, Some, None, Ok, Err, sym, ap, subst, ◌∙◌, Row, Term, Table, Schema, Values, InsertOr, edit_of, with_rowid, Applies, cast_row, Chosen, Given, Tally, Does, Task, Written, Puts, Clears, Meets, Upserts, Judged, TriesEach, Tries, count_of, nothing, shown, Trees, rowid, Database, Answers, value_rows, edit_error, State, mode_of, Writes, Enforced, Abort, Upsert, Program, Column, Order, taken_by, AreConflicts, ids_of, one_step, table_of}
+use Rattle.moo_tables.{proofs.Words.{◌≡◌, inl, inr, ℕ, ◌/◌, ℤ, List, [], ◌∷◌, ◌++◌, length, slice_get, Option, Some, None, Ok, Err, sym, ap, subst, ◌∙◌, Row, Term, Table, Schema, Values, InsertOr, edit_of, with_rowid, Applies, cast_row, Chosen, Given, Tally, Does, Task, Written, Puts, Clears, Meets, Upserts, Judged, TriesEach, Tries, count_of, nothing, shown, Trees, rowid, Database, Answers, value_rows, edit_error, State, mode_of, Writes, Enforced, Abort, Upsert, Program, Column, Order, taken_by, AreConflicts, ids_of, one_step, table_of}, proofs.StepLemmas.{SetsOffNothing, went, same_value}}
 use Rattle.sqlite_rules.specs.declared.error.Refusal.{Refusal}
-use Rattle.moo_tables.proofs.StepLemmas.{SetsOffNothing, went, same_value}
 
 module _ (schema : Schema) (table : Table) (db : Trees) (params : Row) (q : Program) where
   abbrev pub PutsIt : Row → Trees → Type 0

@@ -1,7 +1,5 @@
 -- What the lines that are left of a text say, from one line to the next.
-use Rattle.moo_text.proofs.Shared.{◌≡◌, ℕ, ◌+◌, ◌<◌, ◌≤◌, true, false, inl, inr, List, [], ◌∷◌, ◌++◌, length, Option, Some, None, Result, Ok, Err, IfOk, IfErr, refl, sym, ap, subst, ◌∙◌, arith, nat_lt, lines, length-append, Call, is_short, is_blank_line, is_end_line, header_of, call_of, between, within, skipping, IsLineRead, TakesLine, Carries, TakesFirst, TakesNext, Side, ReadsLine, ReadsAlong, ReadsFirst, ReadsNext, BreaksOff, TextFault, OutOfMemory, Header, Next}
-use Rattle.moo_text.proofs.Giving.{ReadsOn-none, ReadsOn-then, ReadsOn-map, ReadsOn-breaks, out_of_memory}
-use Rattle.moo_text.specs.declared.next.Next.TheVariants.{Batch as Whole, Malformed, Truncated, End}
+use Rattle.moo_text.{proofs.Shared.{◌≡◌, ℕ, ◌+◌, ◌<◌, ◌≤◌, true, false, inl, inr, List, [], ◌∷◌, ◌++◌, length, Option, Some, None, Result, Ok, Err, IfOk, IfErr, refl, sym, ap, subst, ◌∙◌, arith, nat_lt, lines, length-append, Call, is_short, is_blank_line, is_end_line, header_of, call_of, between, within, skipping, IsLineRead, TakesLine, Carries, TakesFirst, TakesNext, Side, ReadsLine, ReadsAlong, ReadsFirst, ReadsNext, BreaksOff, TextFault, OutOfMemory, Header, Next}, proofs.Giving.{ReadsOn-none, ReadsOn-then, ReadsOn-map, ReadsOn-breaks, out_of_memory}, specs.declared.next.Next.TheVariants.{Batch as Whole, Malformed, Truncated, End}}
 
 -- lines that are read alike
 pub record AreAlike (read line : List ℕ) : Type 0 where

@@ -1,10 +1,6 @@
 -- Reading line by line gives the one way in which a text is cut.
-use Rattle.moo_text.proofs.Shared.{◌≡◌, ℕ, suc, ◌+◌, ◌<◌, ◌≤◌, Bool, true, false, cond, ◌⊎◌, inl, inr, List, [], ◌∷◌, ◌++◌, length, Option, Some, None, refl, sym, ap, subst, ◌∙◌, append_assoc, arith, nat_lt, ◌&&◌, ◌==◌, option_map_or, append-nil, length-append, after_blanks, Call, is_short, is_end_word, is_blank_line, is_end_line, SpellsHeader, SpellsCall, header_of, call_of, between, within, skipping, Header, Next}
+use Rattle.moo_text.{proofs.Shared.{◌≡◌, ℕ, suc, ◌+◌, ◌<◌, ◌≤◌, Bool, true, false, cond, ◌⊎◌, inl, inr, List, [], ◌∷◌, ◌++◌, length, Option, Some, None, refl, sym, ap, subst, ◌∙◌, append_assoc, arith, nat_lt, ◌&&◌, ◌==◌, option_map_or, append-nil, length-append, after_blanks, Call, is_short, is_end_word, is_blank_line, is_end_line, SpellsHeader, SpellsCall, header_of, call_of, between, within, skipping, Header, Next}, specs.Cut.{AreBlankLines, HaveNoEnd, IsContentLine, IsNoHeader, IsNoCall, AreCalls, IsBatch, IsFirstBad, IsMalformed, IsTruncated, Cuts}, specs.declared.next.Next.TheVariants.{Batch as Whole, Malformed, Truncated, End}, proofs.Headers.{header_taken, header_again}, proofs.Calls.{call_taken, call_again}}
 use Rattle.moo_world.specs.declared.call.Batch.{Batch}
-use Rattle.moo_text.specs.Cut.{AreBlankLines, HaveNoEnd, IsContentLine, IsNoHeader, IsNoCall, AreCalls, IsBatch, IsFirstBad, IsMalformed, IsTruncated, Cuts}
-use Rattle.moo_text.specs.declared.next.Next.TheVariants.{Batch as Whole, Malformed, Truncated, End}
-use Rattle.moo_text.proofs.Headers.{header_taken, header_again}
-use Rattle.moo_text.proofs.Calls.{call_taken, call_again}
 
 no_header : (line : List ℕ) → IsNoHeader line → header_of line ≡ None
 no_header line none = by_read (header_of line) refl

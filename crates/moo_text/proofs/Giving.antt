@@ -1,8 +1,6 @@
 -- The bytes that a reader gave, joined from call to call.
 use Rattle.moo_text.proofs.Shared.{◌≡◌, ℕ, ◌+◌, true, List, [], ◌++◌, length, Option, Some, None, refl, sym, ap, subst, ◌∙◌, append_assoc, arith, Result, IfErr, length-append, Side, ReaderGives, ReadsOn, Explains, BreaksOff, TextFault, Read, Write, OutOfMemory, Long}
-use Rattle.std.specs.Io.KnownBytes.{Consumes}
-use Rattle.std.specs.Result.{IsErrAnd}
-use Rattle.std.proofs.lemmas.Result.{err_from_is_err_and}
+use Rattle.std.{specs.Io.KnownBytes.{Consumes}, specs.Result.{IsErrAnd}, proofs.lemmas.Result.{err_from_is_err_and}}
 
 Consumes-none : (a : Option (List ℕ)) → Consumes a a []
 Consumes-none None = tt

@@ -1,8 +1,6 @@
 -- A header is read as it is spelled.
-use Rattle.moo_text.proofs.Shared.{◌≡◌, ℕ, ◌≤◌, Bool, true, false, cond, inl, inr, List, [], ◌∷◌, ◌++◌, length, Option, Some, None, refl, sym, ap, subst, ◌∙◌, arith, ◌==◌, ◌&&◌, nat_le, codes, list_all, option_map, option_and_then, eqb-true, append-nil, Value, is_blank, is_digit, AreDigits, value_after, SpellsObject, Spells, InRange, an_object, chosen, same_text, same_text-Decides, is_short, words_of_line, SpellsPlace, SpellsAt, SpellsHeader, front_of, behind_word, object_value, begins_with_byte, object_of, is_place, place_number, last_place, at_of, header_behind, header_of, Header}
-use Rattle.moo_value.specs.declared.value.ObjNo.{ObjNo}
-use Rattle.moo_value.specs.declared.value.Value.TheVariants.{Int, Obj, Str, Error, List as a_list}
-use Rattle.moo_text.proofs.Reading.{front_read, front_again_of}
+use Rattle.moo_text.{proofs.Shared.{◌≡◌, ℕ, ◌≤◌, Bool, true, false, cond, inl, inr, List, [], ◌∷◌, ◌++◌, length, Option, Some, None, refl, sym, ap, subst, ◌∙◌, arith, ◌==◌, ◌&&◌, nat_le, codes, list_all, option_map, option_and_then, eqb-true, append-nil, Value, is_blank, is_digit, AreDigits, value_after, SpellsObject, Spells, InRange, an_object, chosen, same_text, same_text-Decides, is_short, words_of_line, SpellsPlace, SpellsAt, SpellsHeader, front_of, behind_word, object_value, begins_with_byte, object_of, is_place, place_number, last_place, at_of, header_behind, header_of, Header}, proofs.Reading.{front_read, front_again_of}}
+use Rattle.moo_value.{specs.declared.value.ObjNo.{ObjNo}, specs.declared.value.Value.TheVariants.{Int, Obj, Str, Error, List as a_list}}
 
 pub then_some : {A B : Type 0} (f : A → Option B) (o : Option A) (y : B) → option_and_then f o ≡ Some y → (x : A) × (o ≡ Some x) × (f x ≡ Some y)
 then_some f None y e = absurd cc

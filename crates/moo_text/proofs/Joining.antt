@@ -1,8 +1,6 @@
 -- The items that are read from call to call, over the bytes that were given in all of them.
-use Rattle.moo_text.proofs.Shared.{◌≡◌, ℕ, true, List, [], ◌∷◌, ◌++◌, Option, Some, None, refl, sym, ap, subst, ◌∙◌, append_assoc, length, append-nil, length-append, items, TakesNext, Side, untouched, ReaderGives, Explains, BreaksOff, ReadsNext, ReadsItems, ReadsAll, StopsBehind, GivesAll, GivesFront, TextFault, Next}
+use Rattle.moo_text.{proofs.Shared.{◌≡◌, ℕ, true, List, [], ◌∷◌, ◌++◌, Option, Some, None, refl, sym, ap, subst, ◌∙◌, append_assoc, length, append-nil, length-append, items, TakesNext, Side, untouched, ReaderGives, Explains, BreaksOff, ReadsNext, ReadsItems, ReadsAll, StopsBehind, GivesAll, GivesFront, TextFault, Next}, specs.declared.next.Next.TheVariants.{Batch as Whole, Malformed, Truncated, End}, proofs.Giving.{ReaderGives-then, Explains-then, ReadsOn-none, ReadsOn-then, ReadsOn-stand}}
 use Rattle.std.specs.Io.KnownBytes.{Consumes, IsAtEnd}
-use Rattle.moo_text.specs.declared.next.Next.TheVariants.{Batch as Whole, Malformed, Truncated, End}
-use Rattle.moo_text.proofs.Giving.{ReaderGives-then, Explains-then, ReadsOn-none, ReadsOn-then, ReadsOn-stand}
 
 pub items_none : (a : Side) → ReadsItems a a []
 items_none a = ReadsOn-none a (λ before behind. items before ≡ [] ++ items behind) (λ x. refl)

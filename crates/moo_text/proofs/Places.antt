@@ -1,6 +1,5 @@
 -- Numbers of up to 19 digits.
-use Rattle.std.proofs.Common.{ℕ, ◌+◌, ◌*◌, ◌^◌, ◌<◌, ◌≤◌, lit<, arith}
-use Rattle.std.proofs.Math.Nat.{pow-le-pow_right}
+use Rattle.std.{proofs.Common.{ℕ, ◌+◌, ◌*◌, ◌^◌, ◌<◌, ◌≤◌, lit<, arith}, proofs.Math.Nat.{pow-le-pow_right}}
 
 -- there is room for one more digit behind 18
 pub room_for_digit : (p i n : ℕ) → p < 10 ^ i → i < n → n ≤ 19 → 10 * p + 9 < 18446744073709551616

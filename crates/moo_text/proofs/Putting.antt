@@ -1,8 +1,5 @@
 -- Texts that are put behind others.
-use Rattle.std.proofs.Common.{◌≡◌, ◌++◌, ℕ, List, Result, Ok, Err, ap, ◌∙◌, append_assoc}
-use Rattle.std.specs.Prelude.{OnOk, if◌then◌else◌}
-use Rattle.std.specs.Result.{is_ok}
-use Rattle.std.specs.Io.{StartsWith}
+use Rattle.std.{proofs.Common.{◌≡◌, ◌++◌, ℕ, List, Result, Ok, Err, ap, ◌∙◌, append_assoc}, specs.Prelude.{OnOk, if◌then◌else◌}, specs.Result.{is_ok}, specs.Io.{StartsWith}}
 use Rattle.moo_value.proofs.Printed.{starts, starts_alike, kept_on}
 
 -- a text that was put last ends the whole, unless there was no memory for it

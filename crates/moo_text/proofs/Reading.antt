@@ -1,11 +1,8 @@
 -- Reading a header and a call from left to right.
 use Rattle.moo_text.proofs.Shared.{◌≡◌, ℕ, zero, suc, ◌-◌, ◌<◌, ◌≤◌, true, false, inl, inr, List, [], ◌∷◌, ◌++◌, length, drop, Option, Some, None, Ok, Err, refl, sym, ap, ◌∙◌, append_assoc, arith, ◌↔◌, option_map, option_and_then, ◌==◌, ◌&&◌, list_all, eqb-true, length-append, Value, Spells, Fits, Ends, Front, literal_at, value_at, after_blanks, chosen, fits, folded, is_all_blank, found, front_of, behind_value, values_at, behind_mark, after_mark, call_name}
 use Rattle.std.proofs.lemmas.List.Folds.{list_all-append}
-use Rattle.moo_value.specs.Reading.{Read}
-use Rattle.moo_value.proofs.Literals.{front_taken, front_again, literal_again, value_taken, takes, blanks_taken}
-use Rattle.moo_world.specs.Names.{spelling}
-use Rattle.moo_world.specs.declared.name.CallName.{CallName}
-use Rattle.moo_world.specs.Names.{spelled_is}
+use Rattle.moo_value.{specs.Reading.{Read}, proofs.Literals.{front_taken, front_again, literal_again, value_taken, takes, blanks_taken}}
+use Rattle.moo_world.{specs.Names.{spelling}, specs.declared.name.CallName.{CallName}, specs.Names.{spelled_is}}
 
 -- ---- the literal in front
 

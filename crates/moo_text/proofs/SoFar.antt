@@ -1,7 +1,5 @@
 -- A line of which so much is read, over the bytes that were given meanwhile.
-use Rattle.moo_text.proofs.Shared.{◌≡◌, ℕ, ◌+◌, ◌≤◌, ◌<◌, false, List, [], ◌++◌, length, take, drop, Option, Some, sym, ap, subst, ◌∙◌, append_assoc, arith, append-nil, length-append, length-take, ◌==◌, strip_carriage_return, TakesLine, Side, IsOver, ReaderGives, ReadsLine, BreaksOff, TextFault, OutOfMemory}
-use Rattle.moo_text.proofs.Kept.{HasNoNewline, LineSoFar, NewlineAt, none-append, kept_again, end_found}
-use Rattle.moo_text.proofs.Giving.{ReaderGives-none, ReaderGives-then, gives_then_breaks, out_of_memory}
+use Rattle.moo_text.{proofs.Shared.{◌≡◌, ℕ, ◌+◌, ◌≤◌, ◌<◌, false, List, [], ◌++◌, length, take, drop, Option, Some, sym, ap, subst, ◌∙◌, append_assoc, arith, append-nil, length-append, length-take, ◌==◌, strip_carriage_return, TakesLine, Side, IsOver, ReaderGives, ReadsLine, BreaksOff, TextFault, OutOfMemory}, proofs.Kept.{HasNoNewline, LineSoFar, NewlineAt, none-append, kept_again, end_found}, proofs.Giving.{ReaderGives-none, ReaderGives-then, gives_then_breaks, out_of_memory}}
 
 pub record SoFar (start now : Side) (line : List ℕ) : Type 0 where
   pub given : List ℕ

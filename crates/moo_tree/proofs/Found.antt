@@ -1,10 +1,7 @@
 -- What is found under an object, as lists in the order of their keys.
-use Rattle.moo_tree.proofs.Words.{◌≡◌, Bool, true, false, cond, T, ◌&&◌, Option, None, Some, List, [], ◌∷◌, map, Ordering, Less, refl, sym, ap, ◌∙◌, subst, option_map, filter, AllByRecursion, is_lt, eq_by_cmp, BTreeMap, IsOrdered, keys, get, get-entries, get-from_entries, is_sorted, entries, entries_sorted, ObjNo, object_exact, Maps, object_cmp, contents, object_total, is_among, subtree_of, world_of, IsTree, chain, IsFound, owner_if_under, owners_under}
-use Rattle.std.specs.List.Sorted.{IsStrictlySortedBy}
-use Rattle.std.specs.FinMap.{find}
-use Rattle.std.specs.FinMap.Entries.{below_all, find-where_key, is_sorted-where_key, same_entries}
+use Rattle.moo_tree.{proofs.Words.{◌≡◌, Bool, true, false, cond, T, ◌&&◌, Option, None, Some, List, [], ◌∷◌, map, Ordering, Less, refl, sym, ap, ◌∙◌, subst, option_map, filter, AllByRecursion, is_lt, eq_by_cmp, BTreeMap, IsOrdered, keys, get, get-entries, get-from_entries, is_sorted, entries, entries_sorted, ObjNo, object_exact, Maps, object_cmp, contents, object_total, is_among, subtree_of, world_of, IsTree, chain, IsFound, owner_if_under, owners_under}, proofs.Listing.{subtree_listed}}
+use Rattle.std.{specs.List.Sorted.{IsStrictlySortedBy}, specs.FinMap.{find}, specs.FinMap.Entries.{below_all, find-where_key, is_sorted-where_key, same_entries}}
 use Rattle.moo_rows.proofs.Walking.{first_of, second_of}
-use Rattle.moo_tree.proofs.Listing.{subtree_listed}
 
 both_of : (a b : Bool) → T a → T b → T (a && b)
 both_of true b p q = q

@@ -1,12 +1,8 @@
 -- What is read off the objects' rows, as lists of the world.
 use Rattle.moo_tree.proofs.Words.{◌≡◌, Bool, true, true≢false, List, [], ◌∷◌, map, Option, None, Some, get, object_exact, Less, refl, sym, ap, ◌∙◌, arith, pos, negsuc, ◌≤ℤ◌, is_some, int_cmp_is, entries, entries_sorted, get-entries, filter, AllByRecursion, is_lt, ObjNo, ChildOf, Within, Player, ObjRow, has_link, linked_left, ties_of, Maps, object_cmp, object_total, children_of, contents_of, objects_of, players_of, subtree_of, nothing, same_object, is_among, same_object-eq, look_ups, world_of, IsTree, is_object, row_passes, chain, is_object_seen}
-use Rattle.std.specs.FinMap.{find}
-use Rattle.std.proofs.lemmas.Int.{ints}
-use Rattle.moo_rows.proofs.Firsts.{first-end, first-step}
-use Rattle.moo_rows.specs.Links.{IsFirst, is_linked, row_has}
-use Rattle.moo_rows.specs.declared.row.Link.{Link}
-use Rattle.moo_world.proofs.Shown.EntriesInOrder.{all_weaker, filter_alike, own_entries}
-use Rattle.moo_world.proofs.Shown.ObjectEntries.{objects_passing, rows_passing}
+use Rattle.std.{specs.FinMap.{find}, proofs.lemmas.Int.{ints}}
+use Rattle.moo_rows.{proofs.Firsts.{first-end, first-step}, specs.Links.{IsFirst, is_linked, row_has}, specs.declared.row.Link.{Link}}
+use Rattle.moo_world.{proofs.Shown.EntriesInOrder.{all_weaker, filter_alike, own_entries}, proofs.Shown.ObjectEntries.{objects_passing, rows_passing}}
 
 all_pass : {A : Type 0} (l : List A) → filter (λ a. true) l ≡ l
 all_pass [] = refl

@@ -1,10 +1,7 @@
 -- A search for the objects under one, as far as it has come.
-use Rattle.moo_tree.proofs.Words.{◌≡◌, ℕ, zero, suc, ◌-◌, ◌<◌, ◌≤◌, ◌≢◌, Bool, true, false, cond, ◌||◌, Option, None, Some, List, [], ◌∷◌, ◌++◌, length, drop, Ordering, Less, Equal, Greater, refl, sym, ap, ◌∙◌, subst, arith, ◌⊎◌, inl, inr, is_some, if◌then◌else◌, slice_index_or, ◌+◌, option_map, eq_by_cmp, is_eq, tied_itself, FinMap, get, insert, get-insert, true≢false, or_right, or_cases, ObjNo, ObjRow, object_exact, Maps, object_cmp, object_total, same_object, is_among, same_object-Decides, children_of, objects_of, is_parent_of, look_ups, world_of, World, IsTree, is_object, parent_of, chain, climb, numbers_to, chain_of_none, chain_of_row, chain_of_no_row, is_object_seen, passes_seen, none_passes, IsFound}
+use Rattle.moo_tree.{proofs.Words.{◌≡◌, ℕ, zero, suc, ◌-◌, ◌<◌, ◌≤◌, ◌≢◌, Bool, true, false, cond, ◌||◌, Option, None, Some, List, [], ◌∷◌, ◌++◌, length, drop, Ordering, Less, Equal, Greater, refl, sym, ap, ◌∙◌, subst, arith, ◌⊎◌, inl, inr, is_some, if◌then◌else◌, slice_index_or, ◌+◌, option_map, eq_by_cmp, is_eq, tied_itself, FinMap, get, insert, get-insert, true≢false, or_right, or_cases, ObjNo, ObjRow, object_exact, Maps, object_cmp, object_total, same_object, is_among, same_object-Decides, children_of, objects_of, is_parent_of, look_ups, world_of, World, IsTree, is_object, parent_of, chain, climb, numbers_to, chain_of_none, chain_of_row, chain_of_no_row, is_object_seen, passes_seen, none_passes, IsFound}, proofs.Sharing.{among_drop}}
 use Rattle.std.proofs.lemmas.Option.{none-some}
-use Rattle.moo_world.proofs.Inheritance.Owed.{is_among-append}
-use Rattle.moo_world.proofs.Ancestry.Subtrees.{among_filter, object_listed}
-use Rattle.moo_world.proofs.Ancestry.Upward.{filter_passes}
-use Rattle.moo_tree.proofs.Sharing.{among_drop}
+use Rattle.moo_world.{proofs.Inheritance.Owed.{is_among-append}, proofs.Ancestry.Subtrees.{among_filter, object_listed}, proofs.Ancestry.Upward.{filter_passes}}
 
 either : (a b : Bool) → (a ≡ true) ⊎ (b ≡ true) → (a || b) ≡ true
 either true b h = refl

@@ -1,11 +1,5 @@
 -- Where reading a list stops, and any value.
-use Rattle.moo_value.proofs.Words.{◌≡◌, ℕ, zero, suc, ◌+◌, ◌-◌, ◌≤◌, Bool, true, false, inl, inr, List, [], ◌∷◌, ◌++◌, length, drop, Ok, Err, refl, sym, ap, subst, ◌∙◌, append_assoc, arith, ◌==◌, eqb-true, length-append, append-nil, drop_at, LiteralFault, NotALiteral, TooDeep, Value, Int, Obj, Error, a_list, IsText, Values, no_values, levels, prepend, nesting, is_blank, is_digit, is_word, AreBlanks, Comma, SpellsItems, SpellsToken, Spells, HoldInside, HoldIn, InRange, BeginsNo, Ends, NumberBut, TextBut, DepthBut, MayBreak, Read, ◌>>=◌, after_blanks, token_at, opened_at, items_at, value_at, chosen, is_err, no_err, bind_err}
-use Rattle.moo_value.proofs.ReadOrRefused.{all_deep, all_in, value_again}
-use Rattle.moo_value.proofs.Results.{bind_which}
-use Rattle.moo_value.proofs.Items.{item_at, no_blank, skipped}
-use Rattle.moo_value.proofs.Lists.{and_others, blanks_taken, blanks_skipped, items_more, item_spelled, item_holds, item_levels, value_taken, takes, item_front, step_at, item_view}
-use Rattle.moo_value.proofs.Stops.{Stop, SameHead, behind, behind_more, at_once, at_end}
-use Rattle.moo_value.proofs.Tokens.{Fine, Goes, flat, zero_fits, token_stop}
+use Rattle.moo_value.{proofs.Words.{◌≡◌, ℕ, zero, suc, ◌+◌, ◌-◌, ◌≤◌, Bool, true, false, inl, inr, List, [], ◌∷◌, ◌++◌, length, drop, Ok, Err, refl, sym, ap, subst, ◌∙◌, append_assoc, arith, ◌==◌, eqb-true, length-append, append-nil, drop_at, LiteralFault, NotALiteral, TooDeep, Value, Int, Obj, Error, a_list, IsText, Values, no_values, levels, prepend, nesting, is_blank, is_digit, is_word, AreBlanks, Comma, SpellsItems, SpellsToken, Spells, HoldInside, HoldIn, InRange, BeginsNo, Ends, NumberBut, TextBut, DepthBut, MayBreak, Read, ◌>>=◌, after_blanks, token_at, opened_at, items_at, value_at, chosen, is_err, no_err, bind_err}, proofs.ReadOrRefused.{all_deep, all_in, value_again}, proofs.Results.{bind_which}, proofs.Items.{item_at, no_blank, skipped}, proofs.Lists.{and_others, blanks_taken, blanks_skipped, items_more, item_spelled, item_holds, item_levels, value_taken, takes, item_front, step_at, item_view}, proofs.Stops.{Stop, SameHead, behind, behind_more, at_once, at_end}, proofs.Tokens.{Fine, Goes, flat, zero_fits, token_stop}}
 
 abbrev pub FineItems : ℕ → Bool → List ℕ → Type 0
 FineItems l first t = (vs : Values) × HoldInside InRange IsText vs × (levels vs ≤ l) × SpellsItems first vs t

@@ -1,9 +1,5 @@
 -- Blanks, lists and values: what is read is spelled so.
-use Rattle.moo_value.proofs.Words.{◌≡◌, ℕ, zero, suc, ◌+◌, ◌-◌, ◌<◌, ◌≤◌, ℤ, Bool, true, false, inl, inr, List, [], ◌∷◌, ◌++◌, length, drop, Ok, Err, refl, sym, ap, subst, ◌∙◌, append_assoc, arith, ◌⊎◌, ◌==◌, eqb-true, length-append, drop_at, NotALiteral, TooDeep, Value, Int, Obj, Error, a_list, IsText, Values, no_values, levels, prepend, nesting, is_blank, is_digit, is_word, AreBlanks, Comma, Item, SpellsItems, SpellsToken, Spells, HoldInside, HoldIn, NumberKind, InRange, BeginsNo, Ends, Read, ◌>>=◌, after_blanks, token_at, opened_at, items_at, value_at, chosen, is_ok, bind_ok, no_ok, either_way}
-use Rattle.moo_value.proofs.Stops.{SameHead}
-use Rattle.moo_value.specs.Literal.{Spaced}
-use Rattle.moo_value.proofs.Tokens.{token_taken, token_starts, TokenTaken}
-use Rattle.moo_value.proofs.Items.{TakesSome, behind_byte, first_is, comma_is, spaced_is, item_at}
+use Rattle.moo_value.{proofs.Words.{◌≡◌, ℕ, zero, suc, ◌+◌, ◌-◌, ◌<◌, ◌≤◌, ℤ, Bool, true, false, inl, inr, List, [], ◌∷◌, ◌++◌, length, drop, Ok, Err, refl, sym, ap, subst, ◌∙◌, append_assoc, arith, ◌⊎◌, ◌==◌, eqb-true, length-append, drop_at, NotALiteral, TooDeep, Value, Int, Obj, Error, a_list, IsText, Values, no_values, levels, prepend, nesting, is_blank, is_digit, is_word, AreBlanks, Comma, Item, SpellsItems, SpellsToken, Spells, HoldInside, HoldIn, NumberKind, InRange, BeginsNo, Ends, Read, ◌>>=◌, after_blanks, token_at, opened_at, items_at, value_at, chosen, is_ok, bind_ok, no_ok, either_way}, proofs.Stops.{SameHead}, specs.Literal.{Spaced}, proofs.Tokens.{token_taken, token_starts, TokenTaken}, proofs.Items.{TakesSome, behind_byte, first_is, comma_is, spaced_is, item_at}}
 
 -- ---- blanks
 

@@ -1,12 +1,6 @@
 -- A spelling of a value that keeps every limit but one is read, or refused by that limit's fault.
-use Rattle.moo_value.proofs.Words.{◌≡◌, ℕ, ℤ, zero, suc, ◌+◌, ◌<◌, ◌≤◌, Bool, true, false, cond, ◌⊎◌, inl, inr, List, [], ◌∷◌, ◌++◌, length, Result, Ok, Err, refl, sym, ap, subst, ◌∙◌, append_assoc, arith, nat_le, ◌==◌, not, length-append, append-nil, LiteralFault, NotALiteral, OutOfRange, BadByte, TooDeep, TooLong, OutOfMemory, Value, Int, Obj, Str, Error, a_list, is_allowed, IsText, Values, no_values, int, object, string, error, list, levels, prepend, nesting, is_digit, Item, SpellsNumber, SpellsBytes, SpellsItems, SpellsToken, Spells, HoldInside, HoldIn, NumberKind, an_integer, an_object, InRange, BeginsNo, Ends, NumberBut, TextBut, DepthBut, KeepsBut, Read, ◌>>=◌, after_blanks, number_at, string_at, token_at, opened_at, items_at, value_at, AreAllowed}
-use Rattle.moo_value.proofs.Numbers.{number_again, number_either}
+use Rattle.moo_value.{proofs.Words.{◌≡◌, ℕ, ℤ, zero, suc, ◌+◌, ◌<◌, ◌≤◌, Bool, true, false, cond, ◌⊎◌, inl, inr, List, [], ◌∷◌, ◌++◌, length, Result, Ok, Err, refl, sym, ap, subst, ◌∙◌, append_assoc, arith, nat_le, ◌==◌, not, length-append, append-nil, LiteralFault, NotALiteral, OutOfRange, BadByte, TooDeep, TooLong, OutOfMemory, Value, Int, Obj, Str, Error, a_list, is_allowed, IsText, Values, no_values, int, object, string, error, list, levels, prepend, nesting, is_digit, Item, SpellsNumber, SpellsBytes, SpellsItems, SpellsToken, Spells, HoldInside, HoldIn, NumberKind, an_integer, an_object, InRange, BeginsNo, Ends, NumberBut, TextBut, DepthBut, KeepsBut, Read, ◌>>=◌, after_blanks, number_at, string_at, token_at, opened_at, items_at, value_at, AreAllowed}, proofs.Numbers.{number_again, number_either}, proofs.Texts.{each_allowed}, proofs.Tokens.{first_of_number, IsNoList, token_starts, name_first, code_again, letter_starts}, specs.Reading.{code_at}, proofs.Items.{spaced_is}, proofs.Lists.{and_others, item_front, items_end, value_spaced}}
 use Rattle.std.proofs.Common.{max}
-use Rattle.moo_value.proofs.Texts.{each_allowed}
-use Rattle.moo_value.proofs.Tokens.{first_of_number, IsNoList, token_starts, name_first, code_again, letter_starts}
-use Rattle.moo_value.specs.Reading.{code_at}
-use Rattle.moo_value.proofs.Items.{spaced_is}
-use Rattle.moo_value.proofs.Lists.{and_others, item_front, items_end, value_spaced}
 
 -- ---- what is within the limits keeps every one
 

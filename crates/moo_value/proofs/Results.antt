@@ -1,7 +1,6 @@
 -- Which way a test went, and what a reading gave.
 use Rattle.std.proofs.Common.{◌≡◌, Bool, true, false, cond, ◌⊎◌, inl, inr, List, ℕ, Result, Ok, Err, refl, ap}
-use Rattle.moo_value.specs.declared.fault.LiteralFault.{LiteralFault}
-use Rattle.moo_value.specs.Reading.{Read, ◌>>=◌}
+use Rattle.moo_value.{specs.declared.fault.LiteralFault.{LiteralFault}, specs.Reading.{Read, ◌>>=◌}}
 
 pub chosen : {A : Type 0} (b : Bool) (x y z : A) → cond b x y ≡ z → ((b ≡ true) × (x ≡ z)) ⊎ ((b ≡ false) × (y ≡ z))
 chosen true x y z e = inl (refl, e)

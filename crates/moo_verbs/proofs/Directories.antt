@@ -1,14 +1,8 @@
 -- What a verb put or removed in the rows does to the world that they show.
-use Rattle.moo_verbs.proofs.Words.{◌≡◌, ◌≢◌, ℕ, ◌<◌, ◌+◌, Bool, true, false, cond, Option, None, Some, List, [], ◌∷◌, ◌++◌, eqb, refl, sym, ap, ◌∙◌, add-one, arith, is_some, slice_get, if◌then◌else◌, option_map, remove, eq-eqb, ne_eqb, eqb-true, ObjNo, VerbId, VerbRow, Maps, verb_cmp, same_object, same_object-Decides, WorldObject, LookUps, IsSound, look_ups, world_of, world_shown, object_shown, verb_id, verb_added, verb_removed, verb_changed, verb_at, changed_at, verb_place}
-use Rattle.std.specs.Ordering.{eq_by_cmp}
-use Rattle.std.specs.FinMap.{get, insert, remove as less, get-insert, get-remove}
-use Rattle.moo_rows.specs.declared.row.ObjRow.{ObjRow}
-use Rattle.moo_rows.specs.Exact.{verb_exact}
-use Rattle.moo_rows.proofs.Orders.{verb_total}
-use Rattle.moo_world.proofs.Form.Directories.{with_directory}
-use Rattle.moo_world.proofs.Shown.MapLaws.{decided_alike, key-Decides}
-use Rattle.moo_verbs.proofs.Numbering.{below, one_more, none_more, get_at, removed_at, changed_below}
-use Rattle.moo_verbs.proofs.Entries.{row_at, verbs_shown, past}
+use Rattle.moo_verbs.{proofs.Words.{◌≡◌, ◌≢◌, ℕ, ◌<◌, ◌+◌, Bool, true, false, cond, Option, None, Some, List, [], ◌∷◌, ◌++◌, eqb, refl, sym, ap, ◌∙◌, add-one, arith, is_some, slice_get, if◌then◌else◌, option_map, remove, eq-eqb, ne_eqb, eqb-true, ObjNo, VerbId, VerbRow, Maps, verb_cmp, same_object, same_object-Decides, WorldObject, LookUps, IsSound, look_ups, world_of, world_shown, object_shown, verb_id, verb_added, verb_removed, verb_changed, verb_at, changed_at, verb_place}, proofs.Numbering.{below, one_more, none_more, get_at, removed_at, changed_below}, proofs.Entries.{row_at, verbs_shown, past}}
+use Rattle.std.{specs.Ordering.{eq_by_cmp}, specs.FinMap.{get, insert, remove as less, get-insert, get-remove}}
+use Rattle.moo_rows.{specs.declared.row.ObjRow.{ObjRow}, specs.Exact.{verb_exact}, proofs.Orders.{verb_total}}
+use Rattle.moo_world.{proofs.Form.Directories.{with_directory}, proofs.Shown.MapLaws.{decided_alike, key-Decides}}
 
 -- rows that differ in verbs of x alone, and in the number for the next verb
 module _ (m : LookUps) (x : ObjNo) (verb : ObjNo → ℕ → Option VerbRow) (next : ℕ) (change : List VerbRow → List VerbRow) where

@@ -1,17 +1,8 @@
 -- The walk over the verbs of an object gives them by ascending number.
-use Rattle.moo_verbs.proofs.Words.{◌≡◌, ◌≢◌, ℕ, zero, suc, ◌<◌, ◌≤◌, Bool, true, false, cond, T, ◌&&◌, Option, None, Some, List, [], ◌∷◌, ◌++◌, Less, Equal, refl, sym, ap, ◌∙◌, subst, inl, inr, append-nil, arith, is_some, unwrap_or, nat_lt, option_map, cons_option, list_all, get, find, entries, get-entries, entries_sorted, is_sorted, cases_eq, cases_lt, false≢true, lt-ltb, le-ltb, ObjNo, VerbId, VerbRow, Maps, verb_cmp, verbs_of, verbs_of_left, IsSound, look_ups, world_of, world_shown, object_shown, verb_id}
-use Rattle.std.specs.Cmp.{tied_itself, nat_cmp_is}
-use Rattle.std.specs.Ordering.{eq_by_cmp, is_lt, int_eq, ordering_then, nat_cmp}
-use Rattle.std.specs.FinMap.Entries.{below_all, same_entries, is_sorted-where_key, find-where_key, find-append}
-use Rattle.std.proofs.lemmas.Bool.Decides.{Decides-int_eq}
-use Rattle.moo_rows.specs.declared.row.ObjRow.{ObjRow}
-use Rattle.moo_rows.specs.Exact.{verb_exact}
-use Rattle.moo_rows.proofs.Orders.{object_total, verb_total}
-use Rattle.moo_rows.proofs.Walking.{first_of, second_of}
-use Rattle.moo_rows.proofs.OfObject.{verbs_of_left-all}
-use Rattle.moo_world.specs.World.{WorldObject, directory_of as verbs_in}
-use Rattle.moo_world.proofs.Shown.MapLaws.{key-Decides}
-use Rattle.moo_verbs.proofs.Numbering.{below, made_below, step}
+use Rattle.moo_verbs.{proofs.Words.{◌≡◌, ◌≢◌, ℕ, zero, suc, ◌<◌, ◌≤◌, Bool, true, false, cond, T, ◌&&◌, Option, None, Some, List, [], ◌∷◌, ◌++◌, Less, Equal, refl, sym, ap, ◌∙◌, subst, inl, inr, append-nil, arith, is_some, unwrap_or, nat_lt, option_map, cons_option, list_all, get, find, entries, get-entries, entries_sorted, is_sorted, cases_eq, cases_lt, false≢true, lt-ltb, le-ltb, ObjNo, VerbId, VerbRow, Maps, verb_cmp, verbs_of, verbs_of_left, IsSound, look_ups, world_of, world_shown, object_shown, verb_id}, proofs.Numbering.{below, made_below, step}}
+use Rattle.std.{specs.Cmp.{tied_itself, nat_cmp_is}, specs.Ordering.{eq_by_cmp, is_lt, int_eq, ordering_then, nat_cmp}, specs.FinMap.Entries.{below_all, same_entries, is_sorted-where_key, find-where_key, find-append}, proofs.lemmas.Bool.Decides.{Decides-int_eq}}
+use Rattle.moo_rows.{specs.declared.row.ObjRow.{ObjRow}, specs.Exact.{verb_exact}, proofs.Orders.{object_total, verb_total}, proofs.Walking.{first_of, second_of}, proofs.OfObject.{verbs_of_left-all}}
+use Rattle.moo_world.{specs.World.{WorldObject, directory_of as verbs_in}, proofs.Shown.MapLaws.{key-Decides}}
 
 abbrev pub Entry : Type 0
 Entry = (ObjNo × VerbId) × VerbRow

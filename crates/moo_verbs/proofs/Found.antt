@@ -1,10 +1,7 @@
 -- What the walk over the verbs of an object finds, by places in the directory.
-use Rattle.moo_verbs.proofs.Words.{◌≡◌, ℕ, ◌+◌, Bool, true, not, cond, Option, None, Some, List, [], ◌∷◌, map, length, refl, sym, ap, ◌∙◌, subst, is_some, slice_get, nat_lt, IfSome, if◌then◌else◌, option_map, position_or_len, ObjNo, VerbId, VerbRow, Maps, verbs_of_left, IsSound, world_of, directory_of, has_verb, verb_place}
-use Rattle.std.specs.List.{find}
-use Rattle.std.proofs.lemmas.List.Folds.{find_at}
+use Rattle.moo_verbs.{proofs.Words.{◌≡◌, ℕ, ◌+◌, Bool, true, not, cond, Option, None, Some, List, [], ◌∷◌, map, length, refl, sym, ap, ◌∙◌, subst, is_some, slice_get, nat_lt, IfSome, if◌then◌else◌, option_map, position_or_len, ObjNo, VerbId, VerbRow, Maps, verbs_of_left, IsSound, world_of, directory_of, has_verb, verb_place}, proofs.Entries.{Entry, row_at, made, by_number, walked, verbs_shown}, proofs.Numbering.{placed, made_at, map-made}}
+use Rattle.std.{specs.List.{find}, proofs.lemmas.List.Folds.{find_at}}
 use Rattle.moo_world.specs.Descriptors.{place_within}
-use Rattle.moo_verbs.proofs.Entries.{Entry, row_at, made, by_number, walked, verbs_shown}
-use Rattle.moo_verbs.proofs.Numbering.{placed, made_at, map-made}
 
 map_twice : {A B C : Type 0} (f : B → C) (h : A → B) (o : Option A) → option_map f (option_map h o) ≡ option_map (λ a. f (h a)) o
 map_twice f h None = refl

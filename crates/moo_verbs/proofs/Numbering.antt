@@ -1,8 +1,6 @@
 -- Lists of what numbers below a bound have, in ascending number, and the place of a number in such a list.
 use Rattle.moo_verbs.proofs.Words.{◌≡◌, ◌≢◌, ℕ, zero, suc, ◌<◌, ◌≤◌, ◌+◌, Option, None, Some, List, [], ◌∷◌, ◌++◌, length, refl, sym, ap, ◌∙◌, ◌⊎◌, inl, inr, append-nil, append_assoc, length-append, map, arith, slice_get, if◌then◌else◌, nat_lt, option_map, filter_map, cons_option, remove, cases_eq, lt-ltb, le-ltb, VerbRow, numbers_below, changed_at}
-use Rattle.std.proofs.lemmas.List.Elements.{filter_map-append}
-use Rattle.std.proofs.lemmas.List.{map-append}
-use Rattle.std.proofs.lemmas.Option.{none-some, same_Some, slice_get_within}
+use Rattle.std.{proofs.lemmas.List.Elements.{filter_map-append}, proofs.lemmas.List.{map-append}, proofs.lemmas.Option.{none-some, same_Some, slice_get_within}}
 
 -- ---- lists with one element between a front and a back
 

@@ -1,8 +1,6 @@
 -- Rows stay sound where a verb is put or removed.
-use Rattle.moo_verbs.proofs.Words.{◌≡◌, ℕ, ◌<◌, ◌≤◌, Bool, true, false, refl, sym, ap, ◌∙◌, inl, inr, arith, is_some, cases_eq, false≢true, ObjNo, VerbId, VerbRow, Maps, same_object, same_object-Decides, IsSound}
+use Rattle.moo_verbs.{proofs.Words.{◌≡◌, ℕ, ◌<◌, ◌≤◌, Bool, true, false, refl, sym, ap, ◌∙◌, inl, inr, arith, is_some, cases_eq, false≢true, ObjNo, VerbId, VerbRow, Maps, same_object, same_object-Decides, IsSound}, proofs.Directories.{put, put_other, put_apart, rest, rest_other, rest_apart, rest_here}, proofs.Entries.{row_at}}
 use Rattle.std.specs.FinMap.{get, insert, remove as less}
-use Rattle.moo_verbs.proofs.Directories.{put, put_other, put_apart, rest, rest_other, rest_apart, rest_here}
-use Rattle.moo_verbs.proofs.Entries.{row_at}
 
 module _ (m : Maps) (sound : IsSound m) (x : ObjNo) (id : VerbId) where
   module _ (row : VerbRow) (next : ℕ) (object : is_some (get m.objects x) ≡ true) (positive : 0 < id.0) (low : id.0 < next) (higher : m.head.next_verb ≤ next) where

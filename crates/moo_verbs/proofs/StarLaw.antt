@@ -1,10 +1,6 @@
 -- Names match what the manual says.
-use Rattle.moo_verbs.proofs.Words.{◌≡◌, ℕ, zero, suc, ◌+◌, Bool, true, false, not, cond, ◌&&◌, ◌||◌, None, Some, [], ◌∷◌, ◌++◌, length, take, drop, refl, sym, ap, ◌∙◌, inl, inr, append-nil, arith, nat_lt, list_any, position, position_or_len, and_parts, or_cases, or_right, false≢true, lt-ltb, le-ltb, eqb-true, Name, folded, same_text-Decides, is_star, is_empty, same_name, begins_with, matches_around, matches, matches_at}
-use Rattle.std.specs.Bool.{Decides}
-use Rattle.std.specs.Char.{to_ascii_lowercase}
-use Rattle.std.proofs.lemmas.List.{length-append, length-map, map-append, take-append-drop}
-use Rattle.std.proofs.Math.Seq.{take-append_seam, drop-append_seam, drop-append-add}
-use Rattle.moo_verbs.specs.Laws.{MatchesStar, StarsMatch, NamesMatch}
+use Rattle.moo_verbs.{proofs.Words.{◌≡◌, ℕ, zero, suc, ◌+◌, Bool, true, false, not, cond, ◌&&◌, ◌||◌, None, Some, [], ◌∷◌, ◌++◌, length, take, drop, refl, sym, ap, ◌∙◌, inl, inr, append-nil, arith, nat_lt, list_any, position, position_or_len, and_parts, or_cases, or_right, false≢true, lt-ltb, le-ltb, eqb-true, Name, folded, same_text-Decides, is_star, is_empty, same_name, begins_with, matches_around, matches, matches_at}, specs.Laws.{MatchesStar, StarsMatch, NamesMatch}}
+use Rattle.std.{specs.Bool.{Decides}, specs.Char.{to_ascii_lowercase}, proofs.lemmas.List.{length-append, length-map, map-append, take-append-drop}, proofs.Math.Seq.{take-append_seam, drop-append_seam, drop-append-add}}
 
 -- ---- what a text begins with
 

@@ -1,9 +1,6 @@
 -- What holds of the whole table of prepositions, by computing it.
-use Rattle.moo_verbs.proofs.Words.{◌≡◌, Some, refl, ap, ◌∙◌, Name, same_text, folded, prep_text}
-use Rattle.moo_rows.specs.declared.row.Preposition.{Preposition}
-use Rattle.moo_rows.specs.declared.row.Preposition.TheVariants.{None as no_preposition, Any as any_preposition, Set}
-use Rattle.moo_rows.specs.declared.row.PrepositionSet.TheVariants.{With}
-use Rattle.moo_verbs.specs.Laws.{PhrasesAreRead}
+use Rattle.moo_verbs.{proofs.Words.{◌≡◌, Some, refl, ap, ◌∙◌, Name, same_text, folded, prep_text}, specs.Laws.{PhrasesAreRead}}
+use Rattle.moo_rows.{specs.declared.row.Preposition.{Preposition}, specs.declared.row.Preposition.TheVariants.{None as no_preposition, Any as any_preposition, Set}, specs.declared.row.PrepositionSet.TheVariants.{With}}
 use Rattle.moo_world.specs.VerbReading.{prep_of}
 
 -- each text is read as what it is the text of

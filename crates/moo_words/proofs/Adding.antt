@@ -1,12 +1,6 @@
 -- An argument more for a command.
-use Rattle.std.proofs.Common.{◌≡◌, false, Result, Ok, Err, IfOk, ap₂, ◌∙◌}
-use Rattle.std.specs.Prelude.{◌||◌}
-use Rattle.clap.specs.Built.{AddsArg}
-use Rattle.clap.specs.Simple.{App, app_of, with_rule}
-use Rattle.clap.specs.Walk.{Rule, rule_of}
-use Rattle.clap.specs.declared.builder.arg.Arg.{Arg}
-use Rattle.clap.specs.declared.builder.command.Command.{Command}
-use Rattle.clap.specs.declared.builder.command.Command.TheViews.{out-Command as fields_of}
+use Rattle.std.{proofs.Common.{◌≡◌, false, Result, Ok, Err, IfOk, ap₂, ◌∙◌}, specs.Prelude.{◌||◌}}
+use Rattle.clap.{specs.Built.{AddsArg}, specs.Simple.{App, app_of, with_rule}, specs.Walk.{Rule, rule_of}, specs.declared.builder.arg.Arg.{Arg}, specs.declared.builder.command.Command.{Command}, specs.declared.builder.command.Command.TheViews.{out-Command as fields_of}}
 
 pub with_arg : {E : Type 0} (app : App) (rule : Rule) (r : Result Command E) (old : Command) (arg : Arg) → IfOk r (λ new. AddsArg old arg new) → app_of old ≡ app → rule_of arg ≡ rule → arg.global ≡ false
     → IfOk r (λ new. app_of new ≡ with_rule app rule)

@@ -1,16 +1,7 @@
 -- That words name one task.
-use Rattle.std.proofs.Common.{◌≡◌, ◌<◌, ◌≤◌, inl, inr, ℕ, List, Option, Some, refl, sym, ap, subst, ◌∙◌, arith, length}
-use Rattle.std.proofs.lemmas.Bool.{true≢false}
-use Rattle.std.specs.Str.{bytes_eq}
-use Rattle.std.specs.Str.Parse.{digits_value, without_leading_plus}
-use Rattle.clap.specs.Walk.{Row, Text, one_of}
-use Rattle.clap.specs.Simple.{subcommand_of}
-use Rattle.moo_words.specs.Commands.{moo_app}
-use Rattle.moo_words.specs.declared.task.Task.{Task}
-use Rattle.moo_words.specs.declared.task.Service.{Service}
-use Rattle.moo_words.specs.declared.task.Action.{Action}
-use Rattle.moo_words.specs.declared.task.Action.TheVariants.{Init, Apply, Ask, Dump, Load, Check, Serve}
-use Rattle.moo_words.specs.Tasks.{HasNumber, IsService, HasArguments, IsTask, NamesTask, NamesAlone, command_of, text_word, service_of, request_of}
+use Rattle.std.{proofs.Common.{◌≡◌, ◌<◌, ◌≤◌, inl, inr, ℕ, List, Option, Some, refl, sym, ap, subst, ◌∙◌, arith, length}, proofs.lemmas.Bool.{true≢false}, specs.Str.{bytes_eq}, specs.Str.Parse.{digits_value, without_leading_plus}}
+use Rattle.clap.{specs.Walk.{Row, Text, one_of}, specs.Simple.{subcommand_of}}
+use Rattle.moo_words.{specs.Commands.{moo_app}, specs.declared.task.Task.{Task}, specs.declared.task.Service.{Service}, specs.declared.task.Action.{Action}, specs.declared.task.Action.TheVariants.{Init, Apply, Ask, Dump, Load, Check, Serve}, specs.Tasks.{HasNumber, IsService, HasArguments, IsTask, NamesTask, NamesAlone, command_of, text_word, service_of, request_of}}
 
 same_some : {A : Type 0} (o : Option A) (a b : A) → o ≡ Some a → o ≡ Some b → a ≡ b
 same_some o a b e f = let same : Some a ≡ Some b = sym e ∙ f in cc

@@ -1,15 +1,6 @@
 -- What the getters of the matches read.
-use Rattle.std.proofs.Common.{◌≡◌, ℕ, List, Option, Some, None, Result, Ok, IfSome, Bor, option_map, refl, sym, ◌∙◌}
-use Rattle.clap.specs.Matches.{ReadsOne, first_value, one_text}
-use Rattle.clap.specs.Walk.{Row, Text, rows_of}
-use Rattle.clap.specs.declared.parser.matches.Found.{Found}
-use Rattle.std.specs.Box.{box_value}
-use Rattle.clap.specs.Matches.{subcommand_name_of}
-use Rattle.clap.specs.Simple.{subcommand_rows, subcommand_rows_of}
-use Rattle.clap.specs.declared.parser.matches.ArgMatches.{ArgMatches}
-use Rattle.clap.specs.declared.parser.matches.ArgMatches.TheViews.{out-ArgMatches, out-SubCommand}
-use Rattle.clap.proofs.WalkLemmas.{first_value-rows, one_text-rows}
-use Rattle.std.specs.Str.Parse.{digits_value, without_leading_plus}
+use Rattle.std.{proofs.Common.{◌≡◌, ℕ, List, Option, Some, None, Result, Ok, IfSome, Bor, option_map, refl, sym, ◌∙◌}, specs.Box.{box_value}, specs.Str.Parse.{digits_value, without_leading_plus}}
+use Rattle.clap.{specs.Matches.{ReadsOne, first_value, one_text}, specs.Walk.{Row, Text, rows_of}, specs.declared.parser.matches.Found.{Found}, specs.Matches.{subcommand_name_of}, specs.Simple.{subcommand_rows, subcommand_rows_of}, specs.declared.parser.matches.ArgMatches.{ArgMatches}, specs.declared.parser.matches.ArgMatches.TheViews.{out-ArgMatches, out-SubCommand}, proofs.WalkLemmas.{first_value-rows, one_text-rows}}
 use Rattle.moo_words.specs.Tasks.{HasNumber, HasText}
 
 pub text_given : (found : Found) (id : Text) (r : Option (Bor (List ℕ))) → option_map (λ s. s.now) r ≡ first_value found id

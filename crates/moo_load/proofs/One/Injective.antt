@@ -1,8 +1,5 @@
 -- The lines of entries that fit tell the entries.
-use Rattle.moo_load.proofs.Words.{◌≡◌, ℕ, List, [], ◌∷◌, ◌++◌, refl, sym, ap, ◌∙◌, append_assoc, codes, flat_map, AllByRecursion, false≢true, Decides-eqb, Fits, Entry, an_object, a_property, a_slot, a_verb, a_petition, entry_text, entry_lines, entry_values}
-use Rattle.moo_load.proofs.One.Texts.{one_line}
-use Rattle.moo_load.proofs.One.Values.{one_object, one_property, one_slot, one_verb, one_petition}
-use Rattle.moo_load.proofs.Taken.{mark, no_end}
+use Rattle.moo_load.{proofs.Words.{◌≡◌, ℕ, List, [], ◌∷◌, ◌++◌, refl, sym, ap, ◌∙◌, append_assoc, codes, flat_map, AllByRecursion, false≢true, Decides-eqb, Fits, Entry, an_object, a_property, a_slot, a_verb, a_petition, entry_text, entry_lines, entry_values}, proofs.One.Texts.{one_line}, proofs.One.Values.{one_object, one_property, one_slot, one_verb, one_petition}, proofs.Taken.{mark, no_end}}
 
 -- the definer of a slot is that of its property
 abbrev pub IsOwn : Entry → Type 0

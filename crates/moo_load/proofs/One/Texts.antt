@@ -1,6 +1,5 @@
 -- A printed value, and a printed list, tell their values and where they end.
-use Rattle.moo_load.proofs.Words.{◌≡◌, ℕ, true, false, List, [], ◌∷◌, ◌++◌, length, get_or, drop, refl, sym, ap, subst, ◌∙◌, append_assoc, AllByRecursion, false≢true, Decides-eqb, drop_at, append_cancel_left, Value, gather, Fits, Ends, Front, print, printed, prepend_printed, list_of, one, line}
-use Rattle.moo_load.proofs.Listed.{after_value, ends_before}
+use Rattle.moo_load.{proofs.Words.{◌≡◌, ℕ, true, false, List, [], ◌∷◌, ◌++◌, length, get_or, drop, refl, sym, ap, subst, ◌∙◌, append_assoc, AllByRecursion, false≢true, Decides-eqb, drop_at, append_cancel_left, Value, gather, Fits, Ends, Front, print, printed, prepend_printed, list_of, one, line}, proofs.Listed.{after_value, ends_before}}
 
 -- one printed value, and what follows it
 pub one_print : (v w : Value) (r q : List ℕ) → Fits v → Fits w → Ends v r → Ends w q → print v ++ r ≡ print w ++ q → (v ≡ w) × (r ≡ q)

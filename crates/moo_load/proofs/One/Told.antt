@@ -1,15 +1,5 @@
 -- A dump names one state.
-use Rattle.moo_load.proofs.Words.{◌≡◌, ℕ, pos, List, ◌∷◌, ◌++◌, drop, refl, sym, ap, ◌∙◌, decimal, filter_map, Value, Int, Obj, State, heading, dump, IsHeld, AreTheSame, AreRowsOf, all_weaker, entry_lines, subst, all_properties, first_head}
-use Rattle.moo_load.proofs.One.Entries.{entries_of, dump_is}
-use Rattle.moo_load.proofs.One.Texts.{one_print}
-use Rattle.moo_load.proofs.One.Values.{object_in}
-use Rattle.moo_load.proofs.One.Injective.{one_entries, IsFit}
-use Rattle.moo_load.proofs.ReadBack.Said.{Good, all_good}
-use Rattle.moo_load.proofs.Headed.{count_fits, lines_are, top_fits, top_of, top_line}
-use Rattle.moo_load.proofs.ReadBack.Fit.{properties_are}
-use Rattle.moo_load.proofs.ReadBack.Taken.{property_in}
-use Rattle.moo_load.proofs.ReadBack.Whole.{rows_are, made_by}
-use Rattle.moo_load.proofs.Shown.Good.{same_state}
+use Rattle.moo_load.{proofs.Words.{◌≡◌, ℕ, pos, List, ◌∷◌, ◌++◌, drop, refl, sym, ap, ◌∙◌, decimal, filter_map, Value, Int, Obj, State, heading, dump, IsHeld, AreTheSame, AreRowsOf, all_weaker, entry_lines, subst, all_properties, first_head}, proofs.One.Entries.{entries_of, dump_is}, proofs.One.Texts.{one_print}, proofs.One.Values.{object_in}, proofs.One.Injective.{one_entries, IsFit}, proofs.ReadBack.Said.{Good, all_good}, proofs.Headed.{count_fits, lines_are, top_fits, top_of, top_line}, proofs.ReadBack.Fit.{properties_are}, proofs.ReadBack.Taken.{property_in}, proofs.ReadBack.Whole.{rows_are, made_by}, proofs.Shown.Good.{same_state}}
 
 abbrev size_in : Value → ℕ
 size_in (Int (pos n)) = n

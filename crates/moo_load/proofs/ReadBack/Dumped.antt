@@ -1,9 +1,5 @@
 -- The text of a dump, as it is read.
-use Rattle.moo_load.proofs.Words.{◌≡◌, ℕ, List, ◌++◌, sym, ap, subst, ◌∙◌, AllByRecursion, Head, PropId, Maps, no_maps, heading, dump, State, Property, EntryFits, entry_lines, entries_taken, carried, EachHas, NumbersAreLeft, IsHeld, first_head, HasNumbers, AreRowsOf, no_slot, SlotIsNext, slot_line_put, all_properties}
-use Rattle.moo_load.proofs.One.Entries.{entries_of, dump_is}
-use Rattle.moo_load.proofs.ReadBack.Said.{all_fit}
-use Rattle.moo_load.proofs.ReadBack.Numbers.{number}
-use Rattle.moo_load.proofs.ReadBack.Whole.{slots_in_turn, rows_are, enough_numbers}
+use Rattle.moo_load.{proofs.Words.{◌≡◌, ℕ, List, ◌++◌, sym, ap, subst, ◌∙◌, AllByRecursion, Head, PropId, Maps, no_maps, heading, dump, State, Property, EntryFits, entry_lines, entries_taken, carried, EachHas, NumbersAreLeft, IsHeld, first_head, HasNumbers, AreRowsOf, no_slot, SlotIsNext, slot_line_put, all_properties}, proofs.One.Entries.{entries_of, dump_is}, proofs.ReadBack.Said.{all_fit}, proofs.ReadBack.Numbers.{number}, proofs.ReadBack.Whole.{slots_in_turn, rows_are, enough_numbers}}
 
 module _ (s : State) (held : IsHeld s) where
   abbrev pub lines : List ℕ

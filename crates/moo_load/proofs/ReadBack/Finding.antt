@@ -1,11 +1,6 @@
 -- The lines of slots come in the order in which their properties are found.
-use Rattle.moo_load.proofs.Words.{◌≡◌, ℕ, ◌+◌, ◌<◌, ◌≤◌, Bool, true, false, cond, Option, Some, None, List, [], ◌∷◌, ◌++◌, map, length, refl, sym, ap, subst, ◌∙◌, arith, append_assoc, length-append, append-nil, ◌&&◌, is_some, nat_cmp_is, ranked, get, entries, AllByRecursion, IsDistinct, flat_map, option_map, Less, length-map, flat_map-append, ObjNo, PropId, is_definer, Maps, State, objects_of, Name, Property, folded, same_object, is_among, same_object-Decides, World, WorldObject, Slot, IsWellFormed, Climbs, is_object, slot_of, property_names_of, defined_by, defined_by_any, chain, linked, Chain-chain, all_weaker, LastSlot, Entry, an_object, a_property, a_slot, a_verb, a_petition, EachHas, all_properties, at_number, property_row, no_slot, IsNextProperty, SlotIsNext, slot_line_put, false≢true, int_eq, row_defined, nothing, parent_of, nothing_is_no_object, no_parent, all_right, map-append, none_any, number_before}
-use Rattle.moo_world.proofs.Ancestry.Chains.{Climbs-once}
-use Rattle.moo_world.proofs.Inheritance.Reparenting.{all_left}
-use Rattle.moo_load.proofs.One.Entries.{owed_entry, record_entries, object_entries, entries_of}
-use Rattle.moo_load.proofs.ReadBack.Lists.{of_all, number_at, made_of, numbered_front, all_of}
-use Rattle.moo_load.proofs.ReadBack.Numbers.{place, number, number_is, around, objects_once, objects_are}
-use Rattle.moo_load.proofs.ReadBack.Said.{object_stands, own_name}
+use Rattle.moo_load.{proofs.Words.{◌≡◌, ℕ, ◌+◌, ◌<◌, ◌≤◌, Bool, true, false, cond, Option, Some, None, List, [], ◌∷◌, ◌++◌, map, length, refl, sym, ap, subst, ◌∙◌, arith, append_assoc, length-append, append-nil, ◌&&◌, is_some, nat_cmp_is, ranked, get, entries, AllByRecursion, IsDistinct, flat_map, option_map, Less, length-map, flat_map-append, ObjNo, PropId, is_definer, Maps, State, objects_of, Name, Property, folded, same_object, is_among, same_object-Decides, World, WorldObject, Slot, IsWellFormed, Climbs, is_object, slot_of, property_names_of, defined_by, defined_by_any, chain, linked, Chain-chain, all_weaker, LastSlot, Entry, an_object, a_property, a_slot, a_verb, a_petition, EachHas, all_properties, at_number, property_row, no_slot, IsNextProperty, SlotIsNext, slot_line_put, false≢true, int_eq, row_defined, nothing, parent_of, nothing_is_no_object, no_parent, all_right, map-append, none_any, number_before}, proofs.One.Entries.{owed_entry, record_entries, object_entries, entries_of}, proofs.ReadBack.Lists.{of_all, number_at, made_of, numbered_front, all_of}, proofs.ReadBack.Numbers.{place, number, number_is, around, objects_once, objects_are}, proofs.ReadBack.Said.{object_stands, own_name}}
+use Rattle.moo_world.{proofs.Ancestry.Chains.{Climbs-once}, proofs.Inheritance.Reparenting.{all_left}}
 
 -- the slots of this definer on x were put just before
 abbrev goes_on : LastSlot → ObjNo → ObjNo → Bool

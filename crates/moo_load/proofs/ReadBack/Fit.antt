@@ -1,9 +1,5 @@
 -- The entries of a state, kind by kind, and the numbers that their rows need.
-use Rattle.moo_load.proofs.Words.{◌≡◌, ℕ, suc, ◌+◌, ◌<◌, ◌≤◌, Option, Some, None, List, [], ◌∷◌, ◌++◌, map, length, refl, ap, ◌∙◌, arith, append-nil, unwrap_or, entries, AllByRecursion, flat_map, filter_map, cons_option, option_map, filter_map-append, ObjNo, PetitionId, PetitionRow, Maps, State, objects_of, Property, folded, World, WorldObject, Slot, slot_of, defined_by, defined_by_any, chain, directory_of, Entry, a_property, a_slot, a_verb, a_petition, NumbersAreLeft, entry_taken, all_properties, all_verbs}
-use Rattle.moo_load.proofs.ReadBack.Lists.{none_made, made_flat, each_flat, each_made, each_map}
-use Rattle.moo_load.proofs.One.Entries.{owed_entry, record_entries, object_entries, entries_of, beside_row}
-use Rattle.moo_load.proofs.ReadBack.Taken.{property_in, verb_in, petition_in}
-use Rattle.moo_load.proofs.ReadBack.Said.{objects_hold}
+use Rattle.moo_load.{proofs.Words.{◌≡◌, ℕ, suc, ◌+◌, ◌<◌, ◌≤◌, Option, Some, None, List, [], ◌∷◌, ◌++◌, map, length, refl, ap, ◌∙◌, arith, append-nil, unwrap_or, entries, AllByRecursion, flat_map, filter_map, cons_option, option_map, filter_map-append, ObjNo, PetitionId, PetitionRow, Maps, State, objects_of, Property, folded, World, WorldObject, Slot, slot_of, defined_by, defined_by_any, chain, directory_of, Entry, a_property, a_slot, a_verb, a_petition, NumbersAreLeft, entry_taken, all_properties, all_verbs}, proofs.ReadBack.Lists.{none_made, made_flat, each_flat, each_made, each_map}, proofs.One.Entries.{owed_entry, record_entries, object_entries, entries_of, beside_row}, proofs.ReadBack.Taken.{property_in, verb_in, petition_in}, proofs.ReadBack.Said.{objects_hold}}
 
 numbers_below_most : (n k : ℕ) → n + suc k ≤ 4294967295 → (n < 4294967295) × (n + 1 + k ≤ 4294967295)
 numbers_below_most n k h = (omega arith, omega arith)

@@ -1,7 +1,6 @@
 -- Objects and properties stand once in their lists; the number of a property.
-use Rattle.moo_load.proofs.Words.{AllByRecursion, Bool, Chain-chain, IsDistinct, IsWellFormed, Name, NamesDiffer, None, PropId, Some, World, all_properties, ap, arith, at_number, both_true, chain, chain-step, cond, cons_option, defined_by, distinct_append, distinct_numbers, false≢true, filter, filter_map, folded, is_object, map, property_names_of, none-some, numbers_below, numbers_to, object_at, objects_of, defined_by_any, refl, same_object, same_object-Decides, same_property, same_text, same_text-Decides, some_of, subst, sym, ℕ, ◌<◌, ◌≡◌, ◌++◌, ◌∷◌, ◌&&◌, ◌∙◌, ◌+◌, [], pos, List, ObjNo, Property, false, inl, inr, suc, true, zero, filter_passes, recursion_from_All, same_property-self, defined_by_any-append, pairs_left}
+use Rattle.moo_load.{proofs.Words.{AllByRecursion, Bool, Chain-chain, IsDistinct, IsWellFormed, Name, NamesDiffer, None, PropId, Some, World, all_properties, ap, arith, at_number, both_true, chain, chain-step, cond, cons_option, defined_by, distinct_append, distinct_numbers, false≢true, filter, filter_map, folded, is_object, map, property_names_of, none-some, numbers_below, numbers_to, object_at, objects_of, defined_by_any, refl, same_object, same_object-Decides, same_property, same_text, same_text-Decides, some_of, subst, sym, ℕ, ◌<◌, ◌≡◌, ◌++◌, ◌∷◌, ◌&&◌, ◌∙◌, ◌+◌, [], pos, List, ObjNo, Property, false, inl, inr, suc, true, zero, filter_passes, recursion_from_All, same_property-self, defined_by_any-append, pairs_left}, proofs.ReadBack.Lists.{Stands, before_differs, distinct_weaker, each_map, numbered_stands, of_all, of_holders, one_number, passed, split}}
 use Rattle.moo_world.proofs.Inheritance.Keeping.{same_property-is}
-use Rattle.moo_load.proofs.ReadBack.Lists.{Stands, before_differs, distinct_weaker, each_map, numbered_stands, of_all, of_holders, one_number, passed, split}
 
 -- ---- objects
 

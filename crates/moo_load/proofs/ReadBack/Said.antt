@@ -1,9 +1,5 @@
 -- What each entry of a state says is so in it, and within the limits.
-use Rattle.moo_load.proofs.Words.{AllByRecursion, Chain-chain, Entry, EntryFits, FinMap, IsDistinct, IsFormed, IsWellFormed, List, Name, NamesDiffer, Obj, ObjNo, SlotRow, State, Str, VerbRow, World, a_property, a_verb, all_append, all_map, all_properties, all_weaker, and_parts, ap, arith, chain, cond, defined_by, dumped_slot, entries, entries_sorted, false, false≢true, find_key, flat_map, folded, get, get-entries, is_among, is_property_name, is_some, letters_of, list_all, map, named_so, property_names_of, objects_of, option_and_then, option_map, defined_by_any, own_entries, property_named, petition_cmp, petition_total, refl, row_fitting, same_Some, same_object, same_object-Decides, same_text, same_text-Decides, slot_of, slot_of_property, slot_state, subst, sym, unwrap_or, verb_fits, with_slots, ◌<◌, ◌≡◌, ◌++◌, ◌∷◌, ◌∙◌, [], is_object, true, or_cases, Bool, None, Option, Property, PetitionId, PetitionRow, WorldObject, Slot, Some, a_petition, a_slot, an_object, inl, inr, is_text, row_of, object_listed, object_numbered, slot_owner}
-use Rattle.moo_load.proofs.One.Injective.{IsOwn}
-use Rattle.moo_load.proofs.ReadBack.Lists.{Stands, all_tested, each_flat, each_map, found_in, found_stands, made_of, of_all, of_holders, passed, stands_flat, stands_map}
-use Rattle.moo_load.proofs.One.Entries.{entries_of, object_entries, owed_entry, record_entries}
-use Rattle.moo_load.proofs.One.Fitting.{fit, letters_fit, next_known, object_fit, petition_fit, state_fit, verb_fit}
+use Rattle.moo_load.{proofs.Words.{AllByRecursion, Chain-chain, Entry, EntryFits, FinMap, IsDistinct, IsFormed, IsWellFormed, List, Name, NamesDiffer, Obj, ObjNo, SlotRow, State, Str, VerbRow, World, a_property, a_verb, all_append, all_map, all_properties, all_weaker, and_parts, ap, arith, chain, cond, defined_by, dumped_slot, entries, entries_sorted, false, false≢true, find_key, flat_map, folded, get, get-entries, is_among, is_property_name, is_some, letters_of, list_all, map, named_so, property_names_of, objects_of, option_and_then, option_map, defined_by_any, own_entries, property_named, petition_cmp, petition_total, refl, row_fitting, same_Some, same_object, same_object-Decides, same_text, same_text-Decides, slot_of, slot_of_property, slot_state, subst, sym, unwrap_or, verb_fits, with_slots, ◌<◌, ◌≡◌, ◌++◌, ◌∷◌, ◌∙◌, [], is_object, true, or_cases, Bool, None, Option, Property, PetitionId, PetitionRow, WorldObject, Slot, Some, a_petition, a_slot, an_object, inl, inr, is_text, row_of, object_listed, object_numbered, slot_owner}, proofs.One.Injective.{IsOwn}, proofs.ReadBack.Lists.{Stands, all_tested, each_flat, each_map, found_in, found_stands, made_of, of_all, of_holders, passed, stands_flat, stands_map}, proofs.One.Entries.{entries_of, object_entries, owed_entry, record_entries}, proofs.One.Fitting.{fit, letters_fit, next_known, object_fit, petition_fit, state_fit, verb_fit}}
 
 -- each property is found by its name, if names differ
 pub own_name : (owed : List Property) → NamesDiffer owed → (p : Property) → Stands p owed → property_named owed (folded p.1) ≡ Some p

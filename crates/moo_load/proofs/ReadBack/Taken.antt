@@ -1,7 +1,5 @@
 -- What the rows of entries make of maps, map by map.
-use Rattle.moo_load.proofs.Words.{◌≡◌, ℕ, ◌+◌, Option, Some, None, List, [], ◌∷◌, length, refl, arith, max, filter_map, ObjNo, ObjRow, PetitionId, PetitionRow, PropId, PropRow, SlotRow, VerbId, VerbRow, Maps, Property, LastSlot, Entry, an_object, a_property, a_slot, a_verb, a_petition, entry_taken, entries_taken, carried, property_row, dumped_slot, slot_line_put}
-use Rattle.moo_load.proofs.ReadBack.Lists.{counted}
-use Rattle.moo_load.proofs.ReadBack.Puts.{puts}
+use Rattle.moo_load.{proofs.Words.{◌≡◌, ℕ, ◌+◌, Option, Some, None, List, [], ◌∷◌, length, refl, arith, max, filter_map, ObjNo, ObjRow, PetitionId, PetitionRow, PropId, PropRow, SlotRow, VerbId, VerbRow, Maps, Property, LastSlot, Entry, an_object, a_property, a_slot, a_verb, a_petition, entry_taken, entries_taken, carried, property_row, dumped_slot, slot_line_put}, proofs.ReadBack.Lists.{counted}, proofs.ReadBack.Puts.{puts}}
 
 -- ---- what an entry is
 

@@ -1,13 +1,5 @@
 -- What is read of the entries of a state are its rows.
-use Rattle.moo_load.proofs.Words.{◌≡◌, ℕ, ◌+◌, ◌<◌, ◌≤◌, true, false, cond, Option, Some, None, List, [], ◌∷◌, ◌++◌, map, length, refl, sym, ap, subst, ◌∙◌, inl, inr, arith, is_some, max, FinMap, get, get-entries, entries, empty, find_key, AllByRecursion, flat_map, filter_map, option_map, option_and_then, eq_by_cmp, same_Some, none-some, ObjNo, ObjRow, PetitionId, PetitionRow, PropId, SlotRow, VerbId, VerbRow, object_exact, prop_exact, slot_exact, verb_exact, petition_exact, Maps, no_maps, object_cmp, prop_cmp, slot_cmp, verb_cmp, petition_cmp, object_total, prop_total, slot_total, verb_total, petition_total, State, objects_of, Property, folded, same_object, same_object-Decides, same_text-Decides, IsFormed, World, WorldObject, Slot, slot_of, defined_by_any, chain, key-Decides, all_weaker, Entry, an_object, a_property, a_slot, a_verb, a_petition, NumbersAreLeft, entries_taken, carried, first_head, all_properties, all_verbs, at_number, property_row, dumped_slot, slot_of_property, verb_on, HasNumbers, AreRowsOf, no_slot, slot_line_put, Head, both_true, some_of, same_map, row_of, IsAbove}
-use Rattle.moo_load.proofs.ReadBack.Taken.{petition_in, row_in, slot_in, property_entry, verb_entry, above_all, slots_taken, all_taken, after, after_one}
-use Rattle.moo_load.proofs.ReadBack.Fit.{petitions_of, numbers_left, properties_are, verbs_are}
-use Rattle.moo_load.proofs.One.Entries.{owed_entry, record_entries, object_entries, entries_of}
-use Rattle.moo_load.proofs.ReadBack.Finding.{Each, slots_next}
-use Rattle.moo_load.proofs.ReadBack.Lists.{Stands, stands_left, stands_right, stands_flat, stands_made, all_made_by, counted, alike_once, found_in, made_of, passed, numbered_stands}
-use Rattle.moo_load.proofs.ReadBack.Numbers.{place, number, number_is, place_found, alike, properties_differ}
-use Rattle.moo_load.proofs.ReadBack.Said.{object_stands, Good, all_good, among_all, slot_has_property, of_property, of_slot, petitions_own, slot_object}
-use Rattle.moo_load.proofs.ReadBack.Puts.{puts, exactly, by_number}
+use Rattle.moo_load.{proofs.Words.{◌≡◌, ℕ, ◌+◌, ◌<◌, ◌≤◌, true, false, cond, Option, Some, None, List, [], ◌∷◌, ◌++◌, map, length, refl, sym, ap, subst, ◌∙◌, inl, inr, arith, is_some, max, FinMap, get, get-entries, entries, empty, find_key, AllByRecursion, flat_map, filter_map, option_map, option_and_then, eq_by_cmp, same_Some, none-some, ObjNo, ObjRow, PetitionId, PetitionRow, PropId, SlotRow, VerbId, VerbRow, object_exact, prop_exact, slot_exact, verb_exact, petition_exact, Maps, no_maps, object_cmp, prop_cmp, slot_cmp, verb_cmp, petition_cmp, object_total, prop_total, slot_total, verb_total, petition_total, State, objects_of, Property, folded, same_object, same_object-Decides, same_text-Decides, IsFormed, World, WorldObject, Slot, slot_of, defined_by_any, chain, key-Decides, all_weaker, Entry, an_object, a_property, a_slot, a_verb, a_petition, NumbersAreLeft, entries_taken, carried, first_head, all_properties, all_verbs, at_number, property_row, dumped_slot, slot_of_property, verb_on, HasNumbers, AreRowsOf, no_slot, slot_line_put, Head, both_true, some_of, same_map, row_of, IsAbove}, proofs.ReadBack.Taken.{petition_in, row_in, slot_in, property_entry, verb_entry, above_all, slots_taken, all_taken, after, after_one}, proofs.ReadBack.Fit.{petitions_of, numbers_left, properties_are, verbs_are}, proofs.One.Entries.{owed_entry, record_entries, object_entries, entries_of}, proofs.ReadBack.Finding.{Each, slots_next}, proofs.ReadBack.Lists.{Stands, stands_left, stands_right, stands_flat, stands_made, all_made_by, counted, alike_once, found_in, made_of, passed, numbered_stands}, proofs.ReadBack.Numbers.{place, number, number_is, place_found, alike, properties_differ}, proofs.ReadBack.Said.{object_stands, Good, all_good, among_all, slot_has_property, of_property, of_slot, petitions_own, slot_object}, proofs.ReadBack.Puts.{puts, exactly, by_number}}
 
 -- ---- numbers of petitions
 

@@ -1,6 +1,5 @@
 -- A dump has a line for each property and each verb.
-use Rattle.moo_load.proofs.Words.{◌≡◌, ◌<◌, ◌≤◌, List, [], ◌∷◌, ◌++◌, length, map, Option, Some, None, ap, arith, codes, unwrap_or, option_map, entries, flat_map, length-append, length-map, ObjNo, VerbRow, heading, dump, State, objects_of, Property, World, WorldObject, defined_by, defined_by_any, chain, directory_of, Entry, an_object, a_property, a_verb, a_petition, entry_text, HasNumbers}
-use Rattle.moo_load.proofs.One.Entries.{owed_entry, record_entries, object_entries, entries_of, dump_is}
+use Rattle.moo_load.{proofs.Words.{◌≡◌, ◌<◌, ◌≤◌, List, [], ◌∷◌, ◌++◌, length, map, Option, Some, None, ap, arith, codes, unwrap_or, option_map, entries, flat_map, length-append, length-map, ObjNo, VerbRow, heading, dump, State, objects_of, Property, World, WorldObject, defined_by, defined_by_any, chain, directory_of, Entry, an_object, a_property, a_verb, a_petition, entry_text, HasNumbers}, proofs.One.Entries.{owed_entry, record_entries, object_entries, entries_of, dump_is}}
 
 some_text : (e : Entry) → 0 < length (entry_text e)
 some_text (an_object x row) = omega arith

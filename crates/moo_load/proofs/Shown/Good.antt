@@ -1,10 +1,5 @@
 -- The rows of a state are good, and show the same state.
-use Rattle.moo_load.proofs.Words.{◌≡◌, ℕ, ◌<◌, ◌≤◌, true, List, Some, sym, ap, subst, ◌∙◌, arith, is_some, option_map, FinMap, get, same_Some, ObjNo, PetitionRow, PropRow, SlotRow, VerbRow, Maps, petition_cmp, State, state_of, Property, same_object, folded, same_object-Decides, same_text-Decides, IsFormed, world_of, world_shown, prop_id, verb_id, World, WorldObject, Slot, IsWellFormed, is_object, slot_of, chain, dump, AreTheSame, all_properties, all_verbs, at_number, property_row, slot_of_property, verb_on, HasNumbers, AreRowsOf, both_true, directory_of, property_names_of, objects_of, some_of, PetitionsStand, IsSound, IsGood}
-use Rattle.moo_load.proofs.Shown.Lists.{given}
-use Rattle.moo_load.proofs.ReadBack.Lists.{one_number, found_in, made_of, numbered_stands, of_all, of_holders, passed}
-use Rattle.moo_load.proofs.ReadBack.Said.{of_property, slot_object}
-use Rattle.moo_load.proofs.Shown.Look.{object_is}
-use Rattle.moo_load.proofs.ReadBack.Numbers.{alike, properties_differ, objects_are}
+use Rattle.moo_load.{proofs.Words.{◌≡◌, ℕ, ◌<◌, ◌≤◌, true, List, Some, sym, ap, subst, ◌∙◌, arith, is_some, option_map, FinMap, get, same_Some, ObjNo, PetitionRow, PropRow, SlotRow, VerbRow, Maps, petition_cmp, State, state_of, Property, same_object, folded, same_object-Decides, same_text-Decides, IsFormed, world_of, world_shown, prop_id, verb_id, World, WorldObject, Slot, IsWellFormed, is_object, slot_of, chain, dump, AreTheSame, all_properties, all_verbs, at_number, property_row, slot_of_property, verb_on, HasNumbers, AreRowsOf, both_true, directory_of, property_names_of, objects_of, some_of, PetitionsStand, IsSound, IsGood}, proofs.Shown.Lists.{given}, proofs.ReadBack.Lists.{one_number, found_in, made_of, numbered_stands, of_all, of_holders, passed}, proofs.ReadBack.Said.{of_property, slot_object}, proofs.Shown.Look.{object_is}, proofs.ReadBack.Numbers.{alike, properties_differ, objects_are}}
 
 module _ (s : State) (formed : IsFormed s) (m : Maps) (rows : AreRowsOf s m) where
   abbrev w : World

@@ -1,6 +1,5 @@
 -- Lists whose items have numbers, and lists of what objects have.
-use Rattle.moo_load.proofs.Words.{◌≡◌, ℕ, ◌+◌, zero, suc, ◌<◌, Bool, true, false, cond, List, [], ◌∷◌, ◌++◌, length, take, map, Option, Some, None, refl, sym, ap, subst, ◌∙◌, append-nil, arith, slice_get, option_and_then, flat_map, filter_map, cons_option, IsDistinct, AllByRecursion, false≢true, filter_map-append, none-some, ObjNo, same_object, is_among, same_object-Decides, numbers_below, at_number, all_map, ◌||◌, take-length, or_parts}
-use Rattle.moo_load.proofs.ReadBack.Lists.{each_made, Stands, all_of, none_made}
+use Rattle.moo_load.{proofs.Words.{◌≡◌, ℕ, ◌+◌, zero, suc, ◌<◌, Bool, true, false, cond, List, [], ◌∷◌, ◌++◌, length, take, map, Option, Some, None, refl, sym, ap, subst, ◌∙◌, append-nil, arith, slice_get, option_and_then, flat_map, filter_map, cons_option, IsDistinct, AllByRecursion, false≢true, filter_map-append, none-some, ObjNo, same_object, is_among, same_object-Decides, numbers_below, at_number, all_map, ◌||◌, take-length, or_parts}, proofs.ReadBack.Lists.{each_made, Stands, all_of, none_made}}
 
 -- ---- by numbers
 

@@ -1,7 +1,5 @@
 -- The laws of the nearest common ancestor, on lists of objects.
-use Rattle.moo_world.proofs.Words.{◌≡◌, Bool, true, false, cond, not, ◌||◌, List, [], ◌∷◌, ◌++◌, refl, sym, ◌∙◌, ap, subst, ◌⊎◌, inl, inr, Option, Some, None, append-nil, find, false≢true, or_parts, or_right, or_cases, filter-append, none-some, same_Some, ObjNo, nothing, same_object, is_among, same_object-Decides, Climbs, except}
-use Rattle.moo_world.proofs.Ancestry.Chains.{front_of, Climbs-once}
-use Rattle.moo_world.proofs.Inheritance.Owed.{is_among-append}
+use Rattle.moo_world.{proofs.Words.{◌≡◌, Bool, true, false, cond, not, ◌||◌, List, [], ◌∷◌, ◌++◌, refl, sym, ◌∙◌, ap, subst, ◌⊎◌, inl, inr, Option, Some, None, append-nil, find, false≢true, or_parts, or_right, or_cases, filter-append, none-some, same_Some, ObjNo, nothing, same_object, is_among, same_object-Decides, Climbs, except}, proofs.Ancestry.Chains.{front_of, Climbs-once}, proofs.Inheritance.Owed.{is_among-append}}
 
 pub same_object-self : (x : ObjNo) → same_object x x ≡ true
 same_object-self x = (same_object-Decides x x).1 refl

@@ -1,7 +1,5 @@
 -- What a change of one parent does to chains.
-use Rattle.moo_world.proofs.Words.{◌≡◌, Bool, true, false, cond, ◌||◌, List, [], ◌∷◌, ◌++◌, map, refl, sym, ◌∙◌, ap, subst, ◌⊎◌, Option, Some, None, is_some, unwrap_or, if◌then◌else◌, option_map, flat_map, false≢true, or_parts, ObjNo, Name, nothing, same_object, is_among, same_object-Decides, World, WorldObject, IsTree, Climbs, Chain, is_object, parent_of, location_of, property_names_of, owner_of, defined_by_any, chain, with_parent}
-use Rattle.moo_world.proofs.Ancestry.Chains.{front_of}
-use Rattle.moo_world.proofs.Ancestry.Trees.{chain_is, Chain-chain, Chain-either}
+use Rattle.moo_world.{proofs.Words.{◌≡◌, Bool, true, false, cond, ◌||◌, List, [], ◌∷◌, ◌++◌, map, refl, sym, ◌∙◌, ap, subst, ◌⊎◌, Option, Some, None, is_some, unwrap_or, if◌then◌else◌, option_map, flat_map, false≢true, or_parts, ObjNo, Name, nothing, same_object, is_among, same_object-Decides, World, WorldObject, IsTree, Climbs, Chain, is_object, parent_of, location_of, property_names_of, owner_of, defined_by_any, chain, with_parent}, proofs.Ancestry.Chains.{front_of}, proofs.Ancestry.Trees.{chain_is, Chain-chain, Chain-either}}
 
 module _ (w : World) (x q : ObjNo) where
   abbrev pub moved : World

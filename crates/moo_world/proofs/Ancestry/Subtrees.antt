@@ -1,9 +1,5 @@
 -- The ascending lists of objects, and names that don't clash.
-use Rattle.moo_world.proofs.Words.{◌≡◌, ℕ, zero, suc, ◌<◌, Bool, true, false, cond, ◌||◌, List, [], ◌∷◌, ◌++◌, map, refl, sym, ◌∙◌, ap, subst, ◌⊎◌, inl, inr, Option, Some, None, arith, pos, is_some, list_any, filter, false≢true, or_parts, or_right, or_cases, cases_eq, ObjNo, Property, object_at, same_object, same_property, folded, is_among, same_object-Decides, World, IsTree, is_object, chain, defined_by, defined_by_any, property_named, numbers_to, numbers_below, objects_of, subtree_of, shares_property_name}
-use Rattle.moo_world.proofs.Ancestry.Trees.{assigned, chain_of_none}
-use Rattle.moo_world.proofs.Inheritance.Owed.{any-append, is_among-append}
-use Rattle.moo_world.proofs.Inheritance.Keeping.{same_property-is}
-use Rattle.moo_world.proofs.Inheritance.ManualLaw.{NoClash}
+use Rattle.moo_world.{proofs.Words.{◌≡◌, ℕ, zero, suc, ◌<◌, Bool, true, false, cond, ◌||◌, List, [], ◌∷◌, ◌++◌, map, refl, sym, ◌∙◌, ap, subst, ◌⊎◌, inl, inr, Option, Some, None, arith, pos, is_some, list_any, filter, false≢true, or_parts, or_right, or_cases, cases_eq, ObjNo, Property, object_at, same_object, same_property, folded, is_among, same_object-Decides, World, IsTree, is_object, chain, defined_by, defined_by_any, property_named, numbers_to, numbers_below, objects_of, subtree_of, shares_property_name}, proofs.Ancestry.Trees.{assigned, chain_of_none}, proofs.Inheritance.Owed.{any-append, is_among-append}, proofs.Inheritance.Keeping.{same_property-is}, proofs.Inheritance.ManualLaw.{NoClash}}
 
 pub among_filter : (t : ObjNo → Bool) (l : List ObjNo) (d : ObjNo) → is_among d l ≡ true → t d ≡ true → is_among d (filter t l) ≡ true
 among_filter t [] d h k = h

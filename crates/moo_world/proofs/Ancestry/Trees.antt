@@ -1,6 +1,5 @@
 -- The laws of chains in a world.
-use Rattle.moo_world.proofs.Words.{◌≡◌, ℕ, zero, suc, ◌<◌, true, false, List, [], ◌∷◌, refl, sym, ◌∙◌, ap, subst, Option, Some, None, arith, ℤ, pos, negsuc, ◌≤ℤ◌, is_some, option_map, false≢true, ints, none-some, same_Some, ObjNo, nothing, is_among, World, WorldObject, IsTree, Chain, IsUnder, is_object, parent_of, climb, chain, numbers_to, ◌⊎◌, inl, inr}
-use Rattle.moo_world.proofs.Ancestry.Chains.{Climbs-unique, Climbs-bound, climb_is, NumbersBelow}
+use Rattle.moo_world.{proofs.Words.{◌≡◌, ℕ, zero, suc, ◌<◌, true, false, List, [], ◌∷◌, refl, sym, ◌∙◌, ap, subst, Option, Some, None, arith, ℤ, pos, negsuc, ◌≤ℤ◌, is_some, option_map, false≢true, ints, none-some, same_Some, ObjNo, nothing, is_among, World, WorldObject, IsTree, Chain, IsUnder, is_object, parent_of, climb, chain, numbers_to, ◌⊎◌, inl, inr}, proofs.Ancestry.Chains.{Climbs-unique, Climbs-bound, climb_is, NumbersBelow}}
 
 pub assigned : (z top : ℤ) → pos 0 ≤ℤ z → z ≤ℤ top → (n : ℕ) × (z ≡ pos n) × (n < numbers_to top)
 assigned (pos n) (pos t) low high = (n, refl, omega (arith, ints))

@@ -1,6 +1,5 @@
 -- On the small tree of the worked rows, what children moved one by one leave.
-use Rattle.moo_world.proofs.Words.{◌≡◌, ◌∷◌, [], refl, pos, false, Some, None, Clear, Set, Int, nothing, same_object, same_text, folded, slot_of, parent_of, chain, is_object, children_of, moved_one_by_one, taken_out, world_shown}
-use Rattle.moo_world.proofs.Batches.TreeT.{T, no, reading}
+use Rattle.moo_world.{proofs.Words.{◌≡◌, ◌∷◌, [], refl, pos, false, Some, None, Clear, Set, Int, nothing, same_object, same_text, folded, slot_of, parent_of, chain, is_object, children_of, moved_one_by_one, taken_out, world_shown}, proofs.Batches.TreeT.{T, no, reading}}
 
 children_worked :
     -- the child of #4 moved to #1, before #4 goes: #6 below it has lost a

@@ -1,9 +1,6 @@
 -- What any call of a batch leaves, along its checks.
-use Rattle.moo_world.proofs.Words.{◌≡◌, ℤ, pos, negsuc, Bool, true, false, List, [], ◌∷◌, refl, ap, ◌∙◌, subst, Option, Some, None, Result, Ok, Err, nat_lt, ◌||◌, option_map, list_all, get, false≢true, none-some, same_Some, Code, Permission, ObjNo, Value, Int, Obj, Str, Error, spread, Values, PetitionId, PetitionRow, Call, PetitionCall, no_values, petition_call, same_object, Outcome, Done, Failed, Full, check, is_named, are_few, are_shallow, State, in_world, one_list, one_integer, petition_id, petition_at, without, held_steps, number_limit, asked, are_on_world, petition_call_by, batch_call, is_wizard, world_call, named_call, World, is_object}
-use Rattle.moo_value.specs.declared.value.Value.TheVariants.{List as a_list}
-use Rattle.moo_value.specs.Values.{no_values as no_more}
-use Rattle.moo_world.specs.declared.name.PetitionCall.TheVariants.{Petition as to_petition, Petitions as to_list, Grant as to_grant, Decline as to_decline}
-use Rattle.moo_world.proofs.Form.Passing.{Holds, on_check, on_done, on_found, on_given, on_room}
+use Rattle.moo_world.{proofs.Words.{◌≡◌, ℤ, pos, negsuc, Bool, true, false, List, [], ◌∷◌, refl, ap, ◌∙◌, subst, Option, Some, None, Result, Ok, Err, nat_lt, ◌||◌, option_map, list_all, get, false≢true, none-some, same_Some, Code, Permission, ObjNo, Value, Int, Obj, Str, Error, spread, Values, PetitionId, PetitionRow, Call, PetitionCall, no_values, petition_call, same_object, Outcome, Done, Failed, Full, check, is_named, are_few, are_shallow, State, in_world, one_list, one_integer, petition_id, petition_at, without, held_steps, number_limit, asked, are_on_world, petition_call_by, batch_call, is_wizard, world_call, named_call, World, is_object}, specs.declared.name.PetitionCall.TheVariants.{Petition as to_petition, Petitions as to_list, Grant as to_grant, Decline as to_decline}, proofs.Form.Passing.{Holds, on_check, on_done, on_found, on_given, on_room}}
+use Rattle.moo_value.{specs.declared.value.Value.TheVariants.{List as a_list}, specs.Values.{no_values as no_more}}
 
 -- an answered call leaves a state that is so; an error leaves none
 abbrev pub Leaves : (State → Type 0) → Outcome State → Type 0

@@ -1,12 +1,7 @@
 -- Batches of calls on the opening world and on the small tree, and what the definitions answer.
-use Rattle.moo_world.proofs.Words.{◌≡◌, ℕ, pos, true, false, List, [], ◌∷◌, refl, Option, Some, None, codes, lookup, empty, Permission, NotAccepted, RecursiveMove, InvalidArgument, PropertyNotFound, VerbNotFound, Quota, Arguments, Value, Int, Obj, Str, Call, CallName, MaxObject, Get, Properties, VerbInfo, VerbArgs, Create, Chparent, Recycle, Move, AddProperty, DeleteProperty, SetPropertyInfo, ClearProperty, AddVerb, DeleteVerb, SetVerbArgs, SetAccept, SetVerbInfo, Verbs, nothing, same_object, same_text, same_property, folded, World, chain, location_chain, rebuilt, LookUps, world_shown, list_of, object_list, text_list, prep_of, world_call, State, batch_call, Ran, Through, FailedAt, FullAt, run_calls}
+use Rattle.moo_world.{proofs.Words.{◌≡◌, ℕ, pos, true, false, List, [], ◌∷◌, refl, Option, Some, None, codes, lookup, empty, Permission, NotAccepted, RecursiveMove, InvalidArgument, PropertyNotFound, VerbNotFound, Quota, Arguments, Value, Int, Obj, Str, Call, CallName, MaxObject, Get, Properties, VerbInfo, VerbArgs, Create, Chparent, Recycle, Move, AddProperty, DeleteProperty, SetPropertyInfo, ClearProperty, AddVerb, DeleteVerb, SetVerbArgs, SetAccept, SetVerbInfo, Verbs, nothing, same_object, same_text, same_property, folded, World, chain, location_chain, rebuilt, LookUps, world_shown, list_of, object_list, text_list, prep_of, world_call, State, batch_call, Ran, Through, FailedAt, FullAt, run_calls}, specs.declared.name.CallName.TheVariants.{Set}, specs.Answers.{zero}, specs.Matching.{matches}, proofs.Batches.TreeT.{no, row, T as world_T}}
 use Rattle.moo_value.specs.declared.code.Code.TheVariants.{«Type» as WrongType}
-use Rattle.moo_rows.specs.declared.row.Preposition.TheVariants.{Set as of_set}
-use Rattle.moo_rows.specs.declared.row.PrepositionSet.TheVariants.{OutOf, In}
-use Rattle.moo_world.specs.declared.name.CallName.TheVariants.{Set}
-use Rattle.moo_world.specs.Answers.{zero}
-use Rattle.moo_world.specs.Matching.{matches}
-use Rattle.moo_world.proofs.Batches.TreeT.{no, row, T as world_T}
+use Rattle.moo_rows.{specs.declared.row.Preposition.TheVariants.{Set as of_set}, specs.declared.row.PrepositionSet.TheVariants.{OutOf, In}}
 
 -- the answers of a batch's calls, or None if one failed
 abbrev pub answers : Ran → Option (List Value)

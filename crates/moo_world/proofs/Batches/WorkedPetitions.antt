@@ -1,7 +1,6 @@
 -- Petitions on the opening world, and what the definitions answer: as far as no petition is looked up, which no worked row computes.
-use Rattle.moo_world.proofs.Lemmas.{◌≡◌, List, [], ◌∷◌, refl, Some, codes, Permission, InvalidArgument, Value, Obj, Call, Create, Petition, Grant, nothing, same_object, same_text, same_property, folded, chain, rebuilt, world_shown, list_of, world_call, batch_call, Ran, Through, FailedAt, FullAt, run_calls, no}
+use Rattle.moo_world.{proofs.Lemmas.{◌≡◌, List, [], ◌∷◌, refl, Some, codes, Permission, InvalidArgument, Value, Obj, Call, Create, Petition, Grant, nothing, same_object, same_text, same_property, folded, chain, rebuilt, world_shown, list_of, world_call, batch_call, Ran, Through, FailedAt, FullAt, run_calls, no}, proofs.Batches.WorkedCalls.{opening, answers, call, o, text, i}}
 use Rattle.moo_value.specs.declared.code.Code.TheVariants.{«Type» as WrongType}
-use Rattle.moo_world.proofs.Batches.WorkedCalls.{opening, answers, call, o, text, i}
 
 -- as #3 makes #4, which owns itself; what #4 then says
 abbrev asked_by_4 : List Call → Ran

@@ -1,8 +1,6 @@
 -- Every call of a batch leaves a well formed world, and petitions as they may stand.
-use Rattle.moo_world.proofs.Lemmas.{◌≡◌, ℕ, ◌+◌, ◌<◌, ◌≤◌, ◌⊎◌, inl, inr, max, Bool, true, false, List, [], ◌∷◌, Option, Some, None, refl, sym, ap, ◌∙◌, subst, arith, ◌&&◌, nat_le, is_some, if◌then◌else◌, option_and_then, list_all, FinMap, get, insert, remove, and_parts, false≢true, le-leb, leb-true, ltb-true, none-some, same_Some, InvalidArgument, ObjNo, Value, Int, Obj, Str, Error, nesting, spread, Values, levels, int, object, string, error, list, PetitionId, PetitionRow, petition_exact, petition_cmp, petition_total, Call, CallName, is_integer, in_range, is_number, is_text, all_within_limits, is_within_limits, fits, arguments_fit, RequestsKeepForm, call_name_of, petition_call, Outcome, Done, Failed, Full, PetitionsStand, petition_fits, is_named, are_few, are_shallow, State, IsFormed, petition_id, call_in, held_call, held_step, held_steps, number_limit, asked, batch_call, world_call, World, IsWellFormed, is_object, Led, of_done, request_leaves, object_numbered, put_or_old, none_or_old}
-use Rattle.moo_value.specs.declared.value.Value.TheVariants.{List as a_list}
-use Rattle.moo_value.specs.Values.{no_values}
-use Rattle.moo_world.proofs.Form.Calls.{calls_keep_form}
+use Rattle.moo_world.{proofs.Lemmas.{◌≡◌, ℕ, ◌+◌, ◌<◌, ◌≤◌, ◌⊎◌, inl, inr, max, Bool, true, false, List, [], ◌∷◌, Option, Some, None, refl, sym, ap, ◌∙◌, subst, arith, ◌&&◌, nat_le, is_some, if◌then◌else◌, option_and_then, list_all, FinMap, get, insert, remove, and_parts, false≢true, le-leb, leb-true, ltb-true, none-some, same_Some, InvalidArgument, ObjNo, Value, Int, Obj, Str, Error, nesting, spread, Values, levels, int, object, string, error, list, PetitionId, PetitionRow, petition_exact, petition_cmp, petition_total, Call, CallName, is_integer, in_range, is_number, is_text, all_within_limits, is_within_limits, fits, arguments_fit, RequestsKeepForm, call_name_of, petition_call, Outcome, Done, Failed, Full, PetitionsStand, petition_fits, is_named, are_few, are_shallow, State, IsFormed, petition_id, call_in, held_call, held_step, held_steps, number_limit, asked, batch_call, world_call, World, IsWellFormed, is_object, Led, of_done, request_leaves, object_numbered, put_or_old, none_or_old}, proofs.Form.Calls.{calls_keep_form}}
+use Rattle.moo_value.{specs.declared.value.Value.TheVariants.{List as a_list}, specs.Values.{no_values}}
 
 -- ---- the values of a list that fits, one by one
 

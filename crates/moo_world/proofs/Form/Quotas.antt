@@ -1,8 +1,6 @@
 -- Quotas are moved within 64 bits, so that the world stays well formed.
-use Rattle.moo_world.proofs.Lemmas.{◌≡◌, Bool, true, false, ◌||◌, List, [], ◌∷◌, refl, sym, ◌∙◌, ap, subst, inl, inr, Option, Some, None, ℤ, pos, negsuc, FitsSigned, w64, arith, ◌+ℤ◌, int_lt, nat_le, unwrap_or, if◌then◌else◌, option_map, both_ways, or_cases, and_parts, ints, none-some, same_Some, ObjNo, Value, Int, Obj, Str, Error, nesting, SlotState, Clear, Set, fits, is_integer, is_number, next_object, owner_or_self, created, Name, nothing, same_object, folded, quota_name, quota_in, quota_of, quota_changed, may_afford, has_quota_left, charged, quota_returned, set_slot, World, Slot, IsWellFormed, is_object, slot_of, chain, read_in, read_along, read_of, object_changed, state_fits, known_numbered, integer_of, integer_fits}
+use Rattle.moo_world.{proofs.Lemmas.{◌≡◌, Bool, true, false, ◌||◌, List, [], ◌∷◌, refl, sym, ◌∙◌, ap, subst, inl, inr, Option, Some, None, ℤ, pos, negsuc, FitsSigned, w64, arith, ◌+ℤ◌, int_lt, nat_le, unwrap_or, if◌then◌else◌, option_map, both_ways, or_cases, and_parts, ints, none-some, same_Some, ObjNo, Value, Int, Obj, Str, Error, nesting, SlotState, Clear, Set, fits, is_integer, is_number, next_object, owner_or_self, created, Name, nothing, same_object, folded, quota_name, quota_in, quota_of, quota_changed, may_afford, has_quota_left, charged, quota_returned, set_slot, World, Slot, IsWellFormed, is_object, slot_of, chain, read_in, read_along, read_of, object_changed, state_fits, known_numbered, integer_of, integer_fits}, proofs.Form.Values.{set_formed}, proofs.Ownership.Created.{formed, new_numbered, read_old}}
 use Rattle.moo_value.specs.declared.value.Value.TheVariants.{List as a_list}
-use Rattle.moo_world.proofs.Form.Values.{set_formed}
-use Rattle.moo_world.proofs.Ownership.Created.{formed, new_numbered, read_old}
 
 -- ---- what is read
 

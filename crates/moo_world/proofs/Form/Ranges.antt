@@ -1,8 +1,6 @@
 -- The limits that the types of values keep, and the tests of them.
 use Rattle.moo_world.proofs.Words.{◌≡◌, ◌≤◌, ◌<◌, Bool, true, false, ◌&&◌, ◌↔◌, refl, sym, ℤ, pos, negsuc, FitsSigned, w32, w64, arith, ℕ, List, length, IsTrue, nat_le, list_all, false≢true, and_parts, le-leb, leb-true, lt-ltb, ltb-true, ints, Value, Int, Obj, Str, Error, IsText, is_allowed, nesting, Values, int, object, string, error, list, is_integer, in_range, is_text, all_within_limits, is_within_limits, fits, TextIsTested, FitsIsTested, both_true}
-use Rattle.moo_value.specs.declared.value.Value.TheVariants.{List as a_list}
-use Rattle.moo_value.specs.Literal.{HoldInside, HoldIn, InRange, Fits}
-use Rattle.moo_value.specs.Values.{no_values}
+use Rattle.moo_value.{specs.declared.value.Value.TheVariants.{List as a_list}, specs.Literal.{HoldInside, HoldIn, InRange, Fits}, specs.Values.{no_values}}
 
 pub range_of : (n : ℤ) → FitsSigned w32 n → in_range n ≡ true
 range_of (pos n) f = lt-ltb n 2147483648 (omega (arith, ints))

@@ -1,6 +1,5 @@
 -- A run of batches leaves a well formed world and petitions of such ones.
-use Rattle.moo_world.proofs.Words.{◌≡◌, Bool, true, false, List, [], ◌∷◌, refl, nat_lt, if◌then◌else◌, list_all, and_parts, ObjNo, Value, Batch, Call, Ran, Through, FailedAt, FullAt, NoRoom, Stale, after_one, run_calls, is_due, last_seq, verdict_of, judge, left_by, arguments_fit, RunsKeepForm, Outcome, Done, Failed, Full, State, IsFormed, batch_call}
-use Rattle.moo_world.proofs.Form.Petitions.{requests_keep_form}
+use Rattle.moo_world.{proofs.Words.{◌≡◌, Bool, true, false, List, [], ◌∷◌, refl, nat_lt, if◌then◌else◌, list_all, and_parts, ObjNo, Value, Batch, Call, Ran, Through, FailedAt, FullAt, NoRoom, Stale, after_one, run_calls, is_due, last_seq, verdict_of, judge, left_by, arguments_fit, RunsKeepForm, Outcome, Done, Failed, Full, State, IsFormed, batch_call}, proofs.Form.Petitions.{requests_keep_form}}
 
 -- calls that were all done leave them so
 abbrev LeavesForm : Ran → Type 0

@@ -1,6 +1,5 @@
 -- A changed slot keeps the world well formed.
-use Rattle.moo_world.proofs.Words.{◌≡◌, ◌≢◌, Bool, true, false, refl, sym, ◌∙◌, ap, subst, Option, Some, None, ◌&&◌, ◌≤ℤ◌, if◌then◌else◌, option_map, option_and_then, and_parts, none-some, same_Some, ObjNo, Clear, Name, Property, same_object, same_text, folded, same_object-Decides, same_text-Decides, World, WorldObject, Slot, IsTree, IsWellFormed, Climbs, NamesDiffer, is_object, location_of, slot_of, property_named, with_slots, KeepsLimits, SameButSlots, slot_fits, with_slot_of}
-use Rattle.moo_world.proofs.Inheritance.Rebuilding.{parents_same, objects_same, owed_same, Chain-same}
+use Rattle.moo_world.{proofs.Words.{◌≡◌, ◌≢◌, Bool, true, false, refl, sym, ◌∙◌, ap, subst, Option, Some, None, ◌&&◌, ◌≤ℤ◌, if◌then◌else◌, option_map, option_and_then, and_parts, none-some, same_Some, ObjNo, Clear, Name, Property, same_object, same_text, folded, same_object-Decides, same_text-Decides, World, WorldObject, Slot, IsTree, IsWellFormed, Climbs, NamesDiffer, is_object, location_of, slot_of, property_named, with_slots, KeepsLimits, SameButSlots, slot_fits, with_slot_of}, proofs.Inheritance.Rebuilding.{parents_same, objects_same, owed_same, Chain-same}}
 
 -- worlds that differ in slots alone are well formed alike, where the slots have the same definers and those on them are set
 module _ (v w : World) (same : SameButSlots v w) (wf : IsWellFormed w) (definers : (y : ObjNo) (n : Name) → option_map (λ s. s.definer) (slot_of v y n) ≡ option_map (λ s. s.definer) (slot_of w y n)) (set : (y : ObjNo) (n : Name) (s : Slot) → slot_of v y n ≡ Some s → s.definer ≡ y → s.state ≢ Clear) (fit : (y : ObjNo) (n : Name) (s : Slot) → slot_of v y n ≡ Some s → slot_fits s ≡ true) where

@@ -1,8 +1,6 @@
 -- A value that is set and a new name keep the world well formed, and worlds with other slots have names clash alike.
-use Rattle.moo_world.proofs.Lemmas.{◌≡◌, true, false, ◌||◌, List, [], ◌∷◌, map, refl, ◌∙◌, ap, subst, ◌⊎◌, inl, inr, None, is_some, if◌then◌else◌, option_map, filter, flat_map, list_any, false≢true, or_cases, ObjNo, Value, Set, fits, clashes, property_renamed, with_slot_of, Name, object_at, same_object, same_text, same_property, folded, is_among, same_text-Decides, same_property-self, defines_name, numbers_below, World, WorldObject, IsWellFormed, SameButSlots, is_object, is_property_name, property_names_of, numbers_to, property_named, chain, IsWellFormed-with_slot_of, slot_owner, names_same, objects_same, both_true}
+use Rattle.moo_world.{proofs.Lemmas.{◌≡◌, true, false, ◌||◌, List, [], ◌∷◌, map, refl, ◌∙◌, ap, subst, ◌⊎◌, inl, inr, None, is_some, if◌then◌else◌, option_map, filter, flat_map, list_any, false≢true, or_cases, ObjNo, Value, Set, fits, clashes, property_renamed, with_slot_of, Name, object_at, same_object, same_text, same_property, folded, is_among, same_text-Decides, same_property-self, defines_name, numbers_below, World, WorldObject, IsWellFormed, SameButSlots, is_object, is_property_name, property_names_of, numbers_to, property_named, chain, IsWellFormed-with_slot_of, slot_owner, names_same, objects_same, both_true}, proofs.Ownership.Created.{chains_same}, proofs.Inheritance.Replacement.{IsWellFormed-property_renamed}}
 use Rattle.std.proofs.Math.Bool.{or-true}
-use Rattle.moo_world.proofs.Ownership.Created.{chains_same}
-use Rattle.moo_world.proofs.Inheritance.Replacement.{IsWellFormed-property_renamed}
 
 -- a slot that is set to a value
 pub set_formed : (w : World) (x : ObjNo) (n : Name) (v : Value) → fits v ≡ true → IsWellFormed w → IsWellFormed (with_slot_of w x n (λ s. record s { state = Set v }))

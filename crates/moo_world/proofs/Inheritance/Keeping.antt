@@ -1,9 +1,5 @@
 -- A rebuilt world is well formed, where its links and definitions are.
-use Rattle.moo_world.proofs.Words.{◌≡◌, ◌≢◌, Bool, true, false, cond, List, [], ◌∷◌, refl, sym, ◌∙◌, ap, subst, ◌⊎◌, inl, inr, Option, Some, None, if◌then◌else◌, pos, ◌≤ℤ◌, option_map, list_any, IsDistinct, AllByRecursion, false≢true, both_ways, or_cases, and_parts, none-some, same_Some, ObjNo, Clear, Name, Property, same_object, same_text, same_property, folded, is_among, same_object-Decides, same_text-Decides, World, WorldObject, Slot, IsTree, IsWellFormed, Climbs, Chain, NamesDiffer, is_object, location_of, owner_of, slot_of, defined_by, defined_by_any, property_named, has_property, chain, fresh, slot_for, rebuilt, with_slots, without_slots, KeepsLimits, SameButSlots, slot_fits, nothing, ◌||◌}
-use Rattle.moo_world.proofs.Ancestry.Trees.{chain_is, Chain-chain, chain_of_none, nothing_is_no_object}
-use Rattle.moo_world.proofs.Form.Limits.{owner_numbered, fresh_fits}
-use Rattle.moo_world.proofs.Inheritance.Owed.{any-append, definer_among, in_owed, named_owed, named_so}
-use Rattle.moo_world.proofs.Inheritance.Rebuilding.{parents_same, objects_same, owed_same, Chain-same, SameButSlots-rebuilt, slot_of-rebuilt}
+use Rattle.moo_world.{proofs.Words.{◌≡◌, ◌≢◌, Bool, true, false, cond, List, [], ◌∷◌, refl, sym, ◌∙◌, ap, subst, ◌⊎◌, inl, inr, Option, Some, None, if◌then◌else◌, pos, ◌≤ℤ◌, option_map, list_any, IsDistinct, AllByRecursion, false≢true, both_ways, or_cases, and_parts, none-some, same_Some, ObjNo, Clear, Name, Property, same_object, same_text, same_property, folded, is_among, same_object-Decides, same_text-Decides, World, WorldObject, Slot, IsTree, IsWellFormed, Climbs, Chain, NamesDiffer, is_object, location_of, owner_of, slot_of, defined_by, defined_by_any, property_named, has_property, chain, fresh, slot_for, rebuilt, with_slots, without_slots, KeepsLimits, SameButSlots, slot_fits, nothing, ◌||◌}, proofs.Ancestry.Trees.{chain_is, Chain-chain, chain_of_none, nothing_is_no_object}, proofs.Form.Limits.{owner_numbered, fresh_fits}, proofs.Inheritance.Owed.{any-append, definer_among, in_owed, named_owed, named_so}, proofs.Inheritance.Rebuilding.{parents_same, objects_same, owed_same, Chain-same, SameButSlots-rebuilt, slot_of-rebuilt}}
 
 pub same_property-is : (p q : Property) → same_property p q ≡ true → p ≡ q
 unfolding same_property

@@ -1,8 +1,5 @@
 -- The children of a recycled object, moved one by one in the manual's words, leave the world that recycling leaves.
-use Rattle.moo_world.proofs.Lemmas.{◌≡◌, Bool, true, false, cond, ◌||◌, List, [], ◌∷◌, ◌++◌, refl, sym, ◌∙◌, ap, subst, ◌⊎◌, inl, inr, Option, Some, None, is_some, unwrap_or, if◌then◌else◌, option_map, option_and_then, false≢true, both_ways, or_right, false_from_ne_true, none-some, same_Some, ObjNo, Name, Property, nothing, same_object, same_object-Decides, is_among, World, WorldObject, Slot, IsTree, IsWellFormed, Chain, is_object, parent_of, slot_of, defined_by_any, property_named, chain, with_slots, without_slots, with_parent, reparented, SameButSlots, MayReparent, unless_defined_by, manual_slot, is_parent_of, children_of, objects_of, manually_moved, moved_one_by_one, MayMoveOneByOne, emptied, taken_out, ChildrenMoveOneByOne, ChildrenMoveAscending, released, object_removed, recycled, Climbs-once, Chain-chain, chain-step, linked, no_parent, definer_among, named_owed, same_object-self, manual_law, slot_kept, slot_absent, no_slot, objects_same, same_world, SameButSlots-rebuilt, NoClash-from_meets, among_filter, object_listed}
-use Rattle.moo_world.proofs.Inheritance.Recycling.{stays, recycle_law}
-use Rattle.moo_world.proofs.Inheritance.Reparenting.{IsWellFormed-reparented}
-use Rattle.moo_world.proofs.Ancestry.Upward.{filter_passes, may_climb, climbed_slot}
+use Rattle.moo_world.{proofs.Lemmas.{◌≡◌, Bool, true, false, cond, ◌||◌, List, [], ◌∷◌, ◌++◌, refl, sym, ◌∙◌, ap, subst, ◌⊎◌, inl, inr, Option, Some, None, is_some, unwrap_or, if◌then◌else◌, option_map, option_and_then, false≢true, both_ways, or_right, false_from_ne_true, none-some, same_Some, ObjNo, Name, Property, nothing, same_object, same_object-Decides, is_among, World, WorldObject, Slot, IsTree, IsWellFormed, Chain, is_object, parent_of, slot_of, defined_by_any, property_named, chain, with_slots, without_slots, with_parent, reparented, SameButSlots, MayReparent, unless_defined_by, manual_slot, is_parent_of, children_of, objects_of, manually_moved, moved_one_by_one, MayMoveOneByOne, emptied, taken_out, ChildrenMoveOneByOne, ChildrenMoveAscending, released, object_removed, recycled, Climbs-once, Chain-chain, chain-step, linked, no_parent, definer_among, named_owed, same_object-self, manual_law, slot_kept, slot_absent, no_slot, objects_same, same_world, SameButSlots-rebuilt, NoClash-from_meets, among_filter, object_listed}, proofs.Inheritance.Recycling.{stays, recycle_law}, proofs.Inheritance.Reparenting.{IsWellFormed-reparented}, proofs.Ancestry.Upward.{filter_passes, may_climb, climbed_slot}}
 
 -- worlds that are the same but for slots, and whose objects have the same slots, are one
 one_world : (a b : World) → SameButSlots a b → ((y : ObjNo) (n : Name) → is_object a y ≡ true → slot_of a y n ≡ slot_of b y n) → a ≡ b

@@ -1,6 +1,5 @@
 -- A rebuilt world exists, and there is one only.
-use Rattle.moo_world.proofs.Words.{◌≡◌, true, false, List, [], refl, sym, ◌∙◌, ap, subst, map, Option, Some, None, is_some, unwrap_or, if◌then◌else◌, option_map, option_and_then, Decides, list_any, flat_map, false≢true, both_ways, false_from_ne_true, none-some, same_Some, ObjNo, Name, Property, nothing, same_property, World, WorldObject, Slot, IsTree, Climbs, Chain, HasProperty, Rebuilt, is_object, parent_of, property_names_of, owner_of, slot_of, defined_by_any, property_named, has_property, chain, fresh, slot_for, rebuilt_slot, rebuilt, with_slots, SameButSlots}
-use Rattle.moo_world.proofs.Ancestry.Trees.{chain_is, Chain-chain, chain_of_none}
+use Rattle.moo_world.{proofs.Words.{◌≡◌, true, false, List, [], refl, sym, ◌∙◌, ap, subst, map, Option, Some, None, is_some, unwrap_or, if◌then◌else◌, option_map, option_and_then, Decides, list_any, flat_map, false≢true, both_ways, false_from_ne_true, none-some, same_Some, ObjNo, Name, Property, nothing, same_property, World, WorldObject, Slot, IsTree, Climbs, Chain, HasProperty, Rebuilt, is_object, parent_of, property_names_of, owner_of, slot_of, defined_by_any, property_named, has_property, chain, fresh, slot_for, rebuilt_slot, rebuilt, with_slots, SameButSlots}, proofs.Ancestry.Trees.{chain_is, Chain-chain, chain_of_none}}
 
 -- what is owed, as a test
 pub HasProperty-Decides : (w : World) → IsTree w → (x : ObjNo) (p : Property) → Decides (has_property w x p) (HasProperty w x p)

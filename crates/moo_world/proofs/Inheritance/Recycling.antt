@@ -1,6 +1,5 @@
 -- What the loss of one object does to chains.
-use Rattle.moo_world.proofs.Lemmas.{◌≡◌, Bool, true, false, cond, ◌||◌, List, [], ◌∷◌, ◌++◌, map, refl, sym, ◌∙◌, ap, subst, ◌⊎◌, inl, inr, Option, Some, None, is_some, unwrap_or, if◌then◌else◌, option_map, list_any, list_all, IsDistinct, AllByRecursion, false≢true, both_ways, or_parts, or_right, or_cases, false_from_ne_true, none-some, same_Some, ObjNo, Name, Property, nothing, same_object, same_text, same_property, folded, is_among, same_object-Decides, World, WorldObject, IsTree, IsWellFormed, Chain, LocationChain, NamesDiffer, is_object, parent_of, chain, property_names_of, owner_of, slot_of, defined_by, defined_by_any, property_named, has_property, fresh, slot_for, with_slots, is_property_name, verb_fits, row_fits, unless_defined_by, released, object_removed, recycled, front_of, Climbs-once, any-append, all_right, own_pair, in_owed, definer_among, named_owed, named_so, some_named, slot_of-rebuilt, slot_kept, slot_lost, slot_absent, MayBeRebuilt, IsWellFormed-rebuilt, named_is, chain_is, Chain-chain, linked, no_parent, nothing_is_no_object, own_owed}
-use Rattle.moo_world.proofs.Inheritance.Reparenting.{all_join, all_left}
+use Rattle.moo_world.{proofs.Lemmas.{◌≡◌, Bool, true, false, cond, ◌||◌, List, [], ◌∷◌, ◌++◌, map, refl, sym, ◌∙◌, ap, subst, ◌⊎◌, inl, inr, Option, Some, None, is_some, unwrap_or, if◌then◌else◌, option_map, list_any, list_all, IsDistinct, AllByRecursion, false≢true, both_ways, or_parts, or_right, or_cases, false_from_ne_true, none-some, same_Some, ObjNo, Name, Property, nothing, same_object, same_text, same_property, folded, is_among, same_object-Decides, World, WorldObject, IsTree, IsWellFormed, Chain, LocationChain, NamesDiffer, is_object, parent_of, chain, property_names_of, owner_of, slot_of, defined_by, defined_by_any, property_named, has_property, fresh, slot_for, with_slots, is_property_name, verb_fits, row_fits, unless_defined_by, released, object_removed, recycled, front_of, Climbs-once, any-append, all_right, own_pair, in_owed, definer_among, named_owed, named_so, some_named, slot_of-rebuilt, slot_kept, slot_lost, slot_absent, MayBeRebuilt, IsWellFormed-rebuilt, named_is, chain_is, Chain-chain, linked, no_parent, nothing_is_no_object, own_owed}, proofs.Inheritance.Reparenting.{all_join, all_left}}
 
 -- a list without one object
 abbrev pub left_out : ObjNo → List ObjNo → List ObjNo

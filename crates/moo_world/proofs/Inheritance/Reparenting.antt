@@ -1,6 +1,5 @@
 -- A change of parent keeps the world well formed.
-use Rattle.moo_world.proofs.Lemmas.{◌≡◌, Bool, true, false, cond, ◌||◌, List, [], ◌∷◌, ◌++◌, map, refl, sym, ◌∙◌, ap, subst, ◌⊎◌, inl, Option, Some, None, append_assoc, unwrap_or, if◌then◌else◌, option_map, option_or, list_any, list_all, IsDistinct, AllByRecursion, both_ways, or_right, none-some, same_Some, ObjNo, Name, Property, nothing, same_object, same_text, same_property, folded, is_among, same_text-Decides, same_property-self, World, WorldObject, with_slots, is_property_name, verb_fits, row_fits, IsWellFormed, Chain, NamesDiffer, is_object, parent_of, slot_of, defined_by, defined_by_any, property_named, has_property, chain, with_parent, reparented, front_of, Climbs-split, chain_is, Chain-chain, linked, no_parent, nothing_is_no_object, defined_by_any-append, named-append, in_owed, in_owed-append, definer_among, named_owed, NoClash, under_x, MayBeRebuilt, IsWellFormed-rebuilt, own_owed, owed_is_object}
-use Rattle.moo_world.proofs.Ancestry.Moving.{names_moved, object_moved, owed_moved, Chain-new, IsTree-moved, chain_unmoved, chain_moved}
+use Rattle.moo_world.{proofs.Lemmas.{◌≡◌, Bool, true, false, cond, ◌||◌, List, [], ◌∷◌, ◌++◌, map, refl, sym, ◌∙◌, ap, subst, ◌⊎◌, inl, Option, Some, None, append_assoc, unwrap_or, if◌then◌else◌, option_map, option_or, list_any, list_all, IsDistinct, AllByRecursion, both_ways, or_right, none-some, same_Some, ObjNo, Name, Property, nothing, same_object, same_text, same_property, folded, is_among, same_text-Decides, same_property-self, World, WorldObject, with_slots, is_property_name, verb_fits, row_fits, IsWellFormed, Chain, NamesDiffer, is_object, parent_of, slot_of, defined_by, defined_by_any, property_named, has_property, chain, with_parent, reparented, front_of, Climbs-split, chain_is, Chain-chain, linked, no_parent, nothing_is_no_object, defined_by_any-append, named-append, in_owed, in_owed-append, definer_among, named_owed, NoClash, under_x, MayBeRebuilt, IsWellFormed-rebuilt, own_owed, owed_is_object}, proofs.Ancestry.Moving.{names_moved, object_moved, owed_moved, Chain-new, IsTree-moved, chain_unmoved, chain_moved}}
 
 -- ---- lists of names that differ, joined
 

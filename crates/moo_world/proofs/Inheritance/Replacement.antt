@@ -1,7 +1,5 @@
 -- A property of a well formed world under another name.
-use Rattle.moo_world.proofs.Lemmas.{◌≡◌, Bool, true, false, cond, ◌||◌, Option, None, Some, List, [], ◌∷◌, ◌++◌, map, refl, sym, ap, ◌∙◌, subst, ◌⊎◌, inl, inr, append_assoc, ◌&&◌, unwrap_or, if◌then◌else◌, option_map, option_and_then, list_any, list_all, IsDistinct, AllByRecursion, false≢true, both_ways, or_parts, or_cases, and_parts, none-some, ObjNo, Clear, clashes, property_renamed, Name, Property, nothing, same_object, same_text, same_property, folded, is_among, same_object-Decides, same_text-Decides, World, WorldObject, Slot, IsWellFormed, Climbs, Chain, NamesDiffer, is_object, parent_of, chain, property_names_of, defined_by, defined_by_any, property_named, slot_of, is_property_name, Climbs-once, none_named, chain_is, Chain-chain, no_parent, nothing_is_no_object, parents_alike, objects_alike, tree_alike, limits_alike, names_fit}
-use Rattle.moo_world.proofs.Shown.PairLists.{distinct_map, pairs_left}
-use Rattle.moo_world.proofs.Inheritance.Insertion.{Inserted, still_apart, named_after, further, none_owed, some_record}
+use Rattle.moo_world.{proofs.Lemmas.{◌≡◌, Bool, true, false, cond, ◌||◌, Option, None, Some, List, [], ◌∷◌, ◌++◌, map, refl, sym, ap, ◌∙◌, subst, ◌⊎◌, inl, inr, append_assoc, ◌&&◌, unwrap_or, if◌then◌else◌, option_map, option_and_then, list_any, list_all, IsDistinct, AllByRecursion, false≢true, both_ways, or_parts, or_cases, and_parts, none-some, ObjNo, Clear, clashes, property_renamed, Name, Property, nothing, same_object, same_text, same_property, folded, is_among, same_object-Decides, same_text-Decides, World, WorldObject, Slot, IsWellFormed, Climbs, Chain, NamesDiffer, is_object, parent_of, chain, property_names_of, defined_by, defined_by_any, property_named, slot_of, is_property_name, Climbs-once, none_named, chain_is, Chain-chain, no_parent, nothing_is_no_object, parents_alike, objects_alike, tree_alike, limits_alike, names_fit}, proofs.Shown.PairLists.{distinct_map, pairs_left}, proofs.Inheritance.Insertion.{Inserted, still_apart, named_after, further, none_owed, some_record}}
 
 -- ---- lists of pairs
 

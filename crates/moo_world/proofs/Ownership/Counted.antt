@@ -1,9 +1,5 @@
 -- What quotas count.
-use Rattle.moo_world.proofs.Lemmas.{◌≡◌, true, false, ◌||◌, refl, sym, ◌∙◌, ap, subst, inl, inr, Some, ℤ, pos, negsuc, ◌+ℤ◌, int_lt, unwrap_or, if◌then◌else◌, option_map, both_ways, or_cases, or_right, and_parts, ObjNo, Value, Obj, create, recycle, next_object, owner_or_self, created, nothing, same_object, CreateTakesOne, RecycleGivesOne, quota_name, quota_in, quota_of, quota_changed, quota_returned, charged, may_afford, recycled, may_be_parent, is_fertile, controls, may_make_owner, World, IsWellFormed, is_object, owner_of, known_numbered, Holds, on_check, on_next, on_done, of_done}
-use Rattle.moo_world.specs.Answers.{zero}
-use Rattle.moo_world.proofs.Ownership.Created.{free, formed, objects_now, owner_new, owner_old, read_old}
-use Rattle.moo_world.proofs.Ownership.Quotas.{quota_read, objects_stay, owners_stay}
-use Rattle.moo_world.proofs.Inheritance.Recycling.{IsWellFormed-recycled}
+use Rattle.moo_world.{proofs.Lemmas.{◌≡◌, true, false, ◌||◌, refl, sym, ◌∙◌, ap, subst, inl, inr, Some, ℤ, pos, negsuc, ◌+ℤ◌, int_lt, unwrap_or, if◌then◌else◌, option_map, both_ways, or_cases, or_right, and_parts, ObjNo, Value, Obj, create, recycle, next_object, owner_or_self, created, nothing, same_object, CreateTakesOne, RecycleGivesOne, quota_name, quota_in, quota_of, quota_changed, quota_returned, charged, may_afford, recycled, may_be_parent, is_fertile, controls, may_make_owner, World, IsWellFormed, is_object, owner_of, known_numbered, Holds, on_check, on_next, on_done, of_done}, specs.Answers.{zero}, proofs.Ownership.Created.{free, formed, objects_now, owner_new, owner_old, read_old}, proofs.Ownership.Quotas.{quota_read, objects_stay, owners_stay}, proofs.Inheritance.Recycling.{IsWellFormed-recycled}}
 
 -- a parent that is allowed is an object or nothing
 pub parent_known : (w : World) (p q : ObjNo) → may_be_parent w p q ≡ true → (is_object w q || same_object nothing q) ≡ true

@@ -1,6 +1,5 @@
 -- What stays of a world, and what is new, when an object is made.
-use Rattle.moo_world.proofs.Lemmas.{◌≡◌, Bool, true, false, ◌||◌, List, [], ◌∷◌, refl, sym, ◌∙◌, ap, ◌⊎◌, inl, inr, Option, Some, None, ℤ, pos, negsuc, FitsSigned, w32, arith, ◌+ℤ◌, ◌<ℤ◌, ◌≤ℤ◌, int_lt, is_some, unwrap_or, if◌then◌else◌, option_map, or_cases, ints, none-some, same_Some, ObjNo, is_number, plain_object, next_object, object_added, created, Name, Property, nothing, same_object, same_object-Decides, World, WorldObject, Slot, IsWellFormed, SameButSlots, Chain, is_object, owner_of, chain, climb, numbers_to, slot_of, defined_by_any, property_named, slot_for, fresh, read_in, read_along, read_of, named_owed, range_of, SameButSlots-rebuilt, objects_same, owners_same, parents_same, slot_of-rebuilt, Chain-chain, linked}
-use Rattle.moo_world.proofs.Inheritance.Creating.{IsWellFormed-created, chain_other, owed_still}
+use Rattle.moo_world.{proofs.Lemmas.{◌≡◌, Bool, true, false, ◌||◌, List, [], ◌∷◌, refl, sym, ◌∙◌, ap, ◌⊎◌, inl, inr, Option, Some, None, ℤ, pos, negsuc, FitsSigned, w32, arith, ◌+ℤ◌, ◌<ℤ◌, ◌≤ℤ◌, int_lt, is_some, unwrap_or, if◌then◌else◌, option_map, or_cases, ints, none-some, same_Some, ObjNo, is_number, plain_object, next_object, object_added, created, Name, Property, nothing, same_object, same_object-Decides, World, WorldObject, Slot, IsWellFormed, SameButSlots, Chain, is_object, owner_of, chain, climb, numbers_to, slot_of, defined_by_any, property_named, slot_for, fresh, read_in, read_along, read_of, named_owed, range_of, SameButSlots-rebuilt, objects_same, owners_same, parents_same, slot_of-rebuilt, Chain-chain, linked}, proofs.Inheritance.Creating.{IsWellFormed-created, chain_other, owed_still}}
 
 -- worlds that differ in slots alone have the same chains
 pub chains_same : (a b : World) → SameButSlots a b → (y : ObjNo) → chain a y ≡ chain b y

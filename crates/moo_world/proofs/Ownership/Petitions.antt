@@ -1,6 +1,5 @@
 -- The calls of petitions change no world, unless a wizard grants.
-use Rattle.moo_world.proofs.Lemmas.{◌≡◌, true, false, Option, Some, None, refl, sym, ◌∙◌, nat_lt, is_some, ◌||◌, list_all, false≢true, ObjNo, spread, Call, PetitionCall, no_values, petition_call, same_object, PetitionsLeaveTheWorld, is_named, are_few, are_shallow, State, are_on_world, in_world, number_limit, one_integer, one_list, petition_at, petition_call_by, batch_call, is_wizard, named_call, is_object, Value, Leaves, of_done, on_check, on_done, on_found, on_given, on_room}
-use Rattle.moo_world.specs.declared.name.PetitionCall.TheVariants.{Petition as to_petition, Petitions as to_list, Grant as to_grant, Decline as to_decline}
+use Rattle.moo_world.{proofs.Lemmas.{◌≡◌, true, false, Option, Some, None, refl, sym, ◌∙◌, nat_lt, is_some, ◌||◌, list_all, false≢true, ObjNo, spread, Call, PetitionCall, no_values, petition_call, same_object, PetitionsLeaveTheWorld, is_named, are_few, are_shallow, State, are_on_world, in_world, number_limit, one_integer, one_list, petition_at, petition_call_by, batch_call, is_wizard, named_call, is_object, Value, Leaves, of_done, on_check, on_done, on_found, on_given, on_room}, specs.declared.name.PetitionCall.TheVariants.{Petition as to_petition, Petitions as to_list, Grant as to_grant, Decline as to_decline}}
 
 module _ (s : State) (p : ObjNo) (call : Call) (none : is_wizard s.world p ≡ false) where
   abbrev Same : State → Type 0

@@ -1,9 +1,5 @@
 -- Nobody's ownership changes where slots are rebuilt, and by a new object, the loss of one, or a change of parent.
-use Rattle.moo_world.proofs.Lemmas.{◌≡◌, Bool, true, false, ◌||◌, [], ◌∷◌, map, refl, sym, ◌∙◌, ap, ◌⊎◌, inl, inr, Option, Some, None, ◌&&◌, not, is_some, unwrap_or, if◌then◌else◌, option_map, filter, list_any, false≢true, both_ways, or_cases, none-some, same_Some, ObjNo, property_removed, plain_object, next_object, object_added, created, unless_defined_by, Name, Property, nothing, same_object, same_text, same_property, folded, is_among, KeepsOwnership, released, object_removed, recycled, World, WorldObject, Slot, IsWellFormed, is_object, parent_of, owner_of, chain, slot_of, defined_by, defined_by_any, has_property, property_named, slot_for, fresh, rebuilt, with_parent, reparented, MayBeRebuilt, NoClash, definer_among, named_owed, rank, ranked, from_slots, rights_from, same_owner, slotted, ranked_rebuilt, SameButSlots-rebuilt, objects_same, slot_of-rebuilt, owed_listed, Chain-chain}
-use Rattle.moo_world.proofs.Ownership.Created.{record_old, slot_old, objects_now}
-use Rattle.moo_world.proofs.Inheritance.Recycling.{recycle_law}
-use Rattle.moo_world.proofs.Inheritance.Reparenting.{MayBeRebuilt-moved}
-use Rattle.moo_world.proofs.Inheritance.Shorter.{s as less, kept_slot, undefined_law}
+use Rattle.moo_world.{proofs.Lemmas.{◌≡◌, Bool, true, false, ◌||◌, [], ◌∷◌, map, refl, sym, ◌∙◌, ap, ◌⊎◌, inl, inr, Option, Some, None, ◌&&◌, not, is_some, unwrap_or, if◌then◌else◌, option_map, filter, list_any, false≢true, both_ways, or_cases, none-some, same_Some, ObjNo, property_removed, plain_object, next_object, object_added, created, unless_defined_by, Name, Property, nothing, same_object, same_text, same_property, folded, is_among, KeepsOwnership, released, object_removed, recycled, World, WorldObject, Slot, IsWellFormed, is_object, parent_of, owner_of, chain, slot_of, defined_by, defined_by_any, has_property, property_named, slot_for, fresh, rebuilt, with_parent, reparented, MayBeRebuilt, NoClash, definer_among, named_owed, rank, ranked, from_slots, rights_from, same_owner, slotted, ranked_rebuilt, SameButSlots-rebuilt, objects_same, slot_of-rebuilt, owed_listed, Chain-chain}, proofs.Ownership.Created.{record_old, slot_old, objects_now}, proofs.Inheritance.Recycling.{recycle_law}, proofs.Inheritance.Reparenting.{MayBeRebuilt-moved}, proofs.Inheritance.Shorter.{s as less, kept_slot, undefined_law}}
 
 -- what defines is an object
 definer_exists : (w : World) (d : ObjNo) (p : Property) → list_any (same_property p) (defined_by w d) ≡ true → is_object w d ≡ true

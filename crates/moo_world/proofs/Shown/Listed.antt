@@ -1,7 +1,6 @@
 -- What stands in a list made of the entries of a finite map.
-use Rattle.moo_world.proofs.Lemmas.{◌≡◌, Bool, true, false, cond, T, ◌||◌, None, Some, List, [], ◌∷◌, map, Ordering, refl, sym, ap, ◌∙◌, unwrap_or, option_map, IsTotalOrder, eq_by_cmp, filter, list_any, AllByRecursion, is_sorted, CmpEqualImpliesEq, first_of, second_of, not_held, key-Decides}
+use Rattle.moo_world.{proofs.Lemmas.{◌≡◌, Bool, true, false, cond, T, ◌||◌, None, Some, List, [], ◌∷◌, map, Ordering, refl, sym, ap, ◌∙◌, unwrap_or, option_map, IsTotalOrder, eq_by_cmp, filter, list_any, AllByRecursion, is_sorted, CmpEqualImpliesEq, first_of, second_of, not_held, key-Decides}, proofs.Shown.EntriesInOrder.{own_entries as each_held}}
 use Rattle.std.specs.FinMap.{find}
-use Rattle.moo_world.proofs.Shown.EntriesInOrder.{own_entries as each_held}
 
 module _ {K X : Type 0} (cmp : K → K → Ordering) (total : IsTotalOrder cmp) (exact : CmpEqualImpliesEq cmp) where
   module _ {B : Type 0} (k : K) (test : K × X → Bool) (made : K × X → B) (is_it : B → Bool) (same : (e : K × X) → is_it (made e) ≡ eq_by_cmp cmp k e.0) where

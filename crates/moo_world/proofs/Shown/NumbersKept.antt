@@ -1,9 +1,6 @@
 -- Numbers that stay, over one call and over many.
-use Rattle.moo_world.proofs.Lemmas.{◌≡◌, ℕ, ◌+◌, ◌<◌, ◌≤◌, ◌⊎◌, inl, inr, Bool, true, false, Option, Some, None, List, [], ◌∷◌, refl, sym, ap, ◌∙◌, subst, arith, is_some, if◌then◌else◌, FinMap, get, insert, remove, false≢true, none-some, same_Some, ObjNo, Value, spread, PropId, PropRow, VerbRow, prop_exact, verb_exact, Maps, prop_cmp, verb_cmp, prop_total, verb_total, Call, is_grant, same_object, PetitionsStay, state_of, prop_id, verb_id, world_of, put_or_old, none_or_old}
+use Rattle.moo_world.{proofs.Lemmas.{◌≡◌, ℕ, ◌+◌, ◌<◌, ◌≤◌, ◌⊎◌, inl, inr, Bool, true, false, Option, Some, None, List, [], ◌∷◌, refl, sym, ap, ◌∙◌, subst, arith, is_some, if◌then◌else◌, FinMap, get, insert, remove, false≢true, none-some, same_Some, ObjNo, Value, spread, PropId, PropRow, VerbRow, prop_exact, verb_exact, Maps, prop_cmp, verb_cmp, prop_total, verb_total, Call, is_grant, same_object, PetitionsStay, state_of, prop_id, verb_id, world_of, put_or_old, none_or_old}, specs.Between.{CallsLead, HeldCallsLead, CallKeepsNumbers, BatchesKeepNumbers}, specs.Numbers.{KeepsProps, props_stay, prop_added, prop_renamed, prop_removed, props_dropped, KeepsVerbs, verbs_stay, verb_added, verb_changed, verb_removed, verbs_dropped, KeepsNumbers, IsSameButSlots, NumbersStay, not_of}, proofs.Batches.PetitionNumbers.{less_still, most_still, petitions_same, petitions_joined, petitions_kept}}
 use Rattle.moo_rows.specs.declared.row.VerbId.{VerbId}
-use Rattle.moo_world.specs.Between.{CallsLead, HeldCallsLead, CallKeepsNumbers, BatchesKeepNumbers}
-use Rattle.moo_world.specs.Numbers.{KeepsProps, props_stay, prop_added, prop_renamed, prop_removed, props_dropped, KeepsVerbs, verbs_stay, verb_added, verb_changed, verb_removed, verbs_dropped, KeepsNumbers, IsSameButSlots, NumbersStay, not_of}
-use Rattle.moo_world.proofs.Batches.PetitionNumbers.{less_still, most_still, petitions_same, petitions_joined, petitions_kept}
 
 -- ---- one call
 

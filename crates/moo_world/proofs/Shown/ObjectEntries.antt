@@ -1,7 +1,6 @@
 -- The ascending lists of objects of the world that maps show are lists of the maps' entries.
-use Rattle.moo_world.proofs.Lemmas.{◌≡◌, ℕ, zero, suc, ◌<◌, ◌≤◌, Bool, true, false, cond, ◌||◌, T, Option, None, Some, List, [], ◌∷◌, ◌++◌, map, Less, refl, sym, ap, ◌∙◌, subst, arith, pos, append-nil, is_some, option_map, int_cmp_is, filter, filter_map, cons_option, AllByRecursion, get, get-entries, is_sorted, entries, entries_sorted, same_entries, find-append, ints, filter_map-append, ObjNo, ObjRow, Maps, object_cmp, object_exact, object_total, object_at, same_object, is_among, same_object-Decides, same_object-eq, IsTree, is_object, row_passes, numbers_to, numbers_below, look_ups, world_of, objects_of, object_key, is_among-append, is_object_seen, passes_seen, numbered, assigned}
+use Rattle.moo_world.{proofs.Lemmas.{◌≡◌, ℕ, zero, suc, ◌<◌, ◌≤◌, Bool, true, false, cond, ◌||◌, T, Option, None, Some, List, [], ◌∷◌, ◌++◌, map, Less, refl, sym, ap, ◌∙◌, subst, arith, pos, append-nil, is_some, option_map, int_cmp_is, filter, filter_map, cons_option, AllByRecursion, get, get-entries, is_sorted, entries, entries_sorted, same_entries, find-append, ints, filter_map-append, ObjNo, ObjRow, Maps, object_cmp, object_exact, object_total, object_at, same_object, is_among, same_object-Decides, same_object-eq, IsTree, is_object, row_passes, numbers_to, numbers_below, look_ups, world_of, objects_of, object_key, is_among-append, is_object_seen, passes_seen, numbered, assigned}, proofs.Shown.EntriesInOrder.{all_then, sorted_then, past_each, own_entries, filter_map-read, filter_alike, all_weaker}}
 use Rattle.std.specs.FinMap.{find}
-use Rattle.moo_world.proofs.Shown.EntriesInOrder.{all_then, sorted_then, past_each, own_entries, filter_map-read, filter_alike, all_weaker}
 
 pub same_object-symm : (x y : ObjNo) → same_object x y ≡ same_object y x
 unfolding same_object

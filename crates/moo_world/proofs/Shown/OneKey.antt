@@ -1,6 +1,5 @@
 -- What one put and one removal do to a key.
-use Rattle.moo_world.proofs.Words.{◌≡◌, ◌⊎◌, inl, inr, Bool, true, false, cond, Some, None, Ordering, refl, ap, ◌∙◌, IsTotalOrder, eq_by_cmp, FinMap, get, insert, remove, get-insert, get-remove, CmpEqualImpliesEq}
-use Rattle.moo_world.proofs.Shown.MapLaws.{key-Decides}
+use Rattle.moo_world.{proofs.Words.{◌≡◌, ◌⊎◌, inl, inr, Bool, true, false, cond, Some, None, Ordering, refl, ap, ◌∙◌, IsTotalOrder, eq_by_cmp, FinMap, get, insert, remove, get-insert, get-remove, CmpEqualImpliesEq}, proofs.Shown.MapLaws.{key-Decides}}
 
 module _ {K X : Type 0} {cmp : K → K → Ordering} (total : IsTotalOrder cmp) (exact : CmpEqualImpliesEq cmp) (m : FinMap cmp X) (k key : K) where
   -- a key is the one that is put, or has its old row

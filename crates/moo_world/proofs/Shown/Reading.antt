@@ -1,6 +1,5 @@
 -- What is read: the relation and the list agree.
-use Rattle.moo_world.proofs.Lemmas.{◌≡◌, List, [], ◌∷◌, refl, sym, ◌∙◌, ap, Option, Some, None, option_map, option_and_then, none-some, same_Some, ObjNo, Value, SlotState, Clear, Set, Name, World, WorldObject, Slot, IsTree, Chain, Reads, above, slot_of, read_in, read_along, read_of, chain-step}
-use Rattle.moo_world.specs.World.{here}
+use Rattle.moo_world.{proofs.Lemmas.{◌≡◌, List, [], ◌∷◌, refl, sym, ◌∙◌, ap, Option, Some, None, option_map, option_and_then, none-some, same_Some, ObjNo, Value, SlotState, Clear, Set, Name, World, WorldObject, Slot, IsTree, Chain, Reads, above, slot_of, read_in, read_along, read_of, chain-step}, specs.World.{here}}
 
 -- what is read along a chain is what the relation says
 pub Reads-from_along : (w : World) (n : Name) (l : List ObjNo) (x : ObjNo) (v : Value) → Chain w x l → read_along w n l ≡ Some v → Reads w n x v

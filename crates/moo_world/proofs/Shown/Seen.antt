@@ -1,6 +1,5 @@
 -- What the rows' look-ups say of the world that they show.
-use Rattle.moo_world.proofs.Words.{◌≡◌, Bool, false, [], ◌∷◌, refl, sym, ap, Option, Some, None, is_some, unwrap_or, option_map, ObjNo, ObjRow, WorldObject, IsTree, is_object, row_passes, chain, LookUps, world_shown, object_shown}
-use Rattle.moo_world.proofs.Ancestry.Trees.{chain-step, chain_of_none}
+use Rattle.moo_world.{proofs.Words.{◌≡◌, Bool, false, [], ◌∷◌, refl, sym, ap, Option, Some, None, is_some, unwrap_or, option_map, ObjNo, ObjRow, WorldObject, IsTree, is_object, row_passes, chain, LookUps, world_shown, object_shown}, proofs.Ancestry.Trees.{chain-step, chain_of_none}}
 
 pub object_seen : (m : LookUps) (x : ObjNo) (row : ObjRow) → m.object x ≡ Some row → (world_shown m).object x ≡ Some (object_shown m x row)
 unfolding world_shown

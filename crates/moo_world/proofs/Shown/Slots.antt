@@ -1,6 +1,5 @@
 -- The slots of the world that rows show, one by one.
-use Rattle.moo_world.proofs.Words.{◌≡◌, ℕ, ◌<◌, Bool, true, false, Option, None, Some, refl, sym, ap, ◌∙◌, slice_get, if◌then◌else◌, option_map, option_and_then, filter_map, none-some, same_Some, ObjNo, ObjRow, PropRow, SlotRow, Name, same_text, folded, same_text-Decides, Slot, slot_of, LookUps, numbers_below, slot_on, slot_seen, object_shown, world_shown}
-use Rattle.moo_world.proofs.Shown.Numbered.{first_from, none_from}
+use Rattle.moo_world.{proofs.Words.{◌≡◌, ℕ, ◌<◌, Bool, true, false, Option, None, Some, refl, sym, ap, ◌∙◌, slice_get, if◌then◌else◌, option_map, option_and_then, filter_map, none-some, same_Some, ObjNo, ObjRow, PropRow, SlotRow, Name, same_text, folded, same_text-Decides, Slot, slot_of, LookUps, numbers_below, slot_on, slot_seen, object_shown, world_shown}, proofs.Shown.Numbered.{first_from, none_from}}
 
 -- the property under a number, of this folded name, with its slot on y
 pub record SlotHere (m : LookUps) (y : ObjNo) (n : Name) (id : ℕ) : Type 0 where

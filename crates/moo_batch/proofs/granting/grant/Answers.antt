@@ -1,22 +1,9 @@
-use Rattle.std.proofs.Common.{◌≡◌, true, Ok, Some, List, sym, ap, ◌∙◌, subst, rules}
-use Rattle.std.specs.List.{list_all}
-use Rattle.moo_value.specs.declared.code.Code.TheVariants.{Permission, InvalidArgument}
-use Rattle.moo_value.specs.declared.value.Value.{Value}
-use Rattle.moo_value.specs.Value.{spread}
-use Rattle.moo_rows.specs.declared.row.PetitionId.{PetitionId}
-use Rattle.moo_rows.specs.declared.row.PetitionRow.{PetitionRow}
-use Rattle.moo_world.specs.Arguments.{fits}
-use Rattle.moo_world.specs.Outcomes.{Failed, check, found_or, given as given_to}
-use Rattle.moo_world.specs.Requests.{State, grant, held_steps, in_world, one_integer, petition_at, without}
-use Rattle.moo_world.specs.Rights.{is_wizard}
-use Rattle.moo_world.specs.World.{World}
-use Rattle.moo_world.proofs.Batches.Requested.{found_there}
-use Rattle.moo_world.proofs.Form.Petitions.{held_fit}
+use Rattle.std.{proofs.Common.{◌≡◌, true, Ok, Some, List, sym, ap, ◌∙◌, subst, rules}, specs.List.{list_all}}
+use Rattle.moo_value.{specs.declared.code.Code.TheVariants.{Permission, InvalidArgument}, specs.declared.value.Value.{Value}, specs.Value.{spread}}
+use Rattle.moo_rows.{specs.declared.row.PetitionId.{PetitionId}, specs.declared.row.PetitionRow.{PetitionRow}}
+use Rattle.moo_world.{specs.Arguments.{fits}, specs.Outcomes.{Failed, check, found_or, given as given_to}, specs.Requests.{State, grant, held_steps, in_world, one_integer, petition_at, without}, specs.Rights.{is_wizard}, specs.World.{World}, proofs.Batches.Requested.{found_there}, proofs.Form.Petitions.{held_fit}}
 use Rattle.moo_call_parts.specs.Outcomes.{world_in}
-use Rattle.moo_batch.specs.Outcomes.{state_in, ComesInTurn, KeepInTurn, Reaches}
-use Rattle.moo_batch.proofs.Beside.{removed-keeps, removed-state}
-use Rattle.moo_batch.proofs.InTurn.{granted-reaches, granted-keeps, on_ok}
-use Rattle.moo_batch.proofs.granting.grant.Goals as goal
+use Rattle.moo_batch.{specs.Outcomes.{state_in, ComesInTurn, KeepInTurn, Reaches}, proofs.Beside.{removed-keeps, removed-state}, proofs.InTurn.{granted-reaches, granted-keeps, on_ok}, proofs.granting.grant.Goals as goal}
 
 pub held_steps-requires-clause-good : goal.held_steps-requires-clause-good
 held_steps-requires-clause-good g c = (removed-keeps (g.R.Rows.held c.args.rows.now) (g.R.Rows.held c.remove_petition.new.self) c.in-Some.id c.in_ok-remove_petition.ensures.ok c.requires.good).good

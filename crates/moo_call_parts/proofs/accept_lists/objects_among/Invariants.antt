@@ -1,5 +1,4 @@
-use Rattle.std.proofs.Common.{◌≡◌, ◌++◌, drop}
-use Rattle.std.specs.Option.{option_map}
+use Rattle.std.{proofs.Common.{◌≡◌, ◌++◌, drop}, specs.Option.{option_map}}
 use Rattle.moo_world.specs.Arguments.{objects_among}
 use Rattle.moo_call_parts.proofs.accept_lists.objects_among.Given as goal
 

@@ -1,6 +1,5 @@
-use Rattle.moo_cells.proofs.Words.{◌∙◌, sym, subst, IfOk, IfErr, column, ShowsRights}
+use Rattle.moo_cells.{proofs.Words.{◌∙◌, sym, subst, IfOk, IfErr, column, ShowsRights}, proofs.cell.bits_at.Goals as goal}
 use Rattle.moo_rows.specs.declared.row.Bits.{Bits}
-use Rattle.moo_cells.proofs.cell.bits_at.Goals as goal
 
 pub returns-then-has_lettered_bits-clause-ok : goal.returns-then-has_lettered_bits-clause-ok
 returns-then-has_lettered_bits-clause-ok c =

@@ -1,9 +1,6 @@
-use Rattle.moo_cells.proofs.Words.{List, find, refl, subst, subst₂, IfOk-weaker, Row, has_rowid, Head, version_number, ShowEach, HeadIs, ReadsHead, ReadsCounter, ReadsObject, ReadsProp, ReadsSlot, ReadsVerb, ReadsPetition}
+use Rattle.moo_cells.{proofs.Words.{List, find, refl, subst, subst₂, IfOk-weaker, Row, has_rowid, Head, version_number, ShowEach, HeadIs, ReadsHead, ReadsCounter, ReadsObject, ReadsProp, ReadsSlot, ReadsVerb, ReadsPetition}, proofs.Beside.{left_all}, proofs.Compared.{all_shown}, proofs.comparing.show_rows.Goals as goal}
 use Rattle.std.specs.FinMap.{entries}
 use Rattle.moo_rows.specs.Maps.{object_cmp, prop_cmp, slot_cmp, verb_cmp, petition_cmp}
-use Rattle.moo_cells.proofs.Beside.{left_all}
-use Rattle.moo_cells.proofs.Compared.{all_shown}
-use Rattle.moo_cells.proofs.comparing.show_rows.Goals as goal
 
 pub returns : goal.returns
 returns c =

@@ -1,8 +1,5 @@
-use Rattle.moo_cells.proofs.Words.{◌≡◌, ℤ, Row, column, length, [], ◌∷◌, ap, sym, subst, ◌∙◌, w64, FitsSigned, to_z, of_z, to_z-of_z, Value}
+use Rattle.moo_cells.{proofs.Words.{◌≡◌, ℤ, Row, column, length, [], ◌∷◌, ap, sym, subst, ◌∙◌, w64, FitsSigned, to_z, of_z, to_z-of_z, Value}, proofs.Columns.{all_columns}, proofs.Exits.{whatever}, proofs.head.numbers_of.Goals as goal}
 use Rattle.sqlite.specs.declared.types.Value.TheVariants.{Int as Number}
-use Rattle.moo_cells.proofs.Columns.{all_columns}
-use Rattle.moo_cells.proofs.Exits.{whatever}
-use Rattle.moo_cells.proofs.head.numbers_of.Goals as goal
 
 -- the number as a field keeps it
 kept : (v : Value) (n : ℤ) → v ≡ Number n → FitsSigned w64 n → v ≡ Number (to_z w64 (of_z w64 n))

@@ -1,9 +1,7 @@
-use Rattle.moo_commands.proofs.Words.{◌≢◌, ◌<◌, length, subst, State, IsHeld}
+use Rattle.moo_commands.{proofs.Words.{◌≢◌, ◌<◌, length, subst, State, IsHeld}, proofs.Dumps.{unread, no_dump}, proofs.loading.rows_of.Goals as goal}
 use Rattle.std.proofs.lemmas.Result.{err_from_is_err_and}
 use Rattle.moo_dump.specs.Dump.{dump as dump_of}
 use Rattle.moo_load.specs.declared.fault.LoadFault.TheVariants.{OutOfMemory}
-use Rattle.moo_commands.proofs.Dumps.{unread, no_dump}
-use Rattle.moo_commands.proofs.loading.rows_of.Goals as goal
 
 pub returns-in_err-bytes-clause-failure : goal.returns-in_err-bytes-clause-failure
 returns-in_err-bytes-clause-failure g c =

@@ -1,7 +1,4 @@
-use Rattle.moo_commands.proofs.Words.{inl, inr, true, refl, opening_maps, state_of, given_to}
-use Rattle.moo_commands.proofs.Beginning.{begins_opening}
-use Rattle.moo_commands.proofs.Connections.{of_making, surely_ends}
-use Rattle.moo_commands.proofs.over.run_anew.Goals as goal
+use Rattle.moo_commands.{proofs.Words.{inl, inr, true, refl, opening_maps, state_of, given_to}, proofs.Beginning.{begins_opening}, proofs.Connections.{of_making, surely_ends}, proofs.over.run_anew.Goals as goal}
 
 pub returns-in-Ok-clause-runs : goal.returns-in-Ok-clause-runs
 returns-in-Ok-clause-runs g c =

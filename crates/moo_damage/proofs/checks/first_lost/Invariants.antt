@@ -1,6 +1,4 @@
-use Rattle.moo_damage.proofs.Words.{objects_left, is_lost}
-use Rattle.moo_damage.proofs.Found.{FoundLeft}
-use Rattle.moo_damage.proofs.checks.first_lost.Given as goal
+use Rattle.moo_damage.{proofs.Words.{objects_left, is_lost}, proofs.Found.{FoundLeft}, proofs.checks.first_lost.Given as goal}
 
 abbrev pub invariant-loop-key : goal.invariant-loop-key
 invariant-loop-key g l =

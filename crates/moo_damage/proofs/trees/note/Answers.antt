@@ -1,7 +1,5 @@
-use Rattle.moo_damage.proofs.Words.{ℕ, suc, ◌+◌, ◌<◌, ◌≡◌, drop, length, get_or, List, pos, sym, subst, arith, AllByRecursion, ObjNo, HasEnd, AreEnding}
+use Rattle.moo_damage.{proofs.Words.{ℕ, suc, ◌+◌, ◌<◌, ◌≡◌, drop, length, get_or, List, pos, sym, subst, arith, AllByRecursion, ObjNo, HasEnd, AreEnding}, proofs.Ending.{AreEnding-noted}, proofs.trees.note.Goals as goal}
 use Rattle.std.proofs.Math.Seq.{drop-cons}
-use Rattle.moo_damage.proofs.Ending.{AreEnding-noted}
-use Rattle.moo_damage.proofs.trees.note.Goals as goal
 
 -- what holds of each of the rest holds of its first, and of the rest behind it
 split : (P : ObjNo → Type 0) (l : List ObjNo) (i : ℕ) (d : ObjNo) → i < length l → AllByRecursion P (drop i l) → P (get_or l i d) × AllByRecursion P (drop (i + 1) l)

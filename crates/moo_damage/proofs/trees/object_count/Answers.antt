@@ -1,7 +1,6 @@
-use Rattle.moo_damage.proofs.Words.{◌≡◌, ap, ◌∙◌, arith, length, entries}
+use Rattle.moo_damage.{proofs.Words.{◌≡◌, ap, ◌∙◌, arith, length, entries}, proofs.trees.object_count.Goals as goal}
 use Rattle.std.proofs.lemmas.List.{length-map}
 use Rattle.moo_props.proofs.Steps.{listed, all_listed}
-use Rattle.moo_damage.proofs.trees.object_count.Goals as goal
 
 pub loop-x-preserved : goal.loop-x-preserved
 loop-x-preserved g c = listed (λ e. e.0) c.loop-x.objects.items _ _ _ _ c.in-Some.ensures.steps c.in_ok-push.ensures.items ∙ c.loop-x.invariant

@@ -1,7 +1,6 @@
-use Rattle.moo_dump.proofs.Words.{◌≡◌, ◌++◌, ℕ, ap, ◌∙◌, rules, codes, state_of, Vec}
+use Rattle.moo_dump.{proofs.Words.{◌≡◌, ◌++◌, ℕ, ap, ◌∙◌, rules, codes, state_of, Vec}, proofs.dumping.heading_text.Goals as goal}
 use Rattle.std.specs.Fmt.{decimal, signed_decimal}
 use Rattle.moo_world.specs.Rows.{world_shown}
-use Rattle.moo_dump.proofs.dumping.heading_text.Goals as goal
 
 pub returns : goal.returns
 unfolding world_shown

@@ -1,8 +1,6 @@
-use Rattle.moo_dump.proofs.Words.{◌≡◌, ◌++◌, List, ℕ, get_or, ap, ◌∙◌, rules, flat_map, ObjNo, world_of, ids_defined, slot_line_of, slot_lines_over}
+use Rattle.moo_dump.{proofs.Words.{◌≡◌, ◌++◌, List, ℕ, get_or, ap, ◌∙◌, rules, flat_map, ObjNo, world_of, ids_defined, slot_line_of, slot_lines_over}, proofs.FlatMaps.{one_more, all_made}, proofs.objects.put_slots.Goals as goal}
 use Rattle.std.proofs.Common.{pos}
 use Rattle.moo_world.specs.World.{chain}
-use Rattle.moo_dump.proofs.FlatMaps.{one_more, all_made}
-use Rattle.moo_dump.proofs.objects.put_slots.Goals as goal
 
 pub loop-definer-preserved : goal.loop-definer-preserved
 loop-definer-preserved g c =

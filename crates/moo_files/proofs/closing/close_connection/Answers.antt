@@ -1,18 +1,10 @@
 use Rattle.std.proofs.Common.{◌≡◌, IsTrue, arith, sym, ap, subst, ◌∙◌}
-use Rattle.sqlite_wal.specs.Files.{outcomes}
-use Rattle.sqlite_wal.specs.Reads.{AreClean}
-use Rattle.sqlite_wal.specs.Recovery.{Image}
-use Rattle.sqlite_wal.proofs.StateLemmas.{open_from}
+use Rattle.sqlite_wal.{specs.Files.{outcomes}, specs.Reads.{AreClean}, specs.Recovery.{Image}, proofs.StateLemmas.{open_from}}
 use Rattle.sqlite_pool.proofs.StateLemmas.{clean_is, may_leave_is}
-use Rattle.sqlite_store.specs.FileStore.{state, view}
-use Rattle.sqlite_store.specs.Laws.{stays_at}
-use Rattle.sqlite_trees.specs.View.{View, IsClean}
-use Rattle.sqlite_trees.proofs.Doubt.{clean_of as sure, no_doubt}
-use Rattle.sqlite.specs.Closing.{HoldsAlone}
-use Rattle.sqlite.proofs.Theorems.{copied}
-use Rattle.moo_files.proofs.ClosingLemmas.{quiet_then}
-use Rattle.moo_files.proofs.ContentsLemmas.{none_below}
-use Rattle.moo_files.proofs.closing.close_connection.Goals as goal
+use Rattle.sqlite_store.{specs.FileStore.{state, view}, specs.Laws.{stays_at}}
+use Rattle.sqlite_trees.{specs.View.{View, IsClean}, proofs.Doubt.{clean_of as sure, no_doubt}}
+use Rattle.sqlite.{specs.Closing.{HoldsAlone}, proofs.Theorems.{copied}}
+use Rattle.moo_files.{proofs.ClosingLemmas.{quiet_then}, proofs.ContentsLemmas.{none_below}, proofs.closing.close_connection.Goals as goal}
 
 -- ---- the log was copied
 

@@ -1,14 +1,9 @@
 use Rattle.std.proofs.Common.{◌≡◌, ◌⊎◌, ◌<◌, ◌^◌, Option, IfOk, IfErr, IfSome, true, sym, subst}
-use Rattle.sqlite.specs.Held.{state}
-use Rattle.sqlite.specs.State.{Survives}
+use Rattle.sqlite.{specs.Held.{state}, specs.State.{Survives}}
 use Rattle.moo_rows.specs.Maps.{Held}
-use Rattle.moo_world.specs.Judge.{state_of}
-use Rattle.moo_world.specs.Rows.{IsGood}
-use Rattle.moo_store.specs.States.{LeavesState}
-use Rattle.moo_store.specs.World.{store_of, StandsFor}
-use Rattle.moo_files.specs.Making.{rows_made}
-use Rattle.moo_files.proofs.ContentsLemmas.{each_fault}
-use Rattle.moo_files.proofs.making.make_in.Goals as goal
+use Rattle.moo_world.{specs.Judge.{state_of}, specs.Rows.{IsGood}}
+use Rattle.moo_store.{specs.States.{LeavesState}, specs.World.{store_of, StandsFor}}
+use Rattle.moo_files.{specs.Making.{rows_made}, proofs.ContentsLemmas.{each_fault}, proofs.making.make_in.Goals as goal}
 
 -- the rows that are given
 

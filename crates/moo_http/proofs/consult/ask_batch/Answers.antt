@@ -1,6 +1,4 @@
-use Rattle.moo_http.proofs.Words.{sym, subst, Calls, Ask, MayAnswer}
-use Rattle.moo_http.proofs.Consulting.{asked, came_of}
-use Rattle.moo_http.proofs.consult.ask_batch.Goals as goal
+use Rattle.moo_http.{proofs.Words.{sym, subst, Calls, Ask, MayAnswer}, proofs.Consulting.{asked, came_of}, proofs.consult.ask_batch.Goals as goal}
 
 pub returns-in-Ok : goal.returns-in-Ok
 returns-in-Ok g c known stand at =

@@ -1,6 +1,5 @@
-use Rattle.moo_load.proofs.Words.{◌≤◌, ◌-◌, length}
+use Rattle.moo_load.{proofs.Words.{◌≤◌, ◌-◌, length}, proofs.input.read_text.Given as goal}
 use Rattle.std.specs.Io.KnownBytes.{Consumes}
-use Rattle.moo_load.proofs.input.read_text.Given as goal
 
 abbrev pub invariant-loop-piece : goal.invariant-loop-piece
 invariant-loop-piece g l = record {

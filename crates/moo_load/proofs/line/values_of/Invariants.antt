@@ -1,7 +1,5 @@
-use Rattle.moo_load.proofs.Words.{List, ◌∷◌, length, ArePrinted}
+use Rattle.moo_load.{proofs.Words.{List, ◌∷◌, length, ArePrinted}, proofs.Listed.{Left}, proofs.line.values_of.Given as goal}
 use Rattle.moo_value.specs.declared.value.Value.{Value as A}
-use Rattle.moo_load.proofs.Listed.{Left}
-use Rattle.moo_load.proofs.line.values_of.Given as goal
 
 abbrev pub invariant-loop-values : goal.invariant-loop-values
 invariant-loop-values l = (v : A) (vs : List A) → ArePrinted (v ∷ vs) l.literal → Left (v ∷ vs) l.values.items l.rest

@@ -1,11 +1,5 @@
-use Rattle.moo_load.proofs.Words.{Option, subst, ◌∙◌, state_of, IfSome, IfErr-weaker}
-use Rattle.moo_damage.specs.declared.kind.Key.{Key}
-use Rattle.moo_damage.specs.declared.kind.Kind.{Kind}
-use Rattle.moo_damage.specs.Kinds.{IsFirstInRows}
-use Rattle.moo_damage.proofs.Clean.{clean}
-use Rattle.moo_damage.proofs.Told.{none_told}
-use Rattle.moo_load.proofs.Shown.Good.{good_rows, same_state, same_dump}
-use Rattle.moo_load.proofs.loading.judge_rows.Goals as goal
+use Rattle.moo_load.{proofs.Words.{Option, subst, ◌∙◌, state_of, IfSome, IfErr-weaker}, proofs.Shown.Good.{good_rows, same_state, same_dump}, proofs.loading.judge_rows.Goals as goal}
+use Rattle.moo_damage.{specs.declared.kind.Key.{Key}, specs.declared.kind.Kind.{Kind}, specs.Kinds.{IsFirstInRows}, proofs.Clean.{clean}, proofs.Told.{none_told}}
 
 pub returns-in-Some-clause-fault : goal.returns-in-Some-clause-fault
 returns-in-Some-clause-fault g c =

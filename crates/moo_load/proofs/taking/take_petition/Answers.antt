@@ -1,7 +1,4 @@
-use Rattle.moo_load.proofs.Words.{◌≡◌, ◌+◌, ap, sym, subst, ◌∙◌, refl, arith, Head, Held, AreRead, insert, max, petition_taken}
-use Rattle.moo_load.proofs.Within.{petition_put, counted, IsNext}
-use Rattle.moo_load.proofs.One.Values.{one_petition}
-use Rattle.moo_load.proofs.taking.take_petition.Goals as goal
+use Rattle.moo_load.{proofs.Words.{◌≡◌, ◌+◌, ap, sym, subst, ◌∙◌, refl, arith, Head, Held, AreRead, insert, max, petition_taken}, proofs.Within.{petition_put, counted, IsNext}, proofs.One.Values.{one_petition}, proofs.taking.take_petition.Goals as goal}
 
 pub returns-then-head-id-clause-read : goal.returns-then-head-id-clause-read
 returns-then-head-id-clause-read c =

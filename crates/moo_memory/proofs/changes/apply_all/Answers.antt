@@ -1,7 +1,5 @@
-use Rattle.moo_memory.proofs.Words.{◌≡◌, ap, ◌∙◌, Maps, Held, object_exact, prop_exact, slot_exact, verb_exact, petition_exact, object_total, prop_total, slot_total, verb_total, petition_total, changed_each}
+use Rattle.moo_memory.{proofs.Words.{◌≡◌, ap, ◌∙◌, Maps, Held, object_exact, prop_exact, slot_exact, verb_exact, petition_exact, object_total, prop_total, slot_total, verb_total, petition_total, changed_each}, proofs.Changing.{changes-applied}, proofs.changes.apply_all.Goals as goal}
 use Rattle.std.proofs.lemmas.Result.{on_ok_weaker}
-use Rattle.moo_memory.proofs.Changing.{changes-applied}
-use Rattle.moo_memory.proofs.changes.apply_all.Goals as goal
 
 pub returns : goal.returns
 returns g c = on_ok_weaker c.apply_petitions.result (λ (done : (g.R.Rows.held c.apply_petitions.new.rows).maps ≡ record ((g.R.Rows.held c.apply_verbs.new.rows).maps) { petitions = changed_each (g.R.Rows.held c.apply_verbs.new.rows).maps.petitions c.args.changes.petitions }) new h.

@@ -1,6 +1,5 @@
-use Rattle.moo_memory.proofs.Words.{Option, length, entries, contents, IsNextAt, row_over}
+use Rattle.moo_memory.{proofs.Words.{Option, length, entries, contents, IsNextAt, row_over}, proofs.overlay.next.Given as goal}
 use Rattle.moo_rows.specs.Walk.{entries_past}
-use Rattle.moo_memory.proofs.overlay.next.Given as goal
 
 -- what is next past `last` is next past `from`
 abbrev pub invariant-loop-key : goal.invariant-loop-key

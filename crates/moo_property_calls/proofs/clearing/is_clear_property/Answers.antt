@@ -1,10 +1,6 @@
 use Rattle.std.proofs.Common.{rules, ◌≡◌, ap, sym, ◌∙◌}
-use Rattle.moo_world.specs.Answers.{flag}
-use Rattle.moo_world.specs.Outcomes.{Done, Failed}
-use Rattle.moo_world.specs.PropertyCalls.{is_clear, is_clear_property}
-use Rattle.moo_world.specs.World.{is_object}
-use Rattle.moo_call_parts.specs.Outcomes.{world_in}
-use Rattle.moo_call_parts.proofs.Passed.{check_passed}
+use Rattle.moo_world.{specs.Answers.{flag}, specs.Outcomes.{Done, Failed}, specs.PropertyCalls.{is_clear, is_clear_property}, specs.World.{is_object}}
+use Rattle.moo_call_parts.{specs.Outcomes.{world_in}, proofs.Passed.{check_passed}}
 use Rattle.moo_property_calls.proofs.clearing.is_clear_property.Goals as goal
 
 pub returns-in_err-found : goal.returns-in_err-found

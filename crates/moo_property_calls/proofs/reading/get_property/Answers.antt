@@ -1,10 +1,5 @@
-use Rattle.std.proofs.Common.{rules, ◌≡◌}
-use Rattle.std.specs.Prelude.{unwrap_or}
-use Rattle.moo_world.specs.Answers.{zero}
-use Rattle.moo_world.specs.Objects.{folded}
-use Rattle.moo_world.specs.Outcomes.{Done, Failed}
-use Rattle.moo_world.specs.PropertyCalls.{get_property}
-use Rattle.moo_world.specs.World.{read_of}
+use Rattle.std.{proofs.Common.{rules, ◌≡◌}, specs.Prelude.{unwrap_or}}
+use Rattle.moo_world.{specs.Answers.{zero}, specs.Objects.{folded}, specs.Outcomes.{Done, Failed}, specs.PropertyCalls.{get_property}, specs.World.{read_of}}
 use Rattle.moo_call_parts.specs.Outcomes.{world_in}
 use Rattle.moo_property_calls.proofs.reading.get_property.Goals as goal
 

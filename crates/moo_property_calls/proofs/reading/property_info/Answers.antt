@@ -1,12 +1,8 @@
 use Rattle.std.proofs.Common.{rules, ◌≡◌, [], ◌∷◌, ap, sym, ◌∙◌}
 use Rattle.moo_value.specs.declared.value.Value.TheVariants.{Obj, Str}
 use Rattle.moo_rows.specs.Bits.{letters_of}
-use Rattle.moo_world.specs.Answers.{list_of}
-use Rattle.moo_world.specs.Outcomes.{Done, Failed}
-use Rattle.moo_world.specs.PropertyCalls.{property_info}
-use Rattle.moo_world.specs.World.{is_object}
-use Rattle.moo_call_parts.specs.Outcomes.{world_in}
-use Rattle.moo_call_parts.proofs.Passed.{check_passed}
+use Rattle.moo_world.{specs.Answers.{list_of}, specs.Outcomes.{Done, Failed}, specs.PropertyCalls.{property_info}, specs.World.{is_object}}
+use Rattle.moo_call_parts.{specs.Outcomes.{world_in}, proofs.Passed.{check_passed}}
 use Rattle.moo_property_calls.proofs.reading.property_info.Goals as goal
 
 pub returns-in_err-found : goal.returns-in_err-found

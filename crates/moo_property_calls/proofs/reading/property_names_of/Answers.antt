@@ -1,8 +1,7 @@
 use Rattle.std.proofs.Common.{rules, ◌≡◌, ◌∙◌, ap, map}
 use Rattle.moo_rows.specs.Links.{defined_left}
 use Rattle.moo_world.specs.Rows.{prop_id}
-use Rattle.moo_props.proofs.DefinedNames.{names_listed}
-use Rattle.moo_props.proofs.WholeWalks.{defined_all}
+use Rattle.moo_props.{proofs.DefinedNames.{names_listed}, proofs.WholeWalks.{defined_all}}
 use Rattle.moo_property_calls.proofs.reading.property_names_of.Goals as goal
 
 pub returns : goal.returns

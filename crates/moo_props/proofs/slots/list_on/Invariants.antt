@@ -1,5 +1,4 @@
-use Rattle.moo_props.proofs.Words.{◌≡◌, ◌++◌, drop, map, keys_on, id_of}
-use Rattle.moo_props.proofs.slots.list_on.Given as goal
+use Rattle.moo_props.{proofs.Words.{◌≡◌, ◌++◌, drop, map, keys_on, id_of}, proofs.slots.list_on.Given as goal}
 
 -- with the keys of what is left, the list is as with all
 abbrev pub invariant-loop-origin : goal.invariant-loop-origin

@@ -1,7 +1,4 @@
-use Rattle.moo_request.proofs.Words.{◌<◌, ◌≤◌, ◌+◌, length, max, rules, IsAtEnd}
-use Rattle.moo_request.proofs.Giving.{taken, on_err}
-use Rattle.moo_request.proofs.RequestLemmas.{body_short, body_whole}
-use Rattle.moo_request.proofs.body.read_body.Goals as goal
+use Rattle.moo_request.{proofs.Words.{◌<◌, ◌≤◌, ◌+◌, length, max, rules, IsAtEnd}, proofs.Giving.{taken, on_err}, proofs.RequestLemmas.{body_short, body_whole}, proofs.body.read_body.Goals as goal}
 
 pub returns-clause-asks : goal.returns-clause-asks
 returns-clause-asks g c =

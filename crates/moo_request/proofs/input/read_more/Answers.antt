@@ -1,6 +1,4 @@
-use Rattle.moo_request.proofs.Words.{◌++◌, ap, take, ◌∙◌, take-append-le}
-use Rattle.moo_request.proofs.Giving.{front_size}
-use Rattle.moo_request.proofs.input.read_more.Goals as goal
+use Rattle.moo_request.{proofs.Words.{◌++◌, ap, take, ◌∙◌, take-append-le}, proofs.Giving.{front_size}, proofs.input.read_more.Goals as goal}
 
 pub returns-clause-grows : goal.returns-clause-grows
 returns-clause-grows g c = record {

@@ -1,8 +1,5 @@
-use Rattle.moo_request.proofs.Words.{ap, ◌∙◌, all_topics, with_route, with_topics, codes}
+use Rattle.moo_request.{proofs.Words.{ap, ◌∙◌, all_topics, with_route, with_topics, codes}, specs.declared.asked.Mode.TheVariants.{Ask}, specs.declared.routes.Endpoint.TheVariants.{Batch}, proofs.routes.add_routes.Goals as goal}
 use Rattle.std.proofs.lemmas.Result.{IfOk-equal}
-use Rattle.moo_request.specs.declared.asked.Mode.TheVariants.{Ask}
-use Rattle.moo_request.specs.declared.routes.Endpoint.TheVariants.{Batch}
-use Rattle.moo_request.proofs.routes.add_routes.Goals as goal
 
 pub returns : goal.returns
 returns c =

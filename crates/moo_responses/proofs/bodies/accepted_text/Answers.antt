@@ -1,10 +1,5 @@
-use Rattle.moo_responses.proofs.Words.{ap, ◌∙◌, codes}
-use Rattle.serde_json.specs.Data.{array, put}
-use Rattle.serde_json.proofs.Views.{view-Array}
-use Rattle.serde_json.specs.View.{members_view}
-use Rattle.serde_json.specs.Written.{members_have_float}
-use Rattle.moo_responses.proofs.BodyLemmas.{no_float-accepted}
-use Rattle.moo_responses.proofs.bodies.accepted_text.Goals as goal
+use Rattle.moo_responses.{proofs.Words.{ap, ◌∙◌, codes}, proofs.BodyLemmas.{no_float-accepted}, proofs.bodies.accepted_text.Goals as goal}
+use Rattle.serde_json.{specs.Data.{array, put}, proofs.Views.{view-Array}, specs.View.{members_view}, specs.Written.{members_have_float}}
 
 pub printed-requires : goal.printed-requires
 printed-requires c =

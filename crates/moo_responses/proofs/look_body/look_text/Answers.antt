@@ -1,9 +1,5 @@
-use Rattle.moo_responses.proofs.Words.{ap, ◌∙◌}
-use Rattle.serde_json.specs.View.{members_view}
-use Rattle.serde_json.specs.Written.{members_have_float}
-use Rattle.moo_responses.specs.Fields.{with_links, with_flags}
-use Rattle.moo_responses.proofs.BodyLemmas.{no_float-look}
-use Rattle.moo_responses.proofs.look_body.look_text.Goals as goal
+use Rattle.moo_responses.{proofs.Words.{ap, ◌∙◌}, specs.Fields.{with_links, with_flags}, proofs.BodyLemmas.{no_float-look}, proofs.look_body.look_text.Goals as goal}
+use Rattle.serde_json.{specs.View.{members_view}, specs.Written.{members_have_float}}
 
 pub printed-requires : goal.printed-requires
 printed-requires c =

@@ -1,7 +1,5 @@
-use Rattle.moo_responses.proofs.Words.{map, pos, ap, ◌∙◌, string, view, object_text}
+use Rattle.moo_responses.{proofs.Words.{map, pos, ap, ◌∙◌, string, view, object_text}, proofs.BodyLemmas.{one_more, view-String}, proofs.look_body.objects_in.Goals as goal}
 use Rattle.serde_json.specs.declared.value.Value.TheVariants.{String as a_string}
-use Rattle.moo_responses.proofs.BodyLemmas.{one_more, view-String}
-use Rattle.moo_responses.proofs.look_body.objects_in.Goals as goal
 
 pub loop-x-preserved : goal.loop-x-preserved
 loop-x-preserved c =

@@ -1,9 +1,5 @@
-use Rattle.moo_responses.proofs.Words.{◌≡◌, ◌++◌, [], ◌∙◌, rules, codes}
-use Rattle.std.specs.Prelude.{decimal, option_map}
-use Rattle.std.proofs.lemmas.Result.{IfOk-weaker}
-use Rattle.moo_responses.specs.Bytes.{allow_line, head_text, length_line, line_end, reason_of, status_line}
-use Rattle.moo_responses.proofs.HeadLemmas.{pieces_are}
-use Rattle.moo_responses.proofs.response.print_head.Goals as goal
+use Rattle.moo_responses.{proofs.Words.{◌≡◌, ◌++◌, [], ◌∙◌, rules, codes}, specs.Bytes.{allow_line, head_text, length_line, line_end, reason_of, status_line}, proofs.HeadLemmas.{pieces_are}, proofs.response.print_head.Goals as goal}
+use Rattle.std.{specs.Prelude.{decimal, option_map}, proofs.lemmas.Result.{IfOk-weaker}}
 
 pub returns : goal.returns
 unfolding head_text status_line length_line

@@ -1,11 +1,6 @@
-use Rattle.moo_store.proofs.Words.{subst, state, present, Rests, ShowsRows}
+use Rattle.moo_store.{proofs.Words.{subst, state, present, Rests, ShowsRows}, specs.Checked.{SaysInCheck}, proofs.AdoptLemmas.{on_each_err, rests_still}, proofs.CheckLemmas.{whole_here}, proofs.Versions.{version_is}, proofs.checking.check_rows.Goals as goal}
 use Rattle.std.proofs.lemmas.Result.{on_ok_weaker}
 use Rattle.moo_tables.specs.Listing.{tables_of}
-use Rattle.moo_store.specs.Checked.{SaysInCheck}
-use Rattle.moo_store.proofs.AdoptLemmas.{on_each_err, rests_still}
-use Rattle.moo_store.proofs.CheckLemmas.{whole_here}
-use Rattle.moo_store.proofs.Versions.{version_is}
-use Rattle.moo_store.proofs.checking.check_rows.Goals as goal
 
 pub returns-in-Ok-read_lists-clause-shown : goal.returns-in-Ok-read_lists-clause-shown
 returns-in-Ok-read_lists-clause-shown g c =

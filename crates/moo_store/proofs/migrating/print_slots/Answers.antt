@@ -1,7 +1,5 @@
-use Rattle.moo_store.proofs.Words.{subst, None, entries, slot_cmp, PrintEach, PrintsSlot, as_changes}
+use Rattle.moo_store.{proofs.Words.{subst, None, entries, slot_cmp, PrintEach, PrintsSlot, as_changes}, proofs.AllRows.{left_all}, proofs.migrating.print_slots.Goals as goal}
 use Rattle.std.proofs.lemmas.Result.{IfOk-weaker}
-use Rattle.moo_store.proofs.AllRows.{left_all}
-use Rattle.moo_store.proofs.migrating.print_slots.Goals as goal
 
 pub returns : goal.returns
 returns c =

@@ -1,7 +1,5 @@
-use Rattle.moo_store.proofs.Words.{Some, None, List, Option, ap, sym, subst, FinMap, empty, get, get-empty, Head, object_cmp, prop_cmp, slot_cmp, verb_cmp, petition_cmp, entries, PrintEach, PrintsObject, PrintsProp, PrintsSlot, PrintsVerb, PrintsPetition, as_changes}
-use Rattle.moo_store.proofs.AllRows.{left_all}
+use Rattle.moo_store.{proofs.Words.{Some, None, List, Option, ap, sym, subst, FinMap, empty, get, get-empty, Head, object_cmp, prop_cmp, slot_cmp, verb_cmp, petition_cmp, entries, PrintEach, PrintsObject, PrintsProp, PrintsSlot, PrintsVerb, PrintsPetition, as_changes}, proofs.AllRows.{left_all}, proofs.printing.print_all.Goals as goal}
 use Rattle.std.specs.declared.cmp.Ordering.{Ordering}
-use Rattle.moo_store.proofs.printing.print_all.Goals as goal
 
 -- no row is there of an empty map
 from_empty : {K C X : Type 0} (cmp : K → K → Ordering) (prints : Option X → C → X → Type 0) (cells : List (K × Option C)) (changes : List (K × Option X)) → PrintEach (λ key. prints None) cells changes → PrintEach (λ key. prints (get (let none : FinMap cmp X = empty in none) key)) cells changes

@@ -1,7 +1,5 @@
-use Rattle.moo_tables.proofs.Words.{AllByRecursion, all_has, refl, sym, subst, take_all, true≢false, ◌∙◌}
+use Rattle.moo_tables.{proofs.Words.{AllByRecursion, all_has, refl, sym, subst, take_all, true≢false, ◌∙◌}, specs.Ours.{HasNoRules}, proofs.ours.have_no_rules.Goals as goal}
 use Rattle.sqlite_rules.proofs.ListLemmas.{all_more, has_at}
-use Rattle.moo_tables.specs.Ours.{HasNoRules}
-use Rattle.moo_tables.proofs.ours.have_no_rules.Goals as goal
 
 pub loop-table-preserved : goal.loop-table-preserved
 loop-table-preserved c = all_more HasNoRules c.args.tables.now c.loop-table.table-index c.table-item.result c.loop-table-test.true c.table-item.is c.loop-table.invariant (c.in_ok-plain.ensures.0 c.if-not-plain.false)

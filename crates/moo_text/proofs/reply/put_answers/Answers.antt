@@ -1,11 +1,6 @@
-use Rattle.moo_text.proofs.Shared.{◌≡◌, ◌<◌, ◌+◌, ◌++◌, ℕ, List, [], ◌∷◌, length, take, sym, ap, ◌∙◌, append_assoc, flat_map}
-use Rattle.std.proofs.Common.{get_or}
-use Rattle.std.proofs.lemmas.List.{take_more, flat_map_more}
-use Rattle.moo_value.specs.Literal.{print}
-use Rattle.moo_value.specs.declared.value.Value.{Value}
-use Rattle.moo_value.proofs.Printed.{starts, starts_behind}
-use Rattle.moo_text.specs.Replies.{answer_line}
-use Rattle.moo_text.proofs.reply.put_answers.Goals as goal
+use Rattle.moo_text.{proofs.Shared.{◌≡◌, ◌<◌, ◌+◌, ◌++◌, ℕ, List, [], ◌∷◌, length, take, sym, ap, ◌∙◌, append_assoc, flat_map}, specs.Replies.{answer_line}, proofs.reply.put_answers.Goals as goal}
+use Rattle.std.{proofs.Common.{get_or}, proofs.lemmas.List.{take_more, flat_map_more}}
+use Rattle.moo_value.{specs.Literal.{print}, specs.declared.value.Value.{Value}, proofs.Printed.{starts, starts_behind}}
 
 -- one more answer has its line
 one_more : (old out put new : List ℕ) (values : List Value) (i : ℕ) (v : Value) → i < length values → v ≡ get_or values i v → out ≡ old ++ flat_map answer_line (take i values)

@@ -1,5 +1,4 @@
-use Rattle.moo_tree.proofs.Words.{◌++◌, ◌∙◌, map, nothing, linked_left}
-use Rattle.moo_tree.proofs.lists.linked.Goals as goal
+use Rattle.moo_tree.{proofs.Words.{◌++◌, ◌∙◌, map, nothing, linked_left}, proofs.lists.linked.Goals as goal}
 
 pub returns : goal.returns
 returns g c =

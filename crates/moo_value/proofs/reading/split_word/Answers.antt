@@ -1,11 +1,5 @@
-use Rattle.moo_value.proofs.Words.{◌≡◌, ◌≤◌, ◌+◌, ℕ, Option, true, false, cond, Some, List, [], ◌∷◌, length, take, drop, refl, ap, ◌∙◌, suc, rules, arith, not, YieldsList-from_slice, tests, is_word, word, after_word}
-use Rattle.std.proofs.Common.{None, ltb}
-use Rattle.std.specs.List.{position_or_len}
-use Rattle.std.specs.Option.{unwrap_or}
-use Rattle.std.proofs.lemmas.Iterator.Search.{position_from_yields_List}
-use Rattle.std.proofs.lemmas.List.Sums.{prefix_len-le-length}
-use Rattle.std.proofs.lemmas.Bool.Decides.{nat_tests}
-use Rattle.moo_value.proofs.reading.split_word.Goals as goal
+use Rattle.moo_value.{proofs.Words.{◌≡◌, ◌≤◌, ◌+◌, ℕ, Option, true, false, cond, Some, List, [], ◌∷◌, length, take, drop, refl, ap, ◌∙◌, suc, rules, arith, not, YieldsList-from_slice, tests, is_word, word, after_word}, proofs.reading.split_word.Goals as goal}
+use Rattle.std.{proofs.Common.{None, ltb}, specs.List.{position_or_len}, specs.Option.{unwrap_or}, proofs.lemmas.Iterator.Search.{position_from_yields_List}, proofs.lemmas.List.Sums.{prefix_len-le-length}, proofs.lemmas.Bool.Decides.{nat_tests}}
 
 -- how many bytes stand before the first one that is of no word
 abbrev end_of : List ℕ → ℕ

@@ -1,6 +1,4 @@
-use Rattle.std.proofs.Common.{◌≡◌, Option, None, Some, refl, ap, ◌∙◌}
-use Rattle.std.specs.Option.{ok_or}
-use Rattle.std.specs.Result.{result_ok}
+use Rattle.std.{proofs.Common.{◌≡◌, Option, None, Some, refl, ap, ◌∙◌}, specs.Option.{ok_or}, specs.Result.{result_ok}}
 use Rattle.moo_verbs.specs.declared.fault.VerbFault.TheVariants.{BadArgs}
 use Rattle.moo_world.specs.VerbReading.{args_of}
 use Rattle.moo_verb_calls.proofs.adding.args_of.Goals as goal

@@ -1,9 +1,6 @@
 use Rattle.std.proofs.Common.{rules, ◌≡◌, sym, ◌∙◌}
-use Rattle.moo_world.specs.Outcomes.{Failed}
-use Rattle.moo_world.specs.World.{is_object}
-use Rattle.moo_world.specs.VerbCalls.{add_verb}
-use Rattle.moo_call_parts.specs.Outcomes.{world_in}
-use Rattle.moo_call_parts.proofs.Passed.{check_passed}
+use Rattle.moo_world.{specs.Outcomes.{Failed}, specs.World.{is_object}, specs.VerbCalls.{add_verb}}
+use Rattle.moo_call_parts.{specs.Outcomes.{world_in}, proofs.Passed.{check_passed}}
 use Rattle.moo_verb_calls.proofs.adding.verb_taken.Goals as goal
 
 pub returns-in_err-bits-clause-err : goal.returns-in_err-bits-clause-err

@@ -1,9 +1,6 @@
 use Rattle.std.proofs.Common.{rules, ◌≡◌, [], ◌∷◌, ap, sym, ◌∙◌}
 use Rattle.moo_value.specs.declared.value.Value.TheVariants.{Str}
-use Rattle.moo_world.specs.Answers.{list_of}
-use Rattle.moo_world.specs.Outcomes.{Done, Failed}
-use Rattle.moo_world.specs.Prepositions.{prep_text, object_spec_text}
-use Rattle.moo_world.specs.VerbCalls.{verb_args}
+use Rattle.moo_world.{specs.Answers.{list_of}, specs.Outcomes.{Done, Failed}, specs.Prepositions.{prep_text, object_spec_text}, specs.VerbCalls.{verb_args}}
 use Rattle.moo_call_parts.specs.Outcomes.{world_in}
 use Rattle.moo_verb_calls.proofs.reading.verb_args.Goals as goal
 

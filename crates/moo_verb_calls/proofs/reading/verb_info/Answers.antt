@@ -1,9 +1,7 @@
 use Rattle.std.proofs.Common.{rules, ◌≡◌, [], ◌∷◌, ap, sym, ◌∙◌}
 use Rattle.moo_value.specs.declared.value.Value.TheVariants.{Obj, Str}
 use Rattle.moo_rows.specs.Bits.{verb_letters_of}
-use Rattle.moo_world.specs.Answers.{list_of}
-use Rattle.moo_world.specs.Outcomes.{Done, Failed}
-use Rattle.moo_world.specs.VerbCalls.{verb_info}
+use Rattle.moo_world.{specs.Answers.{list_of}, specs.Outcomes.{Done, Failed}, specs.VerbCalls.{verb_info}}
 use Rattle.moo_call_parts.specs.Outcomes.{world_in}
 use Rattle.moo_verb_calls.proofs.reading.verb_info.Goals as goal
 

@@ -1,7 +1,5 @@
-use Rattle.moo_verbs.proofs.Words.{◌≡◌, refl, sym, ap, ◌∙◌, subst, arith, insert, VerbRow, Held, wrote, world_of, Keeps, props_stay}
+use Rattle.moo_verbs.{proofs.Words.{◌≡◌, refl, sym, ap, ◌∙◌, subst, arith, insert, VerbRow, Held, wrote, world_of, Keeps, props_stay}, proofs.Changes.{changed_world, changed_good}, proofs.directory.set_args.Goals as goal}
 use Rattle.moo_world.specs.Numbers.{verb_changed}
-use Rattle.moo_verbs.proofs.Changes.{changed_world, changed_good}
-use Rattle.moo_verbs.proofs.directory.set_args.Goals as goal
 
 -- the rows after the write, by the row that was read
 abbrev after : (g : _) (c : goal.In_ok-put_verb g) → VerbRow → Held

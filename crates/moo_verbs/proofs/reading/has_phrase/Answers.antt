@@ -1,7 +1,6 @@
-use Rattle.moo_verbs.proofs.Words.{rules, ◌∙◌, any_from_yields_List, same_name, set_text}
+use Rattle.moo_verbs.{proofs.Words.{rules, ◌∙◌, any_from_yields_List, same_name, set_text}, proofs.reading.has_phrase.Goals as goal}
 use Rattle.std.proofs.lemmas.Iterator.Splits.{YieldsList-from_slice_split}
 use Rattle.moo_world.specs.VerbReading.{is_slash}
-use Rattle.moo_verbs.proofs.reading.has_phrase.Goals as goal
 use borrow.Author.Tests.{tests}
 
 pub returns : goal.returns

@@ -1,8 +1,6 @@
-use Rattle.std.proofs.Common.{sym}
-use Rattle.std.specs.Str.Parse.{ParsesUnsigned, ExplainsUnsignedError, HasUnsignedDigitsIfOk}
-use Rattle.moo_words.proofs.MatchLemmas.{number_given}
+use Rattle.std.{proofs.Common.{sym}, specs.Str.Parse.{ParsesUnsigned, ExplainsUnsignedError, HasUnsignedDigitsIfOk}}
+use Rattle.moo_words.{proofs.MatchLemmas.{number_given}, proofs.task.number_of.Goals as goal}
 use Rattle.clap.specs.Matches.{found_of}
-use Rattle.moo_words.proofs.task.number_of.Goals as goal
 
 pub returns : goal.returns
 returns c =

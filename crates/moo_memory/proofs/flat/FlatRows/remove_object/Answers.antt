@@ -1,5 +1,4 @@
-use Rattle.moo_memory.proofs.Words.{ap, ◌∙◌, get, get-remove, contents, object_cmp, object_total, covered-remove}
-use Rattle.moo_memory.proofs.flat.FlatRows.remove_object.Goals as goal
+use Rattle.moo_memory.{proofs.Words.{ap, ◌∙◌, get, get-remove, contents, object_cmp, object_total, covered-remove}, proofs.flat.FlatRows.remove_object.Goals as goal}
 
 pub invariant_of-self : goal.invariant_of-self
 invariant_of-self c = (

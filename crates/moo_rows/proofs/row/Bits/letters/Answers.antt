@@ -1,7 +1,5 @@
-use Rattle.moo_rows.proofs.Words.{◌≡◌, Bool, Some, true, false, refl, ap, ◌∙◌}
+use Rattle.moo_rows.{proofs.Words.{◌≡◌, Bool, Some, true, false, refl, ap, ◌∙◌}, specs.Bits.{bits_of, letters_of}, proofs.row.Bits.letters.Goals as goal}
 use Rattle.std.proofs.Common.{rules}
-use Rattle.moo_rows.specs.Bits.{bits_of, letters_of}
-use Rattle.moo_rows.proofs.row.Bits.letters.Goals as goal
 
 -- the letters of rights are read as these rights
 read_back : (r w c : Bool) → bits_of (letters_of (record { r = r; w = w; c = c })) ≡ Some (record { r = r; w = w; c = c })

@@ -1,7 +1,5 @@
-use Rattle.moo_rows.proofs.Words.{◌≡◌, Bool, Some, true, false, refl, ap, ◌∙◌}
+use Rattle.moo_rows.{proofs.Words.{◌≡◌, Bool, Some, true, false, refl, ap, ◌∙◌}, specs.Bits.{verb_bits_of, verb_letters_of}, proofs.row.VerbBits.letters.Goals as goal}
 use Rattle.std.proofs.Common.{rules}
-use Rattle.moo_rows.specs.Bits.{verb_bits_of, verb_letters_of}
-use Rattle.moo_rows.proofs.row.VerbBits.letters.Goals as goal
 
 -- the letters of rights are read as these rights
 read_back : (r w x d : Bool) → verb_bits_of (verb_letters_of (record { r = r; w = w; x = x; d = d })) ≡ Some (record { r = r; w = w; x = x; d = d })

@@ -1,5 +1,4 @@
-use Rattle.moo_rows.specs.SameClones.{text_clone}
-use Rattle.moo_rows.proofs.row.VerbRowClone.clone.Goals as goal
+use Rattle.moo_rows.{specs.SameClones.{text_clone}, proofs.row.VerbRowClone.clone.Goals as goal}
 
 pub returns : goal.returns
 returns c =

@@ -1,8 +1,4 @@
-use Rattle.moo_tables.proofs.Words.{ap, ◌∙◌, Text, object_row}
-use Rattle.moo_tables.proofs.ObjectLemmas.{put, put_fails}
-use Rattle.moo_tables.proofs.RowLemmas.{ran_as}
-use Rattle.moo_tables.proofs.StoppedLemmas.{with_values}
-use Rattle.moo_tables.proofs.object.ObjectCellsTableRow.put.Goals as goal
+use Rattle.moo_tables.{proofs.Words.{ap, ◌∙◌, Text, object_row}, proofs.ObjectLemmas.{put, put_fails}, proofs.RowLemmas.{ran_as}, proofs.StoppedLemmas.{with_values}, proofs.object.ObjectCellsTableRow.put.Goals as goal}
 
 pub returns-in-Some-clause-put : goal.returns-in-Some-clause-put
 returns-in-Some-clause-put g c =

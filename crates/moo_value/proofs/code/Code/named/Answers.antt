@@ -1,9 +1,5 @@
-use Rattle.moo_value.proofs.Words.{◌≡◌, Bool, true, false, cond, Ok, Err, Option, Some, ℕ, List, [], ◌∷◌, map, refl, sym, ap, subst, ◌∙◌, rules, str_eq_ignore_ascii_case, YieldsList-from_slice, tests, Code, NotALiteral, name, named}
-use Rattle.std.proofs.Common.{None, option_map, Bor}
-use Rattle.std.specs.List.{find}
-use Rattle.std.specs.Option.{MatchOption}
-use Rattle.std.proofs.lemmas.Iterator.Search.{find_from_yields_List}
-use Rattle.moo_value.proofs.code.Code.named.Goals as goal
+use Rattle.moo_value.{proofs.Words.{◌≡◌, Bool, true, false, cond, Ok, Err, Option, Some, ℕ, List, [], ◌∷◌, map, refl, sym, ap, subst, ◌∙◌, rules, str_eq_ignore_ascii_case, YieldsList-from_slice, tests, Code, NotALiteral, name, named}, proofs.code.Code.named.Goals as goal}
+use Rattle.std.{proofs.Common.{None, option_map, Bor}, specs.List.{find}, specs.Option.{MatchOption}, proofs.lemmas.Iterator.Search.{find_from_yields_List}}
 
 abbrev Named : Type 0
 Named = Code × Bor (List ℕ)
