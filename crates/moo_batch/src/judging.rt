@@ -9,9 +9,9 @@ ghost use Rattle.moo_world.specs.Judge.{is_due, run_calls};
 ghost use Rattle.moo_batch.specs.Outcomes.{state_in};
 ghost use Rattle.moo_batch.specs.Judge.{ComeTo, HaveKept, IsVerdict};
 
+use crate::stepping::step;
 use moo_call_parts::Fault;
 use moo_memory::{ChangeList, Changes, Draft};
-use crate::stepping::step;
 use moo_rows::{Head, Rows};
 use moo_value::{Code, ObjNo, Value};
 use moo_world::{Answers, Batch, Call};

@@ -10,8 +10,8 @@ ghost use Rattle.moo_commands.specs.Run.{IsDumpedAs, RefusesDump, is_load, dump_
 
 use crate::failure::Failure;
 use crate::host::BatchFiles;
-use moo_memory::Flat;
 use moo_load::{read_dump, read_text};
+use moo_memory::Flat;
 use moo_words::{Action, Task};
 use std::alloc::Global;
 use std::io::Read;

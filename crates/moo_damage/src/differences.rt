@@ -7,10 +7,9 @@ ghost use Rattle.moo_damage.specs.First.{IsLeastBad};
 
 use crate::kind::{Key, object_key, petition_key, prop_key, slot_key, verb_key};
 use moo_memory::Flat;
-use moo_rows::ordered;
 use moo_rows::{
     PetitionId, PropId, Row, Rows, VerbId, each_object, each_petition, each_prop, each_slot,
-    each_verb,
+    each_verb, ordered,
 };
 use moo_value::ObjNo;
 

@@ -10,8 +10,7 @@ ghost use Rattle.moo_world.specs.Objects.{Name, same_text, folded};
 ghost use Rattle.moo_world.specs.Rows.{IsSound};
 ghost use Rattle.moo_damage.specs.Apart.{AreApart, NamesApart, NotesProp, is_alone, noted_as};
 
-use moo_rows::ordered;
-use moo_rows::{PropId, Rows, each_prop, each_slot_of};
+use moo_rows::{PropId, Rows, each_prop, each_slot_of, ordered};
 use moo_value::{MooStr, ObjNo};
 use std::alloc::{AllocError, Global};
 use std::collections::BTreeMap;

@@ -12,8 +12,7 @@ ghost use Rattle.moo_damage.specs.Noted.{AreEnding};
 ghost use Rattle.moo_damage.specs.declared.trees.TreeLink.{TreeLink};
 
 use crate::kind::Kind;
-use moo_rows::ordered;
-use moo_rows::{ObjRow, Rows, each_object};
+use moo_rows::{ObjRow, Rows, each_object, ordered};
 use moo_value::ObjNo;
 use std::alloc::{AllocError, Global};
 use std::collections::BTreeMap;

@@ -7,8 +7,8 @@ ghost use Rattle.moo_rows.specs.Maps.{Maps};
 ghost use Rattle.moo_memory.specs.Overlay.{row_over};
 ghost use Rattle.moo_memory.specs.Changes.{IsChanges, AreChanges, changed_each};
 
-use crate::overlay::Base;
 use crate::flat::Flat;
+use crate::overlay::Base;
 use moo_rows::ordered::OrderedKey;
 use moo_rows::{
     Head, ObjRow, PetitionId, PetitionRow, PropId, PropRow, Row, Rows, SlotRow, VerbId, VerbRow,

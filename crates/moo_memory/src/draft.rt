@@ -7,14 +7,13 @@ ghost use Rattle.moo_memory.specs.Changes.{AreChanges};
 
 use crate::changes::{Changes, changed_rows};
 use crate::either::{next_defined_of_either, next_linked_of_either};
+use crate::links::{row_defined, row_has};
 use crate::overlay;
 use crate::overlay::Base;
 use crate::own::OwnLinks;
-use crate::links::{row_defined, row_has};
-use moo_rows::ordered;
 use moo_rows::{
     Head, Link, ObjRow, PetitionId, PetitionRow, PropId, PropRow, Rows, SlotRow, VerbId, VerbRow,
-    Writes,
+    Writes, ordered,
 };
 use moo_value::ObjNo;
 use std::alloc::{AllocError, Global};

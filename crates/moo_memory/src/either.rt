@@ -7,10 +7,9 @@ ghost use Rattle.moo_rows.specs.Maps.{object_cmp, prop_cmp, slot_cmp};
 ghost use Rattle.moo_rows.specs.Ordered.{contents};
 ghost use Rattle.moo_memory.specs.Either.{is_candidate_of_either};
 
-use crate::own::OwnLinks;
 use crate::links::next_defined;
-use moo_rows::ordered;
-use moo_rows::{Link, ObjRow, PropId, Rows};
+use crate::own::OwnLinks;
+use moo_rows::{Link, ObjRow, PropId, Rows, ordered};
 use moo_value::ObjNo;
 use std::collections::BTreeMap;
 

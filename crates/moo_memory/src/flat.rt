@@ -6,10 +6,9 @@ ghost use Rattle.moo_rows.specs.Maps.{no_maps, without_object, without_prop, wit
 use crate::links::{
     Links, are_same, definer_of, forget_defined, next_defined, row_defined, row_has, ties_of,
 };
-use moo_rows::ordered;
 use moo_rows::{
     Head, Link, ObjRow, PetitionId, PetitionRow, PropId, PropRow, Rows, SlotRow, VerbId, VerbRow,
-    Writes,
+    Writes, ordered,
 };
 use moo_value::ObjNo;
 use std::alloc::{AllocError, Global};

@@ -9,8 +9,7 @@ ghost use Rattle.moo_rows.specs.Maps.{object_cmp, prop_cmp, slot_cmp};
 ghost use Rattle.moo_rows.specs.Ordered.{contents};
 ghost use Rattle.moo_rows.specs.Links.{IsFirst, tie_cmp, has_link, is_candidate, is_kept, may_have, row_defined, row_has, ties_have, ties_of};
 
-use moo_rows::ordered;
-use moo_rows::{Link, ObjRow, PropId, PropRow, Ties};
+use moo_rows::{Link, ObjRow, PropId, PropRow, Ties, ordered};
 use moo_value::ObjNo;
 use std::alloc::{AllocError, Global};
 use std::collections::BTreeMap;

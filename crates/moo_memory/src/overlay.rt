@@ -5,9 +5,8 @@ ghost use Rattle.std.specs.FinMap as map;
 ghost use Rattle.moo_rows.specs.Ordered.{contents, IsNextAt};
 ghost use Rattle.moo_memory.specs.Overlay.{row_over, IsNextOfEither};
 
-use moo_rows::ordered;
 use moo_rows::ordered::OrderedKey;
-use moo_rows::Writes;
+use moo_rows::{Writes, ordered};
 use std::alloc::AllocError;
 use std::collections::BTreeMap;
 

@@ -9,8 +9,7 @@ ghost use Rattle.moo_rows.specs.Ordered.{contents};
 ghost use Rattle.moo_memory.specs.Either.{is_that, may_have_own};
 
 use crate::links::{Links, are_same, ties_of};
-use moo_rows::ordered;
-use moo_rows::{Link, ObjRow, Rows, Ties};
+use moo_rows::{Link, ObjRow, Rows, Ties, ordered};
 use moo_value::ObjNo;
 use std::alloc::{AllocError, Global};
 use std::cmp::Ordering;

@@ -5,8 +5,8 @@ ghost use Rattle.moo_rows.specs.SameClones.{prop_clone, slot_clone, verb_clone, 
 ghost use Rattle.moo_rows.specs.ObjectRow.{object_row-exact, object_clone};
 ghost use Rattle.moo_rows.specs.SameRows.{prop_row-exact, slot_row-exact, verb_row-exact, petition_row-exact};
 
-use crate::row::{ObjRow, PetitionId, PetitionRow, PropId, PropRow, SlotRow, VerbId, VerbRow};
 use crate::ordered::OrderedKey;
+use crate::row::{ObjRow, PetitionId, PetitionRow, PropId, PropRow, SlotRow, VerbId, VerbRow};
 use std::alloc::{AllocError, Global};
 
 /// A row that `==` tells from every other, and whose clones equal it.

@@ -6,8 +6,7 @@ ghost use Rattle.moo_rows.specs.Maps.{Maps, no_maps};
 ghost use Rattle.moo_store.specs.Printed.{PrintEach, Prints, new_number, as_changes, all_changes};
 
 use crate::columns::{accept_over, bits_over, calls_over, state_over, text_cell};
-use moo_memory::{ChangeList, Changes};
-use moo_memory::Flat;
+use moo_memory::{ChangeList, Changes, Flat};
 use moo_rows::{
     ObjRow, PetitionId, PetitionRow, PropId, PropRow, Row, Rows, SlotRow, VerbId, VerbRow,
 };

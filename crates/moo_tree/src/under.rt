@@ -12,8 +12,7 @@ ghost use Rattle.moo_tree.specs.Under.{IsFound, owners_under};
 
 use crate::lists::list_linked;
 use crate::numbers::valid;
-use moo_rows::ordered;
-use moo_rows::{Link, Rows};
+use moo_rows::{Link, Rows, ordered};
 use moo_value::ObjNo;
 use std::alloc::{AllocError, Global};
 use std::collections::BTreeMap;

@@ -6,8 +6,7 @@
 
 ghost use Rattle.std.specs.Prelude.{◌<◌};
 
-use moo_memory::{Changes, Draft, apply_changes};
-use moo_memory::{Flat, opening_world};
+use moo_memory::{Changes, Draft, Flat, apply_changes, opening_world};
 use moo_rows::{Bits, PropId, Rows, SlotRow, SlotState, each_slot, each_slot_of};
 use moo_value::{ObjNo, Value};
 use std::alloc::{AllocError, Global};
