@@ -112,30 +112,6 @@ pub fn run_given<
     (status, closed)
 }
 
-/// The exit status of `run_given`. What is left of the file is let go of.
-fn status_of_given<
-    T: Start,
-    H: WorldFiles<T> + BatchFiles + Ports,
-    C: Clock + Eprint,
-    R: Read + Drop,
-    W: Write,
->(
-    alloc: Global,
-    console: &C,
-    words: io::Result<Vec<String>>,
-    start: T,
-    host: &mut H,
-    input: &mut R,
-    output: &mut W,
-) -> u8
-    requires may { IfOk words (λ words. (task : Task) → NamesTask (map string_bytes words.items) task → H.may_open host.old task.file.now) }
-    requires read { IfOk words (λ words. (task : Task) (path : List ℕ) → NamesTask (map string_bytes words.items) task → ReadsFile task path → H.may_read host.old path) }
-{
-    let (status, left) = run_given(alloc, console, words, start, host, input, output);
-    left.shut();
-    status
-}
-
 /// The words of the command line.
 fn command_words(rt: &HostRuntime) -> io::Result<Vec<String>> {
     named_words(rt.alloc(), args(rt)?.collect(rt.alloc())?)
@@ -144,7 +120,7 @@ fn command_words(rt: &HostRuntime) -> io::Result<Vec<String>> {
 /// The whole program: `run_given` over the words of the command line, the files and ports of the system and the standard streams. It has no type
 /// parameter, so that the check of `main` needn't know what streams are.
 pub fn run_command(rt: &HostRuntime) -> u8 {
-    status_of_given(
+    let (status, left) = run_given(
         rt.alloc(),
         rt,
         command_words(rt),
@@ -152,5 +128,7 @@ pub fn run_command(rt: &HostRuntime) -> u8 {
         &mut System::new(rt, &DiskChanges::new()),
         &mut rt.stdin(),
         &mut rt.stdout(),
-    )
+    );
+    left.shut();
+    status
 }
