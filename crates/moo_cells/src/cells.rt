@@ -37,9 +37,9 @@ pub fn read_cells(alloc: Global, lists: Cells) -> Result<Flat, CellFault>
     ensures undamaged { ¬ (IsNewer (tables_of lists)) → ((kind : Kind) (key : Key) → ¬ (IsMet (tables_of lists) kind key)) → IfErr result (λ fault. fault ≡ CellFault.OutOfMemory) }
 {
     let rows = read_rows(alloc, lists)?;
-    match damage_of(alloc, &rows) {
-        Ok(None) => Ok(rows),
-        Ok(Some((kind, key))) => Err(CellFault::Damaged(kind, key)),
-        Err(_) => Err(CellFault::OutOfMemory),
+    let damage = damage_of(alloc, &rows)?;
+    match damage {
+        Some((kind, key)) => Err(CellFault::Damaged(kind, key)),
+        None => Ok(rows),
     }
 }

@@ -77,11 +77,10 @@ pub fn compare_cells(alloc: Global, lists: Cells, own: &Flat) -> Result<Option<K
     ensures whole { ShowsRows (tables_of lists) own.now.maps → IfOk result (λ o. o ≡ None) }
     ensures memory { ShowsRows (tables_of lists) own.now.maps → IfErr result (λ fault. fault ≡ CellFault.OutOfMemory) }
 {
-    if show_rows(alloc, &lists, own)? {
+    let shown = show_rows(alloc, &lists, own)?;
+    if shown {
         return Ok(None);
     }
-    match read_cells(alloc, lists) {
-        Ok(found) => Ok(first_difference(own, &found)),
-        Err(fault) => Err(fault),
-    }
+    let found = read_cells(alloc, lists)?;
+    Ok(first_difference(own, &found))
 }

@@ -1,4 +1,4 @@
-use Rattle.moo_cells.{proofs.Words.{sym, subst, err_from_is_err_and, tables_of, SaysOfCells}, proofs.CellsLemmas.{rows_damage, none_met, says_nothing, says_no_damage, one_good}, proofs.cells.read_cells.Goals as goal}
+use Rattle.moo_cells.{proofs.Words.{Option, sym, subst, IfSome, Kind, Key, IsFirstInRows, err_from_is_err_and, tables_of, SaysOfCells}, proofs.CellsLemmas.{rows_damage, none_met, says_nothing, says_no_damage, one_good}, proofs.cells.read_cells.Goals as goal}
 
 pub returns-in_err-rows-clause-fault : goal.returns-in_err-rows-clause-fault
 returns-in_err-rows-clause-fault c =
@@ -15,22 +15,22 @@ returns-in_err-rows-clause-undamaged c known none =
     let p = err_from_is_err_and c.from_residual.result c.from_residual.ensures.1 in
     rw p.1 (says_no_damage (tables_of c.args.lists) known none p.0 (subst (SaysOfCells (tables_of c.args.lists)) (sym p.2) c.in_err-rows.ensures.fault))
 
-pub returns-in-Ok-Some-clause-undamaged : goal.returns-in-Ok-Some-clause-undamaged
-returns-in-Ok-Some-clause-undamaged c known none =
-    let first = rw c.in-Ok-Some.field-0-is at c.in-Ok-Some.ensures.first in
+pub returns-in-Some-clause-undamaged : goal.returns-in-Some-clause-undamaged
+returns-in-Some-clause-undamaged c known none =
+    let first = subst (λ (o : Option (Kind × Key)). IfSome o (λ d. IsFirstInRows c.in_ok-rows.rows.maps d.0 d.1)) c.in-Some.is c.in_ok-damage.ensures.first in
     let t = tables_of c.args.lists in
-    absurd (none c.in-Ok-Some.kind c.in-Ok-Some.key (rows_damage t c.in_ok-rows.rows.maps c.in_ok-rows.ensures.shown c.in_ok-rows.ensures.within c.in_ok-rows.ensures.read c.in-Ok-Some.kind c.in-Ok-Some.key first).1.1.0)
+    absurd (none c.in-Some.kind c.in-Some.key (rows_damage t c.in_ok-rows.rows.maps c.in_ok-rows.ensures.shown c.in_ok-rows.ensures.within c.in_ok-rows.ensures.read c.in-Some.kind c.in-Some.key first).1.1.0)
 
-pub returns-in-Ok-Some-clause-fault : goal.returns-in-Ok-Some-clause-fault
-returns-in-Ok-Some-clause-fault c =
-    let first = rw c.in-Ok-Some.field-0-is at c.in-Ok-Some.ensures.first in
-    rows_damage (tables_of c.args.lists) c.in_ok-rows.rows.maps c.in_ok-rows.ensures.shown c.in_ok-rows.ensures.within c.in_ok-rows.ensures.read c.in-Ok-Some.kind c.in-Ok-Some.key first
+pub returns-in-Some-clause-fault : goal.returns-in-Some-clause-fault
+returns-in-Some-clause-fault c =
+    let first = subst (λ (o : Option (Kind × Key)). IfSome o (λ d. IsFirstInRows c.in_ok-rows.rows.maps d.0 d.1)) c.in-Some.is c.in_ok-damage.ensures.first in
+    rows_damage (tables_of c.args.lists) c.in_ok-rows.rows.maps c.in_ok-rows.ensures.shown c.in_ok-rows.ensures.within c.in_ok-rows.ensures.read c.in-Some.kind c.in-Some.key first
 
-pub returns-in-Ok-Some-clause-whole : goal.returns-in-Ok-Some-clause-whole
-returns-in-Ok-Some-clause-whole c m shown good =
-    let first = rw c.in-Ok-Some.field-0-is at c.in-Ok-Some.ensures.first in
+pub returns-in-Some-clause-whole : goal.returns-in-Some-clause-whole
+returns-in-Some-clause-whole c m shown good =
+    let first = subst (λ (o : Option (Kind × Key)). IfSome o (λ d. IsFirstInRows c.in_ok-rows.rows.maps d.0 d.1)) c.in-Some.is c.in_ok-damage.ensures.first in
     let t = tables_of c.args.lists in
-    absurd (none_met t m shown good c.in-Ok-Some.kind c.in-Ok-Some.key (rows_damage t c.in_ok-rows.rows.maps c.in_ok-rows.ensures.shown c.in_ok-rows.ensures.within c.in_ok-rows.ensures.read c.in-Ok-Some.kind c.in-Ok-Some.key first).1.1.0)
+    absurd (none_met t m shown good c.in-Some.kind c.in-Some.key (rows_damage t c.in_ok-rows.rows.maps c.in_ok-rows.ensures.shown c.in_ok-rows.ensures.within c.in_ok-rows.ensures.read c.in-Some.kind c.in-Some.key first).1.1.0)
 
-pub returns-in-Ok-None-clause-one : goal.returns-in-Ok-None-clause-one
-returns-in-Ok-None-clause-one c m shown good = one_good (tables_of c.args.lists) c.in_ok-rows.rows.maps m c.in_ok-rows.ensures.shown c.in_ok-rows.ensures.within shown good
+pub returns-in-None-clause-one : goal.returns-in-None-clause-one
+returns-in-None-clause-one c m shown good = one_good (tables_of c.args.lists) c.in_ok-rows.rows.maps m c.in_ok-rows.ensures.shown c.in_ok-rows.ensures.within shown good
