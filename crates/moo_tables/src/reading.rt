@@ -9,7 +9,7 @@ ghost use Rattle.moo_tables.specs.Tables.{schema_of};
 
 use crate::counter::READ_PETITION_HEAD;
 use crate::head::READ_HEAD;
-use crate::object::READ_OBJECT;
+use crate::object::object_cells_of;
 use crate::petition::READ_PETITION;
 use crate::prop::READ_PROP;
 use crate::query::all_rows;
@@ -70,7 +70,7 @@ pub fn read_tables<S: Alter>(
     ensures failed { OnErr result (FailsToRead (schema_of version) (state S.Store conn.old) (state S.Store conn.new)) }
 {
     let head = all_rows(alloc, conn, READ_HEAD)?;
-    let object = all_rows(alloc, conn, READ_OBJECT)?;
+    let object = object_cells_of(alloc, conn, version)?;
     let prop = all_rows(alloc, conn, READ_PROP)?;
     let slot = slot_cells_of(alloc, conn, version)?;
     let verb = all_rows(alloc, conn, READ_VERB)?;
