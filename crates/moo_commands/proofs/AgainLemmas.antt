@@ -1,10 +1,13 @@
 -- From what a crash left of a run to the next run.
-use Rattle.moo_commands.{proofs.Words.{◌≡◌, ◌≢◌, ◌⊎◌, inl, inr, ℕ, zero, suc, Bool, true, false, List, length, Option, codes, refl, sym, ap, subst, true≢false, false_from_ne_true, ◌||◌, bytes_eq, Ghosts, Image, HasCleanDisk, Held, file_state, Maps, Batch, IsGood, State, state_of, LeavesLed, LeavesRows, LeavesState, Task, Given, makes_world, begins_anew, HoldsRows, RunsRows, RunsFile, EndsWith, RunsOver, IsClosedEnd, RunsClosed}, specs.Again.{Started, StartedRows, LeadTo, RanFrom, TakesUp, TakesRows, IsLeftAfter, CrashesTo, LeadsOn, ClosesOn, IsFoundIn, ClosesTo}, proofs.Connections.{runs_when, unled}, specs.declared.ends.Ends.{Ends}, specs.declared.ends.Ends.TheVariants as variant}
+use Rattle.moo_commands.{proofs.Words.{◌≡◌, ◌≢◌, ◌⊎◌, inl, inr, ℕ, zero, suc, Bool, true, false, List, length, Option, codes, refl, sym, ap, subst, true≢false, false_from_ne_true, ◌||◌, bytes_eq, Ghosts, Image, HasCleanDisk, Held, file_state, Maps, Batch, IsGood, State, state_of, LeavesLed, LeavesRows, LeavesState, Task, Given, makes_world, begins_anew, HoldsRows, RunsRows, RunsFile, EndsWith, RunsOver, IsClosedEnd, RunsClosed}, specs.Again.{Started, StartedRows, LeadTo, RanFrom, TakesUp, TakesRows, IsLeftAfter, CrashesTo, LeadsOn, ClosesOn, IsFoundIn, ClosesTo}, proofs.Connections.{runs_when, unled}, specs.declared.ends.Ends.{Ends}}
+use Rattle.moo_commands.specs.declared.ends.Ends.TheVariants as variant
 use Rattle.sqlite_store.specs.declared.store.FileStore.{FileStore}
-use Rattle.sqlite.{specs.State.{State as Database}, specs.Schema.{Schema}, specs.Tree.{Trees}, specs.declared.file.Leftover.{Leftover}, specs.declared.file.Leftover.TheVariants as left}
+use Rattle.sqlite.{specs.State.{State as Database}, specs.Schema.{Schema}, specs.Tree.{Trees}, specs.declared.file.Leftover.{Leftover}}
+use Rattle.sqlite.specs.declared.file.Leftover.TheVariants as left
 use Rattle.moo_tables.{specs.declared.version.Version.{Version}, specs.declared.version.Version.TheVariants.{First, Second}, specs.Tables.{Tables, schema_of, no_schema}, specs.Inside.{Leaves}, proofs.SchemaLemmas.{one_schema}}
 use Rattle.moo_cells.{proofs.CellsLemmas.{one_good}, proofs.GoodRows.{good_within}}
-use Rattle.moo_files.{specs.Contents.{HoldsSuch, HoldsState, HasAnyTable, IsKept, IsLeftBy}, specs.Remains.{IsCleanRemains, LeftoverKeeps, KeepsSuch, StillHolds}, specs.Closing.{IsLeftOf, IsClosedFrom}, specs.declared.remains.Remains.{Remains}, specs.declared.remains.Remains.TheVariants as remains, proofs.AgainLemmas.{held_after}, proofs.RemainsLemmas.{keeps_more}}
+use Rattle.moo_files.{specs.Contents.{HoldsSuch, HoldsState, HasAnyTable, IsKept, IsLeftBy}, specs.Remains.{IsCleanRemains, LeftoverKeeps, KeepsSuch, StillHolds}, specs.Closing.{IsLeftOf, IsClosedFrom}, specs.declared.remains.Remains.{Remains}, proofs.AgainLemmas.{held_after}, proofs.RemainsLemmas.{keeps_more}}
+use Rattle.moo_files.specs.declared.remains.Remains.TheVariants as remains
 
 later_false : (a b : Bool) → (a || b) ≡ false → b ≡ false
 later_false true b either = absurd (true≢false either)

@@ -2,7 +2,8 @@
 use Rattle.moo_commands.proofs.Words.{◌≡◌, ◌⊎◌, inl, inr, ℕ, List, [], Option, Result, Ok, Err, IfOk, IfErr, refl, sym, subst, subst₂, ap, ◌∙◌, Bool, true, false, IsTrue, MatchResult, ⊤, HasCleanDisk, Survives, Held, state, Task, Stand, Failure, Usage, NoFile, Store, Damaged, NewerVersion, NotADump, NoBatches, Read, Write, TooLong, Port, NoMemory, Reports, store_failure, Given, Leads, MayLead, Done, StopsTask, ShowsTables, EndsTask, RunsFrom, RunsUnseen, IsOpening, MayRefuse, LeavesAsBefore, LeavesNothingNew, only_reads, serves, Batch, State, LeavesLed, World, store_of, CrashLeaves, ShowsState}
 use Rattle.sqlite.{specs.State.{State as Database}, specs.Store.{Ghosts}, specs.declared.error.Error.{Error}}
 use Rattle.moo_words.{specs.declared.task.Action.{Action}, specs.declared.task.Action.TheVariants.{Apply, Check, Serve}}
-use Rattle.moo_store.{specs.declared.fault.StoreFault.{StoreFault}, specs.declared.fault.StoreFault.TheVariants as store_fault, specs.Opening.{IsOfStore, Adopts}}
+use Rattle.moo_store.{specs.declared.fault.StoreFault.{StoreFault}, specs.Opening.{IsOfStore, Adopts}}
+use Rattle.moo_store.specs.declared.fault.StoreFault.TheVariants as store_fault
 
 -- why a new world can't be made, and why the opening of a world fails
 pub of_making : {A : Type 0} (fault : StoreFault) (failure : Failure) → failure ≡ store_failure fault → ((fault ≡ store_fault.OutOfMemory) × A) ⊎ ((error : Error) × (fault ≡ store_fault.Store error)) → IsOpening failure

@@ -1,7 +1,9 @@
 -- Why a dump gives no world.
 use Rattle.moo_commands.proofs.Words.{◌≡◌, ◌≢◌, ◌<◌, ◌≤◌, ℕ, List, length, Option, Some, None, IfSome, refl, sym, subst, ◌∙◌, arith, State, IsHeld, read_failure, load_failure, RefusesDump, Failure, NoBatches}
 use Rattle.moo_dump.specs.Dump.{dump as dump_of}
-use Rattle.moo_load.{specs.declared.input.InputFault.{InputFault}, specs.declared.input.InputFault.TheVariants as read_fault, specs.declared.fault.LoadFault.{LoadFault}, specs.declared.fault.LoadFault.TheVariants as load_fault}
+use Rattle.moo_load.{specs.declared.input.InputFault.{InputFault}, specs.declared.fault.LoadFault.{LoadFault}}
+use Rattle.moo_load.specs.declared.input.InputFault.TheVariants as read_fault
+use Rattle.moo_load.specs.declared.fault.LoadFault.TheVariants as load_fault
 
 -- what is said of any text
 of_any : (text : Option (List ℕ)) (P : List ℕ → Type 0) → ((bytes : List ℕ) → P bytes) → IfSome text P

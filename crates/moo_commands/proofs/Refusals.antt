@@ -1,5 +1,6 @@
 -- What is reported of a file that is refused.
-use Rattle.moo_commands.{proofs.Words.{inl, inr, ℕ, List, Option, refl, sym, subst, Ghosts, Image, state_of, Task, Reports, Tells, store_failure, Given, RunsTask, FailsAtOnce, RefusesFile, RunsFile, Failure}, specs.declared.ends.Ends.{Ends}, specs.declared.ends.Ends.TheVariants as variant, proofs.Connections.{of_opening, of_refusal, unseen}}
+use Rattle.moo_commands.{proofs.Words.{inl, inr, ℕ, List, Option, refl, sym, subst, Ghosts, Image, state_of, Task, Reports, Tells, store_failure, Given, RunsTask, FailsAtOnce, RefusesFile, RunsFile, Failure}, specs.declared.ends.Ends.{Ends}, proofs.Connections.{of_opening, of_refusal, unseen}}
+use Rattle.moo_commands.specs.declared.ends.Ends.TheVariants as variant
 use Rattle.moo_store.{specs.Opening.{IsOfStore}, specs.declared.fault.StoreFault.{StoreFault}}
 
 module _ (fault : StoreFault) where

@@ -1,7 +1,9 @@
 -- From what the disk left of a run that was stopped to the next run.
-use Rattle.moo_commands.{proofs.Words.{ℕ, List, Option, subst, Ghosts, Image, HasCleanDisk, Held, file_state, Maps, State, CrashLeaves, Stand, Given, HoldsRows, RunsOver, IsClosedEnd, RunsClosed}, specs.Again.{TakesUp, TakesRows, StopsTo, StopsOn}, proofs.Connections.{runs_when}, proofs.AgainLemmas.{started_map, started_rows_map, crashes_to, leads_on, takes_up, takes_rows}, specs.declared.ends.Ends.{Ends}, specs.declared.ends.Ends.TheVariants as variant}
+use Rattle.moo_commands.{proofs.Words.{ℕ, List, Option, subst, Ghosts, Image, HasCleanDisk, Held, file_state, Maps, State, CrashLeaves, Stand, Given, HoldsRows, RunsOver, IsClosedEnd, RunsClosed}, specs.Again.{TakesUp, TakesRows, StopsTo, StopsOn}, proofs.Connections.{runs_when}, proofs.AgainLemmas.{started_map, started_rows_map, crashes_to, leads_on, takes_up, takes_rows}, specs.declared.ends.Ends.{Ends}}
+use Rattle.moo_commands.specs.declared.ends.Ends.TheVariants as variant
 use Rattle.sqlite_store.specs.declared.store.FileStore.{FileStore}
-use Rattle.moo_files.{specs.Contents.{HoldsState, IsLeftBy}, specs.Remains.{IsCleanRemains}, specs.Stop.{DiskLeaves, HasNumberedTrees}, specs.Closing.{IsClosedFrom}, specs.declared.remains.Remains.{Remains}, specs.declared.remains.Remains.TheVariants as remains, proofs.StopLemmas.{left_by_disk, states_are_databases}}
+use Rattle.moo_files.{specs.Contents.{HoldsState, IsLeftBy}, specs.Remains.{IsCleanRemains}, specs.Stop.{DiskLeaves, HasNumberedTrees}, specs.Closing.{IsClosedFrom}, specs.declared.remains.Remains.{Remains}, proofs.StopLemmas.{left_by_disk, states_are_databases}}
+use Rattle.moo_files.specs.declared.remains.Remains.TheVariants as remains
 
 module _ {D : Type 0} {g : Ghosts D} where
   -- what the disk leaves of a connection whose end is known is a database that it may leave

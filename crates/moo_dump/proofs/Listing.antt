@@ -1,6 +1,7 @@
 -- One more property in the map of lists.
 use Rattle.moo_dump.{proofs.Words.{◌≡◌, Bool, true, false, cond, List, filter, Some, [], ◌∷◌, ◌++◌, refl, sym, ap, ◌∙◌, append-nil, unwrap_or, option_map, is_at, Vec, ObjNo, PropId, object_cmp, same_object, same_object-Decides, ids_listed}, specs.Lines.{ids_defined_by}}
-use Rattle.std.{specs.Prelude.{if◌then◌else◌, map}, specs.BTreeMap.{BTreeMap}, specs.BTreeMap as tree}
+use Rattle.std.{specs.Prelude.{if◌then◌else◌, map}, specs.BTreeMap.{BTreeMap}}
+use Rattle.std.specs.BTreeMap as tree
 use Rattle.moo_rows.specs.declared.row.PropRow.{PropRow}
 use Rattle.moo_world.{proofs.Shown.MapLaws.{object_key}, proofs.Shown.ObjectEntries.{same_object-symm}}
 

@@ -2,10 +2,12 @@
 use Rattle.moo_files.proofs.Words.{◌≡◌, ◌⊎◌, ◌∙◌, true, inl, inr, ℕ, ◌≤◌, [], Result, Ok, Err, IfOk, IfErr, arith, refl, sym, subst, ∥∥₁_map, Ghosts, Files, OnlyReads, Image, AreWhole, outcomes, IsPageSize, version_in, in_use, IsBlankFile, IsNew, reserved, stored_size, Recovers, StandsAs, IsUnreadable, trimmed_whole, not_blank, catalog_rows, all_trees, file_trees, IsOurs, state_of, Held, FileStore, Finds, file_state, HoldsDatabase, IsEmpty, IsNothing, LeavesFiles, NamesSize, BeginsWell, SaysSums, AreFoundIn, image_of, Leftover, same_image, empty_is_sound, IsBlank, LeavesBlank}
 use Rattle.sqlite_pages.specs.PageMap.{PageMap}
 use Rattle.sqlite_pool.proofs.ResealLemmas.{adopts_of}
-use Rattle.sqlite_store.{specs.Opening as store, specs.Db.{trees_in}, proofs.BuildLemmas.{new_is_empty}, proofs.ListingLemmas.{past_version, named_tree}}
+use Rattle.sqlite_store.{specs.Db.{trees_in}, proofs.BuildLemmas.{new_is_empty}, proofs.ListingLemmas.{past_version, named_tree}}
+use Rattle.sqlite_store.specs.Opening as store
 use Rattle.sqlite_trees.specs.Tree.{Trees}
 use Rattle.sqlite_wal.proofs.CleanLemmas.{both_clean}
-use Rattle.sqlite.{specs.Files.{IsKept}, specs.declared.file.Leftover.TheVariants as left}
+use Rattle.sqlite.specs.Files.{IsKept}
+use Rattle.sqlite.specs.declared.file.Leftover.TheVariants as left
 
 pub holds_none : (image : Image) (db : Trees) → IsBlank image → HoldsDatabase image db → ⊥
 holds_none image db blank held =

@@ -1,9 +1,12 @@
 -- What the fault of an open that failed says of the files.
-use Rattle.moo_files.{proofs.Words.{◌≡◌, ◌≢◌, ◌⊎◌, inl, inr, ℕ, ◌<◌, arith, ap, sym, subst, ◌∙◌, ∥∥₁_elim, Ghosts, Files, Image, tally_of_files, Trees, store_error, FailsToOpenFiles, HoldsDatabase, faults_left, image_of, tally_left, Error, Leftover, not_ours, StoreFault, HoldsTrees, ExcusesMalformed, IsUnopened, TakesForOurs, cannot_open, malformed, Remains}, specs.declared.remains.Remains.TheVariants as remains}
+use Rattle.moo_files.proofs.Words.{◌≡◌, ◌≢◌, ◌⊎◌, inl, inr, ℕ, ◌<◌, arith, ap, sym, subst, ◌∙◌, ∥∥₁_elim, Ghosts, Files, Image, tally_of_files, Trees, store_error, FailsToOpenFiles, HoldsDatabase, faults_left, image_of, tally_left, Error, Leftover, not_ours, StoreFault, HoldsTrees, ExcusesMalformed, IsUnopened, TakesForOurs, cannot_open, malformed, Remains}
+use Rattle.moo_files.specs.declared.remains.Remains.TheVariants as remains
 use Rattle.sqlite_disk.specs.Disk.{MoreFaults}
-use Rattle.sqlite_trees.{specs.declared.error.StoreError.{StoreError}, specs.declared.error.StoreError.TheVariants as kinds}
+use Rattle.sqlite_trees.specs.declared.error.StoreError.{StoreError}
+use Rattle.sqlite_trees.specs.declared.error.StoreError.TheVariants as kinds
 use Rattle.sqlite_store.specs.Report.{named}
-use Rattle.sqlite.{specs.declared.error.Error.TheVariants.{SqliteFailure}, specs.declared.error.ErrorCode.{ErrorCode}, specs.declared.error.ErrorCode.TheVariants as codes}
+use Rattle.sqlite.{specs.declared.error.Error.TheVariants.{SqliteFailure}, specs.declared.error.ErrorCode.{ErrorCode}}
+use Rattle.sqlite.specs.declared.error.ErrorCode.TheVariants as codes
 use Rattle.moo_store.specs.declared.fault.StoreFault.TheVariants as faults
 
 abbrev code_of : Error → ErrorCode

@@ -1,8 +1,10 @@
 -- What is left of files that held an image.
-use Rattle.moo_files.{proofs.Words.{◌≡◌, ◌⊎◌, inl, inr, ℕ, ◌≤◌, true, false, IsTrue, List, [], length, take, slice_index, unwrap_or, get_or-take, length-take, ◌<◌, refl, Option, Some, arith, sym, ap, subst, ◌∙◌, ∥∥₁_elim, ∥∥₁_map, cases_eq, cases_Bool, Ghosts, Files, Image, Pages, IsIgnored, outcomes, stored_size, reserved, is_summed, StandsAs, IsUnreadable, used_size, sealed, trimmed_some, first_page, IsBlankFile, header_in, IsSoundFile, size_by_log, size_by_file, reserved_word, first_byte, some_value, begun_is_not_blank, state_of, Trees-set, Trees, IsNothing, IsEmpty, HoldsDatabase, NamesSize, SaysSums, BeginsWell, LeavesFiles, AreFoundIn, image_of, file_state, Leftover, is_something, IsBlank, LeavesBlank, SparesFiles, HoldsTrees, HoldsSuch, HoldsNothingBut, ReadsAs, Remains, IsCleanRemains, IsUnopened, LeftoverKeeps, LeftoverBlank, LeftoverSpares, KeepsSuch, KeepsNothingBut, Spares}, proofs.BegunLemmas.{begun_unreadable}, proofs.BlankLemmas.{holds_none}, specs.declared.remains.Remains.TheVariants as remains, specs.Closing.{IsLeftOf, IsClosedFrom}}
+use Rattle.moo_files.{proofs.Words.{◌≡◌, ◌⊎◌, inl, inr, ℕ, ◌≤◌, true, false, IsTrue, List, [], length, take, slice_index, unwrap_or, get_or-take, length-take, ◌<◌, refl, Option, Some, arith, sym, ap, subst, ◌∙◌, ∥∥₁_elim, ∥∥₁_map, cases_eq, cases_Bool, Ghosts, Files, Image, Pages, IsIgnored, outcomes, stored_size, reserved, is_summed, StandsAs, IsUnreadable, used_size, sealed, trimmed_some, first_page, IsBlankFile, header_in, IsSoundFile, size_by_log, size_by_file, reserved_word, first_byte, some_value, begun_is_not_blank, state_of, Trees-set, Trees, IsNothing, IsEmpty, HoldsDatabase, NamesSize, SaysSums, BeginsWell, LeavesFiles, AreFoundIn, image_of, file_state, Leftover, is_something, IsBlank, LeavesBlank, SparesFiles, HoldsTrees, HoldsSuch, HoldsNothingBut, ReadsAs, Remains, IsCleanRemains, IsUnopened, LeftoverKeeps, LeftoverBlank, LeftoverSpares, KeepsSuch, KeepsNothingBut, Spares}, proofs.BegunLemmas.{begun_unreadable}, proofs.BlankLemmas.{holds_none}, specs.Closing.{IsLeftOf, IsClosedFrom}}
+use Rattle.moo_files.specs.declared.remains.Remains.TheVariants as remains
 use Rattle.sqlite_wal.specs.Recovery as raw
 use Rattle.sqlite_pool.specs.Stored.{Adopts}
-use Rattle.sqlite.{specs.State.{State as Database}, specs.declared.file.Leftover.TheVariants as left}
+use Rattle.sqlite.specs.State.{State as Database}
+use Rattle.sqlite.specs.declared.file.Leftover.TheVariants as left
 
 -- ---- the page size of a database without sums
 

@@ -1,5 +1,6 @@
 -- What came of a connection, and what the service says of all of them.
-use Rattle.moo_http.{proofs.Words.{◌≡◌, ◌≢◌, inl, inr, ℕ, ◌+◌, Bool, IsTrue, List, ◌++◌, length, take, Option, Some, None, refl, sym, subst, ◌∙◌, Result, Ok, Err, is_ok, OnOk, OnErr, IfErr, IsErrAnd, Appends, Keeps, HasCleanDisk, Ghosts, Stand, World, store_of, CrashLeaves, StandsAt, ServeFault, ServiceFault, Connected, StandsAtEnd, WritesFront, SaysByResult, listening_line, served_line, Served}, specs.declared.service.ServiceFault.TheVariants as service, proofs.Serving.{appends_nothing, appends_both}}
+use Rattle.moo_http.{proofs.Words.{◌≡◌, ◌≢◌, inl, inr, ℕ, ◌+◌, Bool, IsTrue, List, ◌++◌, length, take, Option, Some, None, refl, sym, subst, ◌∙◌, Result, Ok, Err, is_ok, OnOk, OnErr, IfErr, IsErrAnd, Appends, Keeps, HasCleanDisk, Ghosts, Stand, World, store_of, CrashLeaves, StandsAt, ServeFault, ServiceFault, Connected, StandsAtEnd, WritesFront, SaysByResult, listening_line, served_line, Served}, proofs.Serving.{appends_nothing, appends_both}}
+use Rattle.moo_http.specs.declared.service.ServiceFault.TheVariants as service
 use Rattle.std.proofs.Math.Seq.{take-append-add, take-length}
 
 -- by whether it was answered

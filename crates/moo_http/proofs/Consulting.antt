@@ -5,7 +5,8 @@ use Rattle.sqlite.specs.declared.error.Error.{Error}
 use Rattle.moo_rows.specs.Maps.{Maps}
 use Rattle.moo_world.specs.Rows.{IsGood}
 use Rattle.moo_tables.{specs.Tables.{Tables}, specs.Inside.{Rests}}
-use Rattle.moo_text.{specs.declared.reply.Answer.TheVariants as answered, specs.declared.reply.Reply.{Reply}, specs.declared.reply.Reply.TheVariants.{NoMemory}}
+use Rattle.moo_text.{specs.declared.reply.Reply.{Reply}, specs.declared.reply.Reply.TheVariants.{NoMemory}}
+use Rattle.moo_text.specs.declared.reply.Answer.TheVariants as answered
 use Rattle.moo_store.{specs.Answered.{answer_of, IsRun, acknowledged, added}, specs.Text.{RunsAll}, specs.Reopened.{RunLeaves}, specs.States.{KeepsRows}, specs.declared.fault.StoreFault.{StoreFault}, specs.declared.fault.StoreFault.TheVariants.{Store, Damaged, NewerVersion, OutOfMemory, Closed}, proofs.Asking.{asked_one}, proofs.Crashes.{IsSettled}}
 use Rattle.moo_request.{specs.declared.asked.Asked.TheVariants.{Question as Asks}, specs.declared.question.Question.{Question}}
 use Rattle.moo_responses.specs.declared.outcome.Outcome.TheVariants as outcome

@@ -1,6 +1,7 @@
 -- What serving a request comes to.
 use Rattle.moo_http.{proofs.Words.{◌≡◌, ◌≢◌, inl, inr, ℕ, Bool, List, [], ◌++◌, Option, Some, None, refl, sym, subst, ap, ◌∙◌, append_assoc, append-nil, Result, Ok, Err, IfErr, IsErrAnd, Appends, Ghosts, Stand, World, IsMovedBy, StandsAt, Takes, Asked, Nothing, Request, ServeFault, Read, Write, OutOfMemory, Outcome, Consulted, taken_by, failed_by, response_of, response_text, Serves, StandsStill, Written, Served}, specs.Faults.{fault_of}}
-use Rattle.moo_request.{specs.declared.fault.ReadFault.{ReadFault}, specs.declared.fault.ReadFault.TheVariants as read}
+use Rattle.moo_request.specs.declared.fault.ReadFault.{ReadFault}
+use Rattle.moo_request.specs.declared.fault.ReadFault.TheVariants as read
 
 pub appends_nothing : (before : Option (List ℕ)) → Appends before before []
 appends_nothing None = tt

@@ -1,5 +1,6 @@
 -- The connections that a source hands out, served one after another.
-use Rattle.moo_http.{proofs.Words.{◌≡◌, inl, inr, ℕ, suc, ◌+◌, Bool, true, false, List, [], ◌∷◌, Option, Some, refl, sym, subst, arith, ◌≢◌, Result, Ok, Err, is_ok, IfErr, IsTrue, HasCleanDisk, Ghosts, Stand, World, store_of, CrashLeaves, StandsAt, Nothing, Request, ServeFault, Read, Write, OutOfMemory, ServiceFault, Moves, AfterConnections, StandsAtEnd, Serves, StandsStill, Served, Yields, Exchanged, Visited, Visit, AfterTurns, Attended, ServesFrom, attended_between, ServesOn, answered_in, failed_in}, specs.declared.arrivals.Connection.{Connection}, specs.declared.service.ServiceFault.TheVariants as service}
+use Rattle.moo_http.{proofs.Words.{◌≡◌, inl, inr, ℕ, suc, ◌+◌, Bool, true, false, List, [], ◌∷◌, Option, Some, refl, sym, subst, arith, ◌≢◌, Result, Ok, Err, is_ok, IfErr, IsTrue, HasCleanDisk, Ghosts, Stand, World, store_of, CrashLeaves, StandsAt, Nothing, Request, ServeFault, Read, Write, OutOfMemory, ServiceFault, Moves, AfterConnections, StandsAtEnd, Serves, StandsStill, Served, Yields, Exchanged, Visited, Visit, AfterTurns, Attended, ServesFrom, attended_between, ServesOn, answered_in, failed_in}, specs.declared.arrivals.Connection.{Connection}}
+use Rattle.moo_http.specs.declared.service.ServiceFault.TheVariants as service
 
 -- the same end, of which something else holds
 pub ends_as : {S : Type 0} (g : Ghosts S) (known : Bool) (world : World S) (P Q : Stand → Type 0) → ((end : Stand) → P end → Q end) → StandsAtEnd g known world P → StandsAtEnd g known world Q

@@ -1,6 +1,7 @@
 -- The first key that passes, among keys that may.
 use Rattle.moo_rows.{proofs.Words.{◌≡◌, ◌≢◌, Bool, true, false, ◌||◌, cond, Option, None, Some, List, [], ◌∷◌, Less, Equal, Greater, Ordering, is_some, refl, sym, ap, ◌∙◌, subst, T, unwrap_or, option_map, IsTotalOrder, tied_itself, eq_by_cmp, is_lt, is_eq, match_ordering, ordering_reverse, ordering_then, filter, FinMap, find, is_sorted, entries, entries_sorted, get-entries, get-insert, get-remove, below_all, OnOk, OnErr, CmpEqualImpliesEq, true≢false, ObjNo, lesser, IsPast, IsNext, is_past, entries_past, IsFirst}, proofs.Orders.{object_total}, proofs.Walking.{key_cmp, first_of, second_of, elsewhere, here, past_test, past_is, below, not_held, all_past, all_past_key, keeps, drops, some_none}}
-use Rattle.std.{specs.FinMap as map, specs.declared.result.Result.{Result}, specs.declared.result.Result.TheVariants.{Ok, Err}}
+use Rattle.std.{specs.declared.result.Result.{Result}, specs.declared.result.Result.TheVariants.{Ok, Err}}
+use Rattle.std.specs.FinMap as map
 
 -- ---- by a superset
 

@@ -1,7 +1,8 @@
 -- What the asking of a text answers.
 use Rattle.moo_store.{proofs.Words.{◌≡◌, inl, inr, ℕ, List, Option, Result, Ok, Err, refl, ap, subst, sym, Bool, ◌⊎◌, IsTrue, IfOk, Ghosts, Batch, State, judge, TextFault, Answer, Reply, answer_of, IsRun, StandsFor, StandsAt, Stand, Works, Failed, StoreFailed, AsksBatch, World, answer_to, Completes, Halts, StoreFault, Closed}, proofs.Following.{completes-follows, halts-follows}}
 use Rattle.std.specs.Result.{IsOkAnd}
-use Rattle.moo_text.{specs.declared.reply.Answer.TheVariants as answer, specs.declared.reply.Reply.TheVariants.{NoMemory}}
+use Rattle.moo_text.specs.declared.reply.Reply.TheVariants.{NoMemory}
+use Rattle.moo_text.specs.declared.reply.Answer.TheVariants as answer
 
 -- ---- one batch
 

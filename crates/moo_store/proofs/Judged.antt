@@ -1,7 +1,8 @@
 -- Where a World stands behind one batch.
 use Rattle.moo_store.proofs.Words.{◌≡◌, ◌⊎◌, inl, inr, Bool, true, false, Result, Ok, Err, OnOk, OnErr, IfOk, IfErr, refl, sym, ap, subst, ◌∙◌, List, IsTrue, HasCleanDisk, Ghosts, Trees, Value, Batch, State, Verdict, Accepted, judge, left_by, state_of, Reply, reply_of, IsRun, World, Stand, Works, Failed, StoreFailed, VerdictLeaves, ReachesStore, RunsBatch, LeavesState, StandsBehind, answer_to, store_of, IsAt, StandsAt, StoreFault, Store, Damaged, NewerVersion, OutOfMemory, Closed}
 use Rattle.sqlite.specs.declared.error.Error.{Error}
-use Rattle.moo_text.{specs.declared.reply.Answer.TheVariants as answer, specs.declared.reply.Reply.TheVariants as reply}
+use Rattle.moo_text.specs.declared.reply.Answer.TheVariants as answer
+use Rattle.moo_text.specs.declared.reply.Reply.TheVariants as reply
 
 not_both : {X : Type 0} (b : Bool) → b ≡ false → b ≡ true → X
 not_both b p q = let no : true ≡ false = sym q ∙ p in absurd cc

@@ -4,7 +4,8 @@ use Rattle.std.proofs.Math.Seq.{drop-append_seam, drop-cons, take-append_seam}
 use Rattle.sqlite.specs.declared.error.Error.{Error}
 use Rattle.moo_text.specs.declared.reply.Reply.TheVariants as reply
 use borrow.Author.Tests.{ltb-true}
-use Rattle.moo_text.{specs.declared.next.Next.TheVariants.{Batch as Whole}, specs.declared.reply.Answer.TheVariants as answer}
+use Rattle.moo_text.specs.declared.next.Next.TheVariants.{Batch as Whole}
+use Rattle.moo_text.specs.declared.reply.Answer.TheVariants as answer
 
 pub when_ok : {T E P : Type 0} (r : Result T E) → false ≡ is_err r → OnOk r P → P
 when_ok (Ok x) e p = p

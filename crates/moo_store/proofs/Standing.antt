@@ -1,7 +1,8 @@
 -- Where runs of batches leave a World.
 use Rattle.moo_store.{proofs.Words.{◌≡◌, inl, inr, true, false, List, [], ◌∷◌, refl, sym, ap, subst, ◌∙◌, Batch, judge, after, Next, Answer, reply_of, answer_of, state_behind, Stand, Works, Failed, StoreFailed, state_at, RunsBatch, AsksBatch, Turn, Turns, accepted_at, accepted, is_plain, replies, answers_asked, batches_of}, proofs.Running.{answered_after, leaves_at, replied_one}, proofs.WholeRuns.{after-append}}
 use Rattle.std.specs.List.{AllByRecursion}
-use Rattle.moo_text.{specs.declared.next.Next.TheVariants.{Batch as Whole, Malformed, Truncated, End}, specs.declared.reply.Answer.TheVariants as answer, specs.declared.reply.Reply.TheVariants.{NoMemory}}
+use Rattle.moo_text.{specs.declared.next.Next.TheVariants.{Batch as Whole, Malformed, Truncated, End}, specs.declared.reply.Reply.TheVariants.{NoMemory}}
+use Rattle.moo_text.specs.declared.reply.Answer.TheVariants as answer
 
 -- the state behind a batch is that after it, if it is acknowledged
 one_after : (old new : Stand) (batch : Batch) (a : Answer) → RunsBatch old batch a new → state_at new ≡ after (state_at old) (accepted_at (Whole batch) a)

@@ -1,6 +1,7 @@
 -- Cells of the kinds of their columns are stored as they are.
 use Rattle.moo_tables.{proofs.Words.{◌≡◌, Bool, true, false, ◌&&◌, List, [], ◌∷◌, refl, ap, ◌∙◌, and_parts, Value, Row, cast, cast_all, Column}, proofs.StepLemmas.{cast_null, cast_int}}
-use Rattle.sqlite.{specs.declared.types.Value.TheVariants as value, specs.Kind.{Kind}, specs.Kind.TheVariants.{Integer, Real, Text, Blob, Any}}
+use Rattle.sqlite.{specs.Kind.{Kind}, specs.Kind.TheVariants.{Integer, Real, Text, Blob, Any}}
+use Rattle.sqlite.specs.declared.types.Value.TheVariants as value
 
 -- a whole number or nothing in a column of numbers, a text in a column of texts
 abbrev pub fits : Kind → Value → Bool

@@ -1,5 +1,7 @@
 -- What the statement on petition_head does.
-use Rattle.moo_tables.{proofs.Words.{◌≡◌, ◌⊎◌, inl, inr, ℕ, ℤ, pos, List, [], ◌∷◌, ◌++◌, drop, codes, option_map, Some, None, Bool, true, false, ◌&&◌, Result, Ok, Err, OnOk, IsTrue, refl, ap, subst, ◌∙◌, list_all, and_parts, Int, Error, Row, column, with_rowid, cast_row, Chosen, Trees, rowid, has_rowid, put_row, holds, shown, Updates, Does, InsertOr, Values, Abort, Column, Enforced, IsDatabase, IsSound, has_computed, differ, Program, Datatype, NotNull, Has, all_has, is_int, understood, State, Executes, mode_of, statement_of, runs_as, AreConflicts, conflicts, petition_head_cells, with_counter, Tables, present_schema, petition_head_table, cells_at, petition_head_places, numbered_in, numbered_with, same_number, put_counter_text, AreKeyed, Sees, Changes, RanStatement, KeepsUnread, HasCauseIn}, proofs.TextLemmas.{put_counter_is, put_counter_plain, put_counter_one, number_terms, number_overwrite, counter_filter, writes_where}, proofs.RefusalLemmas.{IsAllowed, Upserting, each, halted, concluded, clear_one, update_stops, upsert_stops}, proofs.StoppedLemmas.{Ran, at_schema, stops}, proofs.StopNumberLemmas as stop, proofs.StopNumberLemmas.{PassesNumbers}, proofs.NumberLemmas as number, proofs.NumberLemmas.{HasNumbers, stored_at}, proofs.UpsertLemmas.{Settles, WritesOver, upserts}, proofs.OverLemmas.{Found, OthersStay, StandsAlone, number_one, picks_given, number_anew, number_found, number_over, number_left}, proofs.ListingLemmas.{one_int, not_apart, exactly, find_one}, proofs.KeyLemmas.{after_put, number_exact, number_apart}, proofs.RowLemmas.{moo_quiet, put_keyed, rest, number_free, has_itself}, proofs.SeenLemmas.{schema_seen, sound_seen, counter_seen, sees_counter}}
+use Rattle.moo_tables.{proofs.Words.{◌≡◌, ◌⊎◌, inl, inr, ℕ, ℤ, pos, List, [], ◌∷◌, ◌++◌, drop, codes, option_map, Some, None, Bool, true, false, ◌&&◌, Result, Ok, Err, OnOk, IsTrue, refl, ap, subst, ◌∙◌, list_all, and_parts, Int, Error, Row, column, with_rowid, cast_row, Chosen, Trees, rowid, has_rowid, put_row, holds, shown, Updates, Does, InsertOr, Values, Abort, Column, Enforced, IsDatabase, IsSound, has_computed, differ, Program, Datatype, NotNull, Has, all_has, is_int, understood, State, Executes, mode_of, statement_of, runs_as, AreConflicts, conflicts, petition_head_cells, with_counter, Tables, present_schema, petition_head_table, cells_at, petition_head_places, numbered_in, numbered_with, same_number, put_counter_text, AreKeyed, Sees, Changes, RanStatement, KeepsUnread, HasCauseIn}, proofs.TextLemmas.{put_counter_is, put_counter_plain, put_counter_one, number_terms, number_overwrite, counter_filter, writes_where}, proofs.RefusalLemmas.{IsAllowed, Upserting, each, halted, concluded, clear_one, update_stops, upsert_stops}, proofs.StoppedLemmas.{Ran, at_schema, stops}, proofs.StopNumberLemmas.{PassesNumbers}, proofs.NumberLemmas.{HasNumbers, stored_at}, proofs.UpsertLemmas.{Settles, WritesOver, upserts}, proofs.OverLemmas.{Found, OthersStay, StandsAlone, number_one, picks_given, number_anew, number_found, number_over, number_left}, proofs.ListingLemmas.{one_int, not_apart, exactly, find_one}, proofs.KeyLemmas.{after_put, number_exact, number_apart}, proofs.RowLemmas.{moo_quiet, put_keyed, rest, number_free, has_itself}, proofs.SeenLemmas.{schema_seen, sound_seen, counter_seen, sees_counter}}
+use Rattle.moo_tables.proofs.StopNumberLemmas as stop
+use Rattle.moo_tables.proofs.NumberLemmas as number
 use Rattle.sqlite_schema.specs.declared.command.Command.{Command}
 
 -- its one row has the number 1

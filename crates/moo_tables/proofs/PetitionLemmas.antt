@@ -1,5 +1,8 @@
 -- What the statements on petitions do.
-use Rattle.moo_tables.{proofs.Words.{ℕ, ℤ, pos, List, [], ◌∷◌, Option, Some, None, Result, OnOk, IfOk, Vec, ◌≡◌, refl, sym, ap, subst, Global, Value, Null, Int, Text, Error, Row, State, cells_over, all_but, petition_row, with_petition_cells, Tables, petition_table, numbered_with, numbered_over, update_petition_text, keep_petition_text, put_petition_text, remove_petition_text, Changes, RanStatement, WritesOver, HasCauseIn}, specs.declared.petition.PetitionCells.{PetitionCells}, proofs.TextLemmas.{petition_writes, petition_keeps}, proofs.RefusalLemmas.{each}, proofs.StoppedLemmas.{Ran}, proofs.StopNumberLemmas as stop, proofs.StopNumberLemmas.{PassesNumbers}, proofs.NumberLemmas as number, proofs.NumberLemmas.{HasNumbers}, proofs.KeepNumberLemmas as kept, proofs.KeepNumberLemmas.{KeepsNumbers}, proofs.TypedLemmas.{petition_texts}, proofs.SeenLemmas.{petitions_seen, rows_seen, sees_petition}}
+use Rattle.moo_tables.{proofs.Words.{ℕ, ℤ, pos, List, [], ◌∷◌, Option, Some, None, Result, OnOk, IfOk, Vec, ◌≡◌, refl, sym, ap, subst, Global, Value, Null, Int, Text, Error, Row, State, cells_over, all_but, petition_row, with_petition_cells, Tables, petition_table, numbered_with, numbered_over, update_petition_text, keep_petition_text, put_petition_text, remove_petition_text, Changes, RanStatement, WritesOver, HasCauseIn}, specs.declared.petition.PetitionCells.{PetitionCells}, proofs.TextLemmas.{petition_writes, petition_keeps}, proofs.RefusalLemmas.{each}, proofs.StoppedLemmas.{Ran}, proofs.StopNumberLemmas.{PassesNumbers}, proofs.NumberLemmas.{HasNumbers}, proofs.KeepNumberLemmas.{KeepsNumbers}, proofs.TypedLemmas.{petition_texts}, proofs.SeenLemmas.{petitions_seen, rows_seen, sees_petition}}
+use Rattle.moo_tables.proofs.StopNumberLemmas as stop
+use Rattle.moo_tables.proofs.NumberLemmas as number
+use Rattle.moo_tables.proofs.KeepNumberLemmas as kept
 use Rattle.moo_rows.specs.declared.row.PetitionId.{PetitionId}
 
 abbrev number_of : PetitionId → ℤ

@@ -1,6 +1,7 @@
 -- Why SQL refuses a write of our tables: it can, for its steps or for its rows' numbers, but not for its text, its types or its keys.
 use Rattle.moo_tables.{proofs.Words.{◌≡◌, ◌⊎◌, inl, inr, ℕ, zero, suc, ℤ, List, [], ◌∷◌, ◌++◌, length, drop, Bool, true, false, true≢false, ◌||◌, not, Option, Some, None, Err, Result, IsSome, refl, sym, ap, subst, ◌∙◌, arith, length-append, ◌/◌, ◌&&◌, nat_lt, AllByRecursion, list_all, Error, Row, Table, Trees, put_row, rowid, with_tree, Edit, edit_of, with_rowid, without_all, cast_row, Given, Chosen, Answers, RefusesQuery, value_rows, edit_error, Concludes, Task, Written, Edited, Updates, Deletes, InsertsOr, Tries, TriesEach, Judged, Upserts, Meets, Clears, Puts, shown, count_of, nothing, inner, end, Term, overlay, Enforced, Datatype, NotNull, Check, PrimaryKey, Unique, ForeignKey, Refers, Keeps, passes, AreConflicts, ids_of, is_int, Column, Abort, Upsert, Values, Order, IsRefused, is_taken, taken_by, left_by, edited, are_fresh, have_rowids, is_referred, no_fold_overflows, accepts_program, accepts_terms, present_schema, table_of}, proofs.TextLemmas.{plain_query, writes_where}}
-use Rattle.sqlite.{specs.declared.error.Error.TheVariants.{SqliteFailure}, specs.declared.error.ErrorCode.TheVariants as code, specs.declared.run.Mode.{Mode}}
+use Rattle.sqlite.{specs.declared.error.Error.TheVariants.{SqliteFailure}, specs.declared.run.Mode.{Mode}}
+use Rattle.sqlite.specs.declared.error.ErrorCode.TheVariants as code
 use Rattle.sqlite_schema.specs.declared.schema.Among.TheVariants.{All}
 use Rattle.sqlite_rules.{specs.declared.error.Refusal.{Refusal}, specs.declared.error.Refusal.TheVariants.{Violates, Mismatch, NoRowid, BadReference, TooDeep}, specs.Steps.{IsJudged, is_typed, is_present}, specs.Action.{works, Leads, Writes}}
 

@@ -1,5 +1,7 @@
 -- Why a statement fails that writes a table with a number as its key, whichever it is.
-use Rattle.moo_tables.{proofs.Words.{◌≡◌, ◌⊎◌, inl, inr, ℕ, ◌+◌, ℤ, List, [], ◌∷◌, ◌++◌, filter, map, drop, length, slice_get, Bool, true, false, true≢false, ◌&&◌, not, Some, None, Ok, Err, Result, IsTrue, refl, sym, ap, subst, ◌∙◌, list_any, list_all, IsPermutation, Error, Value, Null, Int, Text, is_eq, and_parts, and_from, tied_itself, value_cmp_total, Row, value_cmp, Term, col, holds, eval_all, Table, Trees, rowid, has_rowid, with_tree, edit_of, with_rowid, without_all, id_in, cast_row, Given, Chosen, Updates, shown, overlay, Does, Answers, InsertOr, Update, Delete, Values, Abort, Enforced, understood, State, mode_of, Unique, Column, Keeps, is_taken, AreConflicts, Has, ids_of, some_has, some_from, all_has, has_filtered, is_int, one_permutation, accepts_program, accepts_terms, HasCauseIn, Tables, present_schema, numbered, update_text, keep_text, put_text, remove_text, AreKeyed, Sees}, proofs.TextLemmas.{WritesByNumber, KeepsByNumber, plain_query, number_terms, number_overwrite, number_keep, written_over, writes_where, by_number, by_given}, proofs.KeyLemmas.{is_false, both_ways, filter_same, int_value}, proofs.QueryLemmas.{chosen, shows_all}, proofs.OverLemmas.{none_kept, no_permutation, alone, picks_given, number_one}, proofs.NumberLemmas as numbers, proofs.NumberLemmas.{HasNumbers, stored_at}, proofs.KeepNumberLemmas as kept_of, proofs.KeepNumberLemmas.{KeepsNumbers}, proofs.TypedLemmas.{HasText}, proofs.SeenLemmas.{schema_seen, sound_seen}, proofs.ListingLemmas.{exactly}, proofs.RefusalLemmas.{IsAllowed, IsClear, IsFit, Upserting, clear_none, clear_one, update_stops, delete_stops, upsert_stops, concluded, halted}, proofs.StoppedLemmas.{IsOne, Ran, at_schema, stops}}
+use Rattle.moo_tables.{proofs.Words.{◌≡◌, ◌⊎◌, inl, inr, ℕ, ◌+◌, ℤ, List, [], ◌∷◌, ◌++◌, filter, map, drop, length, slice_get, Bool, true, false, true≢false, ◌&&◌, not, Some, None, Ok, Err, Result, IsTrue, refl, sym, ap, subst, ◌∙◌, list_any, list_all, IsPermutation, Error, Value, Null, Int, Text, is_eq, and_parts, and_from, tied_itself, value_cmp_total, Row, value_cmp, Term, col, holds, eval_all, Table, Trees, rowid, has_rowid, with_tree, edit_of, with_rowid, without_all, id_in, cast_row, Given, Chosen, Updates, shown, overlay, Does, Answers, InsertOr, Update, Delete, Values, Abort, Enforced, understood, State, mode_of, Unique, Column, Keeps, is_taken, AreConflicts, Has, ids_of, some_has, some_from, all_has, has_filtered, is_int, one_permutation, accepts_program, accepts_terms, HasCauseIn, Tables, present_schema, numbered, update_text, keep_text, put_text, remove_text, AreKeyed, Sees}, proofs.TextLemmas.{WritesByNumber, KeepsByNumber, plain_query, number_terms, number_overwrite, number_keep, written_over, writes_where, by_number, by_given}, proofs.KeyLemmas.{is_false, both_ways, filter_same, int_value}, proofs.QueryLemmas.{chosen, shows_all}, proofs.OverLemmas.{none_kept, no_permutation, alone, picks_given, number_one}, proofs.NumberLemmas.{HasNumbers, stored_at}, proofs.KeepNumberLemmas.{KeepsNumbers}, proofs.TypedLemmas.{HasText}, proofs.SeenLemmas.{schema_seen, sound_seen}, proofs.ListingLemmas.{exactly}, proofs.RefusalLemmas.{IsAllowed, IsClear, IsFit, Upserting, clear_none, clear_one, update_stops, delete_stops, upsert_stops, concluded, halted}, proofs.StoppedLemmas.{IsOne, Ran, at_schema, stops}}
+use Rattle.moo_tables.proofs.NumberLemmas as numbers
+use Rattle.moo_tables.proofs.KeepNumberLemmas as kept_of
 
 -- none is left of those that a test takes out
 pub none_left : (test : Row → Bool) (rows : List Row) → list_any test (filter (λ r. not (test r)) rows) ≡ false

@@ -1,5 +1,7 @@
 -- Why a statement fails that writes a table with two columns as its key, whichever it is.
-use Rattle.moo_tables.{proofs.Words.{◌≡◌, ◌⊎◌, inl, inr, ℕ, ◌+◌, ℤ, List, [], ◌∷◌, ◌++◌, map, drop, length, slice_get, true, true≢false, not, Some, None, Ok, Err, Result, IsTrue, refl, sym, ap, subst, ◌∙◌, IsPermutation, is_eq, and_parts, not-true, tied_itself, value_cmp_total, plain, Error, Value, Null, Int, Text, Row, column, value_cmp, col, eval_all, Table, Trees, rowid, has_rowid, put_row, without_rowid, with_tree, edit_of, without_all, id_in, next_rowid, cast_row, Given, Chosen, Updates, shown, overlay, Does, Answers, InsertOr, Update, Delete, Values, understood, State, mode_of, Abort, Enforced, Unique, Column, Keeps, AreConflicts, Has, ids_of, all_has, has_filtered, is_int, accepts_program, accepts_terms, HasCauseIn, Tables, present_schema, paired, has_pair, update_text, keep_text, put_text, remove_text, AreKeyed, Sees}, proofs.TextLemmas.{WritesByPair, KeepsByPair, plain_query, pair_terms, pair_overwrite, pair_keep, written_over, writes_where, by_pair, by_given}, proofs.KeyLemmas.{int_value}, proofs.QueryLemmas.{chosen, shows_all}, proofs.OverLemmas.{picks_given, number_one}, proofs.ReadLemmas.{ArePairs}, proofs.PairLemmas as pairs_of, proofs.PairLemmas.{HasPairs}, proofs.KeepPairLemmas as kept_of, proofs.KeepPairLemmas.{KeepsPairs}, proofs.TypedLemmas.{HasText}, proofs.SeenLemmas.{schema_seen, sound_seen}, proofs.ListingLemmas.{exactly}, proofs.UniqueLemmas.{AreApart, IsNumbered, are_apart, put_apart}, proofs.RefusalLemmas.{IsAllowed, IsClear, IsFit, Upserting, clear_none, clear_one, update_stops, delete_stops, upsert_stops, concluded, halted}, proofs.StoppedLemmas.{IsOne, Ran, at_schema, stops}, proofs.StopNumberLemmas.{none_left, OneRow, one_or_none}}
+use Rattle.moo_tables.{proofs.Words.{◌≡◌, ◌⊎◌, inl, inr, ℕ, ◌+◌, ℤ, List, [], ◌∷◌, ◌++◌, map, drop, length, slice_get, true, true≢false, not, Some, None, Ok, Err, Result, IsTrue, refl, sym, ap, subst, ◌∙◌, IsPermutation, is_eq, and_parts, not-true, tied_itself, value_cmp_total, plain, Error, Value, Null, Int, Text, Row, column, value_cmp, col, eval_all, Table, Trees, rowid, has_rowid, put_row, without_rowid, with_tree, edit_of, without_all, id_in, next_rowid, cast_row, Given, Chosen, Updates, shown, overlay, Does, Answers, InsertOr, Update, Delete, Values, understood, State, mode_of, Abort, Enforced, Unique, Column, Keeps, AreConflicts, Has, ids_of, all_has, has_filtered, is_int, accepts_program, accepts_terms, HasCauseIn, Tables, present_schema, paired, has_pair, update_text, keep_text, put_text, remove_text, AreKeyed, Sees}, proofs.TextLemmas.{WritesByPair, KeepsByPair, plain_query, pair_terms, pair_overwrite, pair_keep, written_over, writes_where, by_pair, by_given}, proofs.KeyLemmas.{int_value}, proofs.QueryLemmas.{chosen, shows_all}, proofs.OverLemmas.{picks_given, number_one}, proofs.ReadLemmas.{ArePairs}, proofs.PairLemmas.{HasPairs}, proofs.KeepPairLemmas.{KeepsPairs}, proofs.TypedLemmas.{HasText}, proofs.SeenLemmas.{schema_seen, sound_seen}, proofs.ListingLemmas.{exactly}, proofs.UniqueLemmas.{AreApart, IsNumbered, are_apart, put_apart}, proofs.RefusalLemmas.{IsAllowed, IsClear, IsFit, Upserting, clear_none, clear_one, update_stops, delete_stops, upsert_stops, concluded, halted}, proofs.StoppedLemmas.{IsOne, Ran, at_schema, stops}, proofs.StopNumberLemmas.{none_left, OneRow, one_or_none}}
+use Rattle.moo_tables.proofs.PairLemmas as pairs_of
+use Rattle.moo_tables.proofs.KeepPairLemmas as kept_of
 use Rattle.sqlite_rules.proofs.PlaceLemmas.{next_is_free}
 
 -- what is left was there

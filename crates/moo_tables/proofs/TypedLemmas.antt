@@ -2,7 +2,8 @@
 use Rattle.moo_tables.{proofs.Words.{◌≡◌, ◌+◌, ℕ, List, [], ◌∷◌, ◌++◌, drop, take, length, codes, Option, Some, None, true, false, not, ◌||◌, if◌then◌else◌, refl, sym, ap, ◌∙◌, true≢false, and_parts, not-true, Value, Row, column, State, is_of, are_typed, are_present, has_computed, Column, Datatype, NotNull, Has, all_has, Tables, required, object_table, slot2_table, verb_table, petition_table, Sees}, proofs.SeenLemmas.{sound_seen}}
 use Rattle.sqlite.specs.declared.types.Value.TheVariants as value
 use Rattle.sqlite_sql.specs.Ops.{is_null}
-use Rattle.sqlite_schema.{specs.Names.{is_key}, specs.declared.schema.Kind.TheVariants as kind}
+use Rattle.sqlite_schema.specs.Names.{is_key}
+use Rattle.sqlite_schema.specs.declared.schema.Kind.TheVariants as kind
 
 -- the row has a text there
 abbrev pub HasText : Row → ℕ → Type 0

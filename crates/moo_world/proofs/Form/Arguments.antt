@@ -1,5 +1,6 @@
 -- What a call is given fits where all its arguments do, and a value changes no field but as it may.
-use Rattle.moo_world.{proofs.Words.{◌≡◌, Bool, true, false, List, [], ◌∷◌, refl, sym, ◌∙◌, ap, Option, Some, None, Result, Ok, Err, pos, ◌&&◌, nat_le, unwrap_or, if◌then◌else◌, option_map, list_all, int_eq, and_parts, Code, ObjNo, Value, Int, Obj, Str, nesting, spread, Values, int, object, string, error, list, BuiltIn, Change, Info, is_integer, in_range, is_number, is_text, all_within_limits, is_within_limits, fits, beside_object, object_text_and_value, info_in, new_property, objects_among, object_and_accept, both, desc_of, verb_info_in, texts_in, new_verb, new_verb_info, Desc, is_allowed_change, Name, change_of, World}, specs.declared.built_in.BuiltIn.TheVariants as field}
+use Rattle.moo_world.proofs.Words.{◌≡◌, Bool, true, false, List, [], ◌∷◌, refl, sym, ◌∙◌, ap, Option, Some, None, Result, Ok, Err, pos, ◌&&◌, nat_le, unwrap_or, if◌then◌else◌, option_map, list_all, int_eq, and_parts, Code, ObjNo, Value, Int, Obj, Str, nesting, spread, Values, int, object, string, error, list, BuiltIn, Change, Info, is_integer, in_range, is_number, is_text, all_within_limits, is_within_limits, fits, beside_object, object_text_and_value, info_in, new_property, objects_among, object_and_accept, both, desc_of, verb_info_in, texts_in, new_verb, new_verb_info, Desc, is_allowed_change, Name, change_of, World}
+use Rattle.moo_world.specs.declared.built_in.BuiltIn.TheVariants as field
 use Rattle.moo_value.{specs.declared.code.Code.TheVariants.{«Type» as wrong_type}, specs.declared.value.Value.TheVariants.{List as a_list}, specs.Values.{no_values as no_more}}
 
 -- what was read passes a test, where something was

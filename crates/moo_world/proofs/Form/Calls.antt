@@ -1,6 +1,8 @@
 -- What every call keeps, by one walk through the checks of each: the form of the world, and nobody's ownership changes by who is
 -- no wizard.
-use Rattle.moo_world.{proofs.Lemmas.{◌≡◌, Bool, true, false, ◌||◌, List, [], ◌∷◌, ◌++◌, ◌+◌, ◌<◌, arith, refl, sym, ◌∙◌, ap, subst, ◌⊎◌, inl, inr, Option, Some, None, Result, Ok, not, nat_le, nat_lt, length, unwrap_or, if◌then◌else◌, list_all, same_Some, false≢true, both_ways, or_cases, and_parts, ltb-true, Code, Permission, PropertyNotFound, ObjNo, Value, Int, Obj, Str, Error, is_true, Bits, Clear, VerbRow, BuiltIn, Call, Change, Desc, CallName, Valid, Parent, Children, IsPlayer, Players, MaxObject, Get, Properties, PropertyInfo, IsClearProperty, Verbs, VerbInfo, VerbArgs, AcceptList, Create, Chparent, Recycle, Move, SetPlayerFlag, AddProperty, DeleteProperty, SetPropertyInfo, ClearProperty, AddVerb, DeleteVerb, SetVerbInfo, SetVerbArgs, SetAccept, Petition, Petitions, Grant, Decline, Info, is_number, is_text, fits, no_values, one_object, two_objects, object_and_text, object_and_value, object_text_and_value, parent_and_owner, object_and_accept, new_property, new_property_info, object_and_desc, new_verb, new_verb_info, new_verb_args, create, chparent, recycle, move, set_player_flag, set_accept, clashes, info_set, with_slot_of, next_object, owner_or_self, created, with_verbs, verb_added, CallsKeepForm, Name, nothing, same_object, folded, is_among, same_object-Decides, shares_property_name, Outcome, Done, Failed, found_or, check, KeepsOwnership, NoWizardKeepsOwnership, name_by, name_given, name_after, change_of, may_set, owner_is_object, set_built_in, set, defines_name, may_define, add_property, delete_property, may_rename, renamed_to, set_property_info, clear_property, recycled, is_wizard, controls, may_be_parent, may_make_owner, may_read_object, may_write_object, may_read_slot, may_write_slot, may_read_verb, may_write_verb, accepts, is_within, named_call, world_call, args_of, World, Slot, IsWellFormed, is_object, owner_of, slot_of, chain, has_word, is_property_name, verb_fits, state_fits, IsWellFormed-with_slot_of, same_links, object_numbered, slot_owner, on_record, on_slot, unchanged, Holds, on_check, on_field, on_failed, on_done, objects_same, NoClash-from_meets, nothing_is_no_object, of_done, on_room, on_given, on_found, both_true}, specs.declared.built_in.BuiltIn.TheVariants as field, specs.declared.change.Change.TheVariants as to, specs.declared.name.CallName.TheVariants.{Set}, specs.BuiltIns.{built_in}, specs.Descriptors.{found_verb}, specs.PropertyCalls.{get}, specs.VerbCalls.{add_verb, delete_verb, set_verb_info, set_verb_args}, proofs.Form.Directories.{all_fit, added_fit, removed_fit, changed_fit, stays_formed}, proofs.Form.Fields.{IsWellFormed-field_changed, not_true}, proofs.Form.Arguments.{set_value_fits, new_value_fits, accept_list_numbered, new_verb_named, new_verb_info_named, change_allowed}, proofs.Form.Values.{set_formed, renamed_formed, clashes_same, defines_same}, proofs.Form.Quotas.{charged_formed, returned_formed}, proofs.Inheritance.Insertion.{IsWellFormed-property_added}, proofs.Ownership.Changed.{is_modest, by_field_change, by_charge, by_return, by_info, by_defining, by_renaming}, proofs.Ownership.Counted.{on_create, on_recycle}, proofs.Ownership.Kept.{after}, proofs.Ownership.Rebuilt.{by_reparenting, by_recycling, by_undefining, by_creation}, proofs.Inheritance.Recycling.{IsWellFormed-recycled}, proofs.Inheritance.Reparenting.{IsWellFormed-reparented}, proofs.Inheritance.Shorter.{IsWellFormed-property_removed}}
+use Rattle.moo_world.{proofs.Lemmas.{◌≡◌, Bool, true, false, ◌||◌, List, [], ◌∷◌, ◌++◌, ◌+◌, ◌<◌, arith, refl, sym, ◌∙◌, ap, subst, ◌⊎◌, inl, inr, Option, Some, None, Result, Ok, not, nat_le, nat_lt, length, unwrap_or, if◌then◌else◌, list_all, same_Some, false≢true, both_ways, or_cases, and_parts, ltb-true, Code, Permission, PropertyNotFound, ObjNo, Value, Int, Obj, Str, Error, is_true, Bits, Clear, VerbRow, BuiltIn, Call, Change, Desc, CallName, Valid, Parent, Children, IsPlayer, Players, MaxObject, Get, Properties, PropertyInfo, IsClearProperty, Verbs, VerbInfo, VerbArgs, AcceptList, Create, Chparent, Recycle, Move, SetPlayerFlag, AddProperty, DeleteProperty, SetPropertyInfo, ClearProperty, AddVerb, DeleteVerb, SetVerbInfo, SetVerbArgs, SetAccept, Petition, Petitions, Grant, Decline, Info, is_number, is_text, fits, no_values, one_object, two_objects, object_and_text, object_and_value, object_text_and_value, parent_and_owner, object_and_accept, new_property, new_property_info, object_and_desc, new_verb, new_verb_info, new_verb_args, create, chparent, recycle, move, set_player_flag, set_accept, clashes, info_set, with_slot_of, next_object, owner_or_self, created, with_verbs, verb_added, CallsKeepForm, Name, nothing, same_object, folded, is_among, same_object-Decides, shares_property_name, Outcome, Done, Failed, found_or, check, KeepsOwnership, NoWizardKeepsOwnership, name_by, name_given, name_after, change_of, may_set, owner_is_object, set_built_in, set, defines_name, may_define, add_property, delete_property, may_rename, renamed_to, set_property_info, clear_property, recycled, is_wizard, controls, may_be_parent, may_make_owner, may_read_object, may_write_object, may_read_slot, may_write_slot, may_read_verb, may_write_verb, accepts, is_within, named_call, world_call, args_of, World, Slot, IsWellFormed, is_object, owner_of, slot_of, chain, has_word, is_property_name, verb_fits, state_fits, IsWellFormed-with_slot_of, same_links, object_numbered, slot_owner, on_record, on_slot, unchanged, Holds, on_check, on_field, on_failed, on_done, objects_same, NoClash-from_meets, nothing_is_no_object, of_done, on_room, on_given, on_found, both_true}, specs.declared.name.CallName.TheVariants.{Set}, specs.BuiltIns.{built_in}, specs.Descriptors.{found_verb}, specs.PropertyCalls.{get}, specs.VerbCalls.{add_verb, delete_verb, set_verb_info, set_verb_args}, proofs.Form.Directories.{all_fit, added_fit, removed_fit, changed_fit, stays_formed}, proofs.Form.Fields.{IsWellFormed-field_changed, not_true}, proofs.Form.Arguments.{set_value_fits, new_value_fits, accept_list_numbered, new_verb_named, new_verb_info_named, change_allowed}, proofs.Form.Values.{set_formed, renamed_formed, clashes_same, defines_same}, proofs.Form.Quotas.{charged_formed, returned_formed}, proofs.Inheritance.Insertion.{IsWellFormed-property_added}, proofs.Ownership.Changed.{is_modest, by_field_change, by_charge, by_return, by_info, by_defining, by_renaming}, proofs.Ownership.Counted.{on_create, on_recycle}, proofs.Ownership.Kept.{after}, proofs.Ownership.Rebuilt.{by_reparenting, by_recycling, by_undefining, by_creation}, proofs.Inheritance.Recycling.{IsWellFormed-recycled}, proofs.Inheritance.Reparenting.{IsWellFormed-reparented}, proofs.Inheritance.Shorter.{IsWellFormed-property_removed}}
+use Rattle.moo_world.specs.declared.built_in.BuiltIn.TheVariants as field
+use Rattle.moo_world.specs.declared.change.Change.TheVariants as to
 use Rattle.std.specs.List.{remove}
 use Rattle.moo_value.specs.declared.value.Value.TheVariants.{List as a_list}
 use Rattle.moo_rows.{specs.declared.row.SlotState.TheVariants.{Set as a_value}, specs.Bits.{bits_of, verb_bits_of}}

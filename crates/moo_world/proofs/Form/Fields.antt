@@ -1,5 +1,6 @@
 -- An allowed change of one field of an object keeps the world well formed.
-use Rattle.moo_world.{proofs.Lemmas.{◌≡◌, Bool, true, false, cond, refl, sym, ◌∙◌, ap, subst, ◌⊎◌, inl, inr, List, [], Option, Some, None, not, ◌&&◌, ◌||◌, is_some, if◌then◌else◌, option_map, false≢true, and_parts, or_cases, ObjNo, ObjRow, Change, is_number, is_text, Name, nothing, same_object, same_object-Decides, World, WorldObject, IsTree, IsWellFormed, LocationChain, is_object, location_of, location_chain, accept_fits, row_fits, is_within, changed, with_row, field_changed, is_allowed_change, IsWellFormed-same_shape, both_true}, specs.declared.change.Change.TheVariants.{Owner, Location, Player, Programmer, Wizard, Readable, Writable, Fertile, Accept}, specs.declared.change.Change.TheVariants as to, proofs.Ancestry.Locations.{places_is, LocationChain-location_chain}, proofs.Form.Rows.{same_objects, SameShape-with_row, same_places, fitting_rows}, proofs.Ancestry.Redirected.{redirected}}
+use Rattle.moo_world.{proofs.Lemmas.{◌≡◌, Bool, true, false, cond, refl, sym, ◌∙◌, ap, subst, ◌⊎◌, inl, inr, List, [], Option, Some, None, not, ◌&&◌, ◌||◌, is_some, if◌then◌else◌, option_map, false≢true, and_parts, or_cases, ObjNo, ObjRow, Change, is_number, is_text, Name, nothing, same_object, same_object-Decides, World, WorldObject, IsTree, IsWellFormed, LocationChain, is_object, location_of, location_chain, accept_fits, row_fits, is_within, changed, with_row, field_changed, is_allowed_change, IsWellFormed-same_shape, both_true}, specs.declared.change.Change.TheVariants.{Owner, Location, Player, Programmer, Wizard, Readable, Writable, Fertile, Accept}, proofs.Ancestry.Locations.{places_is, LocationChain-location_chain}, proofs.Form.Rows.{same_objects, SameShape-with_row, same_places, fitting_rows}, proofs.Ancestry.Redirected.{redirected}}
+use Rattle.moo_world.specs.declared.change.Change.TheVariants as to
 
 -- a change that keeps an object's parent and its place
 plain : (w : World) (x : ObjNo) (change : ObjRow → ObjRow) → ((r : ObjRow) → (change r).parent ≡ r.parent) → ((r : ObjRow) → (change r).location ≡ r.location) → ((r : ObjRow) → row_fits r ≡ true → row_fits (change r) ≡ true) → IsWellFormed w → IsWellFormed (with_row w x change)

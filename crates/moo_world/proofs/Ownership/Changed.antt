@@ -1,5 +1,6 @@
 -- Nobody's ownership changes by a field, a quota, or a property that is added or has another name.
-use Rattle.moo_world.{proofs.Lemmas.{◌≡◌, Bool, true, false, List, [], ◌∷◌, ◌++◌, map, refl, sym, ◌∙◌, ap, Option, Some, None, ℤ, pos, negsuc, ◌+ℤ◌, ◌&&◌, if◌then◌else◌, option_map, option_and_then, false≢true, none-some, same_Some, ObjNo, Int, Bits, SlotState, Set, Change, clashes, property_added, property_renamed, info_set, changed, field_changed, Name, Property, nothing, same_object, same_text, folded, is_among, same_text-Decides, KeepsOwnership, name_changed, quota_name, quota_of, quota_changed, set_slot, charged, quota_returned, World, WorldObject, Slot, IsWellFormed, is_object, chain, slot_of, fresh, object_changed, same_links, rank, face, faced, on_record, on_slot, unchanged, slotted, Chain-chain}, specs.declared.change.Change.TheVariants as to, proofs.Inheritance.Insertion.{none_owed}, proofs.Ownership.Created.{chains_same}, proofs.Ownership.Kept.{after}}
+use Rattle.moo_world.{proofs.Lemmas.{◌≡◌, Bool, true, false, List, [], ◌∷◌, ◌++◌, map, refl, sym, ◌∙◌, ap, Option, Some, None, ℤ, pos, negsuc, ◌+ℤ◌, ◌&&◌, if◌then◌else◌, option_map, option_and_then, false≢true, none-some, same_Some, ObjNo, Int, Bits, SlotState, Set, Change, clashes, property_added, property_renamed, info_set, changed, field_changed, Name, Property, nothing, same_object, same_text, folded, is_among, same_text-Decides, KeepsOwnership, name_changed, quota_name, quota_of, quota_changed, set_slot, charged, quota_returned, World, WorldObject, Slot, IsWellFormed, is_object, chain, slot_of, fresh, object_changed, same_links, rank, face, faced, on_record, on_slot, unchanged, slotted, Chain-chain}, proofs.Inheritance.Insertion.{none_owed}, proofs.Ownership.Created.{chains_same}, proofs.Ownership.Kept.{after}}
+use Rattle.moo_world.specs.declared.change.Change.TheVariants as to
 
 -- no field that says who owns or may what is changed
 abbrev pub is_modest : Change → Bool

@@ -1,7 +1,8 @@
 use Rattle.std.{proofs.Common.{◌≡◌, ◌<◌, pos, sym, ap, ◌∙◌, rules, to_z, of_z, w64}, proofs.lemmas.Bool.{lt-ltb}}
 use Rattle.moo_value.{specs.declared.value.Value.{Value}, specs.declared.value.Value.TheVariants.{Int}}
 use Rattle.moo_world.{specs.Outcomes.{Done, Full, check}, specs.Objects.{number_limit}, specs.Requests.{asked}}
-use Rattle.moo_batch.{specs.Outcomes.{state_in}, proofs.Beside.{asked-keeps, asked-state}, proofs.asking.ask.Goals as goal}
+use Rattle.moo_batch.{specs.Outcomes.{state_in}, proofs.Beside.{asked-keeps, asked-state}}
+use Rattle.moo_batch.proofs.asking.ask.Goals as goal
 
 pub returns-clause-reaches : goal.returns-clause-reaches
 returns-clause-reaches g c =

@@ -2,7 +2,8 @@ use Rattle.std.{proofs.Common.{◌≡◌, true, sym, ap, ◌∙◌, subst, rules
 use Rattle.moo_value.specs.Value.{spread}
 use Rattle.moo_world.{specs.Outcomes.{given as given_to}, specs.Petitions.{is_named, are_few, are_shallow}, specs.Requests.{are_on_world, petition_filed, petition}}
 use Rattle.moo_call_parts.proofs.Passed.{check_passed}
-use Rattle.moo_batch.{specs.Outcomes.{state_in, Reaches}, proofs.asking.petition.Goals as goal}
+use Rattle.moo_batch.specs.Outcomes.{state_in, Reaches}
+use Rattle.moo_batch.proofs.asking.petition.Goals as goal
 
 pub returns-clause-reaches : goal.returns-clause-reaches
 returns-clause-reaches g c =

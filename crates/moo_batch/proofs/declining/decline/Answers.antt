@@ -1,7 +1,8 @@
 use Rattle.std.{proofs.Common.{◌≡◌, true, Ok, None, Some, sym, ap, ◌∙◌, rules}, specs.Prelude.{◌||◌}}
 use Rattle.moo_value.specs.declared.code.Code.TheVariants.{Permission, InvalidArgument}
 use Rattle.moo_world.{specs.Answers.{zero}, specs.Objects.{same_object}, specs.Outcomes.{Done, Failed, check, found_or, given as given_to}, specs.Requests.{decline, one_integer, petition_at, without}, specs.Rights.{is_wizard}}
-use Rattle.moo_batch.{specs.Outcomes.{state_in}, proofs.Beside.{removed-keeps, removed-state}, proofs.declining.decline.Goals as goal}
+use Rattle.moo_batch.{specs.Outcomes.{state_in}, proofs.Beside.{removed-keeps, removed-state}}
+use Rattle.moo_batch.proofs.declining.decline.Goals as goal
 
 pub returns-in_default-clause-reaches : goal.returns-in_default-clause-reaches
 returns-in_default-clause-reaches g c =

@@ -3,7 +3,8 @@ use Rattle.moo_value.{specs.declared.code.Code.TheVariants.{Permission, InvalidA
 use Rattle.moo_rows.{specs.declared.row.PetitionId.{PetitionId}, specs.declared.row.PetitionRow.{PetitionRow}}
 use Rattle.moo_world.{specs.Arguments.{fits}, specs.Outcomes.{Failed, check, found_or, given as given_to}, specs.Requests.{State, grant, held_steps, in_world, one_integer, petition_at, without}, specs.Rights.{is_wizard}, specs.World.{World}, proofs.Batches.Requested.{found_there}, proofs.Form.Petitions.{held_fit}}
 use Rattle.moo_call_parts.specs.Outcomes.{world_in}
-use Rattle.moo_batch.{specs.Outcomes.{state_in, ComesInTurn, KeepInTurn, Reaches}, proofs.Beside.{removed-keeps, removed-state}, proofs.InTurn.{granted-reaches, granted-keeps, on_ok}, proofs.granting.grant.Goals as goal}
+use Rattle.moo_batch.{specs.Outcomes.{state_in, ComesInTurn, KeepInTurn, Reaches}, proofs.Beside.{removed-keeps, removed-state}, proofs.InTurn.{granted-reaches, granted-keeps, on_ok}}
+use Rattle.moo_batch.proofs.granting.grant.Goals as goal
 
 pub held_steps-requires-clause-good : goal.held_steps-requires-clause-good
 held_steps-requires-clause-good g c = (removed-keeps (g.R.Rows.held c.args.rows.now) (g.R.Rows.held c.remove_petition.new.self) c.in-Some.id c.in_ok-remove_petition.ensures.ok c.requires.good).good

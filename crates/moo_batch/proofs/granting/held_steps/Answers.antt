@@ -1,7 +1,8 @@
 use Rattle.std.{proofs.Common.{rules, ◌≡◌, ◌+◌, [], ◌∷◌, Err, drop, subst, arith}, proofs.lemmas.Grind.{common_steps}}
 use Rattle.moo_world.specs.Requests.{held_steps}
 use Rattle.moo_call_parts.specs.Outcomes.{world_in}
-use Rattle.moo_batch.{specs.Outcomes.{ComesInTurn}, proofs.InTurn.{HaveStepped, stepped-one, stepped-fits, stepped-all, stepped-kept, stepped-stopped}, proofs.granting.held_steps.Goals as goal}
+use Rattle.moo_batch.{specs.Outcomes.{ComesInTurn}, proofs.InTurn.{HaveStepped, stepped-one, stepped-fits, stepped-all, stepped-kept, stepped-stopped}}
+use Rattle.moo_batch.proofs.granting.held_steps.Goals as goal
 
 pub loop-held-preserved : goal.loop-held-preserved
 loop-held-preserved g c =

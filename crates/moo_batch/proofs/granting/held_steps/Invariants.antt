@@ -1,5 +1,6 @@
 use Rattle.std.proofs.Common.{drop}
-use Rattle.moo_batch.{proofs.InTurn.{HaveStepped}, proofs.granting.held_steps.Given as goal}
+use Rattle.moo_batch.proofs.InTurn.{HaveStepped}
+use Rattle.moo_batch.proofs.granting.held_steps.Given as goal
 
 -- the calls so far are done
 abbrev pub invariant-loop-held : goal.invariant-loop-held

@@ -1,7 +1,8 @@
 use Rattle.std.proofs.Common.{rules, ◌≡◌, None, sym, ap, ◌∙◌}
 use Rattle.moo_value.specs.Value.{spread}
 use Rattle.moo_world.{specs.Names.{call_name_of}, specs.Requests.{held_call}}
-use Rattle.moo_batch.{proofs.HeldCalls.{on_world, call_in-some, call_in-none}, proofs.held.held_call.Goals as goal}
+use Rattle.moo_batch.proofs.HeldCalls.{on_world, call_in-some, call_in-none}
+use Rattle.moo_batch.proofs.held.held_call.Goals as goal
 
 pub returns-clause-some : goal.returns-clause-some
 returns-clause-some c =

@@ -2,7 +2,8 @@ use Rattle.std.{proofs.Common.{◌≡◌, ◌+◌, ◌<◌, [], true, false, ref
 use Rattle.moo_rows.{specs.Maps.{Held}, specs.declared.row.Head.{Head}}
 use Rattle.moo_world.{specs.Between.{CallsLead}, specs.Judge.{is_due, last_seq, verdict_of, run_calls, Accepted}, specs.Judge.{state_of}}
 use Rattle.moo_memory.specs.Changes.{AreChanges}
-use Rattle.moo_batch.{specs.Judge.{IsVerdict}, specs.declared.judging.Verdict.TheVariants.{OutOfMemory}, proofs.Verdicts.{judge-stale, judge-full, judge-run, with_seq, good-with_seq, world_of-with_seq, stopped-so}, proofs.judging.judge.Goals as goal}
+use Rattle.moo_batch.{specs.Judge.{IsVerdict}, specs.declared.judging.Verdict.TheVariants.{OutOfMemory}, proofs.Verdicts.{judge-stale, judge-full, judge-run, with_seq, good-with_seq, world_of-with_seq, stopped-so}}
+use Rattle.moo_batch.proofs.judging.judge.Goals as goal
 
 pub returns-then-not-is_due : goal.returns-then-not-is_due
 returns-then-not-is_due g c =

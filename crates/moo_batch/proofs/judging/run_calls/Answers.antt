@@ -1,6 +1,7 @@
 use Rattle.std.{proofs.Common.{◌≡◌, ◌+◌, [], ◌∷◌, ◌++◌, length, drop, sym, ap, ◌∙◌, subst, rules, arith}, proofs.lemmas.Grind.{common_steps}}
 use Rattle.moo_world.specs.Judge.{FailedAt, FullAt}
-use Rattle.moo_batch.{proofs.Running.{HaveRunSoFar, run-started, run-one_more, run-ended, run-kept, run-failed, run-full}, proofs.judging.run_calls.Goals as goal}
+use Rattle.moo_batch.proofs.Running.{HaveRunSoFar, run-started, run-one_more, run-ended, run-kept, run-failed, run-full}
+use Rattle.moo_batch.proofs.judging.run_calls.Goals as goal
 
 pub loop-call-init : goal.loop-call-init
 loop-call-init g c =

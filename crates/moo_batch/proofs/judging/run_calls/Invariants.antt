@@ -1,5 +1,6 @@
 use Rattle.std.proofs.Common.{◌≡◌, length, drop}
-use Rattle.moo_batch.{proofs.Running.{HaveRunSoFar}, proofs.judging.run_calls.Given as goal}
+use Rattle.moo_batch.proofs.Running.{HaveRunSoFar}
+use Rattle.moo_batch.proofs.judging.run_calls.Given as goal
 
 -- the calls so far have given the answers, one each
 abbrev pub invariant-loop-call : goal.invariant-loop-call

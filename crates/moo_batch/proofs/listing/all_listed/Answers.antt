@@ -1,7 +1,8 @@
 use Rattle.std.{proofs.Common.{rules, ◌≡◌, [], ◌∷◌, ◌++◌, sym, ◌∙◌}, specs.Prelude.{◌||◌}}
 use Rattle.moo_rows.{specs.Walk.{petitions_left}, specs.declared.row.PetitionId.{PetitionId}, specs.declared.row.PetitionRow.{PetitionRow}}
 use Rattle.moo_world.{specs.Objects.{same_object}, specs.Requests.{listed}}
-use Rattle.moo_batch.{proofs.Chosen.{one-chosen}, proofs.listing.all_listed.Goals as goal}
+use Rattle.moo_batch.proofs.Chosen.{one-chosen}
+use Rattle.moo_batch.proofs.listing.all_listed.Goals as goal
 
 pub loop-id-preserved-in_ok-push : goal.loop-id-preserved-in_ok-push
 loop-id-preserved-in_ok-push g c =

@@ -1,6 +1,7 @@
 use Rattle.std.proofs.Common.{◌≡◌, None, rules}
 use Rattle.moo_world.specs.Names.{petition_call}
-use Rattle.moo_batch.{proofs.InTurn.{on_ok, stepped-keeps, stepped-reaches}, proofs.stepping.step.Goals as goal}
+use Rattle.moo_batch.proofs.InTurn.{on_ok, stepped-keeps, stepped-reaches}
+use Rattle.moo_batch.proofs.stepping.step.Goals as goal
 
 pub returns-in_default-clause-reaches : goal.returns-in_default-clause-reaches
 returns-in_default-clause-reaches g c =

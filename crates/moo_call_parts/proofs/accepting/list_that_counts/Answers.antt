@@ -1,6 +1,7 @@
 use Rattle.std.{proofs.Common.{length, sym, ap, ◌∙◌, arith}, specs.Option.{option_or}}
 use Rattle.moo_world.{specs.World.{chain}, specs.Rows.{look_ups}, specs.Rights.{accept_along}, proofs.Shown.Seen.{chain_of_row}}
-use Rattle.moo_call_parts.{specs.Outcomes.{world_in}, proofs.AcceptLaws.{accept_of_row, accept_of_no_row}, proofs.accepting.list_that_counts.Goals as goal}
+use Rattle.moo_call_parts.{specs.Outcomes.{world_in}, proofs.AcceptLaws.{accept_of_row, accept_of_no_row}}
+use Rattle.moo_call_parts.proofs.accepting.list_that_counts.Goals as goal
 
 pub returns-in-Some-accept : goal.returns-in-Some-accept
 returns-in-Some-accept g c =

@@ -1,6 +1,7 @@
 use Rattle.std.proofs.Common.{◌≡◌, length}
 use Rattle.moo_world.{specs.World.{chain}, specs.Rights.{accept_along}}
-use Rattle.moo_call_parts.{specs.Outcomes.{world_in}, proofs.accepting.list_that_counts.Given as goal}
+use Rattle.moo_call_parts.specs.Outcomes.{world_in}
+use Rattle.moo_call_parts.proofs.accepting.list_that_counts.Given as goal
 
 -- the list that counts from here is the one that counts at all
 abbrev pub invariant-loop-row : goal.invariant-loop-row

@@ -1,6 +1,7 @@
 use Rattle.std.{proofs.Common.{sym, ap, ◌∙◌}, proofs.lemmas.Result.{on_ok_weaker}}
 use Rattle.moo_world.{specs.Fields.{changed}, proofs.Form.Fields.{IsWellFormed-field_changed}}
-use Rattle.moo_call_parts.{specs.Outcomes.{world_in}, proofs.Changed.{world_in-changed, Keeps-changed}, proofs.changing.change_row.Goals as goal}
+use Rattle.moo_call_parts.{specs.Outcomes.{world_in}, proofs.Changed.{world_in-changed, Keeps-changed}}
+use Rattle.moo_call_parts.proofs.changing.change_row.Goals as goal
 
 pub returns-clause-world : goal.returns-clause-world
 returns-clause-world g c =

@@ -1,7 +1,8 @@
 use Rattle.std.proofs.Common.{sym, ◌∙◌}
 use Rattle.moo_world.proofs.Shown.NumbersKept.{then_slots}
 use Rattle.moo_call_parts.specs.Outcomes.{world_in}
-use Rattle.moo_calls.{proofs.Created.{quota_still}, proofs.creating.create.Goals as goal}
+use Rattle.moo_calls.proofs.Created.{quota_still}
+use Rattle.moo_calls.proofs.creating.create.Goals as goal
 
 pub charge-requires-clause-quota : goal.charge-requires-clause-quota
 charge-requires-clause-quota g c =

@@ -1,4 +1,5 @@
-use Rattle.moo_cells.{proofs.Words.{◌∙◌, sym, subst, IfOk, IfErr, column, ShowsRights}, proofs.cell.bits_at.Goals as goal}
+use Rattle.moo_cells.proofs.Words.{◌∙◌, sym, subst, IfOk, IfErr, column, ShowsRights}
+use Rattle.moo_cells.proofs.cell.bits_at.Goals as goal
 use Rattle.moo_rows.specs.declared.row.Bits.{Bits}
 
 pub returns-then-has_lettered_bits-clause-ok : goal.returns-then-has_lettered_bits-clause-ok

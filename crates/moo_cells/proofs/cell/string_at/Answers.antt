@@ -1,4 +1,5 @@
-use Rattle.moo_cells.{proofs.Words.{sym, ◌∙◌, err_from_is_err_and}, proofs.Texts.{not_text, text_inj}, proofs.cell.string_at.Goals as goal}
+use Rattle.moo_cells.{proofs.Words.{sym, ◌∙◌, err_from_is_err_and}, proofs.Texts.{not_text, text_inj}}
+use Rattle.moo_cells.proofs.cell.string_at.Goals as goal
 
 pub returns-in_err-from_bytes-clause-err : goal.returns-in_err-from_bytes-clause-err
 returns-in_err-from_bytes-clause-err c =

@@ -1,4 +1,5 @@
-use Rattle.moo_cells.{proofs.Words.{Option, sym, subst, IfSome, Kind, Key, IsFirstInRows, err_from_is_err_and, tables_of, SaysOfCells}, proofs.CellsLemmas.{rows_damage, none_met, says_nothing, says_no_damage, one_good}, proofs.cells.read_cells.Goals as goal}
+use Rattle.moo_cells.{proofs.Words.{Option, sym, subst, IfSome, Kind, Key, IsFirstInRows, err_from_is_err_and, tables_of, SaysOfCells}, proofs.CellsLemmas.{rows_damage, none_met, says_nothing, says_no_damage, one_good}}
+use Rattle.moo_cells.proofs.cells.read_cells.Goals as goal
 
 pub returns-in_err-rows-clause-fault : goal.returns-in_err-rows-clause-fault
 returns-in_err-rows-clause-fault c =

@@ -1,4 +1,5 @@
-use Rattle.moo_cells.{proofs.Words.{List, find, refl, subst, subst₂, IfOk-weaker, Row, has_rowid, Head, version_number, ShowEach, HeadIs, ReadsHead, ReadsCounter, ReadsObject, ReadsProp, ReadsSlot, ReadsVerb, ReadsPetition}, proofs.Beside.{left_all}, proofs.Compared.{all_shown}, proofs.comparing.show_rows.Goals as goal}
+use Rattle.moo_cells.{proofs.Words.{List, find, refl, subst, subst₂, IfOk-weaker, Row, has_rowid, Head, version_number, ShowEach, HeadIs, ReadsHead, ReadsCounter, ReadsObject, ReadsProp, ReadsSlot, ReadsVerb, ReadsPetition}, proofs.Beside.{left_all}, proofs.Compared.{all_shown}}
+use Rattle.moo_cells.proofs.comparing.show_rows.Goals as goal
 use Rattle.std.specs.FinMap.{entries}
 use Rattle.moo_rows.specs.Maps.{object_cmp, prop_cmp, slot_cmp, verb_cmp, petition_cmp}
 

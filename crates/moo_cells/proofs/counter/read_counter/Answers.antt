@@ -1,4 +1,5 @@
-use Rattle.moo_cells.{proofs.Words.{◌≡◌, ◌∙◌, ℕ, find, sym, has_rowid, petition_head_cells, IsCounter, ReadsCounter}, proofs.Exits.{both_some}, proofs.HeadLemmas.{one_row, no_counter, counter_read}, proofs.counter.read_counter.Goals as goal}
+use Rattle.moo_cells.{proofs.Words.{◌≡◌, ◌∙◌, ℕ, find, sym, has_rowid, petition_head_cells, IsCounter, ReadsCounter}, proofs.Exits.{both_some}, proofs.HeadLemmas.{one_row, no_counter, counter_read}}
+use Rattle.moo_cells.proofs.counter.read_counter.Goals as goal
 
 pub returns-then-rows-ne1-clause-none : goal.returns-then-rows-ne1-clause-none
 returns-then-rows-ne1-clause-none c = no_counter c.args.version (sym c.has_petitions.ensures ∙ c.if-not-has_petitions.false) c.args.rows.now c.requires c.if-rows-ne1.true

@@ -1,4 +1,5 @@
-use Rattle.moo_cells.{proofs.Words.{find, refl, ap, Row, column, has_rowid, Head, version_number, greatest, HeadIs, ReadsHead, ReadsNewer, ReadsKnown, IsNewerThan, HasHead, SaysOfHead}, proofs.Exits.{ok_then, err_then}, proofs.HeadLemmas.{no_head, one_row, head_is, says_table}, proofs.head.head_in.Goals as goal}
+use Rattle.moo_cells.{proofs.Words.{find, refl, ap, Row, column, has_rowid, Head, version_number, greatest, HeadIs, ReadsHead, ReadsNewer, ReadsKnown, IsNewerThan, HasHead, SaysOfHead}, proofs.Exits.{ok_then, err_then}, proofs.HeadLemmas.{no_head, one_row, head_is, says_table}}
+use Rattle.moo_cells.proofs.head.head_in.Goals as goal
 
 pub returns-then-rows-ne1-clause-err : goal.returns-then-rows-ne1-clause-err
 returns-then-rows-ne1-clause-err c = let none = no_head (version_number c.args.version) c.args.rows.now c.requires c.if-rows-ne1.true in (refl, refl, none.0, none.1)

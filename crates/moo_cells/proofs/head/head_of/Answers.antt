@@ -1,4 +1,5 @@
-use Rattle.moo_cells.{proofs.Words.{refl, arith, ints, version_number}, proofs.HeadLemmas.{no_numbers, newer}, proofs.head.head_of.Goals as goal}
+use Rattle.moo_cells.{proofs.Words.{refl, arith, ints, version_number}, proofs.HeadLemmas.{no_numbers, newer}}
+use Rattle.moo_cells.proofs.head.head_of.Goals as goal
 
 pub returns-in_default-clause-err : goal.returns-in_default-clause-err
 returns-in_default-clause-err c = let none = no_numbers (version_number c.args.version) c.args.cells.now c.in_default.ensures.err in (refl, refl, none.0, none.1)

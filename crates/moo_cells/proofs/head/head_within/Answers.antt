@@ -1,4 +1,5 @@
-use Rattle.moo_cells.{proofs.Words.{◌≡◌, ℤ, pos, negsuc, ◌≤ℤ◌, sym, subst, ◌∙◌, w32, w64, to_z, of_z, to_z-of_z}, proofs.head.head_within.Goals as goal}
+use Rattle.moo_cells.proofs.Words.{◌≡◌, ℤ, pos, negsuc, ◌≤ℤ◌, sym, subst, ◌∙◌, w32, w64, to_z, of_z, to_z-of_z}
+use Rattle.moo_cells.proofs.head.head_within.Goals as goal
 
 pub returns-clause-some : goal.returns-clause-some
 returns-clause-some c =

@@ -1,4 +1,5 @@
-use Rattle.moo_cells.{proofs.Words.{◌≡◌, ℤ, Row, column, length, [], ◌∷◌, ap, sym, subst, ◌∙◌, w64, FitsSigned, to_z, of_z, to_z-of_z, Value}, proofs.Columns.{all_columns}, proofs.Exits.{whatever}, proofs.head.numbers_of.Goals as goal}
+use Rattle.moo_cells.{proofs.Words.{◌≡◌, ℤ, Row, column, length, [], ◌∷◌, ap, sym, subst, ◌∙◌, w64, FitsSigned, to_z, of_z, to_z-of_z, Value}, proofs.Columns.{all_columns}, proofs.Exits.{whatever}}
+use Rattle.moo_cells.proofs.head.numbers_of.Goals as goal
 use Rattle.sqlite.specs.declared.types.Value.TheVariants.{Int as Number}
 
 -- the number as a field keeps it

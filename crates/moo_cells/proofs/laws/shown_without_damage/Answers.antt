@@ -1,4 +1,5 @@
-use Rattle.moo_cells.{proofs.CellsLemmas.{none_met, not_newer}, proofs.laws.shown_without_damage.Goals as goal}
+use Rattle.moo_cells.proofs.CellsLemmas.{none_met, not_newer}
+use Rattle.moo_cells.proofs.laws.shown_without_damage.Goals as goal
 
 pub returns-clause-newer : goal.returns-clause-newer
 returns-clause-newer c t m shown good = not_newer t m shown good

@@ -1,4 +1,5 @@
-use Rattle.moo_cells.{proofs.Words.{◌≡◌, true, true≢false, sym, subst, ◌∙◌, ◌&&◌, list_all, err_from_is_err_and, Spells, Fits, spread, one_spelled, is_named, are_few, are_shallow}, proofs.Texts.{fails_none, calls_within, calls_held, calls_may, same_values}, proofs.literal.calls_spelled.Goals as goal}
+use Rattle.moo_cells.{proofs.Words.{◌≡◌, true, true≢false, sym, subst, ◌∙◌, ◌&&◌, list_all, err_from_is_err_and, Spells, Fits, spread, one_spelled, is_named, are_few, are_shallow}, proofs.Texts.{fails_none, calls_within, calls_held, calls_may, same_values}}
+use Rattle.moo_cells.proofs.literal.calls_spelled.Goals as goal
 use Rattle.moo_value.{specs.declared.value.Value.{Value}, specs.declared.value.Value.TheVariants.{List as a_list}, specs.Values.{Values}}
 
 pub returns-in_err-calls-clause-err : goal.returns-in_err-calls-clause-err

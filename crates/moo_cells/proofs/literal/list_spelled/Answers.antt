@@ -1,4 +1,5 @@
-use Rattle.moo_cells.{proofs.Words.{◌≡◌, true, List, map, length, ◌≤◌, Some, subst, err_from_is_err_and, ObjNo, Spells, Fits, accept_fits, object_list}, specs.declared.fault.RowFault.{RowFault}, specs.declared.fault.RowFault.TheVariants.{Unreadable}, proofs.Exits.{both_ok, err_then}, proofs.Texts.{fails_none, fits_list, fits_spelled, no_list, no_items}, proofs.literal.list_spelled.Goals as goal}
+use Rattle.moo_cells.{proofs.Words.{◌≡◌, true, List, map, length, ◌≤◌, Some, subst, err_from_is_err_and, ObjNo, Spells, Fits, accept_fits, object_list}, specs.declared.fault.RowFault.{RowFault}, specs.declared.fault.RowFault.TheVariants.{Unreadable}, proofs.Exits.{both_ok, err_then}, proofs.Texts.{fails_none, fits_list, fits_spelled, no_list, no_items}}
+use Rattle.moo_cells.proofs.literal.list_spelled.Goals as goal
 use Rattle.moo_value.{specs.declared.value.Value.{Value}, specs.declared.value.Value.TheVariants.{Obj, List as a_list}}
 
 pub returns-in_err-list-clause-err : goal.returns-in_err-list-clause-err

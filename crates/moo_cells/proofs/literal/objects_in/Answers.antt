@@ -1,6 +1,7 @@
 use Rattle.std.{proofs.Common.{◌≡◌, ◌<◌, ◌∙◌, ◌++◌, [], ◌∷◌, List, length, map, take, sym, ap, arith}, proofs.lemmas.List.{take_all, take_more, length-map, map-append}}
 use Rattle.moo_value.{specs.declared.value.ObjNo.{ObjNo}, specs.declared.value.Value.{Value}, specs.declared.value.Value.TheVariants.{Obj}}
-use Rattle.moo_cells.{proofs.Texts.{not_objects}, proofs.literal.objects_in.Goals as goal}
+use Rattle.moo_cells.proofs.Texts.{not_objects}
+use Rattle.moo_cells.proofs.literal.objects_in.Goals as goal
 
 pub returns-in_default : goal.returns-in_default
 returns-in_default c = record {

@@ -1,4 +1,5 @@
-use Rattle.moo_cells.{proofs.Words.{sym, ◌∙◌, err_from_is_err_and, fits_tested}, proofs.Texts.{not_state, text_inj, not_empty}, proofs.literal.state_at.Goals as goal}
+use Rattle.moo_cells.{proofs.Words.{sym, ◌∙◌, err_from_is_err_and, fits_tested}, proofs.Texts.{not_state, text_inj, not_empty}}
+use Rattle.moo_cells.proofs.literal.state_at.Goals as goal
 
 pub returns-in_err-value-clause-err : goal.returns-in_err-value-clause-err
 returns-in_err-value-clause-err c =

@@ -1,4 +1,5 @@
-use Rattle.moo_cells.{proofs.Words.{sym, ◌∙◌, and_parts, and_from, err_from_is_err_and}, proofs.ObjectLemmas.{cells_shown, columns_read, flags_in, row_with}, proofs.object.read_object.Goals as goal}
+use Rattle.moo_cells.{proofs.Words.{sym, ◌∙◌, and_parts, and_from, err_from_is_err_and}, proofs.ObjectLemmas.{cells_shown, columns_read, flags_in, row_with}}
+use Rattle.moo_cells.proofs.object.read_object.Goals as goal
 
 pub returns-in_err-number-clause-err : goal.returns-in_err-number-clause-err
 returns-in_err-number-clause-err c =

@@ -1,4 +1,5 @@
-use Rattle.moo_cells.{proofs.Words.{ap, sym, ◌∙◌, ◌≡◌, length, [], ◌∷◌, and_parts, and_from, err_from_is_err_and, Row, column, is_number, calls_fit}, proofs.Columns.{all_columns}, proofs.petition.read_petition.Goals as goal}
+use Rattle.moo_cells.{proofs.Words.{ap, sym, ◌∙◌, ◌≡◌, length, [], ◌∷◌, and_parts, and_from, err_from_is_err_and, Row, column, is_number, calls_fit}, proofs.Columns.{all_columns}}
+use Rattle.moo_cells.proofs.petition.read_petition.Goals as goal
 
 pub returns-in_err-id-clause-err : goal.returns-in_err-id-clause-err
 returns-in_err-id-clause-err c =

@@ -1,4 +1,5 @@
-use Rattle.moo_cells.{proofs.Words.{◌≡◌, length, [], ◌∷◌, ap, sym, ◌∙◌, and_parts, err_from_is_err_and, Row, column}, proofs.Columns.{all_columns}, proofs.prop.read_prop.Goals as goal}
+use Rattle.moo_cells.{proofs.Words.{◌≡◌, length, [], ◌∷◌, ap, sym, ◌∙◌, and_parts, err_from_is_err_and, Row, column}, proofs.Columns.{all_columns}}
+use Rattle.moo_cells.proofs.prop.read_prop.Goals as goal
 
 pub returns-in_err-id-clause-err : goal.returns-in_err-id-clause-err
 returns-in_err-id-clause-err c =

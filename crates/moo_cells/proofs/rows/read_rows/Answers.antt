@@ -1,4 +1,5 @@
-use Rattle.moo_cells.{proofs.Words.{◌∙◌, ◌<◌, List, find, sym, ap, subst, err_from_is_err_and, Row, has_rowid, Head, Maps, tables_of, version_number, greatest, HeadIs, ReadsHead, HasHead, IsNewerThan, ReadsCounter, HasCounter, SaysOfHead, SaysOfCells}, proofs.RowsLemmas.{says_head}, proofs.rows.read_rows.Goals as goal}
+use Rattle.moo_cells.{proofs.Words.{◌∙◌, ◌<◌, List, find, sym, ap, subst, err_from_is_err_and, Row, has_rowid, Head, Maps, tables_of, version_number, greatest, HeadIs, ReadsHead, HasHead, IsNewerThan, ReadsCounter, HasCounter, SaysOfHead, SaysOfCells}, proofs.RowsLemmas.{says_head}}
+use Rattle.moo_cells.proofs.rows.read_rows.Goals as goal
 use Rattle.moo_rows.specs.Maps.{no_maps}
 
 pub returns-in_err-head-clause-fault : goal.returns-in_err-head-clause-fault

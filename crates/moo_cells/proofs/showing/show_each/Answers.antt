@@ -1,4 +1,5 @@
-use Rattle.moo_cells.{proofs.Words.{◌≡◌, ◌<◌, length, Bool, true, false, not, Option, None, Some, arith, sym, ap, ◌∙◌, subst, subst₂, ShowEach}, proofs.Beside.{one_more, found_is}, proofs.showing.show_each.Goals as goal}
+use Rattle.moo_cells.{proofs.Words.{◌≡◌, ◌<◌, length, Bool, true, false, not, Option, None, Some, arith, sym, ap, ◌∙◌, subst, subst₂, ShowEach}, proofs.Beside.{one_more, found_is}}
+use Rattle.moo_cells.proofs.showing.show_each.Goals as goal
 use Rattle.std.{proofs.lemmas.List.{drop_all}, specs.Option.{is_some}, specs.Prelude.{IfNone}}
 
 pub loop-row-preserved : goal.loop-row-preserved

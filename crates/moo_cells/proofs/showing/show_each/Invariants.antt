@@ -1,5 +1,6 @@
 use Rattle.std.proofs.Common.{drop, None}
-use Rattle.moo_cells.{proofs.Beside.{ShowRest}, proofs.showing.show_each.Given as goal}
+use Rattle.moo_cells.proofs.Beside.{ShowRest}
+use Rattle.moo_cells.proofs.showing.show_each.Given as goal
 
 -- what is left of both
 abbrev pub invariant-loop-row : goal.invariant-loop-row

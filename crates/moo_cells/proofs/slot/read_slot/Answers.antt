@@ -1,4 +1,5 @@
-use Rattle.moo_cells.{proofs.Words.{◌≡◌, length, [], ◌∷◌, ap, sym, subst, ◌∙◌, err_from_is_err_and, Value, Row, column, ShowsBits}, proofs.Columns.{all_columns}, proofs.slot.read_slot.Goals as goal}
+use Rattle.moo_cells.{proofs.Words.{◌≡◌, length, [], ◌∷◌, ap, sym, subst, ◌∙◌, err_from_is_err_and, Value, Row, column, ShowsBits}, proofs.Columns.{all_columns}}
+use Rattle.moo_cells.proofs.slot.read_slot.Goals as goal
 
 pub returns-in_err-object-clause-err : goal.returns-in_err-object-clause-err
 returns-in_err-object-clause-err c =

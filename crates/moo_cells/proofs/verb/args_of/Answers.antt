@@ -1,4 +1,5 @@
-use Rattle.moo_cells.{proofs.Exits.{whatever}, proofs.verb.args_of.Goals as goal}
+use Rattle.moo_cells.proofs.Exits.{whatever}
+use Rattle.moo_cells.proofs.verb.args_of.Goals as goal
 
 pub returns-in_err-dobj-clause-err : goal.returns-in_err-dobj-clause-err
 returns-in_err-dobj-clause-err c = whatever c.from_residual.result (λ args has. c.in_err-dobj.ensures.err args.dobj has.dobj)

@@ -1,4 +1,5 @@
-use Rattle.moo_cells.{proofs.Words.{◌≡◌, length, [], ◌∷◌, ap, sym, ◌∙◌, and_parts, and_from, err_from_is_err_and, Row, column}, proofs.Columns.{all_columns}, proofs.Texts.{has_a_word}, proofs.verb.read_verb.Goals as goal}
+use Rattle.moo_cells.{proofs.Words.{◌≡◌, length, [], ◌∷◌, ap, sym, ◌∙◌, and_parts, and_from, err_from_is_err_and, Row, column}, proofs.Columns.{all_columns}, proofs.Texts.{has_a_word}}
+use Rattle.moo_cells.proofs.verb.read_verb.Goals as goal
 
 pub returns-in_err-object-clause-err : goal.returns-in_err-object-clause-err
 returns-in_err-object-clause-err c =

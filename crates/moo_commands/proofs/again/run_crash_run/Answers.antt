@@ -1,4 +1,5 @@
-use Rattle.moo_commands.{proofs.Words.{given_to}, proofs.AgainLemmas.{crash_run, crash_rows}, proofs.again.run_crash_run.Goals as goal}
+use Rattle.moo_commands.{proofs.Words.{given_to}, proofs.AgainLemmas.{crash_run, crash_rows}}
+use Rattle.moo_commands.proofs.again.run_crash_run.Goals as goal
 
 pub returns : goal.returns
 returns g c = record {

@@ -1,4 +1,5 @@
-use Rattle.moo_commands.{proofs.Words.{given_to}, proofs.Stopped.{stop_run, stop_rows}, proofs.again.run_stop_run.Goals as goal}
+use Rattle.moo_commands.{proofs.Words.{given_to}, proofs.Stopped.{stop_run, stop_rows}}
+use Rattle.moo_commands.proofs.again.run_stop_run.Goals as goal
 
 pub returns : goal.returns
 returns g c = record {

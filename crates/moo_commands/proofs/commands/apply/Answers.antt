@@ -1,4 +1,5 @@
-use Rattle.moo_commands.{proofs.Words.{IfOk, inr, refl, sym, subst, ◌∙◌, Works, NoBatches, texts_by, AppliesText, StopsApplying, MayLead, EndsTask}, proofs.Tasks.{given_input, given_file, text_stops, unchanged, unmoved}, proofs.commands.apply.Goals as goal}
+use Rattle.moo_commands.{proofs.Words.{IfOk, inr, refl, sym, subst, ◌∙◌, Works, NoBatches, texts_by, AppliesText, StopsApplying, MayLead, EndsTask}, proofs.Tasks.{given_input, given_file, text_stops, unchanged, unmoved}}
+use Rattle.moo_commands.proofs.commands.apply.Goals as goal
 
 pub returns-then-eq-clause-done : goal.returns-then-eq-clause-done
 returns-then-eq-clause-done g c known s stands =

@@ -1,4 +1,5 @@
-use Rattle.moo_commands.{proofs.Words.{IfOk, IfErr, inl, inr, refl, sym, subst, ◌∙◌}, specs.Run.{AsksText, StopsAsking}, proofs.Tasks.{given_input, given_file, on_err}, proofs.commands.ask.Goals as goal}
+use Rattle.moo_commands.{proofs.Words.{IfOk, IfErr, inl, inr, refl, sym, subst, ◌∙◌}, specs.Run.{AsksText, StopsAsking}, proofs.Tasks.{given_input, given_file, on_err}}
+use Rattle.moo_commands.proofs.commands.ask.Goals as goal
 
 pub returns-then-eq-clause-done : goal.returns-then-eq-clause-done
 returns-then-eq-clause-done g c known s stands =

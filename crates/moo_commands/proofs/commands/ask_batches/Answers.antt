@@ -1,4 +1,5 @@
-use Rattle.moo_commands.{proofs.Words.{Works}, proofs.commands.ask_batches.Goals as goal}
+use Rattle.moo_commands.proofs.Words.{Works}
+use Rattle.moo_commands.proofs.commands.ask_batches.Goals as goal
 
 pub returns-in-Ok-clause-done : goal.returns-in-Ok-clause-done
 returns-in-Ok-clause-done g c known s stands =

@@ -1,4 +1,5 @@
-use Rattle.moo_commands.{proofs.Words.{refl, sym, inl, inr, true≢false, Works}, proofs.Tasks.{unchanged, stays_at, on_ok, both_ok, on_err}, proofs.commands.do_task.Goals as goal}
+use Rattle.moo_commands.{proofs.Words.{refl, sym, inl, inr, true≢false, Works}, proofs.Tasks.{unchanged, stays_at, on_ok, both_ok, on_err}}
+use Rattle.moo_commands.proofs.commands.do_task.Goals as goal
 
 pub returns-in-Init : goal.returns-in-Init
 returns-in-Init g c = record {

@@ -1,4 +1,5 @@
-use Rattle.moo_commands.{proofs.Words.{IfErr, subst, ◌∙◌, StopsIn}, proofs.commands.put_loaded.Goals as goal}
+use Rattle.moo_commands.proofs.Words.{IfErr, subst, ◌∙◌, StopsIn}
+use Rattle.moo_commands.proofs.commands.put_loaded.Goals as goal
 
 pub returns-in-Ok-clause-stops : goal.returns-in-Ok-clause-stops
 returns-in-Ok-clause-stops g c =

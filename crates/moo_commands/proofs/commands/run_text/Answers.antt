@@ -1,4 +1,5 @@
-use Rattle.moo_commands.{proofs.Words.{Works}, proofs.Tasks.{done_text, stops_text}, proofs.commands.run_text.Goals as goal}
+use Rattle.moo_commands.{proofs.Words.{Works}, proofs.Tasks.{done_text, stops_text}}
+use Rattle.moo_commands.proofs.commands.run_text.Goals as goal
 
 pub returns-in-Ok-clause-done : goal.returns-in-Ok-clause-done
 returns-in-Ok-clause-done g c known s stands =

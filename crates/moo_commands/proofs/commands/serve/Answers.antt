@@ -1,6 +1,8 @@
-use Rattle.moo_commands.{proofs.Words.{◌≡◌, inl, inr, ℕ, Bool, List, Option, refl, Ok, Err, HasCleanDisk, Batch, State, World, Stand, Works, store_of, service_failure, Leads, Serving, StopsServing, EndsTask, MayLead, Failure, attended}, proofs.Tasks.{moved_led}, proofs.commands.serve.Goals as goal}
+use Rattle.moo_commands.{proofs.Words.{◌≡◌, inl, inr, ℕ, Bool, List, Option, refl, Ok, Err, HasCleanDisk, Batch, State, World, Stand, Works, store_of, service_failure, Leads, Serving, StopsServing, EndsTask, MayLead, Failure, attended}, proofs.Tasks.{moved_led}}
+use Rattle.moo_commands.proofs.commands.serve.Goals as goal
 use Rattle.sqlite.specs.Store.{Ghosts}
-use Rattle.moo_http.{specs.Connections.{StandsAtEnd}, specs.Turns.{Attendance, ServesOn}, specs.declared.service.ServiceFault.{ServiceFault}, specs.declared.service.ServiceFault.TheVariants as service_fault}
+use Rattle.moo_http.{specs.Connections.{StandsAtEnd}, specs.Turns.{Attendance, ServesOn}, specs.declared.service.ServiceFault.{ServiceFault}}
+use Rattle.moo_http.specs.declared.service.ServiceFault.TheVariants as service_fault
 
 -- what stops the service, by its fault
 stopped : (ports : Attendance) (port count : ℕ) (s : State) (end : Stand) (fault : ServiceFault) (failure : Failure) (old new : Option (List ℕ)) → failure ≡ service_failure fault

@@ -1,4 +1,5 @@
-use Rattle.moo_commands.{proofs.Words.{◌≡◌, IfErr, refl, subst₂, loaded_line, StopsIn}, proofs.commands.show_loaded.Goals as goal}
+use Rattle.moo_commands.proofs.Words.{◌≡◌, IfErr, refl, subst₂, loaded_line, StopsIn}
+use Rattle.moo_commands.proofs.commands.show_loaded.Goals as goal
 use Rattle.std.proofs.lemmas.Result.{IfOk-at_ok}
 
 pub returns-clause-stops : goal.returns-clause-stops

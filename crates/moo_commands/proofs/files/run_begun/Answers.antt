@@ -1,4 +1,5 @@
-use Rattle.moo_commands.{proofs.Words.{inl, true, false, refl, sym, subst, over_files, image_at, opening_maps, state_of, StandsFor, given_to, BeginsWith}, proofs.Held.{rows_are, rows_state, runs_rows}, proofs.Beginning.{begins_opening, numbered_opening, fails_to_begin, unmade_begins, fresh_begins}, proofs.Connections.{surely, surely_ends, unseen}, proofs.Refusals.{fails_at_once, refuses_file, tells_fault}, proofs.files.run_begun.Goals as goal}
+use Rattle.moo_commands.{proofs.Words.{inl, true, false, refl, sym, subst, over_files, image_at, opening_maps, state_of, StandsFor, given_to, BeginsWith}, proofs.Held.{rows_are, rows_state, runs_rows}, proofs.Beginning.{begins_opening, numbered_opening, fails_to_begin, unmade_begins, fresh_begins}, proofs.Connections.{surely, surely_ends, unseen}, proofs.Refusals.{fails_at_once, refuses_file, tells_fault}}
+use Rattle.moo_commands.proofs.files.run_begun.Goals as goal
 
 pub returns-in-Ok-clause-runs : goal.returns-in-Ok-clause-runs
 returns-in-Ok-clause-runs g c =

@@ -1,4 +1,5 @@
-use Rattle.moo_commands.{proofs.Words.{inl, refl, NoMemory, given_to}, proofs.Beginning.{new_unseen}, proofs.files.run_in_memory.Goals as goal}
+use Rattle.moo_commands.{proofs.Words.{inl, refl, NoMemory, given_to}, proofs.Beginning.{new_unseen}}
+use Rattle.moo_commands.proofs.files.run_in_memory.Goals as goal
 
 pub returns-in_default-clause-runs : goal.returns-in_default-clause-runs
 returns-in_default-clause-runs g c = record { anew = λ anew. inl (refl, (NoMemory, inl tt, c.report.ensures)); opened = λ other. inl (refl, (NoMemory, tt, c.report.ensures)) }

@@ -1,4 +1,5 @@
-use Rattle.moo_commands.{proofs.Words.{inl, inr, refl, true, sym, subst, ◌∙◌, over_files, image_at, state_of, given_to, StandsFor, BeginsWith}, proofs.Beginning.{begins_dumped, numbered_dumped, held_rows, refuses_dump, reads_dump, keeps_input, of_other_texts, fails_to_begin, unmade_begins, fresh_begins, load_begins, never_other}, proofs.Connections.{surely}, proofs.Refusals.{fails_at_once, tells_fault}, proofs.files.run_loaded.Goals as goal}
+use Rattle.moo_commands.{proofs.Words.{inl, inr, refl, true, sym, subst, ◌∙◌, over_files, image_at, state_of, given_to, StandsFor, BeginsWith}, proofs.Beginning.{begins_dumped, numbered_dumped, held_rows, refuses_dump, reads_dump, keeps_input, of_other_texts, fails_to_begin, unmade_begins, fresh_begins, load_begins, never_other}, proofs.Connections.{surely}, proofs.Refusals.{fails_at_once, tells_fault}}
+use Rattle.moo_commands.proofs.files.run_loaded.Goals as goal
 use Rattle.moo_load.specs.RowsOf.{AreRowsOf}
 
 -- the dump shows no world, and the file isn't opened

@@ -1,4 +1,5 @@
-use Rattle.moo_commands.{proofs.Words.{image_at, given_to}, proofs.Refusals.{runs_task}, proofs.files.run_task.Goals as goal}
+use Rattle.moo_commands.{proofs.Words.{image_at, given_to}, proofs.Refusals.{runs_task}}
+use Rattle.moo_commands.proofs.files.run_task.Goals as goal
 
 pub returns-else-eq-clause-runs : goal.returns-else-eq-clause-runs
 returns-else-eq-clause-runs g c =

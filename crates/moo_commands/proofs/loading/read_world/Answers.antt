@@ -1,4 +1,5 @@
-use Rattle.moo_commands.{proofs.Words.{IfErr, sym, subst, ◌∙◌, RefusesDump}, proofs.Dumps.{no_file}, proofs.Tasks.{given_input, given_file}, proofs.loading.read_world.Goals as goal}
+use Rattle.moo_commands.{proofs.Words.{IfErr, sym, subst, ◌∙◌, RefusesDump}, proofs.Dumps.{no_file}, proofs.Tasks.{given_input, given_file}}
+use Rattle.moo_commands.proofs.loading.read_world.Goals as goal
 
 pub returns-then-eq-clause-failure : goal.returns-then-eq-clause-failure
 returns-then-eq-clause-failure g c =

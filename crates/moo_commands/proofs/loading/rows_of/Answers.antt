@@ -1,4 +1,5 @@
-use Rattle.moo_commands.{proofs.Words.{◌≢◌, ◌<◌, length, subst, State, IsHeld}, proofs.Dumps.{unread, no_dump}, proofs.loading.rows_of.Goals as goal}
+use Rattle.moo_commands.{proofs.Words.{◌≢◌, ◌<◌, length, subst, State, IsHeld}, proofs.Dumps.{unread, no_dump}}
+use Rattle.moo_commands.proofs.loading.rows_of.Goals as goal
 use Rattle.std.proofs.lemmas.Result.{err_from_is_err_and}
 use Rattle.moo_dump.specs.Dump.{dump as dump_of}
 use Rattle.moo_load.specs.declared.fault.LoadFault.TheVariants.{OutOfMemory}

@@ -1,4 +1,5 @@
-use Rattle.moo_commands.{proofs.Words.{damaged_line}, proofs.Reporting.{writes_made}, proofs.output.put_damage.Goals as goal}
+use Rattle.moo_commands.{proofs.Words.{damaged_line}, proofs.Reporting.{writes_made}}
+use Rattle.moo_commands.proofs.output.put_damage.Goals as goal
 
 pub returns : goal.returns
 returns g c =

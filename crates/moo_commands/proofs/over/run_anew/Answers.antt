@@ -1,4 +1,5 @@
-use Rattle.moo_commands.{proofs.Words.{inl, inr, true, refl, opening_maps, state_of, given_to}, proofs.Beginning.{begins_opening}, proofs.Connections.{of_making, surely_ends}, proofs.over.run_anew.Goals as goal}
+use Rattle.moo_commands.{proofs.Words.{inl, inr, true, refl, opening_maps, state_of, given_to}, proofs.Beginning.{begins_opening}, proofs.Connections.{of_making, surely_ends}}
+use Rattle.moo_commands.proofs.over.run_anew.Goals as goal
 
 pub returns-in-Ok-clause-runs : goal.returns-in-Ok-clause-runs
 returns-in-Ok-clause-runs g c =

@@ -1,4 +1,5 @@
-use Rattle.moo_commands.{proofs.Words.{sym, subst, state, store_of, given_to, LeavesNothingNew}, proofs.Tasks.{unmoved}, proofs.Connections.{runs_to, late_clean_of}, proofs.over.run_in.Goals as goal}
+use Rattle.moo_commands.{proofs.Words.{sym, subst, state, store_of, given_to, LeavesNothingNew}, proofs.Tasks.{unmoved}, proofs.Connections.{runs_to, late_clean_of}}
+use Rattle.moo_commands.proofs.over.run_in.Goals as goal
 
 pub returns-clause-runs : goal.returns-clause-runs
 returns-clause-runs g c known s stands =

@@ -1,4 +1,5 @@
-use Rattle.moo_commands.{proofs.Words.{inl, inr, true, refl, ◌∙◌, state_of, given_to}, proofs.Beginning.{begins_dumped, held_rows, refuses_dump, reads_dump, keeps_input, of_other_texts}, proofs.Connections.{of_making, surely_ends}, proofs.over.run_loaded.Goals as goal}
+use Rattle.moo_commands.{proofs.Words.{inl, inr, true, refl, ◌∙◌, state_of, given_to}, proofs.Beginning.{begins_dumped, held_rows, refuses_dump, reads_dump, keeps_input, of_other_texts}, proofs.Connections.{of_making, surely_ends}}
+use Rattle.moo_commands.proofs.over.run_loaded.Goals as goal
 
 pub returns-in-Ok-load_in-clause-runs : goal.returns-in-Ok-load_in-clause-runs
 returns-in-Ok-load_in-clause-runs g c =

@@ -1,4 +1,5 @@
-use Rattle.moo_commands.{proofs.Words.{inl, inr, true, false, refl, subst, state, state_of, Reports}, proofs.Connections.{of_opening, of_refusal, as_before, surely_ends, unseen}, proofs.over.run_opened.Goals as goal}
+use Rattle.moo_commands.{proofs.Words.{inl, inr, true, false, refl, subst, state, state_of, Reports}, proofs.Connections.{of_opening, of_refusal, as_before, surely_ends, unseen}}
+use Rattle.moo_commands.proofs.over.run_opened.Goals as goal
 
 pub returns-in-Ok : goal.returns-in-Ok
 returns-in-Ok g c =

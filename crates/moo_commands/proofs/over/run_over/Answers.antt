@@ -1,4 +1,5 @@
-use Rattle.moo_commands.{proofs.Words.{sym, ◌∙◌, true≢false}, proofs.Beginning.{never_other}, proofs.over.run_over.Goals as goal}
+use Rattle.moo_commands.{proofs.Words.{sym, ◌∙◌, true≢false}, proofs.Beginning.{never_other}}
+use Rattle.moo_commands.proofs.over.run_over.Goals as goal
 
 -- the world of a dump
 

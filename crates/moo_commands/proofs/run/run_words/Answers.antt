@@ -1,4 +1,5 @@
-use Rattle.moo_commands.{proofs.Words.{map, inr, refl, sym, subst, ◌<◌}, proofs.run.run_words.Goals as goal}
+use Rattle.moo_commands.proofs.Words.{map, inr, refl, sym, subst, ◌<◌}
+use Rattle.moo_commands.proofs.run.run_words.Goals as goal
 use Rattle.std.proofs.lemmas.List.{length-map}
 
 pub run_task-requires-clause-read : goal.run_task-requires-clause-read

@@ -1,4 +1,5 @@
-use Rattle.moo_commands.{proofs.Words.{List, ℕ, Bor, map, string_bytes, inr, IfOk, ap, subst, ◌∙◌, image_at, Task, given_to, ReadsFile, KeepsInput, RunsClosed}, proofs.standard.run_given.Goals as goal}
+use Rattle.moo_commands.proofs.Words.{List, ℕ, Bor, map, string_bytes, inr, IfOk, ap, subst, ◌∙◌, image_at, Task, given_to, ReadsFile, KeepsInput, RunsClosed}
+use Rattle.moo_commands.proofs.standard.run_given.Goals as goal
 use Rattle.moo_words.specs.Tasks.{NamesTask}
 
 pub run_to_end-closed-requires-clause-read : goal.run_to_end-closed-requires-clause-read

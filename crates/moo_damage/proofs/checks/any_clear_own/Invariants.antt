@@ -1,4 +1,5 @@
-use Rattle.moo_damage.{proofs.Words.{◌≡◌, list_any, entries, props_left, has_clear}, proofs.checks.any_clear_own.Given as goal}
+use Rattle.moo_damage.proofs.Words.{◌≡◌, list_any, entries, props_left, has_clear}
+use Rattle.moo_damage.proofs.checks.any_clear_own.Given as goal
 
 -- one of those that are left has one just where one of all does
 abbrev pub invariant-loop-id : goal.invariant-loop-id

@@ -1,4 +1,5 @@
-use Rattle.moo_damage.{proofs.Words.{props_left, is_double}, proofs.Found.{FoundLeft}, proofs.checks.first_double.Given as goal}
+use Rattle.moo_damage.{proofs.Words.{props_left, is_double}, proofs.Found.{FoundLeft}}
+use Rattle.moo_damage.proofs.checks.first_double.Given as goal
 
 abbrev pub invariant-loop-key : goal.invariant-loop-key
 invariant-loop-key g l =

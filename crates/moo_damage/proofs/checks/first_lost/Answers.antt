@@ -1,4 +1,5 @@
-use Rattle.moo_damage.{proofs.Words.{rules, object_exact, objects_left, object_total, is_lost}, proofs.Found.{all_left, found, passed, none_found}, proofs.checks.first_lost.Goals as goal}
+use Rattle.moo_damage.{proofs.Words.{rules, object_exact, objects_left, object_total, is_lost}, proofs.Found.{all_left, found, passed, none_found}}
+use Rattle.moo_damage.proofs.checks.first_lost.Goals as goal
 
 pub loop-key-init : goal.loop-key-init
 loop-key-init g c =

@@ -1,4 +1,5 @@
-use Rattle.moo_damage.{proofs.Words.{None, Some, entries, PropId, objects_left, Misses}, proofs.Firsts.{FirstLeft}, proofs.checks.first_missing.Given as goal}
+use Rattle.moo_damage.{proofs.Words.{None, Some, entries, PropId, objects_left, Misses}, proofs.Firsts.{FirstLeft}}
+use Rattle.moo_damage.proofs.checks.first_missing.Given as goal
 
 -- the first of those that are left is the first of all, whatever it misses
 abbrev pub invariant-loop-key : goal.invariant-loop-key

@@ -1,4 +1,5 @@
-use Rattle.moo_damage.{proofs.Words.{petitions_left, is_petition_past}, proofs.Found.{FoundLeft}, proofs.checks.first_petition_past.Given as goal}
+use Rattle.moo_damage.{proofs.Words.{petitions_left, is_petition_past}, proofs.Found.{FoundLeft}}
+use Rattle.moo_damage.proofs.checks.first_petition_past.Given as goal
 
 abbrev pub invariant-loop-key : goal.invariant-loop-key
 invariant-loop-key g l =

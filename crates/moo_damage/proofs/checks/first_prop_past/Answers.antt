@@ -1,4 +1,5 @@
-use Rattle.moo_damage.{proofs.Words.{rules, ap, ◌∙◌, prop_exact, props_left, prop_total, is_prop_past}, proofs.Found.{all_left, found, passed, none_found}, proofs.checks.first_prop_past.Goals as goal}
+use Rattle.moo_damage.{proofs.Words.{rules, ap, ◌∙◌, prop_exact, props_left, prop_total, is_prop_past}, proofs.Found.{all_left, found, passed, none_found}}
+use Rattle.moo_damage.proofs.checks.first_prop_past.Goals as goal
 
 pub loop-key-init : goal.loop-key-init
 loop-key-init g c =

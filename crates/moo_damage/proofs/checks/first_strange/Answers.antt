@@ -1,4 +1,5 @@
-use Rattle.moo_damage.{proofs.Words.{rules, slot_exact, slots_left, slot_total, is_strange}, proofs.Found.{all_left, found, passed, none_found}, proofs.checks.first_strange.Goals as goal}
+use Rattle.moo_damage.{proofs.Words.{rules, slot_exact, slots_left, slot_total, is_strange}, proofs.Found.{all_left, found, passed, none_found}}
+use Rattle.moo_damage.proofs.checks.first_strange.Goals as goal
 
 pub loop-key-init : goal.loop-key-init
 loop-key-init g c =

@@ -1,4 +1,5 @@
-use Rattle.moo_damage.{proofs.Words.{rules, verb_exact, verbs_left, verb_total, is_strange_verb}, proofs.Found.{all_left, found, passed, none_found}, proofs.checks.first_strange_verb.Goals as goal}
+use Rattle.moo_damage.{proofs.Words.{rules, verb_exact, verbs_left, verb_total, is_strange_verb}, proofs.Found.{all_left, found, passed, none_found}}
+use Rattle.moo_damage.proofs.checks.first_strange_verb.Goals as goal
 
 pub loop-key-init : goal.loop-key-init
 loop-key-init g c =

@@ -1,4 +1,5 @@
-use Rattle.moo_damage.{proofs.Words.{◌≡◌, nat_lt, ◌&&◌, list_any, props_left, world_of, share_name, is_double}, proofs.checks.is_double.Given as goal}
+use Rattle.moo_damage.proofs.Words.{◌≡◌, nat_lt, ◌&&◌, list_any, props_left, world_of, share_name, is_double}
+use Rattle.moo_damage.proofs.checks.is_double.Given as goal
 
 -- one of those that are left has the name just where one of all does
 abbrev pub invariant-loop-other : goal.invariant-loop-other

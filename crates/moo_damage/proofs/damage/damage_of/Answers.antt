@@ -1,4 +1,5 @@
-use Rattle.moo_damage.{proofs.Words.{Option, None, Some, subst, IfNone, Parent, Location, LinksEnd, InRows}, proofs.Good.{tree_of, good}, proofs.InTurn.{first_told}, proofs.damage.damage_of.Goals as goal}
+use Rattle.moo_damage.{proofs.Words.{Option, None, Some, subst, IfNone, Parent, Location, LinksEnd, InRows}, proofs.Good.{tree_of, good}, proofs.InTurn.{first_told}}
+use Rattle.moo_damage.proofs.damage.damage_of.Goals as goal
 
 weaker : {T : Type 0} (o : Option T) (A B : Type 0) → (A → B) → IfNone o A → IfNone o B
 weaker None A B f a = f a

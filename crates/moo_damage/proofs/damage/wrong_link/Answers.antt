@@ -1,4 +1,5 @@
-use Rattle.moo_damage.{proofs.Words.{None, subst, lost_kind, loop_kind, InRows, IsLeast}, proofs.Good.{links_hold}, proofs.InTurn.{none_more}, proofs.Searched.{of_object, lost_least, loops_least, told, after_lost}, proofs.damage.wrong_link.Goals as goal}
+use Rattle.moo_damage.{proofs.Words.{None, subst, lost_kind, loop_kind, InRows, IsLeast}, proofs.Good.{links_hold}, proofs.InTurn.{none_more}, proofs.Searched.{of_object, lost_least, loops_least, told, after_lost}}
+use Rattle.moo_damage.proofs.damage.wrong_link.Goals as goal
 
 pub first_loop-requires : goal.first_loop-requires
 first_loop-requires g c = links_hold c.args.link (g.R.Rows.held c.args.rows.now).maps c.requires.numbers c.in_default.ensures

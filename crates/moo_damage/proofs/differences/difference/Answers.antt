@@ -1,4 +1,5 @@
-use Rattle.moo_damage.{proofs.Words.{rules, ◌≡◌}, proofs.Differing.{nowhere}, proofs.differences.difference.Goals as goal}
+use Rattle.moo_damage.{proofs.Words.{rules, ◌≡◌}, proofs.Differing.{nowhere}}
+use Rattle.moo_damage.proofs.differences.difference.Goals as goal
 
 pub returns-clause-same : goal.returns-clause-same
 returns-clause-same g c =

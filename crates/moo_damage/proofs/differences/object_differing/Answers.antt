@@ -1,4 +1,5 @@
-use Rattle.moo_damage.{proofs.Words.{sym, subst, object_exact, object_total, IsFirstUnlike}, proofs.Unlike.{first_unlike}, proofs.differences.object_differing.Goals as goal}
+use Rattle.moo_damage.{proofs.Words.{sym, subst, object_exact, object_total, IsFirstUnlike}, proofs.Unlike.{first_unlike}}
+use Rattle.moo_damage.proofs.differences.object_differing.Goals as goal
 
 pub returns : goal.returns
 returns g c =

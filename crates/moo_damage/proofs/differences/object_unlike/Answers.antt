@@ -1,4 +1,5 @@
-use Rattle.moo_damage.{proofs.Words.{rules, objects_left, object_exact, object_total}, proofs.Unlike.{all_left, alike, differs, none_differs}, proofs.differences.object_unlike.Goals as goal}
+use Rattle.moo_damage.{proofs.Words.{rules, objects_left, object_exact, object_total}, proofs.Unlike.{all_left, alike, differs, none_differs}}
+use Rattle.moo_damage.proofs.differences.object_unlike.Goals as goal
 
 pub loop-key-init : goal.loop-key-init
 loop-key-init g c = all_left (g.R.Rows.held c.args.rows.now).maps.objects (g.R.Rows.held c.args.there.now).maps.objects (objects_left c.into_iter-key-iterator.result.last (g.R.Rows.held c.into_iter-key-iterator.result.rows.now).maps) (search rules)

@@ -1,4 +1,5 @@
-use Rattle.moo_damage.{proofs.Words.{sym, subst, petition_exact, petition_total, IsFirstUnlike}, proofs.Unlike.{first_unlike}, proofs.differences.petition_differing.Goals as goal}
+use Rattle.moo_damage.{proofs.Words.{sym, subst, petition_exact, petition_total, IsFirstUnlike}, proofs.Unlike.{first_unlike}}
+use Rattle.moo_damage.proofs.differences.petition_differing.Goals as goal
 
 pub returns : goal.returns
 returns g c =

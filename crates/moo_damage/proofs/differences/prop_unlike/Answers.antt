@@ -1,4 +1,5 @@
-use Rattle.moo_damage.{proofs.Words.{rules, props_left, prop_exact, prop_total}, proofs.Unlike.{all_left, alike, differs, none_differs}, proofs.differences.prop_unlike.Goals as goal}
+use Rattle.moo_damage.{proofs.Words.{rules, props_left, prop_exact, prop_total}, proofs.Unlike.{all_left, alike, differs, none_differs}}
+use Rattle.moo_damage.proofs.differences.prop_unlike.Goals as goal
 
 pub loop-key-init : goal.loop-key-init
 loop-key-init g c = all_left (g.R.Rows.held c.args.rows.now).maps.props (g.R.Rows.held c.args.there.now).maps.props (props_left c.into_iter-key-iterator.result.last (g.R.Rows.held c.into_iter-key-iterator.result.rows.now).maps) (search rules)

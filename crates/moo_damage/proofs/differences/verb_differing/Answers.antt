@@ -1,4 +1,5 @@
-use Rattle.moo_damage.{proofs.Words.{sym, subst, verb_exact, verb_total, IsFirstUnlike}, proofs.Unlike.{first_unlike}, proofs.differences.verb_differing.Goals as goal}
+use Rattle.moo_damage.{proofs.Words.{sym, subst, verb_exact, verb_total, IsFirstUnlike}, proofs.Unlike.{first_unlike}}
+use Rattle.moo_damage.proofs.differences.verb_differing.Goals as goal
 
 pub returns : goal.returns
 returns g c =

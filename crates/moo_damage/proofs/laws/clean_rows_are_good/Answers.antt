@@ -1,4 +1,5 @@
-use Rattle.moo_damage.{proofs.Good.{good}, proofs.laws.clean_rows_are_good.Goals as goal}
+use Rattle.moo_damage.proofs.Good.{good}
+use Rattle.moo_damage.proofs.laws.clean_rows_are_good.Goals as goal
 
 pub returns : goal.returns
 returns c m within clean = good m within clean

@@ -1,4 +1,5 @@
-use Rattle.moo_damage.{proofs.Clean.{clean}, proofs.laws.good_rows_are_clean.Goals as goal}
+use Rattle.moo_damage.proofs.Clean.{clean}
+use Rattle.moo_damage.proofs.laws.good_rows_are_clean.Goals as goal
 
 pub returns : goal.returns
 returns c m good = clean m good

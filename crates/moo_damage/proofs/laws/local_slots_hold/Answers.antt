@@ -1,4 +1,5 @@
-use Rattle.moo_damage.{proofs.Locally.{slots_hold}, proofs.laws.local_slots_hold.Goals as goal}
+use Rattle.moo_damage.proofs.Locally.{slots_hold}
+use Rattle.moo_damage.proofs.laws.local_slots_hold.Goals as goal
 
 pub returns : goal.returns
 returns c m t h = slots_hold m t h

@@ -1,4 +1,5 @@
-use Rattle.moo_damage.{proofs.Words.{◌≡◌, not, list_any, entries, slots_left, comes_down}, proofs.local.any_from_nowhere.Given as goal}
+use Rattle.moo_damage.proofs.Words.{◌≡◌, not, list_any, entries, slots_left, comes_down}
+use Rattle.moo_damage.proofs.local.any_from_nowhere.Given as goal
 
 -- one of those that are left comes from nowhere just where one of all does
 abbrev pub invariant-loop-key : goal.invariant-loop-key

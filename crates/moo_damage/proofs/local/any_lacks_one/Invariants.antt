@@ -1,4 +1,5 @@
-use Rattle.moo_damage.{proofs.Words.{◌≡◌, list_any, entries, objects_left, lacks_one_of}, proofs.local.any_lacks_one.Given as goal}
+use Rattle.moo_damage.proofs.Words.{◌≡◌, list_any, entries, objects_left, lacks_one_of}
+use Rattle.moo_damage.proofs.local.any_lacks_one.Given as goal
 
 -- one of those that are left lacks a slot just where one of all does
 abbrev pub invariant-loop-x : goal.invariant-loop-x

@@ -1,4 +1,5 @@
-use Rattle.moo_damage.{proofs.Words.{◌≡◌, not, list_any, entries, props_left, has_slot}, proofs.local.any_lacks_own.Given as goal}
+use Rattle.moo_damage.proofs.Words.{◌≡◌, not, list_any, entries, props_left, has_slot}
+use Rattle.moo_damage.proofs.local.any_lacks_own.Given as goal
 
 -- one of those that are left lacks it just where one of all does
 abbrev pub invariant-loop-id : goal.invariant-loop-id

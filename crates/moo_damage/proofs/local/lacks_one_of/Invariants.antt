@@ -1,4 +1,5 @@
-use Rattle.moo_damage.{proofs.Words.{◌≡◌, not, list_any, slots_of_left, has_slot, lacks_one_of}, proofs.local.lacks_one_of.Given as goal}
+use Rattle.moo_damage.proofs.Words.{◌≡◌, not, list_any, slots_of_left, has_slot, lacks_one_of}
+use Rattle.moo_damage.proofs.local.lacks_one_of.Given as goal
 
 -- x lacks one of those that are left just where it lacks one of all
 abbrev pub invariant-loop-key : goal.invariant-loop-key

@@ -1,4 +1,5 @@
-use Rattle.moo_damage.{proofs.Words.{Bool, true, false, Some, sym, ◌∙◌, ◌≡◌, get, both_ways, PropId, PropRow, NamesApart, SlotsHold, Ok, Err, IfOk}, proofs.Locally.{slots_hold}, proofs.Nearby.{local}, proofs.Soundly.{each_has_own, each_comes_down, none_lacks_one}, proofs.local.slots_hold.Goals as goal}
+use Rattle.moo_damage.{proofs.Words.{Bool, true, false, Some, sym, ◌∙◌, ◌≡◌, get, both_ways, PropId, PropRow, NamesApart, SlotsHold, Ok, Err, IfOk}, proofs.Locally.{slots_hold}, proofs.Nearby.{local}, proofs.Soundly.{each_has_own, each_comes_down, none_lacks_one}}
+use Rattle.moo_damage.proofs.local.slots_hold.Goals as goal
 
 -- what a test found is not found of good rows
 never : {P : Type 0} (found any : Bool) → found ≡ any → found ≡ true → any ≡ false → P

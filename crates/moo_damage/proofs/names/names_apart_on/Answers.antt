@@ -1,4 +1,5 @@
-use Rattle.moo_damage.{proofs.Words.{rules, ◌≡◌, true, inr, sym, ap, ◌∙◌, subst, nat_eq, get, list_any, lookup, none-some, ObjNo, PropId, SlotRow, slots_of_left, same_text, walk, NotesProp}, proofs.Noting.{AreSlots, all_walked, always_alone, apart_at_end, own_still, reached, slots_walked}, proofs.names.names_apart_on.Goals as goal}
+use Rattle.moo_damage.{proofs.Words.{rules, ◌≡◌, true, inr, sym, ap, ◌∙◌, subst, nat_eq, get, list_any, lookup, none-some, ObjNo, PropId, SlotRow, slots_of_left, same_text, walk, NotesProp}, proofs.Noting.{AreSlots, all_walked, always_alone, apart_at_end, own_still, reached, slots_walked}}
+use Rattle.moo_damage.proofs.names.names_apart_on.Goals as goal
 
 pub loop-key-init : goal.loop-key-init
 loop-key-init g c =

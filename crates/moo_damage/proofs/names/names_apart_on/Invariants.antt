@@ -1,4 +1,5 @@
-use Rattle.moo_damage.{proofs.Words.{slots_of_left}, proofs.Noting.{AreSlots, Own, Reached}, proofs.names.names_apart_on.Given as goal}
+use Rattle.moo_damage.{proofs.Words.{slots_of_left}, proofs.Noting.{AreSlots, Own, Reached}}
+use Rattle.moo_damage.proofs.names.names_apart_on.Given as goal
 
 -- each property is noted, or is left
 abbrev pub invariant-loop-key : goal.invariant-loop-key

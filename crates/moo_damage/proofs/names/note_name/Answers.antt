@@ -1,4 +1,5 @@
-use Rattle.moo_damage.{proofs.Words.{rules, ◌≡◌, Some, cond, sym, ap, ◌∙◌, lookup, same_text, folded, noted_as, is_alone}, proofs.Noting.{lowered, seen_after, seen_at}, proofs.names.note_name.Goals as goal}
+use Rattle.moo_damage.{proofs.Words.{rules, ◌≡◌, Some, cond, sym, ap, ◌∙◌, lookup, same_text, folded, noted_as, is_alone}, proofs.Noting.{lowered, seen_after, seen_at}}
+use Rattle.moo_damage.proofs.names.note_name.Goals as goal
 
 pub returns-in-None-clause-noted : goal.returns-in-None-clause-noted
 returns-in-None-clause-noted c n =

@@ -1,4 +1,5 @@
-use Rattle.moo_damage.{proofs.Words.{◌≡◌, true, Option, None, Some, refl, ◌⊎◌, sym, ap, ◌∙◌, subst, arith, is_some, option_map, AllByRecursion, get, object_cmp, contents, some_of, nothing, Climbs, next_of, HasEnd, all_then}, proofs.Ending.{ends_here, step_up, step_down, bound}, proofs.trees.climb.Goals as goal}
+use Rattle.moo_damage.{proofs.Words.{◌≡◌, true, Option, None, Some, refl, ◌⊎◌, sym, ap, ◌∙◌, subst, arith, is_some, option_map, AllByRecursion, get, object_cmp, contents, some_of, nothing, Climbs, next_of, HasEnd, all_then}, proofs.Ending.{ends_here, step_up, step_down, bound}}
+use Rattle.moo_damage.proofs.trees.climb.Goals as goal
 
 some_still : {A B : Type 0} (o : Option A) (f : A → B) → is_some o ≡ true → is_some (option_map f o) ≡ true
 some_still None f e = e

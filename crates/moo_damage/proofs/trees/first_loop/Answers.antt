@@ -1,4 +1,5 @@
-use Rattle.moo_damage.{proofs.Words.{rules, ◌≡◌, Some, sym, ap, ◌∙◌, subst, IfNone, AllByRecursion, get, entries, from_entries, get-empty, none-some, ObjNo, ObjRow, object_exact, object_cmp, objects_left, object_total, HasEnd, Loops}, proofs.Firsts.{FirstIn, held_entries, ended, stopped}, proofs.trees.first_loop.Goals as goal}
+use Rattle.moo_damage.{proofs.Words.{rules, ◌≡◌, Some, sym, ap, ◌∙◌, subst, IfNone, AllByRecursion, get, entries, from_entries, get-empty, none-some, ObjNo, ObjRow, object_exact, object_cmp, objects_left, object_total, HasEnd, Loops}, proofs.Firsts.{FirstIn, held_entries, ended, stopped}}
+use Rattle.moo_damage.proofs.trees.first_loop.Goals as goal
 
 pub loop-x-init : goal.loop-x-init
 loop-x-init g c =

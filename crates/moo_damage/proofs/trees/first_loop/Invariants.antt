@@ -1,4 +1,5 @@
-use Rattle.moo_damage.{proofs.Words.{◌≡◌, Some, AllByRecursion, get, entries, object_cmp, contents, objects_left, HasEnd, Loops, AreEnding}, proofs.Firsts.{FirstLeft}, proofs.trees.first_loop.Given as goal}
+use Rattle.moo_damage.{proofs.Words.{◌≡◌, Some, AllByRecursion, get, entries, object_cmp, contents, objects_left, HasEnd, Loops, AreEnding}, proofs.Firsts.{FirstLeft}}
+use Rattle.moo_damage.proofs.trees.first_loop.Given as goal
 
 -- the first of those that are left is the first of all
 abbrev pub invariant-loop-x : goal.invariant-loop-x

@@ -1,4 +1,5 @@
-use Rattle.moo_damage.{proofs.Words.{ℕ, suc, ◌+◌, ◌<◌, ◌≡◌, drop, length, get_or, List, pos, sym, subst, arith, AllByRecursion, ObjNo, HasEnd, AreEnding}, proofs.Ending.{AreEnding-noted}, proofs.trees.note.Goals as goal}
+use Rattle.moo_damage.{proofs.Words.{ℕ, suc, ◌+◌, ◌<◌, ◌≡◌, drop, length, get_or, List, pos, sym, subst, arith, AllByRecursion, ObjNo, HasEnd, AreEnding}, proofs.Ending.{AreEnding-noted}}
+use Rattle.moo_damage.proofs.trees.note.Goals as goal
 use Rattle.std.proofs.Math.Seq.{drop-cons}
 
 -- what holds of each of the rest holds of its first, and of the rest behind it

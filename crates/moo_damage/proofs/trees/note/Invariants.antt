@@ -1,4 +1,5 @@
-use Rattle.moo_damage.{proofs.Words.{drop, AllByRecursion, Maps, object_cmp, contents, TreeLink, HasEnd, AreEnding}, proofs.trees.note.Given as goal}
+use Rattle.moo_damage.proofs.Words.{drop, AllByRecursion, Maps, object_cmp, contents, TreeLink, HasEnd, AreEnding}
+use Rattle.moo_damage.proofs.trees.note.Given as goal
 
 abbrev pub invariant-loop-x : goal.invariant-loop-x
 invariant-loop-x l =

@@ -1,4 +1,5 @@
-use Rattle.moo_damage.{proofs.Words.{◌≡◌, ap, ◌∙◌, arith, length, entries}, proofs.trees.object_count.Goals as goal}
+use Rattle.moo_damage.proofs.Words.{◌≡◌, ap, ◌∙◌, arith, length, entries}
+use Rattle.moo_damage.proofs.trees.object_count.Goals as goal
 use Rattle.std.proofs.lemmas.List.{length-map}
 use Rattle.moo_props.proofs.Steps.{listed, all_listed}
 

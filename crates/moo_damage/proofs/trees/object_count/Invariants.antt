@@ -1,4 +1,5 @@
-use Rattle.moo_damage.{proofs.Words.{◌≡◌, ◌++◌, map, entries, objects_left}, proofs.trees.object_count.Given as goal}
+use Rattle.moo_damage.proofs.Words.{◌≡◌, ◌++◌, map, entries, objects_left}
+use Rattle.moo_damage.proofs.trees.object_count.Given as goal
 
 -- those so far, and those that are left
 abbrev pub invariant-loop-x : goal.invariant-loop-x

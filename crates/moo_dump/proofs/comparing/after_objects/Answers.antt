@@ -1,4 +1,5 @@
-use Rattle.moo_dump.{proofs.Words.{◌≡◌, ◌++◌, List, ℕ, take, sym, ap, ◌∙◌, rules, entries, flat_map, err_from_is_err_and, ObjNo, ObjRow, objects_left, world_of, object_lines, objects_text}, proofs.Compared.{fault_at, next_compared}, proofs.ObjectLines.{objects_printed}, proofs.comparing.after_objects.Goals as goal}
+use Rattle.moo_dump.{proofs.Words.{◌≡◌, ◌++◌, List, ℕ, take, sym, ap, ◌∙◌, rules, entries, flat_map, err_from_is_err_and, ObjNo, ObjRow, objects_left, world_of, object_lines, objects_text}, proofs.Compared.{fault_at, next_compared}, proofs.ObjectLines.{objects_printed}}
+use Rattle.moo_dump.proofs.comparing.after_objects.Goals as goal
 
 pub loop-x-init : goal.loop-x-init
 loop-x-init g c =

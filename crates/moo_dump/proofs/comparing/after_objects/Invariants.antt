@@ -1,4 +1,5 @@
-use Rattle.moo_dump.{proofs.Words.{◌≤◌, length, take, flat_map, objects_left, world_of, object_lines, objects_text}, proofs.Compared.{IsComparedTo}, proofs.comparing.after_objects.Given as goal}
+use Rattle.moo_dump.{proofs.Words.{◌≤◌, length, take, flat_map, objects_left, world_of, object_lines, objects_text}, proofs.Compared.{IsComparedTo}}
+use Rattle.moo_dump.proofs.comparing.after_objects.Given as goal
 
 -- the lines of the objects that are left are what is not compared yet
 abbrev pub invariant-loop-x : goal.invariant-loop-x

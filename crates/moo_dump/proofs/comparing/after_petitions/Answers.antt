@@ -1,4 +1,5 @@
-use Rattle.moo_dump.{proofs.Words.{take, ap, ◌∙◌, flat_map, err_from_is_err_and, petitions_left, petition_line, petitions_text}, proofs.Compared.{fault_at, next_compared}, proofs.comparing.after_petitions.Goals as goal}
+use Rattle.moo_dump.{proofs.Words.{take, ap, ◌∙◌, flat_map, err_from_is_err_and, petitions_left, petition_line, petitions_text}, proofs.Compared.{fault_at, next_compared}}
+use Rattle.moo_dump.proofs.comparing.after_petitions.Goals as goal
 
 pub returns-in_err-at-clause-err : goal.returns-in_err-at-clause-err
 returns-in_err-at-clause-err g c =

@@ -1,4 +1,5 @@
-use Rattle.moo_dump.{proofs.Words.{◌≤◌, length, take, flat_map, petitions_left, petition_line, petitions_text}, proofs.Compared.{IsComparedTo}, proofs.comparing.after_petitions.Given as goal}
+use Rattle.moo_dump.{proofs.Words.{◌≤◌, length, take, flat_map, petitions_left, petition_line, petitions_text}, proofs.Compared.{IsComparedTo}}
+use Rattle.moo_dump.proofs.comparing.after_petitions.Given as goal
 
 -- the lines of the petitions that are left are what is not compared yet
 abbrev pub invariant-loop-id : goal.invariant-loop-id

@@ -1,4 +1,5 @@
-use Rattle.moo_dump.{proofs.Words.{◌≡◌, ◌≤◌, ◌<◌, ◌+◌, ◌-◌, ◌++◌, ℕ, List, length, take, drop, sym, ap, ◌∙◌, arith, slice_get, take_rest, length-drop, take_all}, proofs.Compared.{taken_to, departs}, proofs.comparing.after_piece.Goals as goal}
+use Rattle.moo_dump.{proofs.Words.{◌≡◌, ◌≤◌, ◌<◌, ◌+◌, ◌-◌, ◌++◌, ℕ, List, length, take, drop, sym, ap, ◌∙◌, arith, slice_get, take_rest, length-drop, take_all}, proofs.Compared.{taken_to, departs}}
+use Rattle.moo_dump.proofs.comparing.after_piece.Goals as goal
 
 pub returns-then-count-piece-clause-err : goal.returns-then-count-piece-clause-err
 returns-then-count-piece-clause-err c =

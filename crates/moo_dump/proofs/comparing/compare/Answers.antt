@@ -1,4 +1,5 @@
-use Rattle.moo_dump.{proofs.Words.{◌≡◌, ◌<◌, ◌++◌, [], List, ℕ, length, take, sym, subst, ◌∙◌, arith, codes, take_all, err_from_is_err_and, state_of, CompareFault, PartAt, TellsDifference, dump, objects_text, petitions_text}, proofs.Compared.{goes_on, headed, with_end, with_objects, with_petitions}, proofs.comparing.compare.Goals as goal}
+use Rattle.moo_dump.{proofs.Words.{◌≡◌, ◌<◌, ◌++◌, [], List, ℕ, length, take, sym, subst, ◌∙◌, arith, codes, take_all, err_from_is_err_and, state_of, CompareFault, PartAt, TellsDifference, dump, objects_text, petitions_text}, proofs.Compared.{goes_on, headed, with_end, with_objects, with_petitions}}
+use Rattle.moo_dump.proofs.comparing.compare.Goals as goal
 
 -- where the text departs from what the dump is, it departs from the dump
 of_dump : (text all dumped : List ℕ) (fault new : CompareFault) → new ≡ fault → all ≡ dumped → TellsDifference all text fault → TellsDifference dumped text new

@@ -1,4 +1,5 @@
-use Rattle.moo_dump.{proofs.Words.{sym, ◌∙◌, arith}, proofs.comparing.shared_length.Goals as goal}
+use Rattle.moo_dump.proofs.Words.{sym, ◌∙◌, arith}
+use Rattle.moo_dump.proofs.comparing.shared_length.Goals as goal
 use Rattle.std.{proofs.lemmas.List.{take_more_same}, proofs.lemmas.Option.{same_Some, slice_get-get_or}}
 
 pub loop-count-preserved : goal.loop-count-preserved

@@ -1,4 +1,5 @@
-use Rattle.moo_dump.{proofs.Words.{◌≡◌, ◌≤◌, ◌-◌, length, take}, proofs.comparing.shared_length.Given as goal}
+use Rattle.moo_dump.proofs.Words.{◌≡◌, ◌≤◌, ◌-◌, length, take}
+use Rattle.moo_dump.proofs.comparing.shared_length.Given as goal
 
 abbrev pub invariant-loop-count : goal.invariant-loop-count
 invariant-loop-count l = record {

@@ -1,4 +1,5 @@
-use Rattle.moo_dump.{proofs.Words.{rules, ◌++◌, [], ◌∷◌, Option, Some, cond, ap, ◌∙◌, unwrap_or, option_map, is_at, Vec, PropId, object_cmp}, proofs.Listing.{listed_more}, proofs.definitions.add_definition.Goals as goal}
+use Rattle.moo_dump.{proofs.Words.{rules, ◌++◌, [], ◌∷◌, Option, Some, cond, ap, ◌∙◌, unwrap_or, option_map, is_at, Vec, PropId, object_cmp}, proofs.Listing.{listed_more}}
+use Rattle.moo_dump.proofs.definitions.add_definition.Goals as goal
 use Rattle.std.specs.BTreeMap.{get}
 
 pub returns-in_ok-push-in-Some : goal.returns-in_ok-push-in-Some

@@ -1,4 +1,5 @@
-use Rattle.moo_dump.{proofs.Words.{◌≡◌, ◌++◌, ObjNo, ids_listed, ids_defined}, specs.Lines.{ids_defined_by}, proofs.definitions.all_definitions.Given as goal}
+use Rattle.moo_dump.{proofs.Words.{◌≡◌, ◌++◌, ObjNo, ids_listed, ids_defined}, specs.Lines.{ids_defined_by}}
+use Rattle.moo_dump.proofs.definitions.all_definitions.Given as goal
 use Rattle.moo_rows.specs.Walk.{props_left}
 
 -- those so far, and those of the properties that are left

@@ -1,4 +1,5 @@
-use Rattle.moo_dump.{proofs.Words.{ℕ, take, ◌∙◌, Appends, dump, state_of}, proofs.Writing.{Appends-nothing, on_err, all_written, at_end, at_heading, at_objects, at_petitions}, proofs.dumping.dump.Goals as goal}
+use Rattle.moo_dump.{proofs.Words.{ℕ, take, ◌∙◌, Appends, dump, state_of}, proofs.Writing.{Appends-nothing, on_err, all_written, at_end, at_heading, at_objects, at_petitions}}
+use Rattle.moo_dump.proofs.dumping.dump.Goals as goal
 use Rattle.std.proofs.lemmas.Result.{on_ok_weaker, on_err_weaker}
 
 pub returns-in_err-definitions-clause-err : goal.returns-in_err-definitions-clause-err

@@ -1,4 +1,5 @@
-use Rattle.moo_dump.{proofs.Words.{◌≡◌, ◌++◌, ℕ, ap, ◌∙◌, rules, codes, state_of, Vec}, proofs.dumping.heading_text.Goals as goal}
+use Rattle.moo_dump.proofs.Words.{◌≡◌, ◌++◌, ℕ, ap, ◌∙◌, rules, codes, state_of, Vec}
+use Rattle.moo_dump.proofs.dumping.heading_text.Goals as goal
 use Rattle.std.specs.Fmt.{decimal, signed_decimal}
 use Rattle.moo_world.specs.Rows.{world_shown}
 

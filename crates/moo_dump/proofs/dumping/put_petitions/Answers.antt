@@ -1,4 +1,5 @@
-use Rattle.moo_dump.{proofs.Words.{◌≡◌, sym, ap, subst, ◌∙◌, rules, entries, flat_map, petitions_left, petition_line, petitions_text}, proofs.Writing.{HasWritten, written_none, on_err, next_part, next_written}, proofs.dumping.put_petitions.Goals as goal}
+use Rattle.moo_dump.{proofs.Words.{◌≡◌, sym, ap, subst, ◌∙◌, rules, entries, flat_map, petitions_left, petition_line, petitions_text}, proofs.Writing.{HasWritten, written_none, on_err, next_part, next_written}}
+use Rattle.moo_dump.proofs.dumping.put_petitions.Goals as goal
 
 pub loop-id-init : goal.loop-id-init
 loop-id-init g c =

@@ -1,4 +1,5 @@
-use Rattle.moo_dump.{proofs.Words.{flat_map, petitions_left, petition_line, petitions_text}, proofs.Writing.{HasWritten}, proofs.dumping.put_petitions.Given as goal}
+use Rattle.moo_dump.{proofs.Words.{flat_map, petitions_left, petition_line, petitions_text}, proofs.Writing.{HasWritten}}
+use Rattle.moo_dump.proofs.dumping.put_petitions.Given as goal
 
 -- the lines of the petitions that are left are what is not written yet
 abbrev pub invariant-loop-id : goal.invariant-loop-id

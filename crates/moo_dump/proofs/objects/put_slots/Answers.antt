@@ -1,4 +1,5 @@
-use Rattle.moo_dump.{proofs.Words.{◌≡◌, ◌++◌, List, ℕ, get_or, ap, ◌∙◌, rules, flat_map, ObjNo, world_of, ids_defined, slot_line_of, slot_lines_over}, proofs.FlatMaps.{one_more, all_made}, proofs.objects.put_slots.Goals as goal}
+use Rattle.moo_dump.{proofs.Words.{◌≡◌, ◌++◌, List, ℕ, get_or, ap, ◌∙◌, rules, flat_map, ObjNo, world_of, ids_defined, slot_line_of, slot_lines_over}, proofs.FlatMaps.{one_more, all_made}}
+use Rattle.moo_dump.proofs.objects.put_slots.Goals as goal
 use Rattle.std.proofs.Common.{pos}
 use Rattle.moo_world.specs.World.{chain}
 

@@ -1,4 +1,5 @@
-use Rattle.moo_dump.{proofs.Words.{◌≡◌, ◌++◌, flat_map, Entry, walk, verb_line}, proofs.objects.put_verbs.Given as goal}
+use Rattle.moo_dump.proofs.Words.{◌≡◌, ◌++◌, flat_map, Entry, walk, verb_line}
+use Rattle.moo_dump.proofs.objects.put_verbs.Given as goal
 use Rattle.moo_rows.specs.Walk.{verbs_of_left}
 
 -- the lines so far, and those of the verbs that are left

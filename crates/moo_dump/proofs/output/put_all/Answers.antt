@@ -1,4 +1,5 @@
-use Rattle.moo_dump.{proofs.Words.{◌≡◌, ◌-◌, ℕ, List, length, take, drop, arith, subst, ap, Appends, take_rest, length-drop}, proofs.Writing.{take_then}, proofs.output.put_all.Goals as goal}
+use Rattle.moo_dump.{proofs.Words.{◌≡◌, ◌-◌, ℕ, List, length, take, drop, arith, subst, ap, Appends, take_rest, length-drop}, proofs.Writing.{take_then}}
+use Rattle.moo_dump.proofs.output.put_all.Goals as goal
 
 pub loop-at-preserved : goal.loop-at-preserved
 loop-at-preserved g c =

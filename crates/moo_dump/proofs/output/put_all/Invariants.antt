@@ -1,4 +1,5 @@
-use Rattle.moo_dump.{proofs.Words.{◌≤◌, ◌-◌, length, take, Appends}, proofs.output.put_all.Given as goal}
+use Rattle.moo_dump.proofs.Words.{◌≤◌, ◌-◌, length, take, Appends}
+use Rattle.moo_dump.proofs.output.put_all.Given as goal
 
 abbrev pub invariant-loop-at : goal.invariant-loop-at
 invariant-loop-at g l = record {

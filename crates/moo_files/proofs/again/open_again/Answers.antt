@@ -1,4 +1,5 @@
-use Rattle.moo_files.{proofs.Words.{over_files, HasCleanDisk, ShowsRows, store_of, HoldsTables}, proofs.AgainLemmas.{held_after, led_again, each_ok}, proofs.again.open_again.Goals as goal}
+use Rattle.moo_files.{proofs.Words.{over_files, HasCleanDisk, ShowsRows, store_of, HoldsTables}, proofs.AgainLemmas.{held_after, led_again, each_ok}}
+use Rattle.moo_files.proofs.again.open_again.Goals as goal
 
 pub returns-clause-found : goal.returns-clause-found
 returns-clause-found g c crashed stand image opened leaves left kept =

@@ -1,4 +1,5 @@
-use Rattle.moo_files.{proofs.Words.{◌≡◌, ◌∙◌, false, ap, sym, subst, subst₂, inl, inr, arith, seen_image, outcomes, bytes_of, IsPageSize, are_clean, AreClean, IsBlankFile, stored_size, state_of, image, clean_of, no_doubt, IsEmpty, image_of, stored_used}, proofs.BlankLemmas.{on_the_way}, proofs.blank.connect_blank.Goals as goal}
+use Rattle.moo_files.{proofs.Words.{◌≡◌, ◌∙◌, false, ap, sym, subst, subst₂, inl, inr, arith, seen_image, outcomes, bytes_of, IsPageSize, are_clean, AreClean, IsBlankFile, stored_size, state_of, image, clean_of, no_doubt, IsEmpty, image_of, stored_used}, proofs.BlankLemmas.{on_the_way}}
+use Rattle.moo_files.proofs.blank.connect_blank.Goals as goal
 use Rattle.sqlite_store.{specs.FileStore.{view}, specs.Laws.{settled_at}}
 use Rattle.sqlite.proofs.OpenLemmas.{pool_files}
 

@@ -1,4 +1,5 @@
-use Rattle.moo_files.{proofs.Words.{ap, ◌∙◌, arith, listed_from, catalog_rows, no_doubt}, proofs.blank.create_blank.Goals as goal}
+use Rattle.moo_files.proofs.Words.{ap, ◌∙◌, arith, listed_from, catalog_rows, no_doubt}
+use Rattle.moo_files.proofs.blank.create_blank.Goals as goal
 
 pub returns-in-Ok-clause-made : goal.returns-in-Ok-clause-made
 returns-in-Ok-clause-made g c clean =

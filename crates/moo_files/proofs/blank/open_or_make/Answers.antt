@@ -1,4 +1,5 @@
-use Rattle.moo_files.{proofs.Words.{◌≡◌, ◌∙◌, sym, subst, inl, inr, rules, true, false, bytes_of, IsBlankFile, HoldsDatabase, image_of, same_image, IsBlank}, proofs.BlankLemmas.{holds_none, blank_earlier, files_earlier, finds_earlier, each_ok, both_ok, each_err, both_err}, proofs.blank.open_or_make.Goals as goal}
+use Rattle.moo_files.{proofs.Words.{◌≡◌, ◌∙◌, sym, subst, inl, inr, rules, true, false, bytes_of, IsBlankFile, HoldsDatabase, image_of, same_image, IsBlank}, proofs.BlankLemmas.{holds_none, blank_earlier, files_earlier, finds_earlier, each_ok, both_ok, each_err, both_err}}
+use Rattle.moo_files.proofs.blank.open_or_make.Goals as goal
 
 pub returns-in-Ok-true-clause-holds : goal.returns-in-Ok-true-clause-holds
 returns-in-Ok-true-clause-holds g c =

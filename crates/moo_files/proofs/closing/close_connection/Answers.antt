@@ -4,7 +4,8 @@ use Rattle.sqlite_pool.proofs.StateLemmas.{clean_is, may_leave_is}
 use Rattle.sqlite_store.{specs.FileStore.{state, view}, specs.Laws.{stays_at}}
 use Rattle.sqlite_trees.{specs.View.{View, IsClean}, proofs.Doubt.{clean_of as sure, no_doubt}}
 use Rattle.sqlite.{specs.Closing.{HoldsAlone}, proofs.Theorems.{copied}}
-use Rattle.moo_files.{proofs.ClosingLemmas.{quiet_then}, proofs.ContentsLemmas.{none_below}, proofs.closing.close_connection.Goals as goal}
+use Rattle.moo_files.{proofs.ClosingLemmas.{quiet_then}, proofs.ContentsLemmas.{none_below}}
+use Rattle.moo_files.proofs.closing.close_connection.Goals as goal
 
 -- ---- the log was copied
 

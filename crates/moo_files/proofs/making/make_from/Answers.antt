@@ -1,4 +1,5 @@
-use Rattle.moo_files.{proofs.Words.{◌≡◌, ◌⊎◌, inl, sym, subst, Trees, over_files, file_state, IsEmpty, image_at, Maps, LeavesState, store_of}, specs.Making.{rows_made}, proofs.ContentsLemmas.{was_clean, clean_either, shows_held, left_held, left_only, left_new, left_begun, finds_held, has_tables, any_table, no_table, found_something, or_committed}, proofs.RemainsLemmas.{keeps_more, blank_more}, proofs.making.make_from.Goals as goal}
+use Rattle.moo_files.{proofs.Words.{◌≡◌, ◌⊎◌, inl, sym, subst, Trees, over_files, file_state, IsEmpty, image_at, Maps, LeavesState, store_of}, specs.Making.{rows_made}, proofs.ContentsLemmas.{was_clean, clean_either, shows_held, left_held, left_only, left_new, left_begun, finds_held, has_tables, any_table, no_table, found_something, or_committed}, proofs.RemainsLemmas.{keeps_more, blank_more}}
+use Rattle.moo_files.proofs.making.make_from.Goals as goal
 use Rattle.moo_world.specs.Judge.{state_of}
 
 abbrev Made : Maps → Trees → Type 0

@@ -3,7 +3,8 @@ use Rattle.sqlite.{specs.Held.{state}, specs.State.{Survives}}
 use Rattle.moo_rows.specs.Maps.{Held}
 use Rattle.moo_world.{specs.Judge.{state_of}, specs.Rows.{IsGood}}
 use Rattle.moo_store.{specs.States.{LeavesState}, specs.World.{store_of, StandsFor}}
-use Rattle.moo_files.{specs.Making.{rows_made}, proofs.ContentsLemmas.{each_fault}, proofs.making.make_in.Goals as goal}
+use Rattle.moo_files.{specs.Making.{rows_made}, proofs.ContentsLemmas.{each_fault}}
+use Rattle.moo_files.proofs.making.make_in.Goals as goal
 
 -- the rows that are given
 

@@ -1,7 +1,8 @@
 use Rattle.std.proofs.Common.{true, refl, subst}
 use Rattle.moo_world.specs.Judge.{state_of}
 use Rattle.moo_store.{specs.Stand.{Works}, specs.States.{LeavesState}}
-use Rattle.moo_files.{specs.Making.{rows_made}, proofs.making.make_to_stay.Goals as goal}
+use Rattle.moo_files.specs.Making.{rows_made}
+use Rattle.moo_files.proofs.making.make_to_stay.Goals as goal
 
 pub returns-in-Ok-clause-left : goal.returns-in-Ok-clause-left
 returns-in-Ok-clause-left g c clean trees lies =

@@ -1,4 +1,5 @@
-use Rattle.moo_files.{proofs.Words.{inl, ◌≡◌, refl, sym, subst, over_files, file_state, image_at, Adopts, LeavesState, store_of, IsKept}, proofs.ContentsLemmas.{was_clean, rests_held, shows_held, left_held, left_none, empty_other, foreign_other, unsound_other, reads_ours, reads_something, own_tables, kept_or_migrated, kept_state}, proofs.RefusalLemmas.{takes_for_ours, unfit_sound}, proofs.RemainsLemmas.{keeps_more}, proofs.opening.open_from.Goals as goal}
+use Rattle.moo_files.{proofs.Words.{inl, ◌≡◌, refl, sym, subst, over_files, file_state, image_at, Adopts, LeavesState, store_of, IsKept}, proofs.ContentsLemmas.{was_clean, rests_held, shows_held, left_held, left_none, empty_other, foreign_other, unsound_other, reads_ours, reads_something, own_tables, kept_or_migrated, kept_state}, proofs.RefusalLemmas.{takes_for_ours, unfit_sound}, proofs.RemainsLemmas.{keeps_more}}
+use Rattle.moo_files.proofs.opening.open_from.Goals as goal
 
 -- ---- a World was opened
 

@@ -1,4 +1,5 @@
-use Rattle.moo_files.{proofs.Words.{sym, subst, inl, HoldsDatabase, AreFoundIn, file_state, image_at}, proofs.RefusalLemmas.{opened_own, opened_malformed, unopened_malformed}, proofs.RemainsLemmas.{leftover_keeps, leftover_blank, leftover_spares, unopened_keeps, unopened_blank, unopened_spares}, proofs.remains.open_connection.Goals as goal}
+use Rattle.moo_files.{proofs.Words.{sym, subst, inl, HoldsDatabase, AreFoundIn, file_state, image_at}, proofs.RefusalLemmas.{opened_own, opened_malformed, unopened_malformed}, proofs.RemainsLemmas.{leftover_keeps, leftover_blank, leftover_spares, unopened_keeps, unopened_blank, unopened_spares}}
+use Rattle.moo_files.proofs.remains.open_connection.Goals as goal
 use Rattle.sqlite_store.specs.Laws.{settled_at}
 
 pub returns-in-Ok-open_files-clause-found : goal.returns-in-Ok-open_files-clause-found

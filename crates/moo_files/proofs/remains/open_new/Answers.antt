@@ -1,4 +1,5 @@
-use Rattle.moo_files.{proofs.Words.{sym, subst, inl, inr, HoldsDatabase, AreFoundIn, file_state, image_at, IsBlank}, proofs.RemainsLemmas.{spared_keeps, spared_blank, spared_begun, spared_spares, unopened_keeps, unopened_blank, unopened_spares}, proofs.remains.open_new.Goals as goal}
+use Rattle.moo_files.{proofs.Words.{sym, subst, inl, inr, HoldsDatabase, AreFoundIn, file_state, image_at, IsBlank}, proofs.RemainsLemmas.{spared_keeps, spared_blank, spared_begun, spared_spares, unopened_keeps, unopened_blank, unopened_spares}}
+use Rattle.moo_files.proofs.remains.open_new.Goals as goal
 use Rattle.sqlite_store.specs.Laws.{settled_at}
 
 pub returns-in-Ok-open_or_make-clause-found : goal.returns-in-Ok-open_or_make-clause-found

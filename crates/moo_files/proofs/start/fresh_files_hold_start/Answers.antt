@@ -1,4 +1,5 @@
-use Rattle.moo_files.{proofs.Words.{◌+◌, ◌&&◌, ap₂, Bool, List, cond, Event, replay}, proofs.StartLemmas.{left_fresh}, proofs.start.fresh_files_hold_start.Goals as goal}
+use Rattle.moo_files.{proofs.Words.{◌+◌, ◌&&◌, ap₂, Bool, List, cond, Event, replay}, proofs.StartLemmas.{left_fresh}}
+use Rattle.moo_files.proofs.start.fresh_files_hold_start.Goals as goal
 
 pub returns-clause-start : goal.returns-clause-start
 returns-clause-start g c log db =

@@ -1,5 +1,6 @@
 use Rattle.sqlite.specs.Files.{file_state}
-use Rattle.moo_files.{proofs.StopLemmas.{left_by_disk, states_are_databases, rows_are_databases}, proofs.stop.disk_leaves_a_database.Goals as goal}
+use Rattle.moo_files.proofs.StopLemmas.{left_by_disk, states_are_databases, rows_are_databases}
+use Rattle.moo_files.proofs.stop.disk_leaves_a_database.Goals as goal
 
 pub returns-clause-left : goal.returns-clause-left
 returns-clause-left g c conn image clean numbered sound lies = left_by_disk conn image clean numbered sound lies

@@ -1,7 +1,8 @@
 use Rattle.sqlite.{specs.Files.{over_files}, specs.State.{HasCleanDisk}}
 use Rattle.moo_cells.specs.Shows.{ShowsRows}
 use Rattle.moo_store.specs.World.{store_of}
-use Rattle.moo_files.{specs.Contents.{HoldsTables}, proofs.AgainLemmas.{held_after, led_again, each_ok}, proofs.StopLemmas.{left_by_disk, states_are_databases, rows_are_databases}, proofs.stop.open_after_stop.Goals as goal}
+use Rattle.moo_files.{specs.Contents.{HoldsTables}, proofs.AgainLemmas.{held_after, led_again, each_ok}, proofs.StopLemmas.{left_by_disk, states_are_databases, rows_are_databases}}
+use Rattle.moo_files.proofs.stop.open_after_stop.Goals as goal
 
 pub returns-clause-found : goal.returns-clause-found
 returns-clause-found g c stopped stand image opened clean numbered leaves lies kept =

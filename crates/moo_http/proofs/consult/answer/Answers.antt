@@ -1,4 +1,5 @@
-use Rattle.moo_http.{proofs.Words.{refl, inl, written_none}, proofs.consult.answer.Goals as goal}
+use Rattle.moo_http.proofs.Words.{refl, inl, written_none}
+use Rattle.moo_http.proofs.consult.answer.Goals as goal
 
 pub returns-in-Refused-clause-comes : goal.returns-in-Refused-clause-comes
 returns-in-Refused-clause-comes g c known stand at = (stand, at, rw c.in-Refused.is (inl (refl, refl)))

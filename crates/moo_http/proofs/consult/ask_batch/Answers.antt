@@ -1,4 +1,5 @@
-use Rattle.moo_http.{proofs.Words.{sym, subst, Calls, Ask, MayAnswer}, proofs.Consulting.{asked, came_of}, proofs.consult.ask_batch.Goals as goal}
+use Rattle.moo_http.{proofs.Words.{sym, subst, Calls, Ask, MayAnswer}, proofs.Consulting.{asked, came_of}}
+use Rattle.moo_http.proofs.consult.ask_batch.Goals as goal
 
 pub returns-in-Ok : goal.returns-in-Ok
 returns-in-Ok g c known stand at =

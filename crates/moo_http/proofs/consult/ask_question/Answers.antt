@@ -1,4 +1,5 @@
-use Rattle.moo_http.{proofs.Consulting.{told_by_rows, told_closed}, proofs.consult.ask_question.Goals as goal}
+use Rattle.moo_http.proofs.Consulting.{told_by_rows, told_closed}
+use Rattle.moo_http.proofs.consult.ask_question.Goals as goal
 
 pub ask_rows-requires : goal.ask_rows-requires
 ask_rows-requires g c = c.in-Some.ensures.good.formed.tree

@@ -1,4 +1,5 @@
-use Rattle.moo_http.{proofs.Words.{inl, inr, refl, ap}, proofs.consult.ask_rows.Goals as goal}
+use Rattle.moo_http.proofs.Words.{inl, inr, refl, ap}
+use Rattle.moo_http.proofs.consult.ask_rows.Goals as goal
 use Rattle.moo_responses.specs.declared.outcome.Outcome.TheVariants.{Told}
 
 pub returns-in-Ok : goal.returns-in-Ok

@@ -1,4 +1,5 @@
-use Rattle.moo_http.{proofs.Consulting.{ran_one, moved_one, one_reply}, proofs.consult.run_batch.Goals as goal}
+use Rattle.moo_http.proofs.Consulting.{ran_one, moved_one, one_reply}
+use Rattle.moo_http.proofs.consult.run_batch.Goals as goal
 
 pub settle-requires : goal.settle-requires
 settle-requires g c =

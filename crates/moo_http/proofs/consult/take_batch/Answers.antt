@@ -1,4 +1,5 @@
-use Rattle.moo_http.{proofs.Words.{written_none}, proofs.consult.take_batch.Goals as goal}
+use Rattle.moo_http.proofs.Words.{written_none}
+use Rattle.moo_http.proofs.consult.take_batch.Goals as goal
 
 pub returns-in-Run-clause-comes : goal.returns-in-Run-clause-comes
 returns-in-Run-clause-comes g c known stand at = rw c.in-Run.is (c.run_batch.ensures.comes known stand at)

@@ -1,4 +1,5 @@
-use Rattle.moo_http.{proofs.Defined.{defined}, proofs.laws.answers_are_defined.Goals as goal}
+use Rattle.moo_http.proofs.Defined.{defined}
+use Rattle.moo_http.proofs.laws.answers_are_defined.Goals as goal
 
 pub returns : goal.returns
 returns c s asked o new answers other = defined s asked o new answers other

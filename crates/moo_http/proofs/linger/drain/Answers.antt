@@ -1,4 +1,5 @@
-use Rattle.moo_http.{proofs.Words.{arith}, proofs.Draining.{takes_more}, proofs.linger.drain.Goals as goal}
+use Rattle.moo_http.{proofs.Words.{arith}, proofs.Draining.{takes_more}}
+use Rattle.moo_http.proofs.linger.drain.Goals as goal
 
 pub pieces-preserved : goal.pieces-preserved
 pieces-preserved g c = record {

@@ -1,4 +1,5 @@
-use Rattle.moo_http.{proofs.Words.{◌-◌, ◌≤◌, DrainsAtMost}, proofs.linger.drain.Given as goal}
+use Rattle.moo_http.proofs.Words.{◌-◌, ◌≤◌, DrainsAtMost}
+use Rattle.moo_http.proofs.linger.drain.Given as goal
 
 abbrev pub invariant-pieces : goal.invariant-pieces
 invariant-pieces g l = record {

@@ -1,4 +1,5 @@
-use Rattle.moo_http.{proofs.Words.{[], false, Visited, written_none}, proofs.Connections.{connected, stood}, proofs.Turns.{visited, unvisited}, proofs.listen.serve_connection.Goals as goal}
+use Rattle.moo_http.{proofs.Words.{[], false, Visited, written_none}, proofs.Connections.{connected, stood}, proofs.Turns.{visited, unvisited}}
+use Rattle.moo_http.proofs.listen.serve_connection.Goals as goal
 
 pub returns-clause-served : goal.returns-clause-served
 returns-clause-served g c limited known stand at = connected g.S.Store known stand c.args.world.now c.serve_one-served.new.world c.serve_one-served.result c.ends.result _ _ _ _ c.ends.ensures (c.serve_one-served.ensures.served known stand at)

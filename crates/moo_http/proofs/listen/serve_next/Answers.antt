@@ -1,4 +1,5 @@
-use Rattle.moo_http.{proofs.Words.{◌≡◌, Bool, [], true, false, true≢false, inl, inr, refl, sym, subst, ◌∙◌, Stand, StandsAtEnd, Visited, Visit, written_none}, proofs.Connections.{stood}, proofs.Turns.{ends_as, unvisited}, proofs.listen.serve_next.Goals as goal}
+use Rattle.moo_http.{proofs.Words.{◌≡◌, Bool, [], true, false, true≢false, inl, inr, refl, sym, subst, ◌∙◌, Stand, StandsAtEnd, Visited, Visit, written_none}, proofs.Connections.{stood}, proofs.Turns.{ends_as, unvisited}}
+use Rattle.moo_http.proofs.listen.serve_next.Goals as goal
 
 by_test : {X : Type 0} (b : Bool) → (b ≡ true → X) → (b ≡ false → X) → X
 by_test true first second = first refl

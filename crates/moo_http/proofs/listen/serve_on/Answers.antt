@@ -1,4 +1,5 @@
-use Rattle.moo_http.{proofs.Words.{◌≡◌, ◌+◌, ◌∷◌, ◌++◌, [], refl, sym, subst, rules, Visit, AfterTurns, Attended, written_none, moved_then}, specs.declared.listen.Served.{Served}, proofs.Turns.{Counted, none_counted, one_answered, one_failed, ends_as, leads_nowhere, leads_on}, proofs.listen.serve_on.Goals as goal, proofs.listen.serve_on.Goals.{then-serve_next, else-serve_next}}
+use Rattle.moo_http.{proofs.Words.{◌≡◌, ◌+◌, ◌∷◌, ◌++◌, [], refl, sym, subst, rules, Visit, AfterTurns, Attended, written_none, moved_then}, specs.declared.listen.Served.{Served}, proofs.Turns.{Counted, none_counted, one_answered, one_failed, ends_as, leads_nowhere, leads_on}, proofs.listen.serve_on.Goals.{then-serve_next, else-serve_next}}
+use Rattle.moo_http.proofs.listen.serve_on.Goals as goal
 
 pub loop-init : goal.loop-init
 loop-init g c = record {

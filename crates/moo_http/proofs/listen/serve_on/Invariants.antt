@@ -1,4 +1,5 @@
-use Rattle.moo_http.{proofs.Words.{Bool, List, Batch, IsMovedBy, AfterTurns}, proofs.Turns.{Counted, Leads}, proofs.listen.serve_on.Given as goal}
+use Rattle.moo_http.{proofs.Words.{Bool, List, Batch, IsMovedBy, AfterTurns}, proofs.Turns.{Counted, Leads}}
+use Rattle.moo_http.proofs.listen.serve_on.Given as goal
 
 abbrev pub invariant-loop : goal.invariant-loop
 invariant-loop g l = record {

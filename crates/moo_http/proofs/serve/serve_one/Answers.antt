@@ -1,4 +1,5 @@
-use Rattle.moo_http.{proofs.Words.{[], refl, subst, Takes, written_none}, proofs.Serving.{unread_at, nothing, served}, proofs.serve.serve_one.Goals as goal}
+use Rattle.moo_http.{proofs.Words.{[], refl, subst, Takes, written_none}, proofs.Serving.{unread_at, nothing, served}}
+use Rattle.moo_http.proofs.serve.serve_one.Goals as goal
 
 pub returns-in_err-read_request-clause-served : goal.returns-in_err-read_request-clause-served
 returns-in_err-read_request-clause-served g c known stand at =

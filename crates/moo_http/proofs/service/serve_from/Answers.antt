@@ -1,4 +1,5 @@
-use Rattle.moo_http.{proofs.Words.{◌≡◌, [], refl, AfterConnections, ServesPort, Attended, ServesFrom, listening_line, written_none}, specs.declared.service.ServiceFault.TheVariants.{OutOfMemory}, proofs.Connections.{stood, no_front, fails_early, says_all}, proofs.Turns.{attended_moves}, proofs.service.serve_from.Goals as goal}
+use Rattle.moo_http.{proofs.Words.{◌≡◌, [], refl, AfterConnections, ServesPort, Attended, ServesFrom, listening_line, written_none}, specs.declared.service.ServiceFault.TheVariants.{OutOfMemory}, proofs.Connections.{stood, no_front, fails_early, says_all}, proofs.Turns.{attended_moves}}
+use Rattle.moo_http.proofs.service.serve_from.Goals as goal
 
 -- memory for the routes is refused
 pub returns-in_err-routes-clause-serves : goal.returns-in_err-routes-clause-serves

@@ -1,4 +1,5 @@
-use Rattle.moo_http.{proofs.Words.{[], refl, ServesFrom, attended_between, ServesOn, written_none}, proofs.Connections.{stood}, proofs.Turns.{ends_as, serves_on}, proofs.service.serve_port.Goals as goal}
+use Rattle.moo_http.{proofs.Words.{[], refl, ServesFrom, attended_between, ServesOn, written_none}, proofs.Connections.{stood}, proofs.Turns.{ends_as, serves_on}}
+use Rattle.moo_http.proofs.service.serve_port.Goals as goal
 
 -- the port can't be bound
 pub returns-in_default-clause-serves : goal.returns-in_default-clause-serves

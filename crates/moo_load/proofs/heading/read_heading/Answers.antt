@@ -1,4 +1,5 @@
-use Rattle.moo_load.{proofs.Words.{◌≡◌, ◌+◌, ℤ, pos, negsuc, ◌≤ℤ◌, ℕ, List, ◌∷◌, ◌++◌, length, drop, refl, sym, ap, subst, ◌∙◌, arith, err_from_is_err_and, heading, State, w32, to_z, of_z, to_z-of_z}, proofs.Headed.{top_of, seq_line, top_line, seq_plain, top_plain, lines_are, after_line}, proofs.Within.{none_read}, proofs.heading.read_heading.Goals as goal}
+use Rattle.moo_load.{proofs.Words.{◌≡◌, ◌+◌, ℤ, pos, negsuc, ◌≤ℤ◌, ℕ, List, ◌∷◌, ◌++◌, length, drop, refl, sym, ap, subst, ◌∙◌, arith, err_from_is_err_and, heading, State, w32, to_z, of_z, to_z-of_z}, proofs.Headed.{top_of, seq_line, top_line, seq_plain, top_plain, lines_are, after_line}, proofs.Within.{none_read}}
+use Rattle.moo_load.proofs.heading.read_heading.Goals as goal
 
 -- the second line is where the first one ends
 second_at : (text first : List ℕ) (s : State) (rest : List ℕ) (at : ℕ) → text ≡ heading s ++ rest → first ≡ seq_line s → at ≡ length first + 1 → drop at text ≡ top_line s ++ 10 ∷ rest

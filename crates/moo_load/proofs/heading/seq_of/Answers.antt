@@ -1,4 +1,5 @@
-use Rattle.moo_load.{proofs.Words.{◌≡◌, ℕ, pos, sym, ap, ◌∙◌, err_from_is_err_and, Int, IfErr-weaker, IfOk-weaker}, proofs.Headed.{count_fits}, proofs.One.Values.{integer_in, size_in}, proofs.heading.seq_of.Goals as goal}
+use Rattle.moo_load.{proofs.Words.{◌≡◌, ℕ, pos, sym, ap, ◌∙◌, err_from_is_err_and, Int, IfErr-weaker, IfOk-weaker}, proofs.Headed.{count_fits}, proofs.One.Values.{integer_in, size_in}}
+use Rattle.moo_load.proofs.heading.seq_of.Goals as goal
 
 one_count : (a b : ℕ) → Int (pos a) ≡ Int (pos b) → a ≡ b
 one_count a b e = ap (λ v. size_in (integer_in v)) e

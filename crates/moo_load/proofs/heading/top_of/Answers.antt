@@ -1,4 +1,5 @@
-use Rattle.moo_load.{proofs.Words.{◌≡◌, sym, ap, ◌∙◌, err_from_is_err_and, ObjNo, Obj, IfErr-weaker, IfOk-weaker}, proofs.Headed.{assigned_fits}, proofs.One.Values.{object_in}, proofs.heading.top_of.Goals as goal}
+use Rattle.moo_load.{proofs.Words.{◌≡◌, sym, ap, ◌∙◌, err_from_is_err_and, ObjNo, Obj, IfErr-weaker, IfOk-weaker}, proofs.Headed.{assigned_fits}, proofs.One.Values.{object_in}}
+use Rattle.moo_load.proofs.heading.top_of.Goals as goal
 
 one_number : (x y : ObjNo) → Obj x ≡ Obj y → x.0 ≡ y.0
 one_number x y e = ap (λ v. (object_in v).0) e

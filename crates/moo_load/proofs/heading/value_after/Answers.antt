@@ -1,4 +1,5 @@
-use Rattle.moo_load.{proofs.Words.{◌≡◌, ℕ, Result, Ok, Err, List, ◌++◌, sym, ap, subst, ◌∙◌, append_cancel_left, err_from_is_err_and, LiteralFault, Value, Fits, print, spelled, Spells}, proofs.Listed.{refused}, proofs.heading.value_after.Goals as goal}
+use Rattle.moo_load.{proofs.Words.{◌≡◌, ℕ, Result, Ok, Err, List, ◌++◌, sym, ap, subst, ◌∙◌, append_cancel_left, err_from_is_err_and, LiteralFault, Value, Fits, print, spelled, Spells}, proofs.Listed.{refused}}
+use Rattle.moo_load.proofs.heading.value_after.Goals as goal
 
 value_in : Value → Result Value LiteralFault → Value
 value_in v (Ok w) = w

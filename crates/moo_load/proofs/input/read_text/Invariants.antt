@@ -1,4 +1,5 @@
-use Rattle.moo_load.{proofs.Words.{◌≤◌, ◌-◌, length}, proofs.input.read_text.Given as goal}
+use Rattle.moo_load.proofs.Words.{◌≤◌, ◌-◌, length}
+use Rattle.moo_load.proofs.input.read_text.Given as goal
 use Rattle.std.specs.Io.KnownBytes.{Consumes}
 
 abbrev pub invariant-loop-piece : goal.invariant-loop-piece

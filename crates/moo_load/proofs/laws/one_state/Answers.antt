@@ -1,4 +1,5 @@
-use Rattle.moo_load.{proofs.One.Told.{told}, proofs.laws.one_state.Goals as goal}
+use Rattle.moo_load.proofs.One.Told.{told}
+use Rattle.moo_load.proofs.laws.one_state.Goals as goal
 
 pub returns : goal.returns
 returns c = told

@@ -1,4 +1,5 @@
-use Rattle.moo_load.{proofs.Words.{state_of}, proofs.Shown.Good.{good_rows, same_state, same_dump}, proofs.laws.rows_show_the_state.Goals as goal}
+use Rattle.moo_load.{proofs.Words.{state_of}, proofs.Shown.Good.{good_rows, same_state, same_dump}}
+use Rattle.moo_load.proofs.laws.rows_show_the_state.Goals as goal
 
 pub returns-clause-good : goal.returns-clause-good
 returns-clause-good c s m held numbers rows = good_rows s held.formed m rows numbers

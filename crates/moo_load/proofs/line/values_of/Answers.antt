@@ -1,4 +1,5 @@
-use Rattle.moo_load.{proofs.Words.{rules, ◌≡◌, false, ◌∷◌, List, ◌-◌, [], ◌++◌, length, take, drop, sym, ◌∙◌, subst, false≢true, take_rest, bytes_eq, err_from_is_err_and, bytes_eq-Decides, print, Value}, proofs.Listed.{next_front, refused, last_read, one_more, no_other, left_first, Left}, proofs.line.values_of.Goals as goal}
+use Rattle.moo_load.{proofs.Words.{rules, ◌≡◌, false, ◌∷◌, List, ◌-◌, [], ◌++◌, length, take, drop, sym, ◌∙◌, subst, false≢true, take_rest, bytes_eq, err_from_is_err_and, bytes_eq-Decides, print, Value}, proofs.Listed.{next_front, refused, last_read, one_more, no_other, left_first, Left}}
+use Rattle.moo_load.proofs.line.values_of.Goals as goal
 
 pub returns-in_err-rest-clause-err : goal.returns-in_err-rest-clause-err
 returns-in_err-rest-clause-err c =

@@ -1,4 +1,5 @@
-use Rattle.moo_load.{proofs.Words.{List, ◌∷◌, length, ArePrinted}, proofs.Listed.{Left}, proofs.line.values_of.Given as goal}
+use Rattle.moo_load.{proofs.Words.{List, ◌∷◌, length, ArePrinted}, proofs.Listed.{Left}}
+use Rattle.moo_load.proofs.line.values_of.Given as goal
 use Rattle.moo_value.specs.declared.value.Value.{Value as A}
 
 abbrev pub invariant-loop-values : goal.invariant-loop-values

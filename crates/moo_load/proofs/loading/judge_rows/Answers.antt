@@ -1,4 +1,5 @@
-use Rattle.moo_load.{proofs.Words.{Option, subst, ◌∙◌, state_of, IfSome, IfErr-weaker}, proofs.Shown.Good.{good_rows, same_state, same_dump}, proofs.loading.judge_rows.Goals as goal}
+use Rattle.moo_load.{proofs.Words.{Option, subst, ◌∙◌, state_of, IfSome, IfErr-weaker}, proofs.Shown.Good.{good_rows, same_state, same_dump}}
+use Rattle.moo_load.proofs.loading.judge_rows.Goals as goal
 use Rattle.moo_damage.{specs.declared.kind.Key.{Key}, specs.declared.kind.Kind.{Kind}, specs.Kinds.{IsFirstInRows}, proofs.Clean.{clean}, proofs.Told.{none_told}}
 
 pub returns-in-Some-clause-fault : goal.returns-in-Some-clause-fault

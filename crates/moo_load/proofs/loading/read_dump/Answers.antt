@@ -1,4 +1,5 @@
-use Rattle.moo_load.{proofs.Words.{List, ℕ, ◌<◌, length, sym, subst, ◌∙◌, err_from_is_err_and, state_of}, proofs.Shown.Counts.{has_numbers}, proofs.loading.read_dump.Goals as goal}
+use Rattle.moo_load.{proofs.Words.{List, ℕ, ◌<◌, length, sym, subst, ◌∙◌, err_from_is_err_and, state_of}, proofs.Shown.Counts.{has_numbers}}
+use Rattle.moo_load.proofs.loading.read_dump.Goals as goal
 
 pub returns-in_err-rows-clause-complete : goal.returns-in_err-rows-clause-complete
 returns-in_err-rows-clause-complete c =

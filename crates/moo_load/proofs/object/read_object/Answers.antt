@@ -1,4 +1,5 @@
-use Rattle.moo_load.{proofs.Words.{◌≤◌, length, ap, sym, ◌∙◌, arith, Str, get_or, err_from_is_err_and, and_parts, ◌&&◌, is_text, is_number, accept_fits}, proofs.Items.{item, no_item}, proofs.object.read_object.Goals as goal}
+use Rattle.moo_load.{proofs.Words.{◌≤◌, length, ap, sym, ◌∙◌, arith, Str, get_or, err_from_is_err_and, and_parts, ◌&&◌, is_text, is_number, accept_fits}, proofs.Items.{item, no_item}}
+use Rattle.moo_load.proofs.object.read_object.Goals as goal
 
 pub returns-clause-shown : goal.returns-clause-shown
 returns-clause-shown c =

@@ -1,4 +1,5 @@
-use Rattle.moo_load.{proofs.Words.{◌≡◌, true, sym, ◌∙◌, subst, rules, ◌&&◌, list_all, a_list, Fits, spread, Values, all_within_limits, is_named, are_few, are_shallow}, proofs.Held.{calls_held}, proofs.petition.calls_of.Goals as goal}
+use Rattle.moo_load.{proofs.Words.{◌≡◌, true, sym, ◌∙◌, subst, rules, ◌&&◌, list_all, a_list, Fits, spread, Values, all_within_limits, is_named, are_few, are_shallow}, proofs.Held.{calls_held}}
+use Rattle.moo_load.proofs.petition.calls_of.Goals as goal
 
 pub returns-in_ok-calls-in-List-clause-fits : goal.returns-in_ok-calls-in-List-clause-fits
 returns-in_ok-calls-in-List-clause-fits c =

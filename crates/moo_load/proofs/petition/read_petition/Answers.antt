@@ -1,4 +1,5 @@
-use Rattle.moo_load.{proofs.Words.{ap, ◌∙◌, get_or, err_from_is_err_and, ◌≤◌, length, arith}, proofs.Items.{item, no_item}, proofs.petition.read_petition.Goals as goal}
+use Rattle.moo_load.{proofs.Words.{ap, ◌∙◌, get_or, err_from_is_err_and, ◌≤◌, length, arith}, proofs.Items.{item, no_item}}
+use Rattle.moo_load.proofs.petition.read_petition.Goals as goal
 
 pub returns-in_err-number-clause-err : goal.returns-in_err-number-clause-err
 returns-in_err-number-clause-err c =

@@ -1,4 +1,5 @@
-use Rattle.moo_load.{proofs.Words.{◌≡◌, ◌+◌, ◌∙◌, sym, ap, take, drop, arith, take-append-drop, line_ends, take_all}, proofs.place.line_at.Goals as goal}
+use Rattle.moo_load.proofs.Words.{◌≡◌, ◌+◌, ◌∙◌, sym, ap, take, drop, arith, take-append-drop, line_ends, take_all}
+use Rattle.moo_load.proofs.place.line_at.Goals as goal
 
 pub returns : goal.returns
 returns c =

@@ -1,4 +1,5 @@
-use Rattle.moo_load.{proofs.Words.{rules, ◌≡◌, ◌-◌, ◌∷◌, ℕ, Some, None, length, take, drop, refl, sym, ap, ◌∙◌, ◌==◌, position_from, take_at, take_rest, none-some, same_Some}, proofs.Ends.{first_end}, proofs.place.line_from.Goals as goal}
+use Rattle.moo_load.{proofs.Words.{rules, ◌≡◌, ◌-◌, ◌∷◌, ℕ, Some, None, length, take, drop, refl, sym, ap, ◌∙◌, ◌==◌, position_from, take_at, take_rest, none-some, same_Some}, proofs.Ends.{first_end}}
+use Rattle.moo_load.proofs.place.line_from.Goals as goal
 
 pub returns-in_err-end-clause-found : goal.returns-in_err-end-clause-found
 returns-in_err-end-clause-found c line rest one e =

@@ -1,4 +1,5 @@
-use Rattle.moo_load.{proofs.Words.{ap, ◌∙◌, get_or, err_from_is_err_and, ◌≤◌, length, arith, sym, Str}, proofs.Items.{item, no_item}, proofs.property.read_property.Goals as goal}
+use Rattle.moo_load.{proofs.Words.{ap, ◌∙◌, get_or, err_from_is_err_and, ◌≤◌, length, arith, sym, Str}, proofs.Items.{item, no_item}}
+use Rattle.moo_load.proofs.property.read_property.Goals as goal
 
 pub returns-in_err-definer-clause-err : goal.returns-in_err-definer-clause-err
 returns-in_err-definer-clause-err c =

@@ -1,4 +1,5 @@
-use Rattle.moo_load.{proofs.Words.{◌≡◌, ap, ◌∙◌, err_from_is_err_and, Held, Maps, no_maps}, proofs.One.Entries.{entries_of}, proofs.ReadBack.Dumped.{lines, text_is, fit, number_by, numbers_are, slots_are_next, all_read}, proofs.reading.read_rows.Goals as goal}
+use Rattle.moo_load.{proofs.Words.{◌≡◌, ap, ◌∙◌, err_from_is_err_and, Held, Maps, no_maps}, proofs.One.Entries.{entries_of}, proofs.ReadBack.Dumped.{lines, text_is, fit, number_by, numbers_are, slots_are_next, all_read}}
+use Rattle.moo_load.proofs.reading.read_rows.Goals as goal
 
 pub returns-in_err-head-clause-err : goal.returns-in_err-head-clause-err
 returns-in_err-head-clause-err c =

@@ -1,4 +1,5 @@
-use Rattle.moo_load.{proofs.Words.{rules, ◌≡◌, sym, ap, ◌∙◌, err_from_is_err_and, print, Held, list_of, Object, PropertyWord, Verb, Petition, entry_values, refl, IfErr-weaker, NumberIsLeft, entry_taken, on_ok_weaker}, specs.declared.line.Word.TheVariants.{Slot}, proofs.Taken.{word_of, line_is, split_is, of_values, of_word, of_line}, proofs.reading.take_line.Goals as goal}
+use Rattle.moo_load.{proofs.Words.{rules, ◌≡◌, sym, ap, ◌∙◌, err_from_is_err_and, print, Held, list_of, Object, PropertyWord, Verb, Petition, entry_values, refl, IfErr-weaker, NumberIsLeft, entry_taken, on_ok_weaker}, specs.declared.line.Word.TheVariants.{Slot}, proofs.Taken.{word_of, line_is, split_is, of_values, of_word, of_line}}
+use Rattle.moo_load.proofs.reading.take_line.Goals as goal
 
 pub returns-in_err-word-clause-err : goal.returns-in_err-word-clause-err
 returns-in_err-word-clause-err c =

@@ -1,4 +1,5 @@
-use Rattle.moo_load.{proofs.Words.{◌+◌, List, ℕ, length, drop, sym, subst, ◌∙◌, arith, false≢true, drop-drop, err_from_is_err_and, Maps, NumberIsLeft, entry_taken}, proofs.Ahead.{Ahead, Nothing, nothing_needed, all_ahead, some_line, at_end, not_refused, one_taken}, proofs.reading.take_lines.Goals as goal}
+use Rattle.moo_load.{proofs.Words.{◌+◌, List, ℕ, length, drop, sym, subst, ◌∙◌, arith, false≢true, drop-drop, err_from_is_err_and, Maps, NumberIsLeft, entry_taken}, proofs.Ahead.{Ahead, Nothing, nothing_needed, all_ahead, some_line, at_end, not_refused, one_taken}}
+use Rattle.moo_load.proofs.reading.take_lines.Goals as goal
 
 pub loop-line-init : goal.loop-line-init
 loop-line-init c = record { within = c.requires.start; read = c.requires.read; ahead = λ es fit same. all_ahead es c.args.rows.now.maps (drop c.args.start c.args.text.now) fit (nothing_needed entry_taken es c.args.rows.now.maps) same }

@@ -1,4 +1,5 @@
-use Rattle.moo_load.{proofs.Words.{◌≡◌, ◌≤◌, ◌-◌, List, length, drop, AllByRecursion, Maps, Entry, EntryFits, NumberIsLeft, entry_lines, entry_taken, AreRead}, proofs.Ahead.{Ahead, Nothing}, proofs.reading.take_lines.Given as goal}
+use Rattle.moo_load.{proofs.Words.{◌≡◌, ◌≤◌, ◌-◌, List, length, drop, AllByRecursion, Maps, Entry, EntryFits, NumberIsLeft, entry_lines, entry_taken, AreRead}, proofs.Ahead.{Ahead, Nothing}}
+use Rattle.moo_load.proofs.reading.take_lines.Given as goal
 
 abbrev pub invariant-loop-line : goal.invariant-loop-line
 invariant-loop-line l = record {

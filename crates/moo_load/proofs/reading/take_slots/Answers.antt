@@ -1,4 +1,5 @@
-use Rattle.moo_load.{proofs.Words.{◌+◌, List, ℕ, length, drop, sym, ap, subst, ◌∙◌, arith, false≢true, drop-drop, err_from_is_err_and, Maps, LastSlot, no_slot, SlotIsNext, slot_line_put}, proofs.Ahead.{Ahead, Nothing, nothing_needed, all_ahead, some_line, at_end, not_refused, one_taken}, proofs.reading.take_slots.Goals as goal}
+use Rattle.moo_load.{proofs.Words.{◌+◌, List, ℕ, length, drop, sym, ap, subst, ◌∙◌, arith, false≢true, drop-drop, err_from_is_err_and, Maps, LastSlot, no_slot, SlotIsNext, slot_line_put}, proofs.Ahead.{Ahead, Nothing, nothing_needed, all_ahead, some_line, at_end, not_refused, one_taken}}
+use Rattle.moo_load.proofs.reading.take_slots.Goals as goal
 
 pub loop-line-init : goal.loop-line-init
 loop-line-init c = record { within = c.requires.start; read = c.requires.read; ahead = λ number es fit next same. all_ahead es (no_slot, c.args.rows.now.maps) (drop c.args.start c.args.text.now) fit next same }

@@ -1,4 +1,5 @@
-use Rattle.moo_load.{proofs.Words.{◌≡◌, ◌≤◌, ◌-◌, List, length, drop, AllByRecursion, PropId, Maps, Property, LastSlot, Entry, EntryFits, EachHas, entry_lines, AreRead, no_slot, SlotIsNext, slot_line_put}, proofs.Ahead.{Ahead, Nothing}, proofs.reading.take_slots.Given as goal}
+use Rattle.moo_load.{proofs.Words.{◌≡◌, ◌≤◌, ◌-◌, List, length, drop, AllByRecursion, PropId, Maps, Property, LastSlot, Entry, EntryFits, EachHas, entry_lines, AreRead, no_slot, SlotIsNext, slot_line_put}, proofs.Ahead.{Ahead, Nothing}}
+use Rattle.moo_load.proofs.reading.take_slots.Given as goal
 
 abbrev pub invariant-loop-line : goal.invariant-loop-line
 invariant-loop-line l = record {

@@ -1,4 +1,5 @@
-use Rattle.moo_load.{proofs.Words.{ap, ◌∙◌, get_or, err_from_is_err_and}, proofs.slot.dumped_slot.Goals as goal}
+use Rattle.moo_load.proofs.Words.{ap, ◌∙◌, get_or, err_from_is_err_and}
+use Rattle.moo_load.proofs.slot.dumped_slot.Goals as goal
 
 pub returns-in_err-object-clause-err : goal.returns-in_err-object-clause-err
 returns-in_err-object-clause-err c =

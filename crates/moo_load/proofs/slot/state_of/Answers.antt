@@ -1,4 +1,5 @@
-use Rattle.moo_load.{proofs.Words.{ap, ◌∙◌, rules, Fits, fits, fits_of}, proofs.slot.state_of.Goals as goal}
+use Rattle.moo_load.proofs.Words.{ap, ◌∙◌, rules, Fits, fits, fits_of}
+use Rattle.moo_load.proofs.slot.state_of.Goals as goal
 
 pub returns-in_ok-value-in-Int-2-clause-fits : goal.returns-in_ok-value-in-Int-2-clause-fits
 returns-in_ok-value-in-Int-2-clause-fits c =

@@ -1,4 +1,5 @@
-use Rattle.moo_load.{proofs.Words.{rules, ◌≡◌, false, Some, None, sym, ap, subst, ◌∙◌, get, bytes_eq, false≢true, none-some, same_Some, bytes_eq-Decides, PropId, PropRow, IsFirst, is_definer, prop_cmp, property_row}, proofs.NextOne.{one_first}, proofs.taking.property_of.Goals as goal}
+use Rattle.moo_load.{proofs.Words.{rules, ◌≡◌, false, Some, None, sym, ap, subst, ◌∙◌, get, bytes_eq, false≢true, none-some, same_Some, bytes_eq-Decides, PropId, PropRow, IsFirst, is_definer, prop_cmp, property_row}, proofs.NextOne.{one_first}}
+use Rattle.moo_load.proofs.taking.property_of.Goals as goal
 
 pub returns-in_err-id : goal.returns-in_err-id
 returns-in_err-id g c id is =

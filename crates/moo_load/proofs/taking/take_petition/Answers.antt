@@ -1,4 +1,5 @@
-use Rattle.moo_load.{proofs.Words.{◌≡◌, ◌+◌, ap, sym, subst, ◌∙◌, refl, arith, Head, Held, AreRead, insert, max, petition_taken}, proofs.Within.{petition_put, counted, IsNext}, proofs.One.Values.{one_petition}, proofs.taking.take_petition.Goals as goal}
+use Rattle.moo_load.{proofs.Words.{◌≡◌, ◌+◌, ap, sym, subst, ◌∙◌, refl, arith, Head, Held, AreRead, insert, max, petition_taken}, proofs.Within.{petition_put, counted, IsNext}, proofs.One.Values.{one_petition}}
+use Rattle.moo_load.proofs.taking.take_petition.Goals as goal
 
 pub returns-then-head-id-clause-read : goal.returns-then-head-id-clause-read
 returns-then-head-id-clause-read c =

@@ -1,4 +1,5 @@
-use Rattle.moo_load.{proofs.Words.{◌≡◌, ◌+◌, ap, sym, subst, ◌∙◌, refl, arith, Head, Held, AreRead, insert}, proofs.Within.{property_put, counted, IsNext}, proofs.One.Values.{one_property}, proofs.taking.take_property.Goals as goal}
+use Rattle.moo_load.{proofs.Words.{◌≡◌, ◌+◌, ap, sym, subst, ◌∙◌, refl, arith, Head, Held, AreRead, insert}, proofs.Within.{property_put, counted, IsNext}, proofs.One.Values.{one_property}}
+use Rattle.moo_load.proofs.taking.take_property.Goals as goal
 
 pub returns-clause-read : goal.returns-clause-read
 returns-clause-read c =

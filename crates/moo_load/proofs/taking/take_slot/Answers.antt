@@ -1,4 +1,5 @@
-use Rattle.moo_load.{proofs.Words.{◌≡◌, refl, sym, ap, subst, ◌∙◌, none-some, same_Some, err_from_is_err_and, ObjNo, PropId, SlotRow, Held, Maps, with_slot, Name, Property, Slot, LastSlot, slot_values, AreRead, dumped_slot, IsNextProperty}, proofs.One.Values.{one_slot}, proofs.Within.{slot_put}, proofs.taking.take_slot.Goals as goal}
+use Rattle.moo_load.{proofs.Words.{◌≡◌, refl, sym, ap, subst, ◌∙◌, none-some, same_Some, err_from_is_err_and, ObjNo, PropId, SlotRow, Held, Maps, with_slot, Name, Property, Slot, LastSlot, slot_values, AreRead, dumped_slot, IsNextProperty}, proofs.One.Values.{one_slot}, proofs.Within.{slot_put}}
+use Rattle.moo_load.proofs.taking.take_slot.Goals as goal
 
 as_slot : ObjNo → SlotRow → Slot
 as_slot definer row = record { definer = definer; owner = row.owner; bits = row.bits; state = row.state }

@@ -1,4 +1,5 @@
-use Rattle.moo_load.{proofs.Words.{◌≡◌, ◌+◌, ap, sym, subst, ◌∙◌, refl, arith, Head, Held, AreRead, insert, err_from_is_err_and}, proofs.Within.{verb_put, counted, IsNext}, proofs.One.Values.{one_verb}, proofs.taking.take_verb.Goals as goal}
+use Rattle.moo_load.{proofs.Words.{◌≡◌, ◌+◌, ap, sym, subst, ◌∙◌, refl, arith, Head, Held, AreRead, insert, err_from_is_err_and}, proofs.Within.{verb_put, counted, IsNext}, proofs.One.Values.{one_verb}}
+use Rattle.moo_load.proofs.taking.take_verb.Goals as goal
 
 pub returns-clause-read : goal.returns-clause-read
 returns-clause-read c =

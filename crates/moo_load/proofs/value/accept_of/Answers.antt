@@ -1,4 +1,5 @@
-use Rattle.moo_load.{proofs.Words.{sym, ◌∙◌, err_from_is_err_and}, proofs.Accepting.{not_accept}, proofs.value.accept_of.Goals as goal}
+use Rattle.moo_load.{proofs.Words.{sym, ◌∙◌, err_from_is_err_and}, proofs.Accepting.{not_accept}}
+use Rattle.moo_load.proofs.value.accept_of.Goals as goal
 
 pub returns-in_err-objects-in-List-clause-err : goal.returns-in_err-objects-in-List-clause-err
 returns-in_err-objects-in-List-clause-err c =

@@ -1,4 +1,5 @@
-use Rattle.moo_load.{proofs.Words.{rules, ◌≡◌, ◌<◌, ◌++◌, [], ◌∷◌, length, arith, err_from_is_err_and, sym, ◌∙◌}, proofs.Accepting.{not_objects, objects_more, numbers_more, all_objects, few_objects, too_many}, proofs.value.objects_of.Goals as goal}
+use Rattle.moo_load.{proofs.Words.{rules, ◌≡◌, ◌<◌, ◌++◌, [], ◌∷◌, length, arith, err_from_is_err_and, sym, ◌∙◌}, proofs.Accepting.{not_objects, objects_more, numbers_more, all_objects, few_objects, too_many}}
+use Rattle.moo_load.proofs.value.objects_of.Goals as goal
 
 pub returns-then-values-gt-MAX_ACCEPTED-clause-err : goal.returns-then-values-gt-MAX_ACCEPTED-clause-err
 returns-then-values-gt-MAX_ACCEPTED-clause-err c = λ unreadable objects short same. too_many c.args.values.now objects (omega arith) short same

@@ -1,4 +1,5 @@
-use Rattle.moo_load.{proofs.Words.{◌≡◌, true, map, take, list_all, Obj, is_number}, proofs.value.objects_of.Given as goal}
+use Rattle.moo_load.proofs.Words.{◌≡◌, true, map, take, list_all, Obj, is_number}
+use Rattle.moo_load.proofs.value.objects_of.Given as goal
 
 abbrev pub invariant-loop-value : goal.invariant-loop-value
 invariant-loop-value l = record {

@@ -1,4 +1,5 @@
-use Rattle.moo_memory.{proofs.Words.{◌≡◌, ap, ◌∙◌, Maps, Held, object_exact, prop_exact, slot_exact, verb_exact, petition_exact, object_total, prop_total, slot_total, verb_total, petition_total, changed_each}, proofs.Changing.{changes-applied}, proofs.changes.apply_all.Goals as goal}
+use Rattle.moo_memory.{proofs.Words.{◌≡◌, ap, ◌∙◌, Maps, Held, object_exact, prop_exact, slot_exact, verb_exact, petition_exact, object_total, prop_total, slot_total, verb_total, petition_total, changed_each}, proofs.Changing.{changes-applied}}
+use Rattle.moo_memory.proofs.changes.apply_all.Goals as goal
 use Rattle.std.proofs.lemmas.Result.{on_ok_weaker}
 
 pub returns : goal.returns

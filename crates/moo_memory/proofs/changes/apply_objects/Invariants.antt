@@ -1,4 +1,5 @@
-use Rattle.moo_memory.{proofs.Words.{◌≡◌, length, into_iter_items, into_iter_len, changed_each}, proofs.changes.apply_objects.Given as goal}
+use Rattle.moo_memory.proofs.Words.{◌≡◌, length, into_iter_items, into_iter_len, changed_each}
+use Rattle.moo_memory.proofs.changes.apply_objects.Given as goal
 
 -- with the changes that are left, it is as with all
 abbrev pub invariant-loop-key : goal.invariant-loop-key

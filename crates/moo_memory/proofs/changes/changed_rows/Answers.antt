@@ -1,4 +1,5 @@
-use Rattle.moo_memory.{proofs.Words.{sym, ◌∙◌, subst, rules, contents, row_over, IsChanges}, proofs.Changing.{nothing-changed}, proofs.changes.changed_rows.Goals as goal}
+use Rattle.moo_memory.{proofs.Words.{sym, ◌∙◌, subst, rules, contents, row_over, IsChanges}, proofs.Changing.{nothing-changed}}
+use Rattle.moo_memory.proofs.changes.changed_rows.Goals as goal
 use Rattle.std.proofs.lemmas.List.{nil_from_length}
 
 pub returns-then-is_empty : goal.returns-then-is_empty

@@ -1,5 +1,6 @@
 use Rattle.std.proofs.Common.{◌≡◌, Option, sym, ◌∙◌, subst, rules}
-use Rattle.moo_memory.{specs.Without.{Without}, proofs.Changing.{one-kept, one-left_out, all-seen, without-changes}, proofs.changes.differing_rows.Goals as goal}
+use Rattle.moo_memory.{specs.Without.{Without}, proofs.Changing.{one-kept, one-left_out, all-seen, without-changes}}
+use Rattle.moo_memory.proofs.changes.differing_rows.Goals as goal
 
 pub loop-key-preserved-in-Continue-1 : goal.loop-key-preserved-in-Continue-1
 loop-key-preserved-in-Continue-1 g c =

@@ -1,5 +1,6 @@
 use Rattle.std.proofs.Common.{◌≡◌}
-use Rattle.moo_memory.{proofs.Changing.{LeavesSoFar}, proofs.changes.differing_rows.Given as goal}
+use Rattle.moo_memory.proofs.Changing.{LeavesSoFar}
+use Rattle.moo_memory.proofs.changes.differing_rows.Given as goal
 
 -- the rows that differ from the base, as far as the loop has come
 abbrev pub invariant-loop-key : goal.invariant-loop-key

@@ -1,4 +1,5 @@
-use Rattle.moo_memory.{proofs.Words.{◌||◌, ObjNo, contents, object_cmp, is_linked, is_candidate, object_exact, object_total, either-first, is_that}, proofs.either.next_linked_of_either.Goals as goal}
+use Rattle.moo_memory.proofs.Words.{◌||◌, ObjNo, contents, object_cmp, is_linked, is_candidate, object_exact, object_total, either-first, is_that}
+use Rattle.moo_memory.proofs.either.next_linked_of_either.Goals as goal
 
 pub returns : goal.returns
 returns g c =

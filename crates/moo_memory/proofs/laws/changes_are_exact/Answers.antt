@@ -1,4 +1,5 @@
-use Rattle.moo_memory.{proofs.Exactly.{are-changes-unique, changes-give_rows, undone-no_change}, proofs.laws.changes_are_exact.Goals as goal}
+use Rattle.moo_memory.proofs.Exactly.{are-changes-unique, changes-give_rows, undone-no_change}
+use Rattle.moo_memory.proofs.laws.changes_are_exact.Goals as goal
 
 pub returns-clause-unique : goal.returns-clause-unique
 returns-clause-unique c = are-changes-unique

@@ -1,4 +1,5 @@
-use Rattle.moo_memory.{proofs.Words.{◌≡◌, None, rules, object_cmp, pair-none}, proofs.links.next_tied.Goals as goal}
+use Rattle.moo_memory.proofs.Words.{◌≡◌, None, rules, object_cmp, pair-none}
+use Rattle.moo_memory.proofs.links.next_tied.Goals as goal
 
 pub returns-in_err-of : goal.returns-in_err-of
 returns-in_err-of c =

@@ -1,4 +1,5 @@
-use Rattle.moo_memory.{proofs.Words.{◌≡◌, ap, ◌∙◌, pos, true, Some, [], ◌∷◌, insert, ObjNo, Maps, Held}, proofs.opening.put_opening.Goals as goal}
+use Rattle.moo_memory.proofs.Words.{◌≡◌, ap, ◌∙◌, pos, true, Some, [], ◌∷◌, insert, ObjNo, Maps, Held}
+use Rattle.moo_memory.proofs.opening.put_opening.Goals as goal
 use Rattle.moo_rows.{specs.declared.row.Head.{Head}, specs.declared.row.ObjRow.{ObjRow}}
 
 abbrev of : Held → Maps

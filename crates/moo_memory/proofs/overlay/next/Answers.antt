@@ -1,4 +1,5 @@
-use Rattle.moo_memory.{proofs.Words.{◌≢◌, Some, None, rules, arith, get, contents}, proofs.Overlays.{none_over, next_held, skipped, fewer}, proofs.overlay.next.Goals as goal}
+use Rattle.moo_memory.{proofs.Words.{◌≢◌, Some, None, rules, arith, get, contents}, proofs.Overlays.{none_over, next_held, skipped, fewer}}
+use Rattle.moo_memory.proofs.overlay.next.Goals as goal
 
 pub returns-in-None : goal.returns-in-None
 returns-in-None g c = c.loop-key.invariant None (λ q past. none_over (g.B.Base.row_at c.args.base) (contents g.K.Ord.cmp c.args.changes.now) q (c.in-None.ensures q past))

@@ -1,4 +1,5 @@
-use Rattle.moo_memory.{proofs.Words.{Option, length, entries, contents, IsNextAt, row_over}, proofs.overlay.next.Given as goal}
+use Rattle.moo_memory.proofs.Words.{Option, length, entries, contents, IsNextAt, row_over}
+use Rattle.moo_memory.proofs.overlay.next.Given as goal
 use Rattle.moo_rows.specs.Walk.{entries_past}
 
 -- what is next past `last` is next past `from`

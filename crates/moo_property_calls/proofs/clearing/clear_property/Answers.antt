@@ -3,7 +3,8 @@ use Rattle.moo_rows.specs.declared.row.SlotState.TheVariants.{Clear}
 use Rattle.moo_world.{specs.Changes.{cleared}, specs.Objects.{folded, same_object}, specs.Rows.{slot_seen, world_shown}, specs.Outcomes.{Failed}, specs.PropertyCalls.{clear_property}, specs.World.{is_object}}
 use Rattle.moo_call_parts.{specs.Outcomes.{world_in}, proofs.Passed.{check_passed}}
 use Rattle.moo_props.{specs.Names.{spelling_of}, proofs.FoundSlots.{definer_found}, proofs.Quotas.{folded_spelling}}
-use Rattle.moo_property_calls.{proofs.PropertyNames.{slot_named}, proofs.clearing.clear_property.Goals as goal}
+use Rattle.moo_property_calls.proofs.PropertyNames.{slot_named}
+use Rattle.moo_property_calls.proofs.clearing.clear_property.Goals as goal
 
 pub clear-requires-clause-inherited : goal.clear-requires-clause-inherited
 unfolding same_object

@@ -2,7 +2,8 @@ use Rattle.std.proofs.Common.{sym, ap, ◌∙◌}
 use Rattle.moo_world.{specs.Objects.{folded, same_object}, specs.Rows.{slot_seen}}
 use Rattle.moo_call_parts.specs.Outcomes.{world_in}
 use Rattle.moo_props.proofs.FoundSlots.{definer_found}
-use Rattle.moo_property_calls.{proofs.OwnProperty.{owns_slot, owns_by_slot}, proofs.definitions.own_property.Goals as goal}
+use Rattle.moo_property_calls.proofs.OwnProperty.{owns_slot, owns_by_slot}
+use Rattle.moo_property_calls.proofs.definitions.own_property.Goals as goal
 
 pub returns-then-eq-clause-exact : goal.returns-then-eq-clause-exact
 unfolding same_object

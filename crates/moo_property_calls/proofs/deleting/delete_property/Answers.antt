@@ -2,7 +2,8 @@ use Rattle.std.proofs.Common.{rules, ◌≡◌, ◌∙◌}
 use Rattle.moo_world.specs.Changes.{property_removed}
 use Rattle.moo_call_parts.specs.Outcomes.{world_in}
 use Rattle.moo_props.{specs.Names.{spelling_of}, proofs.Quotas.{folded_spelling}}
-use Rattle.moo_property_calls.{proofs.PropertyNames.{undefined_named}, proofs.deleting.delete_property.Goals as goal}
+use Rattle.moo_property_calls.proofs.PropertyNames.{undefined_named}
+use Rattle.moo_property_calls.proofs.deleting.delete_property.Goals as goal
 
 pub returns-clause-comes : goal.returns-clause-comes
 returns-clause-comes g c =

@@ -2,7 +2,8 @@ use Rattle.std.{proofs.Common.{false, ap, ◌∙◌}, specs.Prelude.{unwrap_or},
 use Rattle.moo_rows.{specs.declared.row.PropRow.{PropRow}, specs.Maps.{Maps}}
 use Rattle.moo_world.{specs.Changes.{clashes}, specs.Objects.{same_object}, specs.Rows.{world_of}, proofs.Shown.NumbersKept.{slots_then}}
 use Rattle.moo_props.specs.Names.{spelling_of}
-use Rattle.moo_property_calls.{proofs.Renamed.{may_parts, own_of_name, clashes_still}, proofs.info.change_info.Goals as goal}
+use Rattle.moo_property_calls.proofs.Renamed.{may_parts, own_of_name, clashes_still}
+use Rattle.moo_property_calls.proofs.info.change_info.Goals as goal
 
 pub rename-requires-clause-own : goal.rename-requires-clause-own
 rename-requires-clause-own g c =

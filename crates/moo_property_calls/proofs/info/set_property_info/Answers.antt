@@ -2,7 +2,8 @@ use Rattle.std.{proofs.Common.{rules, ◌≡◌, ap, ◌∙◌}, specs.Option.{o
 use Rattle.moo_world.{specs.Changes.{info_set}, specs.Objects.{same_object}, specs.PropertyCalls.{may_rename, renamed_to}, specs.Rows.{world_shown}}
 use Rattle.moo_call_parts.specs.Outcomes.{world_in}
 use Rattle.moo_props.{specs.Names.{spelling_of}, proofs.Quotas.{folded_spelling}}
-use Rattle.moo_property_calls.{proofs.PropertyNames.{may_rename_named, info_named}, proofs.info.set_property_info.Goals as goal}
+use Rattle.moo_property_calls.proofs.PropertyNames.{may_rename_named, info_named}
+use Rattle.moo_property_calls.proofs.info.set_property_info.Goals as goal
 
 pub change_info-requires-clause-may : goal.change_info-requires-clause-may
 change_info-requires-clause-may g c =

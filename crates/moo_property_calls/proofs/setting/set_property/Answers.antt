@@ -3,7 +3,8 @@ use Rattle.moo_rows.specs.declared.row.SlotState.TheVariants.{Set}
 use Rattle.moo_world.{specs.Changes.{value_set}, specs.Outcomes.{Failed}, specs.PropertyCalls.{set_property}}
 use Rattle.moo_call_parts.specs.Outcomes.{world_in}
 use Rattle.moo_props.{specs.Names.{spelling_of}, proofs.Quotas.{folded_spelling}}
-use Rattle.moo_property_calls.{proofs.PropertyNames.{slot_named}, proofs.setting.set_property.Goals as goal}
+use Rattle.moo_property_calls.proofs.PropertyNames.{slot_named}
+use Rattle.moo_property_calls.proofs.setting.set_property.Goals as goal
 
 pub returns-in_err-found-clause-comes : goal.returns-in_err-found-clause-comes
 returns-in_err-found-clause-comes g c =

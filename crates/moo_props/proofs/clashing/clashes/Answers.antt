@@ -1,4 +1,5 @@
-use Rattle.moo_props.{proofs.Words.{◌≡◌, true, false, ◌||◌, sym, ap, ◌∙◌, is_some, folded, subtree_of, world_of, defined_by_any, property_named, slot_of}, proofs.NameClashes.{slot_or_under}, proofs.clashing.clashes.Goals as goal}
+use Rattle.moo_props.{proofs.Words.{◌≡◌, true, false, ◌||◌, sym, ap, ◌∙◌, is_some, folded, subtree_of, world_of, defined_by_any, property_named, slot_of}, proofs.NameClashes.{slot_or_under}}
+use Rattle.moo_props.proofs.clashing.clashes.Goals as goal
 
 pub returns-then-is_some : goal.returns-then-is_some
 returns-then-is_some g c =

@@ -1,4 +1,5 @@
-use Rattle.moo_props.{proofs.Words.{ap, sym, ◌∙◌, list_any, defined_left, same_text, folded}, proofs.NameClashes.{any_defined}, proofs.Steps.{meets, goes_on}, proofs.clashing.defines_named.Goals as goal}
+use Rattle.moo_props.{proofs.Words.{ap, sym, ◌∙◌, list_any, defined_left, same_text, folded}, proofs.NameClashes.{any_defined}, proofs.Steps.{meets, goes_on}}
+use Rattle.moo_props.proofs.clashing.defines_named.Goals as goal
 
 pub loop-id-init : goal.loop-id-init
 loop-id-init g c =

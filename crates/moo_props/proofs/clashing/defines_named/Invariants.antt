@@ -1,4 +1,5 @@
-use Rattle.moo_props.{proofs.Words.{◌≡◌, list_any, defined_left, same_text, folded, defines_name, world_of}, proofs.clashing.defines_named.Given as goal}
+use Rattle.moo_props.proofs.Words.{◌≡◌, list_any, defined_left, same_text, folded, defines_name, world_of}
+use Rattle.moo_props.proofs.clashing.defines_named.Given as goal
 
 -- one of those that are left has the name just where one of all does
 abbrev pub invariant-loop-id : goal.invariant-loop-id

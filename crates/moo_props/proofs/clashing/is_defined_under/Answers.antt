@@ -1,4 +1,5 @@
-use Rattle.moo_props.{proofs.Words.{Bool, sym, ap, ◌∙◌, list_any, or_left, ObjNo, subtree_of, defines_name, world_of, walk_after, from_here}, proofs.NameClashes.{any_defines}, proofs.clashing.is_defined_under.Goals as goal}
+use Rattle.moo_props.{proofs.Words.{Bool, sym, ap, ◌∙◌, list_any, or_left, ObjNo, subtree_of, defines_name, world_of, walk_after, from_here}, proofs.NameClashes.{any_defines}}
+use Rattle.moo_props.proofs.clashing.is_defined_under.Goals as goal
 
 pub returns-then-defines_named : goal.returns-then-defines_named
 returns-then-defines_named g c =

@@ -1,4 +1,5 @@
-use Rattle.moo_props.{proofs.Words.{◌≡◌, true, length, IfSome, list_any, subtree_of, is_among, defines_name, world_of, chain, from_here}, proofs.clashing.is_defined_under.Given as goal}
+use Rattle.moo_props.proofs.Words.{◌≡◌, true, length, IfSome, list_any, subtree_of, is_among, defines_name, world_of, chain, from_here}
+use Rattle.moo_props.proofs.clashing.is_defined_under.Given as goal
 
 -- one that is still to come defines the name if one of the subtree does
 abbrev pub invariant-loop-at : goal.invariant-loop-at

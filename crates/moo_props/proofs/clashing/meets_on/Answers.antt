@@ -1,4 +1,5 @@
-use Rattle.moo_props.{proofs.Words.{ap, sym, ◌∙◌, is_some, list_any, defined_left, folded, world_of, slot_of}, proofs.NameClashes.{any_defined, meets_by_slots}, proofs.Steps.{meets, goes_on}, proofs.clashing.meets_on.Goals as goal}
+use Rattle.moo_props.{proofs.Words.{ap, sym, ◌∙◌, is_some, list_any, defined_left, folded, world_of, slot_of}, proofs.NameClashes.{any_defined, meets_by_slots}, proofs.Steps.{meets, goes_on}}
+use Rattle.moo_props.proofs.clashing.meets_on.Goals as goal
 
 pub loop-id-init : goal.loop-id-init
 loop-id-init g c =

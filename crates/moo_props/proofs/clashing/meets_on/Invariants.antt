@@ -1,4 +1,5 @@
-use Rattle.moo_props.{proofs.Words.{◌≡◌, is_some, list_any, defined_left, folded, world_of, slot_of, meets_on}, proofs.clashing.meets_on.Given as goal}
+use Rattle.moo_props.proofs.Words.{◌≡◌, is_some, list_any, defined_left, folded, world_of, slot_of, meets_on}
+use Rattle.moo_props.proofs.clashing.meets_on.Given as goal
 
 -- one of those that are left has such a name just where one of all does
 abbrev pub invariant-loop-id : goal.invariant-loop-id

@@ -1,4 +1,5 @@
-use Rattle.moo_props.{proofs.Words.{sym, ap, ◌∙◌, list_any, or_left, world_of, meets_on, walk_after, from_here}, proofs.NameClashes.{any_meets}, proofs.clashing.shares_property_name.Goals as goal}
+use Rattle.moo_props.{proofs.Words.{sym, ap, ◌∙◌, list_any, or_left, world_of, meets_on, walk_after, from_here}, proofs.NameClashes.{any_meets}}
+use Rattle.moo_props.proofs.clashing.shares_property_name.Goals as goal
 
 pub returns-then-meets_on : goal.returns-then-meets_on
 returns-then-meets_on g c =

@@ -1,4 +1,5 @@
-use Rattle.moo_props.{proofs.Words.{◌≡◌, true, length, IfSome, list_any, subtree_of, is_among, world_of, chain, meets_on, from_here}, proofs.clashing.shares_property_name.Given as goal}
+use Rattle.moo_props.proofs.Words.{◌≡◌, true, length, IfSome, list_any, subtree_of, is_among, world_of, chain, meets_on, from_here}
+use Rattle.moo_props.proofs.clashing.shares_property_name.Given as goal
 
 -- one that is still to come defines a name of new's if one of the subtree does
 abbrev pub invariant-loop-at : goal.invariant-loop-at

@@ -1,4 +1,5 @@
-use Rattle.moo_props.{proofs.Words.{◌≡◌, drop, fresh_over}, proofs.defining.put_on_all.Given as goal}
+use Rattle.moo_props.proofs.Words.{◌≡◌, drop, fresh_over}
+use Rattle.moo_props.proofs.defining.put_on_all.Given as goal
 
 -- after the objects that are left, it is as after all
 abbrev pub invariant-loop-y : goal.invariant-loop-y

@@ -1,4 +1,5 @@
-use Rattle.moo_props.{proofs.Words.{◌≡◌, Bool, true, false, Some, length, refl, sym, ap, ◌∙◌, arith, not, true≢false, get, int_eq, ObjNo, ObjRow, Maps, is_among, same_object-eq, same_object-Decides, look_ups, world_of, IsTree, chain, chain_of_no_row, after_below}, proofs.Descending.{linked_child, chain_up, parent_under, still_under, sideward, upward, at_top}, proofs.descent.next_beside.Goals as goal}
+use Rattle.moo_props.{proofs.Words.{◌≡◌, Bool, true, false, Some, length, refl, sym, ap, ◌∙◌, arith, not, true≢false, get, int_eq, ObjNo, ObjRow, Maps, is_among, same_object-eq, same_object-Decides, look_ups, world_of, IsTree, chain, chain_of_no_row, after_below}, proofs.Descending.{linked_child, chain_up, parent_under, still_under, sideward, upward, at_top}}
+use Rattle.moo_props.proofs.descent.next_beside.Goals as goal
 
 fails : (b : Bool) → true ≡ not b → b ≡ false
 fails true e = absurd (true≢false e)

@@ -1,4 +1,5 @@
-use Rattle.moo_props.{proofs.Words.{◌≡◌, true, length, is_among, world_of, chain, after_below}, proofs.descent.next_beside.Given as goal}
+use Rattle.moo_props.proofs.Words.{◌≡◌, true, length, is_among, world_of, chain, after_below}
+use Rattle.moo_props.proofs.descent.next_beside.Given as goal
 
 -- what comes after all that is below y comes after all that is below this ancestor of y
 abbrev pub invariant-loop-x : goal.invariant-loop-x

@@ -1,4 +1,5 @@
-use Rattle.moo_props.{proofs.Words.{None, Some, ◌∙◌, subst, ChildOf, IsFirst, is_linked, object_cmp}, proofs.Descending.{linked_child, still_under, downward, leaf}, proofs.descent.next_under.Goals as goal}
+use Rattle.moo_props.{proofs.Words.{None, Some, ◌∙◌, subst, ChildOf, IsFirst, is_linked, object_cmp}, proofs.Descending.{linked_child, still_under, downward, leaf}}
+use Rattle.moo_props.proofs.descent.next_under.Goals as goal
 
 pub returns-in-None-clause-next : goal.returns-in-None-clause-next
 returns-in-None-clause-next g c =

@@ -1,4 +1,5 @@
-use Rattle.moo_props.{proofs.Words.{◌≡◌, ◌∙◌, subst, OnOk, verbs_removed, rows_released, without_object}, proofs.dropping.drop_rows.Goals as goal}
+use Rattle.moo_props.proofs.Words.{◌≡◌, ◌∙◌, subst, OnOk, verbs_removed, rows_released, without_object}
+use Rattle.moo_props.proofs.dropping.drop_rows.Goals as goal
 
 pub returns : goal.returns
 returns g c =

@@ -1,4 +1,5 @@
-use Rattle.moo_props.{proofs.Words.{ObjNo, refl, pos, get_or, ap, ◌++◌, ◌∙◌, without_on, slots_dropped, dropped_over, ids_for, keys_on}, proofs.Steps.{done_more, listed_more, all_done, listed_all}, proofs.dropping.drop_slots.Goals as goal}
+use Rattle.moo_props.{proofs.Words.{ObjNo, refl, pos, get_or, ap, ◌++◌, ◌∙◌, without_on, slots_dropped, dropped_over, ids_for, keys_on}, proofs.Steps.{done_more, listed_more, all_done, listed_all}}
+use Rattle.moo_props.proofs.dropping.drop_slots.Goals as goal
 
 pub loop-y-preserved : goal.loop-y-preserved
 loop-y-preserved g c =

@@ -1,4 +1,5 @@
-use Rattle.moo_props.{proofs.Words.{◌≡◌, ◌++◌, drop, slots_dropped, dropped_over}, proofs.dropping.drop_slots.Given as goal}
+use Rattle.moo_props.proofs.Words.{◌≡◌, ◌++◌, drop, slots_dropped, dropped_over}
+use Rattle.moo_props.proofs.dropping.drop_slots.Given as goal
 
 -- after the objects that are left, it is as after all
 abbrev pub invariant-loop-y : goal.invariant-loop-y

@@ -1,4 +1,5 @@
-use Rattle.moo_props.{proofs.Words.{◌++◌, ◌∙◌, slots_dropped, dropped_over}, proofs.dropping.drop_under.Goals as goal}
+use Rattle.moo_props.proofs.Words.{◌++◌, ◌∙◌, slots_dropped, dropped_over}
+use Rattle.moo_props.proofs.dropping.drop_under.Goals as goal
 
 pub returns : goal.returns
 returns g c = record {

@@ -1,4 +1,5 @@
-use Rattle.moo_props.{proofs.Words.{◌++◌, ap, ◌∙◌, slots_of_left, ids_among}, proofs.Steps.{listed, all_listed}, proofs.dropping.ids_on.Goals as goal}
+use Rattle.moo_props.{proofs.Words.{◌++◌, ap, ◌∙◌, slots_of_left, ids_among}, proofs.Steps.{listed, all_listed}}
+use Rattle.moo_props.proofs.dropping.ids_on.Goals as goal
 
 pub loop-key-init : goal.loop-key-init
 loop-key-init g c =

@@ -1,4 +1,5 @@
-use Rattle.moo_props.{proofs.Words.{refl, ◌∙◌, row_released, rows_released}, proofs.Steps.{done_more, all_done}, proofs.dropping.release_all.Goals as goal}
+use Rattle.moo_props.{proofs.Words.{refl, ◌∙◌, row_released, rows_released}, proofs.Steps.{done_more, all_done}}
+use Rattle.moo_props.proofs.dropping.release_all.Goals as goal
 
 pub loop-y-preserved : goal.loop-y-preserved
 loop-y-preserved g c = done_more (rows_released c.args.x c.args.parent) (row_released c.args.x c.args.parent) (λ a l h. refl) c.args.objects.now c.loop-y.y-index _ _ _ c.loop-y-test.true c.in_ok-release.ensures ∙ c.loop-y.invariant

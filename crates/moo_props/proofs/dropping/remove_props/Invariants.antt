@@ -1,4 +1,5 @@
-use Rattle.moo_props.{proofs.Words.{◌≡◌, drop, props_removed}, proofs.dropping.remove_props.Given as goal}
+use Rattle.moo_props.proofs.Words.{◌≡◌, drop, props_removed}
+use Rattle.moo_props.proofs.dropping.remove_props.Given as goal
 
 -- without those that are left, it is as without all
 abbrev pub invariant-loop-id : goal.invariant-loop-id

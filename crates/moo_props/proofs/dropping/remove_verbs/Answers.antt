@@ -1,4 +1,5 @@
-use Rattle.moo_props.{proofs.Words.{refl, ◌∙◌, verbs_removed, without_verb}, proofs.Steps.{done_more, all_done}, proofs.dropping.remove_verbs.Goals as goal}
+use Rattle.moo_props.{proofs.Words.{refl, ◌∙◌, verbs_removed, without_verb}, proofs.Steps.{done_more, all_done}}
+use Rattle.moo_props.proofs.dropping.remove_verbs.Goals as goal
 
 pub loop-key-preserved : goal.loop-key-preserved
 loop-key-preserved g c = done_more verbs_removed (λ key h. without_verb h key) (λ a l h. refl) c.args.keys.now c.loop-key.key-index _ _ _ c.loop-key-test.true c.in_ok-remove_verb.ensures.ok ∙ c.loop-key.invariant

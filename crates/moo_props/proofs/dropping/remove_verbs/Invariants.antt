@@ -1,4 +1,5 @@
-use Rattle.moo_props.{proofs.Words.{◌≡◌, drop, verbs_removed}, proofs.dropping.remove_verbs.Given as goal}
+use Rattle.moo_props.proofs.Words.{◌≡◌, drop, verbs_removed}
+use Rattle.moo_props.proofs.dropping.remove_verbs.Given as goal
 
 -- without those that are left, it is as without all
 abbrev pub invariant-loop-key : goal.invariant-loop-key

@@ -1,4 +1,5 @@
-use Rattle.moo_props.{proofs.Words.{◌++◌, map, ap, ◌∙◌, verbs_of_left}, proofs.Steps.{listed, all_listed}, proofs.WholeWalks.{verb_keys}, proofs.dropping.verbs_on.Goals as goal}
+use Rattle.moo_props.{proofs.Words.{◌++◌, map, ap, ◌∙◌, verbs_of_left}, proofs.Steps.{listed, all_listed}, proofs.WholeWalks.{verb_keys}}
+use Rattle.moo_props.proofs.dropping.verbs_on.Goals as goal
 
 pub loop-key-init : goal.loop-key-init
 loop-key-init g c =

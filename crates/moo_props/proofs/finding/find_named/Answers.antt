@@ -1,4 +1,5 @@
-use Rattle.moo_props.{proofs.Words.{◌≡◌, cond, None, Some, sym, ap, ◌∙◌, is_some, slots_of_left, folded, SlotHere, look_ups}, proofs.Walked.{walk, first_called, found_here, none_here, here_seen, here_name}, proofs.finding.find_named.Goals as goal}
+use Rattle.moo_props.{proofs.Words.{◌≡◌, cond, None, Some, sym, ap, ◌∙◌, is_some, slots_of_left, folded, SlotHere, look_ups}, proofs.Walked.{walk, first_called, found_here, none_here, here_seen, here_name}}
+use Rattle.moo_props.proofs.finding.find_named.Goals as goal
 
 found : (g : _) (c : goal.After-result-1 g) → first_called (g.R.Rows.held c.args.rows.now).maps (folded c.args.name.now) (walk (g.R.Rows.held c.args.rows.now).maps c.args.x) ≡ Some (c.in-Some.key, c.in-Some._slot.now)
 found g c =

@@ -1,4 +1,5 @@
-use Rattle.moo_props.{proofs.Words.{◌≡◌, slots_of_left, folded}, proofs.Walked.{walk, first_called}, proofs.finding.find_named.Given as goal}
+use Rattle.moo_props.{proofs.Words.{◌≡◌, slots_of_left, folded}, proofs.Walked.{walk, first_called}}
+use Rattle.moo_props.proofs.finding.find_named.Given as goal
 
 -- what is found in what is left is what is found in all
 abbrev pub invariant-loop-key : goal.invariant-loop-key

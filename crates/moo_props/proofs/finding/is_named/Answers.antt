@@ -1,4 +1,5 @@
-use Rattle.moo_props.{proofs.Words.{◌≡◌, map, sym, subst, Decides, decided_alike, same_text, folded, same_text-Decides}, proofs.finding.is_named.Goals as goal}
+use Rattle.moo_props.proofs.Words.{◌≡◌, map, sym, subst, Decides, decided_alike, same_text, folded, same_text-Decides}
+use Rattle.moo_props.proofs.finding.is_named.Goals as goal
 use Rattle.std.specs.Char.{to_ascii_lowercase}
 
 pub returns : goal.returns

@@ -1,4 +1,5 @@
-use Rattle.moo_props.{proofs.Words.{FitsSigned, w64, rules, Some, sym, ap, ◌∙◌, to_z-of_z, folded, quota_in, world_of, name_of}, proofs.Cases.{none_of}, proofs.Quotas.{no_quota, no_integer, quota_is}, proofs.quota.quota_here.Goals as goal}
+use Rattle.moo_props.{proofs.Words.{FitsSigned, w64, rules, Some, sym, ap, ◌∙◌, to_z-of_z, folded, quota_in, world_of, name_of}, proofs.Cases.{none_of}, proofs.Quotas.{no_quota, no_integer, quota_is}}
+use Rattle.moo_props.proofs.quota.quota_here.Goals as goal
 
 pub returns-in-None-clause-quota : goal.returns-in-None-clause-quota
 unfolding folded

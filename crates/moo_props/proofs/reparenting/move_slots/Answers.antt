@@ -1,4 +1,5 @@
-use Rattle.moo_props.{proofs.Words.{refl, map, ap, ◌∙◌, without_on, with_fresh, slots_moved, keys_on, keys_over, id_of}, proofs.Steps.{done_more, listed_more, all_done, listed_all}, proofs.reparenting.move_slots.Goals as goal}
+use Rattle.moo_props.{proofs.Words.{refl, map, ap, ◌∙◌, without_on, with_fresh, slots_moved, keys_on, keys_over, id_of}, proofs.Steps.{done_more, listed_more, all_done, listed_all}}
+use Rattle.moo_props.proofs.reparenting.move_slots.Goals as goal
 
 pub loop-y-preserved : goal.loop-y-preserved
 loop-y-preserved g c =

@@ -1,4 +1,5 @@
-use Rattle.moo_props.{proofs.Words.{◌≡◌, ◌++◌, drop, map, slots_moved, keys_over, id_of}, proofs.reparenting.move_slots.Given as goal}
+use Rattle.moo_props.proofs.Words.{◌≡◌, ◌++◌, drop, map, slots_moved, keys_over, id_of}
+use Rattle.moo_props.proofs.reparenting.move_slots.Given as goal
 
 -- after the objects that are left, it is as after all
 abbrev pub invariant-loop-y : goal.invariant-loop-y

@@ -1,4 +1,5 @@
-use Rattle.moo_props.{proofs.Words.{◌++◌, map, ◌∙◌, slots_moved, id_of, keys_over}, proofs.reparenting.move_under.Goals as goal}
+use Rattle.moo_props.proofs.Words.{◌++◌, map, ◌∙◌, slots_moved, id_of, keys_over}
+use Rattle.moo_props.proofs.reparenting.move_under.Goals as goal
 
 pub returns : goal.returns
 returns g c = record {

@@ -1,4 +1,5 @@
-use Rattle.moo_props.{proofs.Words.{◌≡◌, ◌++◌, entries, filter, slots_of_left, ids_among, is_defined_only, props_only_of}, proofs.reparenting.props_among.Given as goal}
+use Rattle.moo_props.proofs.Words.{◌≡◌, ◌++◌, entries, filter, slots_of_left, ids_among, is_defined_only, props_only_of}
+use Rattle.moo_props.proofs.reparenting.props_among.Given as goal
 
 -- those so far, and those of the slots that are left
 abbrev pub invariant-loop-key : goal.invariant-loop-key

@@ -1,4 +1,5 @@
-use Rattle.moo_props.{proofs.Words.{sym, ap, ◌∙◌, entries, is_among, Maps, props_only_of, origins}, proofs.reparenting.turnover.Goals as goal}
+use Rattle.moo_props.proofs.Words.{sym, ap, ◌∙◌, entries, is_among, Maps, props_only_of, origins}
+use Rattle.moo_props.proofs.reparenting.turnover.Goals as goal
 
 pub props_among-requires-clause-within : goal.props_among-requires-clause-within
 props_among-requires-clause-within g c d h = c.requires.above d (ap (is_among d) (sym (c.as_slice.ensures.value ∙ c.in_ok-above.ensures)) ∙ h)

@@ -1,4 +1,5 @@
-use Rattle.moo_props.{proofs.Words.{List, refl, map, [], ◌∷◌, ◌∙◌, keys_on, id_of, Origin}, proofs.Steps.{listed_more, listed_all}, proofs.slots.list_on.Goals as goal}
+use Rattle.moo_props.{proofs.Words.{List, refl, map, [], ◌∷◌, ◌∙◌, keys_on, id_of, Origin}, proofs.Steps.{listed_more, listed_all}}
+use Rattle.moo_props.proofs.slots.list_on.Goals as goal
 
 pub loop-origin-preserved : goal.loop-origin-preserved
 loop-origin-preserved c = listed_more (λ (l : List Origin). keys_on c.args.y (map id_of l)) (λ origin. (c.args.y, origin.id) ∷ []) (λ a l. refl) c.args.origins.now c.loop-origin.origin-index _ _ _ c.loop-origin-test.true c.in_ok-push.ensures.items ∙ c.loop-origin.invariant

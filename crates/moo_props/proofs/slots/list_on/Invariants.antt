@@ -1,4 +1,5 @@
-use Rattle.moo_props.{proofs.Words.{◌≡◌, ◌++◌, drop, map, keys_on, id_of}, proofs.slots.list_on.Given as goal}
+use Rattle.moo_props.proofs.Words.{◌≡◌, ◌++◌, drop, map, keys_on, id_of}
+use Rattle.moo_props.proofs.slots.list_on.Given as goal
 
 -- with the keys of what is left, the list is as with all
 abbrev pub invariant-loop-origin : goal.invariant-loop-origin

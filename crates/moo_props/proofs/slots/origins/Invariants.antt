@@ -1,4 +1,5 @@
-use Rattle.moo_props.{proofs.Words.{◌≡◌, ◌++◌, drop, origins}, proofs.slots.origins.Given as goal}
+use Rattle.moo_props.proofs.Words.{◌≡◌, ◌++◌, drop, origins}
+use Rattle.moo_props.proofs.slots.origins.Given as goal
 
 -- those so far, and those of the properties that are left
 abbrev pub invariant-loop-id : goal.invariant-loop-id

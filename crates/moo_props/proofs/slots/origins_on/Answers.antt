@@ -1,4 +1,5 @@
-use Rattle.moo_props.{proofs.Words.{◌++◌, ap, ◌∙◌, slots_of_left, origins_among, origin_of}, proofs.Steps.{listed, all_listed}, proofs.slots.origins_on.Goals as goal}
+use Rattle.moo_props.{proofs.Words.{◌++◌, ap, ◌∙◌, slots_of_left, origins_among, origin_of}, proofs.Steps.{listed, all_listed}}
+use Rattle.moo_props.proofs.slots.origins_on.Goals as goal
 
 pub loop-key-init : goal.loop-key-init
 loop-key-init g c =

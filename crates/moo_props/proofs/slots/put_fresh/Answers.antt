@@ -1,4 +1,5 @@
-use Rattle.moo_props.{proofs.Words.{refl, ap, ◌∙◌, pos, false, get_or, Origin, fresh_of, slot_put, with_fresh}, proofs.Steps.{done_more, all_done}, proofs.slots.put_fresh.Goals as goal}
+use Rattle.moo_props.{proofs.Words.{refl, ap, ◌∙◌, pos, false, get_or, Origin, fresh_of, slot_put, with_fresh}, proofs.Steps.{done_more, all_done}}
+use Rattle.moo_props.proofs.slots.put_fresh.Goals as goal
 
 pub loop-origin-preserved : goal.loop-origin-preserved
 loop-origin-preserved g c =

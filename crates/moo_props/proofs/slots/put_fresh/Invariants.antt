@@ -1,4 +1,5 @@
-use Rattle.moo_props.{proofs.Words.{◌≡◌, drop, with_fresh}, proofs.slots.put_fresh.Given as goal}
+use Rattle.moo_props.proofs.Words.{◌≡◌, drop, with_fresh}
+use Rattle.moo_props.proofs.slots.put_fresh.Given as goal
 
 -- with the slots that are left, it is as with all
 abbrev pub invariant-loop-origin : goal.invariant-loop-origin

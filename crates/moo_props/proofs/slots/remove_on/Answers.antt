@@ -1,4 +1,5 @@
-use Rattle.moo_props.{proofs.Words.{refl, [], ◌∷◌, ◌∙◌, slot_removed, without_on, keys_on}, proofs.Steps.{done_more, listed_more, all_done, listed_all}, proofs.slots.remove_on.Goals as goal}
+use Rattle.moo_props.{proofs.Words.{refl, [], ◌∷◌, ◌∙◌, slot_removed, without_on, keys_on}, proofs.Steps.{done_more, listed_more, all_done, listed_all}}
+use Rattle.moo_props.proofs.slots.remove_on.Goals as goal
 
 pub loop-id-preserved : goal.loop-id-preserved
 loop-id-preserved g c = record {

@@ -1,4 +1,5 @@
-use Rattle.moo_props.{proofs.Words.{◌≡◌, ◌++◌, drop, without_on, keys_on}, proofs.slots.remove_on.Given as goal}
+use Rattle.moo_props.proofs.Words.{◌≡◌, ◌++◌, drop, without_on, keys_on}
+use Rattle.moo_props.proofs.slots.remove_on.Given as goal
 
 -- without the properties that are left, it is as without all
 abbrev pub invariant-loop-id : goal.invariant-loop-id

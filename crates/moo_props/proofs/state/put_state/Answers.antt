@@ -1,4 +1,5 @@
-use Rattle.moo_props.{proofs.Words.{refl, sym, ap, ◌∙◌, subst, Held, world_of, IsGood, slot_within, IsSameButSlots, slots_only, beside_world}, proofs.States.{put_slot_world, put_slot_good}, proofs.state.put_state.Goals as goal}
+use Rattle.moo_props.{proofs.Words.{refl, sym, ap, ◌∙◌, subst, Held, world_of, IsGood, slot_within, IsSameButSlots, slots_only, beside_world}, proofs.States.{put_slot_world, put_slot_good}}
+use Rattle.moo_props.proofs.state.put_state.Goals as goal
 use Rattle.moo_world.proofs.Form.Limits.{slot_owner}
 
 rest : (g : _) (c : goal.In_ok-put_slot g) → IsSameButSlots (g.R.Rows.held c.args.rows.now).maps (g.R.Rows.held c.put_slot.new.self).maps

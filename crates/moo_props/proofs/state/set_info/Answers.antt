@@ -1,4 +1,5 @@
-use Rattle.moo_props.{proofs.Words.{FitsSigned, w32, rules, ◌≡◌, false, refl, sym, ap, ◌∙◌, subst, ObjNo, Held, SlotRow, Clear, world_of, IsGood, slot_seen, Slot, number_within, slot_within, defines, IsSameButSlots, slots_only, beside_world}, proofs.States.{put_slot_world, put_slot_good, clear_inherited}, proofs.state.set_info.Goals as goal}
+use Rattle.moo_props.{proofs.Words.{FitsSigned, w32, rules, ◌≡◌, false, refl, sym, ap, ◌∙◌, subst, ObjNo, Held, SlotRow, Clear, world_of, IsGood, slot_seen, Slot, number_within, slot_within, defines, IsSameButSlots, slots_only, beside_world}, proofs.States.{put_slot_world, put_slot_good, clear_inherited}}
+use Rattle.moo_props.proofs.state.set_info.Goals as goal
 use Rattle.moo_world.proofs.Form.Limits.{slot_state}
 
 abbrev next : (g : _) → goal.In_ok-put_slot g → SlotRow

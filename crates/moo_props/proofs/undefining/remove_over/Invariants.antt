@@ -1,4 +1,5 @@
-use Rattle.moo_props.{proofs.Words.{◌≡◌, drop, less_over}, proofs.undefining.remove_over.Given as goal}
+use Rattle.moo_props.proofs.Words.{◌≡◌, drop, less_over}
+use Rattle.moo_props.proofs.undefining.remove_over.Given as goal
 
 -- after the objects that are left, it is as after all
 abbrev pub invariant-loop-y : goal.invariant-loop-y

@@ -1,4 +1,5 @@
-use Rattle.moo_props.{proofs.Words.{◌≡◌, length, sym, ap, ◌∙◌, arith, Clear, look_ups, chain_of_row}, proofs.Values.{set_read, clear_read, parent_has}, proofs.value.value_of.Goals as goal}
+use Rattle.moo_props.{proofs.Words.{◌≡◌, length, sym, ap, ◌∙◌, arith, Clear, look_ups, chain_of_row}, proofs.Values.{set_read, clear_read, parent_has}}
+use Rattle.moo_props.proofs.value.value_of.Goals as goal
 
 pub returns-in-Set : goal.returns-in-Set
 returns-in-Set g c =

@@ -1,4 +1,5 @@
-use Rattle.moo_props.{proofs.Words.{◌≡◌, length, true, is_some, get, chain, read_of, world_of, name_of}, proofs.value.value_of.Given as goal}
+use Rattle.moo_props.proofs.Words.{◌≡◌, length, true, is_some, get, chain, read_of, world_of, name_of}
+use Rattle.moo_props.proofs.value.value_of.Given as goal
 
 -- what is read from here is what x reads, and the property is here
 abbrev pub invariant-loop-slot : goal.invariant-loop-slot

@@ -1,4 +1,5 @@
-use Rattle.moo_request.{proofs.Words.{view}, proofs.RequestLemmas.{json_asks}, proofs.body.ask_body.Goals as goal}
+use Rattle.moo_request.{proofs.Words.{view}, proofs.RequestLemmas.{json_asks}}
+use Rattle.moo_request.proofs.body.ask_body.Goals as goal
 
 pub returns-in-Some : goal.returns-in-Some
 returns-in-Some c =

@@ -1,4 +1,5 @@
-use Rattle.moo_request.{proofs.Words.{arith, map, length-map}, proofs.CallLemmas.{calls-few}, proofs.body.ask_shape.Goals as goal}
+use Rattle.moo_request.{proofs.Words.{arith, map, length-map}, proofs.CallLemmas.{calls-few}}
+use Rattle.moo_request.proofs.body.ask_shape.Goals as goal
 
 pub from_vec-requires : goal.from_vec-requires
 from_vec-requires c =

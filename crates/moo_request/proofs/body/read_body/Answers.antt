@@ -1,4 +1,5 @@
-use Rattle.moo_request.{proofs.Words.{◌<◌, ◌≤◌, ◌+◌, length, max, rules, IsAtEnd}, proofs.Giving.{taken, on_err}, proofs.RequestLemmas.{body_short, body_whole}, proofs.body.read_body.Goals as goal}
+use Rattle.moo_request.{proofs.Words.{◌<◌, ◌≤◌, ◌+◌, length, max, rules, IsAtEnd}, proofs.Giving.{taken, on_err}, proofs.RequestLemmas.{body_short, body_whole}}
+use Rattle.moo_request.proofs.body.read_body.Goals as goal
 
 pub returns-clause-asks : goal.returns-clause-asks
 returns-clause-asks g c =

@@ -1,4 +1,5 @@
-use Rattle.moo_request.{proofs.Words.{◌+◌, ◌∙◌, ap, sym, call_of, Bad, calls_from}, proofs.CallLemmas.{before_calls, texts_from, calls-more, calls-bad, calls-all}, proofs.body.read_calls.Goals as goal}
+use Rattle.moo_request.{proofs.Words.{◌+◌, ◌∙◌, ap, sym, call_of, Bad, calls_from}, proofs.CallLemmas.{before_calls, texts_from, calls-more, calls-bad, calls-all}}
+use Rattle.moo_request.proofs.body.read_calls.Goals as goal
 
 pub returns-in-None : goal.returns-in-None
 returns-in-None c =

@@ -1,4 +1,5 @@
-use Rattle.moo_request.{proofs.Words.{◌++◌, ap, take, ◌∙◌, take-append-le}, proofs.Giving.{front_size}, proofs.input.read_more.Goals as goal}
+use Rattle.moo_request.{proofs.Words.{◌++◌, ap, take, ◌∙◌, take-append-le}, proofs.Giving.{front_size}}
+use Rattle.moo_request.proofs.input.read_more.Goals as goal
 
 pub returns-clause-grows : goal.returns-clause-grows
 returns-clause-grows g c = record {

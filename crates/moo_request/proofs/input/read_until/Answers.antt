@@ -1,4 +1,5 @@
-use Rattle.moo_request.{proofs.Words.{◌<◌, ◌≤◌, length, arith, rules}, proofs.Giving.{Grows-then, taken_then, on_err}, proofs.input.read_until.Goals as goal}
+use Rattle.moo_request.{proofs.Words.{◌<◌, ◌≤◌, length, arith, rules}, proofs.Giving.{Grows-then, taken_then, on_err}}
+use Rattle.moo_request.proofs.input.read_until.Goals as goal
 
 pub returns-in_err-read_more-clause-breaks : goal.returns-in_err-read_more-clause-breaks
 returns-in_err-read_more-clause-breaks g c =

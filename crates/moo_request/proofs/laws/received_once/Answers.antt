@@ -1,4 +1,5 @@
-use Rattle.moo_request.{proofs.OnceLemmas.{received-once}, proofs.laws.received_once.Goals as goal}
+use Rattle.moo_request.proofs.OnceLemmas.{received-once}
+use Rattle.moo_request.proofs.laws.received_once.Goals as goal
 
 pub returns : goal.returns
 returns c = received-once

@@ -1,4 +1,5 @@
-use Rattle.moo_request.{proofs.Words.{refl, service_rows}, proofs.laws.routes_are_known.Goals as goal}
+use Rattle.moo_request.proofs.Words.{refl, service_rows}
+use Rattle.moo_request.proofs.laws.routes_are_known.Goals as goal
 use Rattle.matchit.proofs.OnLiterals.{matchit_on_literals}
 
 pub returns : goal.returns

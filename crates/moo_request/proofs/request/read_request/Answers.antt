@@ -1,4 +1,5 @@
-use Rattle.moo_request.{proofs.Giving.{on_err}, proofs.RequestLemmas.{takes_of, takes_nothing, takes_refused, breaks_of}, proofs.request.read_request.Goals as goal}
+use Rattle.moo_request.{proofs.Giving.{on_err}, proofs.RequestLemmas.{takes_of, takes_nothing, takes_refused, breaks_of}}
+use Rattle.moo_request.proofs.request.read_request.Goals as goal
 
 pub returns-in_err-asked-clause-breaks : goal.returns-in_err-asked-clause-breaks
 returns-in_err-asked-clause-breaks g c =

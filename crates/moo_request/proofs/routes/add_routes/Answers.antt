@@ -1,4 +1,5 @@
-use Rattle.moo_request.{proofs.Words.{ap, ◌∙◌, all_topics, with_route, with_topics, codes}, specs.declared.asked.Mode.TheVariants.{Ask}, specs.declared.routes.Endpoint.TheVariants.{Batch}, proofs.routes.add_routes.Goals as goal}
+use Rattle.moo_request.{proofs.Words.{ap, ◌∙◌, all_topics, with_route, with_topics, codes}, specs.declared.asked.Mode.TheVariants.{Ask}, specs.declared.routes.Endpoint.TheVariants.{Batch}}
+use Rattle.moo_request.proofs.routes.add_routes.Goals as goal
 use Rattle.std.proofs.lemmas.Result.{IfOk-equal}
 
 pub returns : goal.returns

@@ -1,4 +1,5 @@
-use Rattle.moo_request.{proofs.Words.{◌≡◌, drop, all_topics, with_topics}, proofs.routes.add_topics.Given as goal}
+use Rattle.moo_request.proofs.Words.{◌≡◌, drop, all_topics, with_topics}
+use Rattle.moo_request.proofs.routes.add_topics.Given as goal
 
 -- the topics that are left come to the same rows
 abbrev pub invariant-loop-topic : goal.invariant-loop-topic

@@ -1,4 +1,5 @@
-use Rattle.moo_responses.{proofs.Words.{ap, ◌∙◌, codes}, proofs.BodyLemmas.{no_float-accepted}, proofs.bodies.accepted_text.Goals as goal}
+use Rattle.moo_responses.{proofs.Words.{ap, ◌∙◌, codes}, proofs.BodyLemmas.{no_float-accepted}}
+use Rattle.moo_responses.proofs.bodies.accepted_text.Goals as goal
 use Rattle.serde_json.{specs.Data.{array, put}, proofs.Views.{view-Array}, specs.View.{members_view}, specs.Written.{members_have_float}}
 
 pub printed-requires : goal.printed-requires

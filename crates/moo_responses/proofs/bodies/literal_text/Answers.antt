@@ -1,4 +1,5 @@
-use Rattle.moo_responses.{proofs.Words.{◌++◌, sym, ap, ◌∙◌, subst, IsUtf8, print}, proofs.Ascii.{print_utf8}, proofs.bodies.literal_text.Goals as goal}
+use Rattle.moo_responses.{proofs.Words.{◌++◌, sym, ap, ◌∙◌, subst, IsUtf8, print}, proofs.Ascii.{print_utf8}}
+use Rattle.moo_responses.proofs.bodies.literal_text.Goals as goal
 
 pub unwrap-requires : goal.unwrap-requires
 unwrap-requires c =

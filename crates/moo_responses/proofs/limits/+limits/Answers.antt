@@ -1,4 +1,5 @@
-use Rattle.moo_responses.{proofs.Words.{arith, ap, levels}, proofs.Nesting.{nesting_le}, proofs.limits.+limits.Goals as goal}
+use Rattle.moo_responses.{proofs.Words.{arith, ap, levels}, proofs.Nesting.{nesting_le}}
+use Rattle.moo_responses.proofs.limits.+limits.Goals as goal
 
 pub read_limits_in-read_limits-requires : goal.read_limits_in-read_limits-requires
 read_limits_in-read_limits-requires t c =

@@ -1,4 +1,5 @@
-use Rattle.moo_responses.{proofs.Words.{◌+◌, ◌*◌, drop, IsText, HoldInside, InRange, levels, gather, nesting}, proofs.limits.+limits.Given as goal}
+use Rattle.moo_responses.proofs.Words.{◌+◌, ◌*◌, drop, IsText, HoldInside, InRange, levels, gather, nesting}
+use Rattle.moo_responses.proofs.limits.+limits.Given as goal
 
 abbrev pub decreases-read_limits : goal.decreases-read_limits
 decreases-read_limits l = 2 * nesting l.value.now

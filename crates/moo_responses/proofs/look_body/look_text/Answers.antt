@@ -1,4 +1,5 @@
-use Rattle.moo_responses.{proofs.Words.{ap, ◌∙◌}, specs.Fields.{with_links, with_flags}, proofs.BodyLemmas.{no_float-look}, proofs.look_body.look_text.Goals as goal}
+use Rattle.moo_responses.{proofs.Words.{ap, ◌∙◌}, specs.Fields.{with_links, with_flags}, proofs.BodyLemmas.{no_float-look}}
+use Rattle.moo_responses.proofs.look_body.look_text.Goals as goal
 use Rattle.serde_json.{specs.View.{members_view}, specs.Written.{members_have_float}}
 
 pub printed-requires : goal.printed-requires

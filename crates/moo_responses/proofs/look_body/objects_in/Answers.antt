@@ -1,4 +1,5 @@
-use Rattle.moo_responses.{proofs.Words.{map, pos, ap, ◌∙◌, string, view, object_text}, proofs.BodyLemmas.{one_more, view-String}, proofs.look_body.objects_in.Goals as goal}
+use Rattle.moo_responses.{proofs.Words.{map, pos, ap, ◌∙◌, string, view, object_text}, proofs.BodyLemmas.{one_more, view-String}}
+use Rattle.moo_responses.proofs.look_body.objects_in.Goals as goal
 use Rattle.serde_json.specs.declared.value.Value.TheVariants.{String as a_string}
 
 pub loop-x-preserved : goal.loop-x-preserved

@@ -1,4 +1,5 @@
-use Rattle.moo_responses.{proofs.Words.{◌≡◌, ◌++◌, [], ◌∙◌, rules, codes}, specs.Bytes.{allow_line, head_text, length_line, line_end, reason_of, status_line}, proofs.HeadLemmas.{pieces_are}, proofs.response.print_head.Goals as goal}
+use Rattle.moo_responses.{proofs.Words.{◌≡◌, ◌++◌, [], ◌∙◌, rules, codes}, specs.Bytes.{allow_line, head_text, length_line, line_end, reason_of, status_line}, proofs.HeadLemmas.{pieces_are}}
+use Rattle.moo_responses.proofs.response.print_head.Goals as goal
 use Rattle.std.{specs.Prelude.{decimal, option_map}, proofs.lemmas.Result.{IfOk-weaker}}
 
 pub returns : goal.returns

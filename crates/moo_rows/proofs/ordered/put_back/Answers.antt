@@ -1,5 +1,7 @@
-use Rattle.std.{proofs.Common.{sym, ap, ◌∙◌}, specs.FinMap as map}
-use Rattle.moo_rows.{specs.Ordered.{contents}, proofs.Contents.{removed-again, put-held}, proofs.ordered.put_back.Goals as goal}
+use Rattle.std.proofs.Common.{sym, ap, ◌∙◌}
+use Rattle.std.specs.FinMap as map
+use Rattle.moo_rows.{specs.Ordered.{contents}, proofs.Contents.{removed-again, put-held}}
+use Rattle.moo_rows.proofs.ordered.put_back.Goals as goal
 
 pub returns-in-None : goal.returns-in-None
 returns-in-None g c before row is had =

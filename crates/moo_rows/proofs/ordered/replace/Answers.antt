@@ -1,5 +1,6 @@
 use Rattle.std.proofs.Common.{sym, ◌∙◌}
-use Rattle.moo_rows.{proofs.Contents.{contents-insert, get-contents, on_err}, proofs.ordered.replace.Goals as goal}
+use Rattle.moo_rows.proofs.Contents.{contents-insert, get-contents, on_err}
+use Rattle.moo_rows.proofs.ordered.replace.Goals as goal
 
 pub returns-clause-old : goal.returns-clause-old
 returns-clause-old g c = c.in_ok-old.ensures.old ∙ sym (get-contents g.met.K.Ord.total c.args.rows.now c.args.key)

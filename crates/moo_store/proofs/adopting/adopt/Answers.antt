@@ -1,4 +1,5 @@
-use Rattle.moo_store.{proofs.Words.{◌≡◌, true, false, sym, ap, ◌∙◌, subst, subst₂, HasCleanDisk, state, IsGood, state_of, ShowsRows, Tables, schema_of, present_schema, Rests, HasTables, store_of, StandsFor}, specs.Current.{RestsCurrent}, proofs.AdoptLemmas.{stands, clean_at, survives_at, left_still}, proofs.adopting.adopt.Goals as goal}
+use Rattle.moo_store.{proofs.Words.{◌≡◌, true, false, sym, ap, ◌∙◌, subst, subst₂, HasCleanDisk, state, IsGood, state_of, ShowsRows, Tables, schema_of, present_schema, Rests, HasTables, store_of, StandsFor}, specs.Current.{RestsCurrent}, proofs.AdoptLemmas.{stands, clean_at, survives_at, left_still}}
+use Rattle.moo_store.proofs.adopting.adopt.Goals as goal
 
 pub returns-in-Ok-clause-stands : goal.returns-in-Ok-clause-stands
 returns-in-Ok-clause-stands g c s it clean =

@@ -1,4 +1,5 @@
-use Rattle.moo_store.{proofs.Words.{inr, state, clean_before}, proofs.AdoptLemmas.{undone, refused_survives, has_still, rests_still, version_of_old, crash, undone_late, says_of_store}, proofs.adopting.open_rows.Goals as goal}
+use Rattle.moo_store.{proofs.Words.{inr, state, clean_before}, proofs.AdoptLemmas.{undone, refused_survives, has_still, rests_still, version_of_old, crash, undone_late, says_of_store}}
+use Rattle.moo_store.proofs.adopting.open_rows.Goals as goal
 
 -- ---- the tables were not read
 

@@ -1,4 +1,5 @@
-use Rattle.moo_store.{proofs.Words.{Option, sym, subst, arith, IfNone, TextFault, feed_side, feed_room, EndsAt, is_batch, is_lost_answer, Completes}, specs.declared.tally.Tally.{Tally}, proofs.Going.{going_starts, going_on, going_through, halts_before, halts_inside, one_more, falls_at_turn}, proofs.answering.answer_all.Goals as goal}
+use Rattle.moo_store.{proofs.Words.{Option, sym, subst, arith, IfNone, TextFault, feed_side, feed_room, EndsAt, is_batch, is_lost_answer, Completes}, specs.declared.tally.Tally.{Tally}, proofs.Going.{going_starts, going_on, going_through, halts_before, halts_inside, one_more, falls_at_turn}}
+use Rattle.moo_store.proofs.answering.answer_all.Goals as goal
 use Rattle.moo_text.specs.Given.{BreaksOff, ReadsNext}
 
 pub loop-item-init : goal.loop-item-init

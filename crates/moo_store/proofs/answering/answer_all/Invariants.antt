@@ -1,4 +1,5 @@
-use Rattle.moo_store.{proofs.Words.{◌≡◌, ◌+◌, ◌≤◌, None, feed_side, feed_room}, proofs.Going.{Going}, proofs.answering.answer_all.Given as goal}
+use Rattle.moo_store.{proofs.Words.{◌≡◌, ◌+◌, ◌≤◌, None, feed_side, feed_room}, proofs.Going.{Going}}
+use Rattle.moo_store.proofs.answering.answer_all.Given as goal
 
 abbrev pub invariant-loop-item : goal.invariant-loop-item
 invariant-loop-item g l = record {

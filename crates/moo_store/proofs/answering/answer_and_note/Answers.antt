@@ -1,4 +1,5 @@
-use Rattle.moo_store.{proofs.Words.{◌≡◌, true, false, refl}, proofs.answering.answer_and_note.Goals as goal}
+use Rattle.moo_store.proofs.Words.{◌≡◌, true, false, refl}
+use Rattle.moo_store.proofs.answering.answer_and_note.Goals as goal
 
 odd : {X : Type 0} → false ≡ true → X
 odd e = absurd cc

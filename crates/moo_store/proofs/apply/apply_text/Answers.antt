@@ -1,4 +1,5 @@
-use Rattle.moo_store.{proofs.Going.{IfOk-then, IfErr-then}, proofs.Items.{applies, stops}, proofs.apply.apply_text.Goals as goal}
+use Rattle.moo_store.{proofs.Going.{IfOk-then, IfErr-then}, proofs.Items.{applies, stops}}
+use Rattle.moo_store.proofs.apply.apply_text.Goals as goal
 
 pub returns-clause-applies : goal.returns-clause-applies
 returns-clause-applies g c =

@@ -1,4 +1,5 @@
-use Rattle.moo_store.{proofs.Going.{IfOk-then, IfErr-then}, proofs.Asking.{asks_all, stops_asking}, proofs.ask.ask_text.Goals as goal}
+use Rattle.moo_store.{proofs.Going.{IfOk-then, IfErr-then}, proofs.Asking.{asks_all, stops_asking}}
+use Rattle.moo_store.proofs.ask.ask_text.Goals as goal
 
 pub returns-clause-asks : goal.returns-clause-asks
 returns-clause-asks g c =

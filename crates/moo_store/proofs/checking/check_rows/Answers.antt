@@ -1,4 +1,5 @@
-use Rattle.moo_store.{proofs.Words.{subst, state, present, Rests, ShowsRows}, specs.Checked.{SaysInCheck}, proofs.AdoptLemmas.{on_each_err, rests_still}, proofs.CheckLemmas.{whole_here}, proofs.Versions.{version_is}, proofs.checking.check_rows.Goals as goal}
+use Rattle.moo_store.{proofs.Words.{subst, state, present, Rests, ShowsRows}, specs.Checked.{SaysInCheck}, proofs.AdoptLemmas.{on_each_err, rests_still}, proofs.CheckLemmas.{whole_here}, proofs.Versions.{version_is}}
+use Rattle.moo_store.proofs.checking.check_rows.Goals as goal
 use Rattle.std.proofs.lemmas.Result.{on_ok_weaker}
 use Rattle.moo_tables.specs.Listing.{tables_of}
 

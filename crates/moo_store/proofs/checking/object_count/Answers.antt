@@ -1,4 +1,5 @@
-use Rattle.moo_store.{proofs.Words.{◌≡◌, length, ap, arith, objects_left}, proofs.CheckLemmas.{objects_held, few_objects}, proofs.checking.object_count.Goals as goal}
+use Rattle.moo_store.{proofs.Words.{◌≡◌, length, ap, arith, objects_left}, proofs.CheckLemmas.{objects_held, few_objects}}
+use Rattle.moo_store.proofs.checking.object_count.Goals as goal
 
 pub overflow_add-count : goal.overflow_add-count
 overflow_add-count g c = omega (arith, c.loop-object.invariant, objects_held (g.R.Rows.held c.args.rows.now).maps c.requires, few_objects (g.R.Rows.held c.args.rows.now).maps c.requires)

@@ -1,4 +1,5 @@
-use Rattle.moo_store.{proofs.Words.{◌≡◌, ◌+◌, length, entries, objects_left}, proofs.checking.object_count.Given as goal}
+use Rattle.moo_store.proofs.Words.{◌≡◌, ◌+◌, length, entries, objects_left}
+use Rattle.moo_store.proofs.checking.object_count.Given as goal
 
 -- those counted, and those left
 abbrev pub invariant-loop-object : goal.invariant-loop-object

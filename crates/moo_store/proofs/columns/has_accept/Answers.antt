@@ -1,4 +1,5 @@
-use Rattle.moo_store.{proofs.Words.{ap, option_map, Bor, ObjRow}, proofs.Exactly.{has_part}, proofs.columns.has_accept.Goals as goal}
+use Rattle.moo_store.{proofs.Words.{ap, option_map, Bor, ObjRow}, proofs.Exactly.{has_part}}
+use Rattle.moo_store.proofs.columns.has_accept.Goals as goal
 use Rattle.moo_rows.{specs.Equal.{list_eq-exact}, specs.SameRows.{option-exact}}
 
 pub returns-in-Some : goal.returns-in-Some

@@ -1,4 +1,5 @@
-use Rattle.moo_store.{proofs.Words.{ap, option_map, Bor, PetitionRow}, proofs.Exactly.{has_part}, proofs.columns.has_calls.Goals as goal}
+use Rattle.moo_store.{proofs.Words.{ap, option_map, Bor, PetitionRow}, proofs.Exactly.{has_part}}
+use Rattle.moo_store.proofs.columns.has_calls.Goals as goal
 use Rattle.moo_value.{specs.Equal.{same_by-exact}, specs.Values.{coded_values}}
 
 pub returns-in-Some : goal.returns-in-Some

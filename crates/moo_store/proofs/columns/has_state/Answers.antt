@@ -1,4 +1,5 @@
-use Rattle.moo_store.{proofs.Words.{ap, option_map, Bor, SlotRow}, proofs.Exactly.{has_part}, proofs.columns.has_state.Goals as goal}
+use Rattle.moo_store.{proofs.Words.{ap, option_map, Bor, SlotRow}, proofs.Exactly.{has_part}}
+use Rattle.moo_store.proofs.columns.has_state.Goals as goal
 use Rattle.moo_rows.specs.SameRows.{state-exact}
 
 pub returns-in-Some : goal.returns-in-Some

@@ -1,4 +1,5 @@
-use Rattle.moo_store.{proofs.Words.{List, ap, ◌∙◌, map}, proofs.columns.object_list.Goals as goal}
+use Rattle.moo_store.proofs.Words.{List, ap, ◌∙◌, map}
+use Rattle.moo_store.proofs.columns.object_list.Goals as goal
 use Rattle.std.proofs.lemmas.List.{take_all}
 use Rattle.moo_value.{specs.Value.{gather}, specs.declared.value.ObjNo.{ObjNo}, specs.declared.value.Value.TheVariants.{Obj, List as a_list}}
 

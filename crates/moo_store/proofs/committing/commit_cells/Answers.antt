@@ -1,4 +1,5 @@
-use Rattle.moo_store.{proofs.Words.{state, tables_with, Leaves}, proofs.Committed.{at_written, at_kept, clean_at_commit, survives_next}, proofs.committing.commit_cells.Goals as goal}
+use Rattle.moo_store.{proofs.Words.{state, tables_with, Leaves}, proofs.Committed.{at_written, at_kept, clean_at_commit, survives_next}}
+use Rattle.moo_store.proofs.committing.commit_cells.Goals as goal
 
 pub returns-clause-written : goal.returns-clause-written
 returns-clause-written g c clean = at_written (state g.S.Store c.args.conn.now) (state g.S.Store c.commit_changes.new.conn) c.args.cells.now c.commit_changes.result (c.commit_changes.ensures.written clean)

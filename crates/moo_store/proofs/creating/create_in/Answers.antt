@@ -1,4 +1,5 @@
-use Rattle.moo_store.{proofs.Words.{◌⊎◌, inl, true, refl, subst, IfOk, IfErr, ◌≡◌, Survives, state, state_of, LeavesState, store_of, StandsFor}, proofs.creating.create_in.Goals as goal}
+use Rattle.moo_store.proofs.Words.{◌⊎◌, inl, true, refl, subst, IfOk, IfErr, ◌≡◌, Survives, state, state_of, LeavesState, store_of, StandsFor}
+use Rattle.moo_store.proofs.creating.create_in.Goals as goal
 
 pub load_in-requires-clause-good : goal.load_in-requires-clause-good
 load_in-requires-clause-good g c = c.good_opening.ensures c.in-Ok.rows.maps c.in-Ok.ensures

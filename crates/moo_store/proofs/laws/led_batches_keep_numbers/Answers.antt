@@ -1,4 +1,5 @@
-use Rattle.moo_store.{proofs.Numbered.{led_stay, led_keep_petitions, led_state}, proofs.laws.led_batches_keep_numbers.Goals as goal}
+use Rattle.moo_store.proofs.Numbered.{led_stay, led_keep_petitions, led_state}
+use Rattle.moo_store.proofs.laws.led_batches_keep_numbers.Goals as goal
 
 pub returns-clause-numbers : goal.returns-clause-numbers
 returns-clause-numbers c rows end batches led = led_stay rows batches end led

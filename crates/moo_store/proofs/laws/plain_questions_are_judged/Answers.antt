@@ -1,4 +1,5 @@
-use Rattle.moo_store.{proofs.Standing.{plain_asked}, proofs.laws.plain_questions_are_judged.Goals as goal}
+use Rattle.moo_store.proofs.Standing.{plain_asked}
+use Rattle.moo_store.proofs.laws.plain_questions_are_judged.Goals as goal
 
 pub returns : goal.returns
 returns c = plain_asked

@@ -1,4 +1,5 @@
-use Rattle.moo_store.{proofs.Words.{IsTrue, true, inl, inr, refl, sym, subst, HasCleanDisk, Survives, state, state_of, KeepsRows, LeavesState, ShowsItsRows}, proofs.Opened.{has_no_tables, keeps_all, survives_all}, proofs.loading.load_in.Goals as goal}
+use Rattle.moo_store.{proofs.Words.{IsTrue, true, inl, inr, refl, sym, subst, HasCleanDisk, Survives, state, state_of, KeepsRows, LeavesState, ShowsItsRows}, proofs.Opened.{has_no_tables, keeps_all, survives_all}}
+use Rattle.moo_store.proofs.loading.load_in.Goals as goal
 
 pub returns-in-Ok-create_tables-clause-stands : goal.returns-in-Ok-create_tables-clause-stands
 returns-in-Ok-create_tables-clause-stands g c =

@@ -1,4 +1,5 @@
-use Rattle.moo_store.{proofs.Words.{◌∙◌, sym, subst, state, IsEarlier, TakesOver}, proofs.AdoptLemmas.{survives_more}, proofs.Current.{rests_already}, proofs.migrating.make_current.Goals as goal}
+use Rattle.moo_store.{proofs.Words.{◌∙◌, sym, subst, state, IsEarlier, TakesOver}, proofs.AdoptLemmas.{survives_more}, proofs.Current.{rests_already}}
+use Rattle.moo_store.proofs.migrating.make_current.Goals as goal
 use Rattle.std.{proofs.lemmas.Bool.{true≢false}, proofs.lemmas.Result.{on_ok_weaker}}
 
 pub returns-then-is_present-clause-keeps : goal.returns-then-is_present-clause-keeps

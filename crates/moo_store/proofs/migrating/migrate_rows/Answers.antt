@@ -1,4 +1,5 @@
-use Rattle.moo_store.{proofs.Words.{None, sym, subst, state, PrintEach, PrintsSlot, all_of}, proofs.Migrated.{keeps_migrated, survives_migrated}, proofs.Current.{rests_migrated}, proofs.migrating.migrate_rows.Goals as goal}
+use Rattle.moo_store.{proofs.Words.{None, sym, subst, state, PrintEach, PrintsSlot, all_of}, proofs.Migrated.{keeps_migrated, survives_migrated}, proofs.Current.{rests_migrated}}
+use Rattle.moo_store.proofs.migrating.migrate_rows.Goals as goal
 
 pub returns-in-Ok-migrate-clause-keeps : goal.returns-in-Ok-migrate-clause-keeps
 returns-in-Ok-migrate-clause-keeps g c clean tables rests earlier shown =

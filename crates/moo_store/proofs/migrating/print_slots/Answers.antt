@@ -1,4 +1,5 @@
-use Rattle.moo_store.{proofs.Words.{subst, None, entries, slot_cmp, PrintEach, PrintsSlot, as_changes}, proofs.AllRows.{left_all}, proofs.migrating.print_slots.Goals as goal}
+use Rattle.moo_store.{proofs.Words.{subst, None, entries, slot_cmp, PrintEach, PrintsSlot, as_changes}, proofs.AllRows.{left_all}}
+use Rattle.moo_store.proofs.migrating.print_slots.Goals as goal
 use Rattle.std.proofs.lemmas.Result.{IfOk-weaker}
 
 pub returns : goal.returns

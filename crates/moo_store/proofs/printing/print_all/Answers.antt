@@ -1,4 +1,5 @@
-use Rattle.moo_store.{proofs.Words.{Some, None, List, Option, ap, sym, subst, FinMap, empty, get, get-empty, Head, object_cmp, prop_cmp, slot_cmp, verb_cmp, petition_cmp, entries, PrintEach, PrintsObject, PrintsProp, PrintsSlot, PrintsVerb, PrintsPetition, as_changes}, proofs.AllRows.{left_all}, proofs.printing.print_all.Goals as goal}
+use Rattle.moo_store.{proofs.Words.{Some, None, List, Option, ap, sym, subst, FinMap, empty, get, get-empty, Head, object_cmp, prop_cmp, slot_cmp, verb_cmp, petition_cmp, entries, PrintEach, PrintsObject, PrintsProp, PrintsSlot, PrintsVerb, PrintsPetition, as_changes}, proofs.AllRows.{left_all}}
+use Rattle.moo_store.proofs.printing.print_all.Goals as goal
 use Rattle.std.specs.declared.cmp.Ordering.{Ordering}
 
 -- no row is there of an empty map

@@ -1,4 +1,5 @@
-use Rattle.moo_store.{proofs.Words.{◌≡◌, ◌+◌, [], ◌∷◌, ◌++◌, take, sym, ap, ◌∙◌, subst, refl, arith, take_more, ShowsOrNone, PrintEach}, proofs.Written.{one_more}, proofs.printing.print_each.Goals as goal}
+use Rattle.moo_store.{proofs.Words.{◌≡◌, ◌+◌, [], ◌∷◌, ◌++◌, take, sym, ap, ◌∙◌, subst, refl, arith, take_more, ShowsOrNone, PrintEach}, proofs.Written.{one_more}}
+use Rattle.moo_store.proofs.printing.print_each.Goals as goal
 use Rattle.std.proofs.lemmas.List.{take_all}
 
 pub loop-key-preserved : goal.loop-key-preserved

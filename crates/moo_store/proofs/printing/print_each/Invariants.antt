@@ -1,4 +1,5 @@
-use Rattle.moo_store.{proofs.Words.{take, PrintEach}, proofs.printing.print_each.Given as goal}
+use Rattle.moo_store.proofs.Words.{take, PrintEach}
+use Rattle.moo_store.proofs.printing.print_each.Given as goal
 
 -- so far, the changes that are passed
 abbrev pub invariant-loop-key : goal.invariant-loop-key

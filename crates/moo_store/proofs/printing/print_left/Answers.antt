@@ -1,5 +1,6 @@
 use Rattle.std.proofs.Common.{◌≡◌, ◌∙◌, Some, None, ap, sym, subst, refl, arith, length}
-use Rattle.moo_store.{proofs.AllRows.{ArePrinted, none_printed, one_printed, all_printed, found_is}, proofs.printing.print_left.Goals as goal}
+use Rattle.moo_store.proofs.AllRows.{ArePrinted, none_printed, one_printed, all_printed, found_is}
+use Rattle.moo_store.proofs.printing.print_left.Goals as goal
 
 pub loop-key-init : goal.loop-key-init
 loop-key-init g c =

@@ -1,5 +1,6 @@
 use Rattle.std.proofs.Common.{None, length}
-use Rattle.moo_store.{proofs.AllRows.{ArePrinted}, proofs.printing.print_left.Given as goal}
+use Rattle.moo_store.proofs.AllRows.{ArePrinted}
+use Rattle.moo_store.proofs.printing.print_left.Given as goal
 
 -- those printed, and those left
 abbrev pub invariant-loop-key : goal.invariant-loop-key

@@ -1,4 +1,5 @@
-use Rattle.moo_store.{proofs.Words.{sym, subst, state, ShowsRows, Says}, proofs.Versions.{version_is}, proofs.reading.read_rows.Goals as goal}
+use Rattle.moo_store.{proofs.Words.{sym, subst, state, ShowsRows, Says}, proofs.Versions.{version_is}}
+use Rattle.moo_store.proofs.reading.read_rows.Goals as goal
 
 pub returns-in-Ok-rows_of-clause-rows : goal.returns-in-Ok-rows_of-clause-rows
 returns-in-Ok-rows_of-clause-rows g c clean tables rests =

@@ -1,5 +1,6 @@
 use Rattle.std.proofs.Common.{refl}
-use Rattle.moo_store.{proofs.HeadlineLemmas.{one_part_more, parts_joined}, proofs.reopening.parts_join.Goals as goal}
+use Rattle.moo_store.proofs.HeadlineLemmas.{one_part_more, parts_joined}
+use Rattle.moo_store.proofs.reopening.parts_join.Goals as goal
 
 pub returns-clause-goes_on : goal.returns-clause-goes_on
 returns-clause-goes_on g c world s t parts batches replies runs holds = (_, one_part_more s t _ parts batches replies holds.more holds.at_most_one refl runs, holds.stands)

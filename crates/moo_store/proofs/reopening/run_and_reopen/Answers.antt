@@ -1,4 +1,5 @@
-use Rattle.moo_store.{proofs.Words.{state, store_of}, proofs.AdoptLemmas.{on_each_ok}, proofs.HeadlineLemmas.{found, holds, led_to}, proofs.reopening.run_and_reopen.Goals as goal}
+use Rattle.moo_store.{proofs.Words.{state, store_of}, proofs.AdoptLemmas.{on_each_ok}, proofs.HeadlineLemmas.{found, holds, led_to}}
+use Rattle.moo_store.proofs.reopening.run_and_reopen.Goals as goal
 
 pub returns-clause-reopened : goal.returns-clause-reopened
 returns-clause-reopened g c was crashed s batches replies conn opened it run may stands =

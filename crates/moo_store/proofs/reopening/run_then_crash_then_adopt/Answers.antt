@@ -1,4 +1,5 @@
-use Rattle.moo_store.{proofs.Words.{true, HasCleanDisk, Survives, state, clean_before, ShowsState, IsOfStore, Adopts, store_of, StandsFor}, specs.Reopened.{HoldsAcknowledged}, proofs.AdoptLemmas.{on_both_ok, both_ok, both_err}, proofs.HeadlineLemmas.{found, holds, led_to}, proofs.reopening.run_then_crash_then_adopt.Goals as goal}
+use Rattle.moo_store.{proofs.Words.{true, HasCleanDisk, Survives, state, clean_before, ShowsState, IsOfStore, Adopts, store_of, StandsFor}, specs.Reopened.{HoldsAcknowledged}, proofs.AdoptLemmas.{on_both_ok, both_ok, both_err}, proofs.HeadlineLemmas.{found, holds, led_to}}
+use Rattle.moo_store.proofs.reopening.run_then_crash_then_adopt.Goals as goal
 
 pub returns-clause-reopened : goal.returns-clause-reopened
 returns-clause-reopened g c was crashed s batches replies conn opened it run may crash stands =

@@ -1,4 +1,5 @@
-use Rattle.moo_tables.{proofs.Words.{sym, subst, OnOk, state, with_next_petition, Changes}, proofs.counter.put_next_petition.Goals as goal}
+use Rattle.moo_tables.proofs.Words.{sym, subst, OnOk, state, with_next_petition, Changes}
+use Rattle.moo_tables.proofs.counter.put_next_petition.Goals as goal
 
 pub returns-in-Some-clause-put : goal.returns-in-Some-clause-put
 returns-in-Some-clause-put g c =

@@ -1,4 +1,5 @@
-use Rattle.moo_tables.{proofs.Words.{rules, ◌≡◌, [], sym, subst, Result, Ok, Err, Error, OnOk, OnErr, IfErr, IsTrue, false, state, State, HasCleanDisk, Shows, KeepsCounts, KeepsCommit, Survives, survives_then, Tables, Rests, Sees, Leaves, HasNoTables, no_tables, tables_with}, specs.Inside.{RestsAt}, proofs.InsideLemmas.{clean_before, commits, leaves, restored, survives_begun}, proofs.creating.create_all.Given.{Over}, proofs.creating.create_all.Goals as goal}
+use Rattle.moo_tables.{proofs.Words.{rules, ◌≡◌, [], sym, subst, Result, Ok, Err, Error, OnOk, OnErr, IfErr, IsTrue, false, state, State, HasCleanDisk, Shows, KeepsCounts, KeepsCommit, Survives, survives_then, Tables, Rests, Sees, Leaves, HasNoTables, no_tables, tables_with}, specs.Inside.{RestsAt}, proofs.InsideLemmas.{clean_before, commits, leaves, restored, survives_begun}, proofs.creating.create_all.Given.{Over}}
+use Rattle.moo_tables.proofs.creating.create_all.Goals as goal
 use Rattle.sqlite.specs.Steps.{FailsToCommit}
 
 -- the connection that is handed back is the one that the transaction had

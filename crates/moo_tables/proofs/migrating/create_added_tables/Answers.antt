@@ -1,4 +1,5 @@
-use Rattle.moo_tables.{proofs.Words.{Ok, state}, proofs.GrowLemmas.{makes_slot2, makes_petition, makes_petition_head, three_made}, proofs.InsideLemmas.{stays_then}, proofs.migrating.create_added_tables.Goals as goal}
+use Rattle.moo_tables.{proofs.Words.{Ok, state}, proofs.GrowLemmas.{makes_slot2, makes_petition, makes_petition_head, three_made}, proofs.InsideLemmas.{stays_then}}
+use Rattle.moo_tables.proofs.migrating.create_added_tables.Goals as goal
 
 pub returns-clause-made : goal.returns-clause-made
 returns-clause-made g c =

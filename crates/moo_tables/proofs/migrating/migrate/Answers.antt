@@ -1,4 +1,5 @@
-use Rattle.moo_tables.{proofs.Words.{rules, arith, ◌≡◌, ◌∙◌, sym, subst, Result, Ok, Err, OnOk, OnErr, IsTrue, state, HasCleanDisk, KeepsCommit, Survives, survives_then, migrated, HasNoSlot, Tables, Holds, Rests, Leaves, IsEarlier}, specs.Inside.{RestsAt}, proofs.InsideLemmas.{survives_begun, clean_before, earlier_too, leaves, restores, restored, rest_again}, proofs.MigrateLemmas.{rests_then, empty_then}, proofs.migrating.migrate.Given.{Over}, proofs.migrating.migrate.Goals as goal}
+use Rattle.moo_tables.{proofs.Words.{rules, arith, ◌≡◌, ◌∙◌, sym, subst, Result, Ok, Err, OnOk, OnErr, IsTrue, state, HasCleanDisk, KeepsCommit, Survives, survives_then, migrated, HasNoSlot, Tables, Holds, Rests, Leaves, IsEarlier}, specs.Inside.{RestsAt}, proofs.InsideLemmas.{survives_begun, clean_before, earlier_too, leaves, restores, restored, rest_again}, proofs.MigrateLemmas.{rests_then, empty_then}, proofs.migrating.migrate.Given.{Over}}
+use Rattle.moo_tables.proofs.migrating.migrate.Goals as goal
 
 -- the connection that is handed back is the one that the transaction had
 

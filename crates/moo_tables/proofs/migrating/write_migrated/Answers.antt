@@ -1,4 +1,5 @@
-use Rattle.moo_tables.{proofs.Words.{Ok, [], state}, proofs.GrowLemmas.{becomes_then}, proofs.TextLemmas.{empty_slots_text}, proofs.MigrateLemmas.{all_migrated, empties, empties_beside, goes_on}, proofs.InsideLemmas.{stays_then}, proofs.migrating.write_migrated.Goals as goal}
+use Rattle.moo_tables.{proofs.Words.{Ok, [], state}, proofs.GrowLemmas.{becomes_then}, proofs.TextLemmas.{empty_slots_text}, proofs.MigrateLemmas.{all_migrated, empties, empties_beside, goes_on}, proofs.InsideLemmas.{stays_then}}
+use Rattle.moo_tables.proofs.migrating.write_migrated.Goals as goal
 
 pub returns-clause-goes_on : goal.returns-clause-goes_on
 returns-clause-goes_on g c = goes_on (state g.S.Store c.write_rows.new.tx.conn.now) (state g.S.Store c.run.new.tx.conn.now) empty_slots_text [] c.run.result c.run.ensures.ran

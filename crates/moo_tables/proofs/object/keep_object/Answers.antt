@@ -1,4 +1,5 @@
-use Rattle.moo_tables.{proofs.ObjectLemmas.{keep, keep_or_none, keep_fails}, proofs.RowLemmas.{ran_as}, proofs.StoppedLemmas.{with_values}, proofs.object.keep_object.Goals as goal}
+use Rattle.moo_tables.{proofs.ObjectLemmas.{keep, keep_or_none, keep_fails}, proofs.RowLemmas.{ran_as}, proofs.StoppedLemmas.{with_values}}
+use Rattle.moo_tables.proofs.object.keep_object.Goals as goal
 
 pub returns-clause-over : goal.returns-clause-over
 returns-clause-over g c = keep _ _ _ c.args.row.now _ c.requires.stays (ran_as _ _ _ _ _ _ c.kept_object_values.ensures c.run.ensures.ran)

@@ -1,4 +1,5 @@
-use Rattle.moo_tables.{proofs.Words.{◌≡◌, refl, state, schema_of, object_table, select_text, ListsNumbers}, proofs.SelectLemmas.{select_object}, proofs.ReadLemmas.{reads, fails, lists, plain_of, object_lists}, proofs.object.object_cells_of.Goals as goal}
+use Rattle.moo_tables.{proofs.Words.{◌≡◌, refl, state, schema_of, object_table, select_text, ListsNumbers}, proofs.SelectLemmas.{select_object}, proofs.ReadLemmas.{reads, fails, lists, plain_of, object_lists}}
+use Rattle.moo_tables.proofs.object.object_cells_of.Goals as goal
 
 pub returns-clause-read : goal.returns-clause-read
 returns-clause-read g c =

@@ -1,4 +1,5 @@
-use Rattle.moo_tables.{proofs.Words.{AllByRecursion, all_has, refl, sym, subst, take_all, true≢false, ◌∙◌}, specs.Ours.{HasNoRules}, proofs.ours.have_no_rules.Goals as goal}
+use Rattle.moo_tables.{proofs.Words.{AllByRecursion, all_has, refl, sym, subst, take_all, true≢false, ◌∙◌}, specs.Ours.{HasNoRules}}
+use Rattle.moo_tables.proofs.ours.have_no_rules.Goals as goal
 use Rattle.sqlite_rules.proofs.ListLemmas.{all_more, has_at}
 
 pub loop-table-preserved : goal.loop-table-preserved

@@ -1,4 +1,5 @@
-use Rattle.moo_tables.{proofs.Words.{rules, ◌≡◌, ◌⊎◌, [], Result, Ok, Err, OnErr, false, refl, inl, sym, subst, ◌∙◌, state, HasCleanDisk, Shown, Survives, CommitsShowing, IsUnchanged, IsRolledBack}, proofs.StreamLemmas.{IsGiving, begins, refused, survives_on, failed_on, unchanged_on, gives_on, shown_on}, proofs.query.all_rows.Given.{Over}, proofs.query.all_rows.Goals as goal}
+use Rattle.moo_tables.{proofs.Words.{rules, ◌≡◌, ◌⊎◌, [], Result, Ok, Err, OnErr, false, refl, inl, sym, subst, ◌∙◌, state, HasCleanDisk, Shown, Survives, CommitsShowing, IsUnchanged, IsRolledBack}, proofs.StreamLemmas.{IsGiving, begins, refused, survives_on, failed_on, unchanged_on, gives_on, shown_on}, proofs.query.all_rows.Given.{Over}}
+use Rattle.moo_tables.proofs.query.all_rows.Goals as goal
 
 always : {A E P : Type 0} (r : Result A E) → P → OnErr r P
 always (Ok a) it = tt

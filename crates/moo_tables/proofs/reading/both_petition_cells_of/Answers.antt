@@ -1,4 +1,5 @@
-use Rattle.moo_tables.{proofs.Words.{Result, Ok, Err, OnErr, inr, refl, sym, ap, ◌∙◌, state, schema_of, select_text, petition_table, petition_head_table, has_petitions}, proofs.SelectLemmas.{select_petition, select_counter}, proofs.ReadLemmas.{rests_on, reads, fails, reads_then, fails_then, none_listed, plain_of, petition_lists, counter_lists}, proofs.reading.both_petition_cells_of.Goals as goal}
+use Rattle.moo_tables.{proofs.Words.{Result, Ok, Err, OnErr, inr, refl, sym, ap, ◌∙◌, state, schema_of, select_text, petition_table, petition_head_table, has_petitions}, proofs.SelectLemmas.{select_petition, select_counter}, proofs.ReadLemmas.{rests_on, reads, fails, reads_then, fails_then, none_listed, plain_of, petition_lists, counter_lists}}
+use Rattle.moo_tables.proofs.reading.both_petition_cells_of.Goals as goal
 
 always : {A E P : Type 0} (r : Result A E) → P → OnErr r P
 always (Ok a) it = tt

@@ -1,4 +1,5 @@
-use Rattle.moo_tables.{proofs.Words.{◌≡◌, Bool, if◌then◌else◌, [], sym, ap, subst, ◌∙◌, state, State, Row, Table, Shown, understood, IsPlain, Version, has_lettered_bits, Tables, slot_table, slot2_table, schema_of, Holds, select_text, ListsPairs, List}, proofs.SelectLemmas.{slots_table, select_slot}, proofs.ReadLemmas.{reads, fails, lists, plain_of, slot_lists}, proofs.slot.slot_cells_of.Goals as goal}
+use Rattle.moo_tables.{proofs.Words.{◌≡◌, Bool, if◌then◌else◌, [], sym, ap, subst, ◌∙◌, state, State, Row, Table, Shown, understood, IsPlain, Version, has_lettered_bits, Tables, slot_table, slot2_table, schema_of, Holds, select_text, ListsPairs, List}, proofs.SelectLemmas.{slots_table, select_slot}, proofs.ReadLemmas.{reads, fails, lists, plain_of, slot_lists}}
+use Rattle.moo_tables.proofs.slot.slot_cells_of.Goals as goal
 
 plain_at : (version : Version) (t : Table) → slots_table version ≡ t → IsPlain (understood (schema_of version) (select_text t))
 plain_at version t is = subst (λ table. IsPlain (understood (schema_of version) (select_text table))) is (select_slot version).plain

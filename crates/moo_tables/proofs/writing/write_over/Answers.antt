@@ -1,4 +1,5 @@
-use Rattle.moo_tables.{proofs.Words.{StopsChange, arith, state, Some}, proofs.InsideLemmas.{stays_then, changes_then}, proofs.CauseLemmas.{err_again, reaches_none, reaches_more, fails_after}, proofs.writing.write_over.Goals as goal}
+use Rattle.moo_tables.{proofs.Words.{StopsChange, arith, state, Some}, proofs.InsideLemmas.{stays_then, changes_then}, proofs.CauseLemmas.{err_again, reaches_none, reaches_more, fails_after}}
+use Rattle.moo_tables.proofs.writing.write_over.Goals as goal
 
 pub returns-in_err-put-clause-inside : goal.returns-in_err-put-clause-inside
 returns-in_err-put-clause-inside g c = stays_then (state g.S.Store c.args.tx.now.conn.now) (state g.S.Store c.update.new.tx.conn.now) (state g.S.Store c.put.new.tx.conn.now) c.update.ensures.inside c.put.ensures.inside

@@ -1,4 +1,5 @@
-use Rattle.moo_tables.{proofs.Words.{subst, sym, OnOk, state, Changes}, proofs.writing.write_row.Goals as goal}
+use Rattle.moo_tables.proofs.Words.{subst, sym, OnOk, state, Changes}
+use Rattle.moo_tables.proofs.writing.write_row.Goals as goal
 
 pub returns-in-Some-clause-written : goal.returns-in-Some-clause-written
 returns-in-Some-clause-written g c =

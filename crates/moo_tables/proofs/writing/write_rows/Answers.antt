@@ -1,4 +1,5 @@
-use Rattle.moo_tables.{proofs.Words.{StopsChange, ◌∙◌, take, subst, sym, take_all, state, with_each, Sees, KeepsUnread}, proofs.InsideLemmas.{stays_then, changes_then}, proofs.CauseLemmas.{Reaches, err_again, fails_after}, proofs.ChangeLemmas.{fold_more}, proofs.writing.write_rows.Goals as goal}
+use Rattle.moo_tables.{proofs.Words.{StopsChange, ◌∙◌, take, subst, sym, take_all, state, with_each, Sees, KeepsUnread}, proofs.InsideLemmas.{stays_then, changes_then}, proofs.CauseLemmas.{Reaches, err_again, fails_after}, proofs.ChangeLemmas.{fold_more}}
+use Rattle.moo_tables.proofs.writing.write_rows.Goals as goal
 
 pub loop-change-preserved : goal.loop-change-preserved
 loop-change-preserved g c =

@@ -1,4 +1,5 @@
-use Rattle.moo_tables.{proofs.Words.{◌≡◌, take, state, StaysInside, Changes, with_each}, proofs.writing.write_rows.Given as goal}
+use Rattle.moo_tables.proofs.Words.{◌≡◌, take, state, StaysInside, Changes, with_each}
+use Rattle.moo_tables.proofs.writing.write_rows.Given as goal
 
 abbrev pub invariant-loop-change : goal.invariant-loop-change
 invariant-loop-change g l =

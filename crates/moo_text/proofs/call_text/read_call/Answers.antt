@@ -1,4 +1,5 @@
-use Rattle.moo_text.{proofs.Shared.{◌≡◌, Some, None, sym, ◌∙◌, rules, call_of}, proofs.Calls.{call_taken, call_again}, proofs.call_text.read_call.Goals as goal}
+use Rattle.moo_text.{proofs.Shared.{◌≡◌, Some, None, sym, ◌∙◌, rules, call_of}, proofs.Calls.{call_taken, call_again}}
+use Rattle.moo_text.proofs.call_text.read_call.Goals as goal
 
 pub returns-in-Ok-Some-clause-ok : goal.returns-in-Ok-Some-clause-ok
 returns-in-Ok-Some-clause-ok c =

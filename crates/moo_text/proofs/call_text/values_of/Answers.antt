@@ -1,4 +1,5 @@
-use Rattle.moo_text.{proofs.Shared.{◌≡◌, ◌++◌, [], ◌∷◌, Some, None, true, arith, rules, sym, ap, ◌∙◌, fits, front_of, after_mark}, proofs.Reading.{one_read, closed_read, comma_read, front_shorter, mark_shorter, fits_push}, proofs.call_text.values_of.Goals as goal}
+use Rattle.moo_text.{proofs.Shared.{◌≡◌, ◌++◌, [], ◌∷◌, Some, None, true, arith, rules, sym, ap, ◌∙◌, fits, front_of, after_mark}, proofs.Reading.{one_read, closed_read, comma_read, front_shorter, mark_shorter, fits_push}}
+use Rattle.moo_text.proofs.call_text.values_of.Goals as goal
 
 pub returns-then-is_all_blank : goal.returns-then-is_all_blank
 returns-then-is_all_blank c =

@@ -1,4 +1,5 @@
-use Rattle.moo_text.{proofs.Shared.{◌≡◌, length, true, list_all, fits}, proofs.Reading.{GoesOn}, proofs.call_text.values_of.Given as goal}
+use Rattle.moo_text.{proofs.Shared.{◌≡◌, length, true, list_all, fits}, proofs.Reading.{GoesOn}}
+use Rattle.moo_text.proofs.call_text.values_of.Given as goal
 
 abbrev pub invariant-loop-values : goal.invariant-loop-values
 invariant-loop-values l = record {

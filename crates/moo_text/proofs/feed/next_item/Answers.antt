@@ -1,4 +1,5 @@
-use Rattle.moo_text.{proofs.Shared.{rules, arith, ◌<◌, ◌≡◌, Some, None, true, false, [], ◌∷◌, refl, is_blank_line, is_end_line, header_of, between, within, skipping, lines_side, lines_room, ReadsLine, BreaksOff, OutOfMemory}, specs.declared.next.Next.TheVariants.{Malformed}, proofs.Giving.{handed_on}, proofs.Carrying.{between_alike, along_line, along_end, along_breaks, along_refused, breaks_after, first_after, first_is_next, between_blank, between_end, between_header, between_none}, proofs.feed.next_item.Goals as goal}
+use Rattle.moo_text.{proofs.Shared.{rules, arith, ◌<◌, ◌≡◌, Some, None, true, false, [], ◌∷◌, refl, is_blank_line, is_end_line, header_of, between, within, skipping, lines_side, lines_room, ReadsLine, BreaksOff, OutOfMemory}, specs.declared.next.Next.TheVariants.{Malformed}, proofs.Giving.{handed_on}, proofs.Carrying.{between_alike, along_line, along_end, along_breaks, along_refused, breaks_after, first_after, first_is_next, between_blank, between_end, between_header, between_none}}
+use Rattle.moo_text.proofs.feed.next_item.Goals as goal
 
 pub returns-in_err-line-clause-cause : goal.returns-in_err-line-clause-cause
 returns-in_err-line-clause-cause g c =

@@ -1,4 +1,5 @@
-use Rattle.moo_text.{proofs.Shared.{◌≡◌, ◌≤◌, ◌<◌, ◌+◌, ◌++◌, [], ◌∷◌, Some, None, true, false, length, arith, rules, refl, is_blank_line, is_end_line, call_of, between, within, skipping, lines_side, lines_room, ReadsLine, BreaksOff, OutOfMemory}, specs.declared.next.Next.TheVariants.{Batch as Whole, Truncated}, proofs.Giving.{handed_on}, proofs.Carrying.{within_alike, along_line, along_end, along_breaks, along_refused, breaks_after, first_after, bad_line, call_too_many, one_call, within_blank, within_end, room_for_one, pushed_along}, proofs.feed.rest_of_batch.Goals as goal}
+use Rattle.moo_text.{proofs.Shared.{◌≡◌, ◌≤◌, ◌<◌, ◌+◌, ◌++◌, [], ◌∷◌, Some, None, true, false, length, arith, rules, refl, is_blank_line, is_end_line, call_of, between, within, skipping, lines_side, lines_room, ReadsLine, BreaksOff, OutOfMemory}, specs.declared.next.Next.TheVariants.{Batch as Whole, Truncated}, proofs.Giving.{handed_on}, proofs.Carrying.{within_alike, along_line, along_end, along_breaks, along_refused, breaks_after, first_after, bad_line, call_too_many, one_call, within_blank, within_end, room_for_one, pushed_along}}
+use Rattle.moo_text.proofs.feed.rest_of_batch.Goals as goal
 
 pub returns-in_err-line-clause-cause : goal.returns-in_err-line-clause-cause
 returns-in_err-line-clause-cause g c =

@@ -1,4 +1,5 @@
-use Rattle.moo_text.{proofs.Shared.{[], ◌≤◌, ◌+◌, length, within, lines_side, lines_room, ReadsAlong}, proofs.feed.rest_of_batch.Given as goal}
+use Rattle.moo_text.proofs.Shared.{[], ◌≤◌, ◌+◌, length, within, lines_side, lines_room, ReadsAlong}
+use Rattle.moo_text.proofs.feed.rest_of_batch.Given as goal
 
 abbrev pub invariant-loop-calls : goal.invariant-loop-calls
 invariant-loop-calls g l = record {

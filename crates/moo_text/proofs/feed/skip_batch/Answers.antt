@@ -1,4 +1,5 @@
-use Rattle.moo_text.{proofs.Shared.{rules, arith, ◌<◌, ◌≡◌, Some, None, true, false, ◌∷◌, refl, is_end_line, between, skipping, lines_side, lines_room, ReadsLine, BreaksOff}, specs.declared.next.Next.TheVariants.{Malformed, Truncated}, proofs.Giving.{handed_on}, proofs.Carrying.{skipping_alike, along_line, along_end, along_breaks, skipping_end, skipping_on}, proofs.feed.skip_batch.Goals as goal}
+use Rattle.moo_text.{proofs.Shared.{rules, arith, ◌<◌, ◌≡◌, Some, None, true, false, ◌∷◌, refl, is_end_line, between, skipping, lines_side, lines_room, ReadsLine, BreaksOff}, specs.declared.next.Next.TheVariants.{Malformed, Truncated}, proofs.Giving.{handed_on}, proofs.Carrying.{skipping_alike, along_line, along_end, along_breaks, skipping_end, skipping_on}}
+use Rattle.moo_text.proofs.feed.skip_batch.Goals as goal
 
 pub returns-in_err-line-clause-cause : goal.returns-in_err-line-clause-cause
 returns-in_err-line-clause-cause g c =

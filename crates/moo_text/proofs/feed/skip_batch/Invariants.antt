@@ -1,4 +1,5 @@
-use Rattle.moo_text.{proofs.Shared.{◌≤◌, skipping, lines_side, lines_room, ReadsAlong}, proofs.feed.skip_batch.Given as goal}
+use Rattle.moo_text.proofs.Shared.{◌≤◌, skipping, lines_side, lines_room, ReadsAlong}
+use Rattle.moo_text.proofs.feed.skip_batch.Given as goal
 
 abbrev pub invariant-loop-line : goal.invariant-loop-line
 invariant-loop-line g l = record {

@@ -1,4 +1,5 @@
-use Rattle.moo_text.{proofs.Shared.{◌≡◌, ◌++◌, drop, take, until_blank, from_blank}, proofs.line.split_at_blank.Given as goal}
+use Rattle.moo_text.proofs.Shared.{◌≡◌, ◌++◌, drop, take, until_blank, from_blank}
+use Rattle.moo_text.proofs.line.split_at_blank.Given as goal
 
 abbrev pub invariant-loop-i : goal.invariant-loop-i
 invariant-loop-i l = record {

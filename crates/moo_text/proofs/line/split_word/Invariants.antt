@@ -1,4 +1,5 @@
-use Rattle.moo_text.{proofs.Shared.{◌≡◌, ◌++◌, drop, take, word, after_word}, proofs.line.split_word.Given as goal}
+use Rattle.moo_text.proofs.Shared.{◌≡◌, ◌++◌, drop, take, word, after_word}
+use Rattle.moo_text.proofs.line.split_word.Given as goal
 
 abbrev pub invariant-loop-i : goal.invariant-loop-i
 invariant-loop-i l = record {

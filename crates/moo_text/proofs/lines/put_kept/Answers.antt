@@ -1,5 +1,6 @@
 use Rattle.std.proofs.Common.{◌≡◌, ◌++◌, ◌-◌, length, take, min, ◌∙◌, rules}
-use Rattle.moo_text.{proofs.Kept.{kept_more}, proofs.lines.put_kept.Goals as goal}
+use Rattle.moo_text.proofs.Kept.{kept_more}
+use Rattle.moo_text.proofs.lines.put_kept.Goals as goal
 
 pub returns : goal.returns
 returns c =

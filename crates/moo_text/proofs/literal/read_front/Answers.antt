@@ -1,4 +1,5 @@
-use Rattle.moo_text.{proofs.Shared.{ℕ, List, Some, sym, ap, ◌∙◌, take_rest}, proofs.Reading.{front_found, no_front}, proofs.literal.read_front.Goals as goal}
+use Rattle.moo_text.{proofs.Shared.{ℕ, List, Some, sym, ap, ◌∙◌, take_rest}, proofs.Reading.{front_found, no_front}}
+use Rattle.moo_text.proofs.literal.read_front.Goals as goal
 use Rattle.moo_world.proofs.Form.Ranges.{fits_of}
 
 pub returns-in-Ok-clause-read : goal.returns-in-Ok-clause-read

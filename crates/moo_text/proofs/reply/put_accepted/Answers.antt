@@ -1,6 +1,7 @@
 use Rattle.std.{proofs.Common.{◌++◌, ◌∷◌, [], List, ap, ◌∙◌}, specs.Prelude.{codes}, specs.Fmt.{decimal}, specs.List.{flat_map}}
 use Rattle.moo_value.{specs.declared.value.Value.{Value}, proofs.Printed.{kept_on}}
-use Rattle.moo_text.{specs.Replies.{answer_line, accepted_text}, proofs.Putting.{put_last, kept_last, line_and_two}, proofs.reply.put_accepted.Goals as goal}
+use Rattle.moo_text.{specs.Replies.{answer_line, accepted_text}, proofs.Putting.{put_last, kept_last, line_and_two}}
+use Rattle.moo_text.proofs.reply.put_accepted.Goals as goal
 
 pub returns-in_err-put_line-clause-kept : goal.returns-in_err-put_line-clause-kept
 returns-in_err-put_line-clause-kept c = c.in_err-put_line.ensures.kept

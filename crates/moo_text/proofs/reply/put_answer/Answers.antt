@@ -1,4 +1,5 @@
-use Rattle.moo_text.{specs.Replies.{answer_text}, proofs.Putting.{put_first, kept_first}, proofs.reply.put_answer.Goals as goal}
+use Rattle.moo_text.{specs.Replies.{answer_text}, proofs.Putting.{put_first, kept_first}}
+use Rattle.moo_text.proofs.reply.put_answer.Goals as goal
 
 pub returns-in-Truncated-clause-ok : goal.returns-in-Truncated-clause-ok
 returns-in-Truncated-clause-ok c = put_first c.extend_from_slice.result _ _ _ c.extend_from_slice.ensures.items (answer_text c.args.answer.now) (rw c.in-Truncated.is)

@@ -1,4 +1,5 @@
-use Rattle.moo_text.{proofs.Shared.{◌≡◌, ◌<◌, ◌+◌, ◌++◌, ℕ, List, [], ◌∷◌, length, take, sym, ap, ◌∙◌, append_assoc, flat_map}, specs.Replies.{answer_line}, proofs.reply.put_answers.Goals as goal}
+use Rattle.moo_text.{proofs.Shared.{◌≡◌, ◌<◌, ◌+◌, ◌++◌, ℕ, List, [], ◌∷◌, length, take, sym, ap, ◌∙◌, append_assoc, flat_map}, specs.Replies.{answer_line}}
+use Rattle.moo_text.proofs.reply.put_answers.Goals as goal
 use Rattle.std.{proofs.Common.{get_or}, proofs.lemmas.List.{take_more, flat_map_more}}
 use Rattle.moo_value.{specs.Literal.{print}, specs.declared.value.Value.{Value}, proofs.Printed.{starts, starts_behind}}
 

@@ -1,6 +1,7 @@
 use Rattle.std.proofs.Common.{◌∙◌}
 use Rattle.moo_value.proofs.Printed.{starts, starts_behind}
-use Rattle.moo_text.{proofs.Putting.{kept_last}, proofs.reply.put_refused.Goals as goal}
+use Rattle.moo_text.proofs.Putting.{kept_last}
+use Rattle.moo_text.proofs.reply.put_refused.Goals as goal
 
 pub returns-in_err-extend_from_slice-clause-kept : goal.returns-in_err-extend_from_slice-clause-kept
 returns-in_err-extend_from_slice-clause-kept c = starts _ _ _ (c.in_err-extend_from_slice.ensures.items ∙ c.in_ok-put_number.ensures.ok)

@@ -1,4 +1,5 @@
-use Rattle.moo_tree.{proofs.Words.{◌≡◌, ◌∷◌, [], length, sym, ap, ◌∙◌, append_assoc, append-nil, arith, world_of, chain, chain_of_row, chain_of_no_row, look_ups}, proofs.ancestors.chain.Goals as goal}
+use Rattle.moo_tree.proofs.Words.{◌≡◌, ◌∷◌, [], length, sym, ap, ◌∙◌, append_assoc, append-nil, arith, world_of, chain, chain_of_row, chain_of_no_row, look_ups}
+use Rattle.moo_tree.proofs.ancestors.chain.Goals as goal
 
 pub loop-row-smaller : goal.loop-row-smaller
 loop-row-smaller g c = omega (arith, ap length (chain_of_row (look_ups (g.R.Rows.held c.args.rows.now).maps) c.requires c.loop-row.at c.in-Some.row.now c.in-Some.ensures))

@@ -1,4 +1,5 @@
-use Rattle.moo_tree.{proofs.Words.{◌≡◌, ◌++◌, length, world_of, chain}, proofs.ancestors.chain.Given as goal}
+use Rattle.moo_tree.proofs.Words.{◌≡◌, ◌++◌, length, world_of, chain}
+use Rattle.moo_tree.proofs.ancestors.chain.Given as goal
 
 -- what was found, and then the chain from here, is the chain of x
 abbrev pub invariant-loop-row : goal.invariant-loop-row

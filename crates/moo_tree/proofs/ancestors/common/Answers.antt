@@ -1,4 +1,5 @@
-use Rattle.moo_tree.{proofs.Words.{◌≡◌, ◌-◌, true, [], ◌∷◌, drop, length, sym, ap, ◌∙◌, subst, arith, unwrap_or, is_some, find, ancestors, nothing, is_among, same_object-eq, same_object-Decides, look_ups, world_of, is_object, chain, chain_of_row, chain_of_no_row, is_object_seen}, proofs.Climbing.{one_shorter, is_here}, proofs.Sharing.{common_of_none, cut_alike, cut_within, tail_within, among_drop, find_here, find_later, found_no_deeper, apart}, proofs.ancestors.common.Goals as goal}
+use Rattle.moo_tree.{proofs.Words.{◌≡◌, ◌-◌, true, [], ◌∷◌, drop, length, sym, ap, ◌∙◌, subst, arith, unwrap_or, is_some, find, ancestors, nothing, is_among, same_object-eq, same_object-Decides, look_ups, world_of, is_object, chain, chain_of_row, chain_of_no_row, is_object_seen}, proofs.Climbing.{one_shorter, is_here}, proofs.Sharing.{common_of_none, cut_alike, cut_within, tail_within, among_drop, find_here, find_later, found_no_deeper, apart}}
+use Rattle.moo_tree.proofs.ancestors.common.Goals as goal
 
 pub returns-in-None : goal.returns-in-None
 returns-in-None g c =

@@ -1,4 +1,5 @@
-use Rattle.moo_tree.{proofs.Words.{◌≡◌, ◌-◌, drop, length, find, ancestors, is_among, world_of, chain}, proofs.ancestors.common.Given as goal}
+use Rattle.moo_tree.proofs.Words.{◌≡◌, ◌-◌, drop, length, find, ancestors, is_among, world_of, chain}
+use Rattle.moo_tree.proofs.ancestors.common.Given as goal
 
 -- the two stand as deep, one of them among the ancestors of x, and what is found from the other is what is found from new
 abbrev pub invariant-loop-row : goal.invariant-loop-row

@@ -1,4 +1,5 @@
-use Rattle.moo_tree.{proofs.Words.{◌≡◌, length, sym, ap, ◌∙◌, true, false, arith, is_among, same_object, same_object-eq, is_among_here, is_among_later, chain_of_row, chain_of_no_row, look_ups}, proofs.ancestors.is_under.Goals as goal}
+use Rattle.moo_tree.proofs.Words.{◌≡◌, length, sym, ap, ◌∙◌, true, false, arith, is_among, same_object, same_object-eq, is_among_here, is_among_later, chain_of_row, chain_of_no_row, look_ups}
+use Rattle.moo_tree.proofs.ancestors.is_under.Goals as goal
 
 pub returns-then-eq : goal.returns-then-eq
 returns-then-eq g c =

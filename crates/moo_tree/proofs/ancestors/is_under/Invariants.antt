@@ -1,4 +1,5 @@
-use Rattle.moo_tree.{proofs.Words.{◌≡◌, length, is_among, world_of, chain}, proofs.ancestors.is_under.Given as goal}
+use Rattle.moo_tree.proofs.Words.{◌≡◌, length, is_among, world_of, chain}
+use Rattle.moo_tree.proofs.ancestors.is_under.Given as goal
 
 -- the ancestor stands in the chain from here just where it stands in that of x
 abbrev pub invariant-loop-row : goal.invariant-loop-row

@@ -1,4 +1,5 @@
-use Rattle.moo_tree.{proofs.Words.{◌≡◌, [], drop, length, sym, ap, ◌∙◌, arith, look_ups, world_of, chain, chain_of_row, chain_of_no_row}, proofs.Climbing.{one_shorter}, proofs.Sharing.{drop_none}, proofs.ancestors.up_along.Goals as goal}
+use Rattle.moo_tree.{proofs.Words.{◌≡◌, [], drop, length, sym, ap, ◌∙◌, arith, look_ups, world_of, chain, chain_of_row, chain_of_no_row}, proofs.Climbing.{one_shorter}, proofs.Sharing.{drop_none}}
+use Rattle.moo_tree.proofs.ancestors.up_along.Goals as goal
 
 pub returns-in-None : goal.returns-in-None
 returns-in-None g c =

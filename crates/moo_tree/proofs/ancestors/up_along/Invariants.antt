@@ -1,4 +1,5 @@
-use Rattle.moo_tree.{proofs.Words.{◌≡◌, drop, length, world_of, chain}, proofs.ancestors.up_along.Given as goal}
+use Rattle.moo_tree.proofs.Words.{◌≡◌, drop, length, world_of, chain}
+use Rattle.moo_tree.proofs.ancestors.up_along.Given as goal
 
 -- what is still to be climbed from here is what was to be climbed from x
 abbrev pub invariant-loop-step : goal.invariant-loop-step

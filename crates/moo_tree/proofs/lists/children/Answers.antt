@@ -1,4 +1,5 @@
-use Rattle.moo_tree.{proofs.Words.{◌≡◌, IfOk, subst}, proofs.Listing.{children_listed}, proofs.lists.children.Goals as goal}
+use Rattle.moo_tree.{proofs.Words.{◌≡◌, IfOk, subst}, proofs.Listing.{children_listed}}
+use Rattle.moo_tree.proofs.lists.children.Goals as goal
 
 pub returns : goal.returns
 returns g c =

@@ -1,4 +1,5 @@
-use Rattle.moo_tree.{proofs.Words.{◌≡◌, IfOk, subst}, proofs.Listing.{contents_listed}, proofs.lists.contents.Goals as goal}
+use Rattle.moo_tree.{proofs.Words.{◌≡◌, IfOk, subst}, proofs.Listing.{contents_listed}}
+use Rattle.moo_tree.proofs.lists.contents.Goals as goal
 
 pub returns : goal.returns
 returns g c =

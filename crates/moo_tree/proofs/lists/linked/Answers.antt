@@ -1,4 +1,5 @@
-use Rattle.moo_tree.{proofs.Words.{◌++◌, ◌∙◌, map, nothing, linked_left}, proofs.lists.linked.Goals as goal}
+use Rattle.moo_tree.proofs.Words.{◌++◌, ◌∙◌, map, nothing, linked_left}
+use Rattle.moo_tree.proofs.lists.linked.Goals as goal
 
 pub returns : goal.returns
 returns g c =

@@ -1,4 +1,5 @@
-use Rattle.moo_tree.{proofs.Words.{◌++◌, [], ◌∷◌, sym, ap, ◌∙◌, append_assoc, append-nil, map, linked_left}, proofs.Listing.{linked_first, linked_end}, proofs.lists.list_linked.Goals as goal}
+use Rattle.moo_tree.{proofs.Words.{◌++◌, [], ◌∷◌, sym, ap, ◌∙◌, append_assoc, append-nil, map, linked_left}, proofs.Listing.{linked_first, linked_end}}
+use Rattle.moo_tree.proofs.lists.list_linked.Goals as goal
 
 pub loop-y-init : goal.loop-y-init
 loop-y-init g c =

@@ -1,4 +1,5 @@
-use Rattle.moo_tree.{proofs.Words.{◌≡◌, ◌++◌, map, pos, nothing, linked_left}, proofs.lists.list_linked.Given as goal}
+use Rattle.moo_tree.proofs.Words.{◌≡◌, ◌++◌, map, pos, nothing, linked_left}
+use Rattle.moo_tree.proofs.lists.list_linked.Given as goal
 use Rattle.std.proofs.Common.{◌-ℤ◌, nat_abs}
 
 -- those so far, and those past the last

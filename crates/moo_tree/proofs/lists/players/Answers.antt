@@ -1,4 +1,5 @@
-use Rattle.moo_tree.{proofs.Words.{◌≡◌, IfOk, subst}, proofs.Listing.{players_listed}, proofs.lists.players.Goals as goal}
+use Rattle.moo_tree.{proofs.Words.{◌≡◌, IfOk, subst}, proofs.Listing.{players_listed}}
+use Rattle.moo_tree.proofs.lists.players.Goals as goal
 
 pub returns : goal.returns
 returns g c =

@@ -1,4 +1,5 @@
-use Rattle.moo_tree.{proofs.Words.{◌≡◌, length, sym, ap, ◌∙◌, true, false, arith, is_among, same_object, same_object-eq, is_among_here, is_among_later, look_ups}, proofs.locations.inside.Goals as goal}
+use Rattle.moo_tree.proofs.Words.{◌≡◌, length, sym, ap, ◌∙◌, true, false, arith, is_among, same_object, same_object-eq, is_among_here, is_among_later, look_ups}
+use Rattle.moo_tree.proofs.locations.inside.Goals as goal
 use Rattle.moo_world.proofs.Ancestry.Locations.{places_of_row, places_of_no_row}
 
 pub returns-then-eq : goal.returns-then-eq

@@ -1,4 +1,5 @@
-use Rattle.moo_tree.{proofs.Words.{◌≡◌, length, is_among, world_of, location_chain}, proofs.locations.inside.Given as goal}
+use Rattle.moo_tree.proofs.Words.{◌≡◌, length, is_among, world_of, location_chain}
+use Rattle.moo_tree.proofs.locations.inside.Given as goal
 
 -- y stands among the locations from here just where it stands among those of x
 abbrev pub invariant-loop-row : goal.invariant-loop-row

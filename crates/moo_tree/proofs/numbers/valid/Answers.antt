@@ -1,4 +1,5 @@
-use Rattle.moo_tree.{proofs.Words.{◌≡◌, Option, Some, None, refl, sym, ap, ◌∙◌, is_some, option_map, look_ups, is_object_seen}, proofs.numbers.valid.Goals as goal}
+use Rattle.moo_tree.proofs.Words.{◌≡◌, Option, Some, None, refl, sym, ap, ◌∙◌, is_some, option_map, look_ups, is_object_seen}
+use Rattle.moo_tree.proofs.numbers.valid.Goals as goal
 
 is_some_map : {A B : Type 0} (f : A → B) (o : Option A) → is_some o ≡ is_some (option_map f o)
 is_some_map f None = refl

@@ -1,4 +1,5 @@
-use Rattle.moo_tree.{proofs.Words.{◌≡◌, ◌≢◌, suc, ◌+◌, ◌<◌, ◌≤◌, [], ◌∷◌, ◌++◌, length, drop, sym, ap, ◌∙◌, subst, rules, slice_index_or, get, insert, get-empty, from_entries, object_cmp, contents, is_among, children_of, world_of, chain}, proofs.Searching.{Search, AreAt, begun, nothing_under, step, ended, is_there, rank-smaller, deeper, rest_of, at_end, in_list, alone, a_row, among-first, no_items}, proofs.under.find_under.Goals as goal}
+use Rattle.moo_tree.{proofs.Words.{◌≡◌, ◌≢◌, suc, ◌+◌, ◌<◌, ◌≤◌, [], ◌∷◌, ◌++◌, length, drop, sym, ap, ◌∙◌, subst, rules, slice_index_or, get, insert, get-empty, from_entries, object_cmp, contents, is_among, children_of, world_of, chain}, proofs.Searching.{Search, AreAt, begun, nothing_under, step, ended, is_there, rank-smaller, deeper, rest_of, at_end, in_list, alone, a_row, among-first, no_items}}
+use Rattle.moo_tree.proofs.under.find_under.Goals as goal
 
 pub returns-then-not-valid : goal.returns-then-not-valid
 returns-then-not-valid g c =

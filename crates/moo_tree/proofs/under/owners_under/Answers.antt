@@ -1,4 +1,5 @@
-use Rattle.moo_tree.{proofs.Words.{◌≡◌, IfOk, subst, items_from_collect, YieldsList-from_rest}, proofs.Found.{owners_found}, proofs.under.owners_under.Goals as goal}
+use Rattle.moo_tree.{proofs.Words.{◌≡◌, IfOk, subst, items_from_collect, YieldsList-from_rest}, proofs.Found.{owners_found}}
+use Rattle.moo_tree.proofs.under.owners_under.Goals as goal
 
 pub returns : goal.returns
 returns g c =

@@ -1,4 +1,5 @@
-use Rattle.moo_tree.{proofs.Words.{◌≡◌, IfOk, subst, items_from_collect, YieldsList-from_rest, keys}, proofs.Found.{subtree_found}, proofs.under.subtree.Goals as goal}
+use Rattle.moo_tree.{proofs.Words.{◌≡◌, IfOk, subst, items_from_collect, YieldsList-from_rest, keys}, proofs.Found.{subtree_found}}
+use Rattle.moo_tree.proofs.under.subtree.Goals as goal
 
 pub returns : goal.returns
 returns g c =

@@ -1,4 +1,5 @@
-use Rattle.moo_tree.{proofs.Words.{◌++◌, sym, ap, ◌∙◌, is_some, insert, same_Some, true≢false, ObjRow, object_cmp, contents, look_ups, is_object_seen}, proofs.Listing.{children_listed}, proofs.under.visit.Goals as goal}
+use Rattle.moo_tree.{proofs.Words.{◌++◌, sym, ap, ◌∙◌, is_some, insert, same_Some, true≢false, ObjRow, object_cmp, contents, look_ups, is_object_seen}, proofs.Listing.{children_listed}}
+use Rattle.moo_tree.proofs.under.visit.Goals as goal
 use Rattle.moo_rows.proofs.Firsts.{on_ok}
 
 pub unreachable-requires : goal.unreachable-requires

@@ -1,4 +1,5 @@
-use Rattle.moo_value.{proofs.Printed.{one_spelled}, proofs.laws.one_value.Goals as goal}
+use Rattle.moo_value.proofs.Printed.{one_spelled}
+use Rattle.moo_value.proofs.laws.one_value.Goals as goal
 
 pub returns : goal.returns
 returns c = one_spelled

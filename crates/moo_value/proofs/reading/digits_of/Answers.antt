@@ -1,4 +1,5 @@
-use Rattle.moo_value.{proofs.Words.{◌≡◌, ◌+◌, ◌-◌, ◌*◌, ◌<◌, ◌≤◌, ℕ, Bool, true, false, List, length, get_or, drop, Err, refl, sym, ap, subst, ◌∙◌, inl, inr, FitsSigned, pos, to_z, of_z, arith, rules, ◌-ℤ◌, nat_le, w64, w128, to_z-of_z, cases_lt, OutOfRange, is_digit, signed, an_integer, digits_at, limit}, proofs.Numbers.{size, size-signed, next_is, minus_is, plus_is, digit_fits, grown, limited, unlimited}, proofs.reading.digits_of.Goals.{then-negative, else-negative}, proofs.reading.digits_of.Goals as goal}
+use Rattle.moo_value.{proofs.Words.{◌≡◌, ◌+◌, ◌-◌, ◌*◌, ◌<◌, ◌≤◌, ℕ, Bool, true, false, List, length, get_or, drop, Err, refl, sym, ap, subst, ◌∙◌, inl, inr, FitsSigned, pos, to_z, of_z, arith, rules, ◌-ℤ◌, nat_le, w64, w128, to_z-of_z, cases_lt, OutOfRange, is_digit, signed, an_integer, digits_at, limit}, proofs.Numbers.{size, size-signed, next_is, minus_is, plus_is, digit_fits, grown, limited, unlimited}, proofs.reading.digits_of.Goals.{then-negative, else-negative}}
+use Rattle.moo_value.proofs.reading.digits_of.Goals as goal
 use Rattle.std.{proofs.Math.Facts.{sfits_to_z}, proofs.lemmas.List.{at_drop_more}}
 
 refused : (negative : Bool) (n i : ℕ) (b : List ℕ) → i < length b → is_digit (get_or b i 0) ≡ true → limit an_integer negative < 10 * n + (get_or b i 0 - 48) → digits_at an_integer negative n (drop i b) ≡ Err OutOfRange

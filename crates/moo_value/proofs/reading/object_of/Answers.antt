@@ -1,4 +1,5 @@
-use Rattle.moo_value.{proofs.Words.{◌≡◌, ℤ, Ok, sym, ap, subst, ◌∙◌, FitsSigned, w32, to_z, of_z, w64, to_z-of_z, err_from_is_err_and, an_integer}, proofs.Numbers.{object_read, object_over, object_fails, number_taken}, proofs.reading.object_of.Goals as goal}
+use Rattle.moo_value.{proofs.Words.{◌≡◌, ℤ, Ok, sym, ap, subst, ◌∙◌, FitsSigned, w32, to_z, of_z, w64, to_z-of_z, err_from_is_err_and, an_integer}, proofs.Numbers.{object_read, object_over, object_fails, number_taken}}
+use Rattle.moo_value.proofs.reading.object_of.Goals as goal
 
 pub returns-in_err-number : goal.returns-in_err-number
 returns-in_err-number c =

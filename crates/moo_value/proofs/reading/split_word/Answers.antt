@@ -1,4 +1,5 @@
-use Rattle.moo_value.{proofs.Words.{◌≡◌, ◌≤◌, ◌+◌, ℕ, Option, true, false, cond, Some, List, [], ◌∷◌, length, take, drop, refl, ap, ◌∙◌, suc, rules, arith, not, YieldsList-from_slice, tests, is_word, word, after_word}, proofs.reading.split_word.Goals as goal}
+use Rattle.moo_value.proofs.Words.{◌≡◌, ◌≤◌, ◌+◌, ℕ, Option, true, false, cond, Some, List, [], ◌∷◌, length, take, drop, refl, ap, ◌∙◌, suc, rules, arith, not, YieldsList-from_slice, tests, is_word, word, after_word}
+use Rattle.moo_value.proofs.reading.split_word.Goals as goal
 use Rattle.std.{proofs.Common.{None, ltb}, specs.List.{position_or_len}, specs.Option.{unwrap_or}, proofs.lemmas.Iterator.Search.{position_from_yields_List}, proofs.lemmas.List.Sums.{prefix_len-le-length}, proofs.lemmas.Bool.Decides.{nat_tests}}
 
 -- how many bytes stand before the first one that is of no word

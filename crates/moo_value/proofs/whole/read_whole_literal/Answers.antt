@@ -1,4 +1,5 @@
-use Rattle.moo_value.{proofs.Words.{◌≡◌, ℕ, length, take_all, Result, Ok, Err, sym, ap, subst, arith, Spells, err_from_is_err_and, Fails, Value, LiteralFault, OutOfMemory}, proofs.Printed.{whole}, proofs.whole.read_whole_literal.Goals as goal}
+use Rattle.moo_value.{proofs.Words.{◌≡◌, ℕ, length, take_all, Result, Ok, Err, sym, ap, subst, arith, Spells, err_from_is_err_and, Fails, Value, LiteralFault, OutOfMemory}, proofs.Printed.{whole}}
+use Rattle.moo_value.proofs.whole.read_whole_literal.Goals as goal
 
 abbrev Read : Type 0
 Read = Result (Value × ℕ) LiteralFault

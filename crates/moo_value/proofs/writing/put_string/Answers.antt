@@ -1,5 +1,6 @@
 use Rattle.std.proofs.lemmas.Grind.{common_steps}
-use Rattle.moo_value.{proofs.Words.{arith, ◌≡◌, ◌≤◌, ◌++◌, ◌∷◌, ℕ, List, [], length, take, ap, ◌∙◌, rules, append_assoc, take_all, flat_map, escape}, specs.Literal.{print_string}, proofs.Printed.{starts, starts_alike, starts_behind}, proofs.writing.put_string.Goals.{then-byte-eq34+in_ok-push-2, else-byte-eq34+else-byte-eq92}, proofs.writing.put_string.Goals as goal}
+use Rattle.moo_value.{proofs.Words.{arith, ◌≡◌, ◌≤◌, ◌++◌, ◌∷◌, ℕ, List, [], length, take, ap, ◌∙◌, rules, append_assoc, take_all, flat_map, escape}, specs.Literal.{print_string}, proofs.Printed.{starts, starts_alike, starts_behind}, proofs.writing.put_string.Goals.{then-byte-eq34+in_ok-push-2, else-byte-eq34+else-byte-eq92}}
+use Rattle.moo_value.proofs.writing.put_string.Goals as goal
 
 -- the last quote ends the string
 closed : (old out new s bytes : List ℕ) (i : ℕ) → out ≡ old ++ 34 ∷ flat_map escape (take i bytes) → length bytes ≤ i → bytes ≡ s → new ≡ out ++ 34 ∷ [] → new ≡ old ++ print_string s

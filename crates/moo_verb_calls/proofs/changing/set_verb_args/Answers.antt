@@ -2,7 +2,8 @@ use Rattle.std.proofs.Common.{refl, ap, sym, ◌∙◌}
 use Rattle.moo_world.{specs.World.{is_object}, specs.Outcomes.{Done}, specs.Answers.{zero}, specs.Rights.{may_write_verb}, specs.VerbReading.{args_of}, specs.Descriptors.{found_verb}}
 use Rattle.moo_verbs.specs.Places.{verb_place}
 use Rattle.moo_call_parts.{specs.Outcomes.{world_in}, proofs.Passed.{check_passed, found_passed}}
-use Rattle.moo_verb_calls.{proofs.Refused.{check_failed, found_failed}, proofs.changing.set_verb_args.Goals as goal}
+use Rattle.moo_verb_calls.proofs.Refused.{check_failed, found_failed}
+use Rattle.moo_verb_calls.proofs.changing.set_verb_args.Goals as goal
 
 pub returns-then-not-valid-clause-comes : goal.returns-then-not-valid-clause-comes
 returns-then-not-valid-clause-comes g c = (check_failed (is_object (world_in (g.R.Rows.held c.args.rows.now)) c.args.x) _ _ (sym c.valid.ensures ∙ c.if-not-valid.true), refl)

@@ -1,4 +1,5 @@
-use Rattle.moo_verbs.{proofs.Words.{FitsSigned, w32, rules, ◌≡◌, ◌+◌, refl, sym, ap, ◌∙◌, subst, arith, insert, ObjNo, VerbId, VerbRow, Held, wrote, world_of, Keeps, props_stay}, proofs.Changes.{added_world, added_good}, proofs.directory.add.Goals as goal}
+use Rattle.moo_verbs.{proofs.Words.{FitsSigned, w32, rules, ◌≡◌, ◌+◌, refl, sym, ap, ◌∙◌, subst, arith, insert, ObjNo, VerbId, VerbRow, Held, wrote, world_of, Keeps, props_stay}, proofs.Changes.{added_world, added_good}}
+use Rattle.moo_verbs.proofs.directory.add.Goals as goal
 use Rattle.moo_rows.specs.declared.row.Head.{Head}
 use Rattle.moo_world.{specs.Numbers.{verb_added}, proofs.Form.Limits.{verb_within}}
 

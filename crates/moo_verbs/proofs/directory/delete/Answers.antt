@@ -1,4 +1,5 @@
-use Rattle.moo_verbs.{proofs.Words.{refl, sym, ap, ◌∙◌, subst, arith, Held, world_of, Keeps, props_stay}, proofs.Changes.{removed_world, removed_good}, proofs.directory.delete.Goals as goal}
+use Rattle.moo_verbs.{proofs.Words.{refl, sym, ap, ◌∙◌, subst, arith, Held, world_of, Keeps, props_stay}, proofs.Changes.{removed_world, removed_good}}
+use Rattle.moo_verbs.proofs.directory.delete.Goals as goal
 use Rattle.moo_world.specs.Numbers.{verb_removed}
 
 pub returns-clause-world : goal.returns-clause-world

@@ -1,6 +1,7 @@
 use Rattle.std.proofs.Common.{rules, ◌≡◌, List, [], ◌∷◌, ◌++◌, append_assoc, map, sym, ap, ◌∙◌}
 use Rattle.moo_rows.specs.Walk.{verbs_of_left}
-use Rattle.moo_verbs.{proofs.Entries.{Entry}, proofs.Found.{walk, walked_rows}, proofs.directory.list.Goals as goal}
+use Rattle.moo_verbs.{proofs.Entries.{Entry}, proofs.Found.{walk, walked_rows}}
+use Rattle.moo_verbs.proofs.directory.list.Goals as goal
 
 one_more : {A B : Type 0} (f : A → B) (found more : List B) (old left : List A) (all : List B) (x : A) → more ≡ found ++ f x ∷ [] → old ≡ x ∷ left → found ++ map f old ≡ all → more ++ map f left ≡ all
 one_more f found more old left all x pushed is h =

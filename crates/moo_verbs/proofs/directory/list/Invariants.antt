@@ -1,4 +1,5 @@
-use Rattle.moo_verbs.{proofs.Words.{◌≡◌, ◌++◌, map, verbs_of_left}, proofs.Entries.{Entry}, proofs.Found.{walk}, proofs.directory.list.Given as goal}
+use Rattle.moo_verbs.{proofs.Words.{◌≡◌, ◌++◌, map, verbs_of_left}, proofs.Entries.{Entry}, proofs.Found.{walk}}
+use Rattle.moo_verbs.proofs.directory.list.Given as goal
 
 -- the names so far, and those of the verbs that are left
 abbrev pub invariant-loop-row : goal.invariant-loop-row

@@ -1,4 +1,5 @@
-use Rattle.moo_verbs.{proofs.Words.{◌≡◌, refl, sym, ap, ◌∙◌, subst, arith, insert, VerbRow, Held, wrote, world_of, Keeps, props_stay}, proofs.Changes.{changed_world, changed_good}, proofs.directory.set_args.Goals as goal}
+use Rattle.moo_verbs.{proofs.Words.{◌≡◌, refl, sym, ap, ◌∙◌, subst, arith, insert, VerbRow, Held, wrote, world_of, Keeps, props_stay}, proofs.Changes.{changed_world, changed_good}}
+use Rattle.moo_verbs.proofs.directory.set_args.Goals as goal
 use Rattle.moo_world.specs.Numbers.{verb_changed}
 
 -- the rows after the write, by the row that was read

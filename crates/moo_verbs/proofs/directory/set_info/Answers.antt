@@ -1,4 +1,5 @@
-use Rattle.moo_verbs.{proofs.Words.{FitsSigned, w32, rules, refl, sym, ap, ◌∙◌, subst, arith, VerbRow, Held, world_of, Keeps, props_stay}, proofs.Changes.{changed_world, changed_good}, proofs.directory.set_info.Goals as goal}
+use Rattle.moo_verbs.{proofs.Words.{FitsSigned, w32, rules, refl, sym, ap, ◌∙◌, subst, arith, VerbRow, Held, world_of, Keeps, props_stay}, proofs.Changes.{changed_world, changed_good}}
+use Rattle.moo_verbs.proofs.directory.set_info.Goals as goal
 use Rattle.moo_world.{specs.Numbers.{verb_changed}, proofs.Form.Limits.{verb_within}}
 
 pub returns-clause-world : goal.returns-clause-world

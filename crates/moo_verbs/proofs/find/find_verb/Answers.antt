@@ -1,4 +1,5 @@
-use Rattle.moo_verbs.{proofs.Words.{◌≡◌, true, sym, ap, ◌∙◌, subst, IfSome, option_map, option_and_then, position, position_or_len, VerbRow, world_of, directory_of, one_matches, has_verb, verb_place}, proofs.Found.{id_of, found_place, found_held, found_word}, proofs.find.find_verb.Goals as goal}
+use Rattle.moo_verbs.{proofs.Words.{◌≡◌, true, sym, ap, ◌∙◌, subst, IfSome, option_map, option_and_then, position, position_or_len, VerbRow, world_of, directory_of, one_matches, has_verb, verb_place}, proofs.Found.{id_of, found_place, found_held, found_word}}
+use Rattle.moo_verbs.proofs.find.find_verb.Goals as goal
 use Rattle.moo_world.specs.Descriptors.{place_within, described}
 
 pub returns-in-Some-clause-place : goal.returns-in-Some-clause-place

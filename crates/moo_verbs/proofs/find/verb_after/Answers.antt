@@ -1,4 +1,5 @@
-use Rattle.moo_verbs.{proofs.Words.{sym, ap, ◌∙◌, option_map, nth_from_yields_List, YieldsList-from_first, verbs_of_left}, proofs.Found.{walk, id_of}, proofs.find.verb_after.Goals as goal}
+use Rattle.moo_verbs.{proofs.Words.{sym, ap, ◌∙◌, option_map, nth_from_yields_List, YieldsList-from_first, verbs_of_left}, proofs.Found.{walk, id_of}}
+use Rattle.moo_verbs.proofs.find.verb_after.Goals as goal
 
 pub returns-in-None : goal.returns-in-None
 returns-in-None g c =

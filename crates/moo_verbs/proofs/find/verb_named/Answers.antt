@@ -1,4 +1,5 @@
-use Rattle.moo_verbs.{proofs.Words.{rules, sym, ap, ◌∙◌, option_map, YieldsList-from_first, find_from_yields_List, verbs_of_left, one_matches}, proofs.Entries.{Entry}, proofs.Found.{walk, id_of}, proofs.find.verb_named.Goals as goal}
+use Rattle.moo_verbs.{proofs.Words.{rules, sym, ap, ◌∙◌, option_map, YieldsList-from_first, find_from_yields_List, verbs_of_left, one_matches}, proofs.Entries.{Entry}, proofs.Found.{walk, id_of}}
+use Rattle.moo_verbs.proofs.find.verb_named.Goals as goal
 use borrow.Author.Tests.{tests}
 
 pub returns-in-None : goal.returns-in-None

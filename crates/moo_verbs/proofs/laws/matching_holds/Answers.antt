@@ -1,4 +1,5 @@
-use Rattle.moo_verbs.{proofs.StarLaw.{stars_match, names_match}, proofs.laws.matching_holds.Goals as goal}
+use Rattle.moo_verbs.proofs.StarLaw.{stars_match, names_match}
+use Rattle.moo_verbs.proofs.laws.matching_holds.Goals as goal
 
 pub returns-clause-stars : goal.returns-clause-stars
 returns-clause-stars c = stars_match

@@ -1,4 +1,5 @@
-use Rattle.moo_verbs.{proofs.TableLaw.{phrases_are_read}, proofs.laws.phrases_hold.Goals as goal}
+use Rattle.moo_verbs.proofs.TableLaw.{phrases_are_read}
+use Rattle.moo_verbs.proofs.laws.phrases_hold.Goals as goal
 
 pub returns : goal.returns
 returns c = phrases_are_read

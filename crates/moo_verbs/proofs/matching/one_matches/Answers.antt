@@ -1,4 +1,5 @@
-use Rattle.moo_verbs.{proofs.Words.{rules, not, any_from_yields_List, YieldsList-from_filter, YieldsList-at, is_space, is_empty, matches}, proofs.matching.one_matches.Goals as goal}
+use Rattle.moo_verbs.proofs.Words.{rules, not, any_from_yields_List, YieldsList-from_filter, YieldsList-at, is_space, is_empty, matches}
+use Rattle.moo_verbs.proofs.matching.one_matches.Goals as goal
 use Rattle.std.proofs.lemmas.Iterator.Splits.{YieldsList-from_slice_split}
 use borrow.Author.Tests.{tests}
 

@@ -1,4 +1,5 @@
-use Rattle.moo_verbs.{proofs.Words.{sym, ap, ◌∙◌, prep_text}, proofs.TableLaw.{prep_reads}, proofs.prep.print_prep.Goals as goal}
+use Rattle.moo_verbs.{proofs.Words.{sym, ap, ◌∙◌, prep_text}, proofs.TableLaw.{prep_reads}}
+use Rattle.moo_verbs.proofs.prep.print_prep.Goals as goal
 
 pub returns-in-None-clause-read_again : goal.returns-in-None-clause-read_again
 returns-in-None-clause-read_again c = prep_reads _ c.args.prep (sym (ap prep_text c.in-None.is))

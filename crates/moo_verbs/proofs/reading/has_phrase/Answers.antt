@@ -1,4 +1,5 @@
-use Rattle.moo_verbs.{proofs.Words.{rules, ◌∙◌, any_from_yields_List, same_name, set_text}, proofs.reading.has_phrase.Goals as goal}
+use Rattle.moo_verbs.proofs.Words.{rules, ◌∙◌, any_from_yields_List, same_name, set_text}
+use Rattle.moo_verbs.proofs.reading.has_phrase.Goals as goal
 use Rattle.std.proofs.lemmas.Iterator.Splits.{YieldsList-from_slice_split}
 use Rattle.moo_world.specs.VerbReading.{is_slash}
 use borrow.Author.Tests.{tests}

@@ -1,6 +1,7 @@
 use Rattle.std.specs.Prelude.{codes}
 use Rattle.clap.specs.Simple.{App, with_subcommand}
-use Rattle.moo_words.{specs.Commands.{file_app, batches_app, load_app, serve_app, program_app}, proofs.commands.moo_command.Goals as goal}
+use Rattle.moo_words.specs.Commands.{file_app, batches_app, load_app, serve_app, program_app}
+use Rattle.moo_words.proofs.commands.moo_command.Goals as goal
 
 -- the program with some of its commands
 abbrev one : App

@@ -1,6 +1,7 @@
 use Rattle.std.{proofs.Common.{ap₂, ◌∙◌}, specs.Prelude.{◌||◌}}
 use Rattle.clap.specs.Simple.{with_rule}
-use Rattle.moo_words.{proofs.Adding.{with_arg, stays_local}, proofs.commands.serve_command.Goals as goal}
+use Rattle.moo_words.proofs.Adding.{with_arg, stays_local}
+use Rattle.moo_words.proofs.commands.serve_command.Goals as goal
 
 pub returns-clause-shape : goal.returns-clause-shape
 returns-clause-shape c =

@@ -1,5 +1,6 @@
 use Rattle.std.{proofs.Common.{sym}, specs.Str.Parse.{ParsesUnsigned, ExplainsUnsignedError, HasUnsignedDigitsIfOk}}
-use Rattle.moo_words.{proofs.MatchLemmas.{number_given}, proofs.task.number_of.Goals as goal}
+use Rattle.moo_words.proofs.MatchLemmas.{number_given}
+use Rattle.moo_words.proofs.task.number_of.Goals as goal
 use Rattle.clap.specs.Matches.{found_of}
 
 pub returns : goal.returns

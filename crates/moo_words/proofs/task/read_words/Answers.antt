@@ -1,6 +1,7 @@
 use Rattle.std.{proofs.lemmas.List.{length-map}, proofs.Common.{inr, arith, length, ◌<◌, ap, ap₂, sym, subst, ◌∙◌, refl, true, ◌≡◌, map, List, []}}
 use Rattle.clap.{specs.Walk.{Text}, specs.Simple.{App, is_simple, subcommand_of}, specs.Kinds.{HasKind}, specs.Faults.{fault_of, is_simple_and_free}, specs.declared.error.Error.{Error}, proofs.OnLiterals.{clap_on_literals}}
-use Rattle.moo_words.{proofs.AloneLemmas.{names_alone}, specs.Commands.{moo_app}, specs.Tasks.{mistakes}, proofs.task.read_words.Goals as goal}
+use Rattle.moo_words.{proofs.AloneLemmas.{names_alone}, specs.Commands.{moo_app}, specs.Tasks.{mistakes}}
+use Rattle.moo_words.proofs.task.read_words.Goals as goal
 
 moo_simple : is_simple moo_app ≡ true
 unfolding clap_on_literals

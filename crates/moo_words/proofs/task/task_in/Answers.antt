@@ -1,6 +1,7 @@
 use Rattle.std.proofs.Common.{◌∙◌}
 use Rattle.clap.{specs.Matches.{found_of}, specs.Walk.{rows_of}, specs.Simple.{subcommand_rows_of}}
-use Rattle.moo_words.{proofs.MatchLemmas.{name_is, pair_given}, proofs.task.task_in.Goals as goal}
+use Rattle.moo_words.proofs.MatchLemmas.{name_is, pair_given}
+use Rattle.moo_words.proofs.task.task_in.Goals as goal
 
 pub returns : goal.returns
 returns c =

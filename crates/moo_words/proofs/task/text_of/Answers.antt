@@ -1,4 +1,5 @@
-use Rattle.moo_words.{proofs.MatchLemmas.{text_given}, proofs.task.text_of.Goals as goal}
+use Rattle.moo_words.proofs.MatchLemmas.{text_given}
+use Rattle.moo_words.proofs.task.text_of.Goals as goal
 use Rattle.clap.specs.Matches.{found_of}
 
 pub returns : goal.returns

@@ -1,4 +1,5 @@
-use Rattle.moo_world.{proofs.Lemmas.{[], ◌∷◌, subst, Chain, parent_of, OneChain, NoneTwice, ChainSplits, Climbs-once, Chain-unique, no_parent}, proofs.laws.chains_hold.Goals as goal}
+use Rattle.moo_world.proofs.Lemmas.{[], ◌∷◌, subst, Chain, parent_of, OneChain, NoneTwice, ChainSplits, Climbs-once, Chain-unique, no_parent}
+use Rattle.moo_world.proofs.laws.chains_hold.Goals as goal
 
 splits : ChainSplits
 splits w x y [] behind t p = subst (λ z. Chain w z (y ∷ behind)) p.0 p

@@ -1,4 +1,5 @@
-use Rattle.moo_world.{specs.TreeLaws.{RebuiltExists, RebuiltIsOne}, proofs.Inheritance.Rebuilding.{SameButSlots-rebuilt, Rebuilt-rebuilt, Rebuilt-unique}, proofs.laws.rebuilding_holds.Goals as goal}
+use Rattle.moo_world.{specs.TreeLaws.{RebuiltExists, RebuiltIsOne}, proofs.Inheritance.Rebuilding.{SameButSlots-rebuilt, Rebuilt-rebuilt, Rebuilt-unique}}
+use Rattle.moo_world.proofs.laws.rebuilding_holds.Goals as goal
 
 exists : RebuiltExists
 exists w s q tw ts = (SameButSlots-rebuilt w s q, Rebuilt-rebuilt w s q tw ts)

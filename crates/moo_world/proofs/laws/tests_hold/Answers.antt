@@ -1,4 +1,5 @@
-use Rattle.moo_world.{proofs.Lemmas.{◌≡◌, true, false, sym, ap, subst, ◌∙◌, Some, none-some, is_among, Chain, LocationChain, Reads, is_object, read_along, read_of, ChainIsFound, LocationsAreFound, UnderIsTested, HasPropertyIsTested, ReadsIsFound, WithinIsTested, chain_is, Chain-chain, chain_of_none, under_from_among, among_from_under, HasProperty-Decides, text_tested, fits_tested}, proofs.Ancestry.Locations.{places_is, LocationChain-location_chain}, proofs.Shown.Reading.{Reads-from_along, along_from_Reads}, proofs.Shown.Accepting.{accepted}, proofs.laws.tests_hold.Goals as goal}
+use Rattle.moo_world.{proofs.Lemmas.{◌≡◌, true, false, sym, ap, subst, ◌∙◌, Some, none-some, is_among, Chain, LocationChain, Reads, is_object, read_along, read_of, ChainIsFound, LocationsAreFound, UnderIsTested, HasPropertyIsTested, ReadsIsFound, WithinIsTested, chain_is, Chain-chain, chain_of_none, under_from_among, among_from_under, HasProperty-Decides, text_tested, fits_tested}, proofs.Ancestry.Locations.{places_is, LocationChain-location_chain}, proofs.Shown.Reading.{Reads-from_along, along_from_Reads}, proofs.Shown.Accepting.{accepted}}
+use Rattle.moo_world.proofs.laws.tests_hold.Goals as goal
 
 chains : ChainIsFound
 chains w x l t o = (λ e. subst (Chain w x) e (Chain-chain w t x o), λ p. chain_is w t x l p)

@@ -1,4 +1,5 @@
-use Rattle.moo_cells.{proofs.Words.{rules, ◌≡◌, ◌∷◌, sym, length, refl, ap, ◌∙◌, w64, arith, into_iter_items, into_iter_len, to_z-of_z, column, object_total, object_exact, Maps, Object, IsTrue}, proofs.Keys.{objects_bear, self_tied}, proofs.Table.{held_none, held_more, held_first, takes_next, takes_on, took_all}, proofs.Within.{taken}, proofs.tables.objects.read_objects.Goals as goal}
+use Rattle.moo_cells.{proofs.Words.{rules, ◌≡◌, ◌∷◌, sym, length, refl, ap, ◌∙◌, w64, arith, into_iter_items, into_iter_len, to_z-of_z, column, object_total, object_exact, Maps, Object, IsTrue}, proofs.Keys.{objects_bear, self_tied}, proofs.Table.{held_none, held_more, held_first, takes_next, takes_on, took_all}, proofs.Within.{taken}}
+use Rattle.moo_cells.proofs.tables.objects.read_objects.Goals as goal
 use Rattle.sqlite_trees.specs.View.{is_int}
 
 pub loop-row-init : goal.loop-row-init

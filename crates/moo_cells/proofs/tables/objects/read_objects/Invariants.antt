@@ -1,4 +1,5 @@
-use Rattle.moo_cells.{proofs.Words.{◌≡◌, ◌++◌, length, into_iter_items, into_iter_len, has_rowid, ReadsObject, object_number, HoldsTable}, proofs.tables.objects.read_objects.Given as goal}
+use Rattle.moo_cells.proofs.Words.{◌≡◌, ◌++◌, length, into_iter_items, into_iter_len, has_rowid, ReadsObject, object_number, HoldsTable}
+use Rattle.moo_cells.proofs.tables.objects.read_objects.Given as goal
 
 abbrev pub invariant-loop-row : goal.invariant-loop-row
 invariant-loop-row l = record {

@@ -1,4 +1,5 @@
-use Rattle.moo_cells.{proofs.Words.{◌≡◌, ◌++◌, length, into_iter_items, into_iter_len, has_key_pair, ReadsSlot, slot_number, HoldsTable}, proofs.tables.slots.read_slots.Given as goal}
+use Rattle.moo_cells.proofs.Words.{◌≡◌, ◌++◌, length, into_iter_items, into_iter_len, has_key_pair, ReadsSlot, slot_number, HoldsTable}
+use Rattle.moo_cells.proofs.tables.slots.read_slots.Given as goal
 
 abbrev pub invariant-loop-row : goal.invariant-loop-row
 invariant-loop-row l = record {

@@ -1,4 +1,5 @@
-use Rattle.moo_cells.{proofs.Words.{rules, ◌≡◌, ◌∷◌, sym, length, refl, ap, ◌∙◌, w64, arith, into_iter_items, into_iter_len, to_z-of_z, verb_total, verb_exact, Maps, Verb, IsTrue, column}, proofs.Keys.{verbs_bear, pair_mine}, proofs.Table.{held_none, held_more, held_first, takes_next, takes_on, took_all}, proofs.Within.{taken}, proofs.tables.verbs.read_verbs.Goals as goal}
+use Rattle.moo_cells.{proofs.Words.{rules, ◌≡◌, ◌∷◌, sym, length, refl, ap, ◌∙◌, w64, arith, into_iter_items, into_iter_len, to_z-of_z, verb_total, verb_exact, Maps, Verb, IsTrue, column}, proofs.Keys.{verbs_bear, pair_mine}, proofs.Table.{held_none, held_more, held_first, takes_next, takes_on, took_all}, proofs.Within.{taken}}
+use Rattle.moo_cells.proofs.tables.verbs.read_verbs.Goals as goal
 use Rattle.sqlite_trees.specs.View.{is_int}
 
 pub loop-row-init : goal.loop-row-init

@@ -1,4 +1,5 @@
-use Rattle.moo_cells.{proofs.Words.{◌≡◌, ◌++◌, length, into_iter_items, into_iter_len, has_key_pair, ReadsVerb, verb_number, HoldsTable}, proofs.tables.verbs.read_verbs.Given as goal}
+use Rattle.moo_cells.proofs.Words.{◌≡◌, ◌++◌, length, into_iter_items, into_iter_len, has_key_pair, ReadsVerb, verb_number, HoldsTable}
+use Rattle.moo_cells.proofs.tables.verbs.read_verbs.Given as goal
 
 abbrev pub invariant-loop-row : goal.invariant-loop-row
 invariant-loop-row l = record {

@@ -1,4 +1,5 @@
-use Rattle.moo_commands.{proofs.Words.{refl}, proofs.ends.Ends.close.Goals as goal}
+use Rattle.moo_commands.proofs.Words.{refl}
+use Rattle.moo_commands.proofs.ends.Ends.close.Goals as goal
 
 pub returns-in-Ran : goal.returns-in-Ran
 returns-in-Ran g c = rw c.in-Ran.is c.close.ensures.closed

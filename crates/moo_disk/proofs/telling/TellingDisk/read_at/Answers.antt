@@ -1,4 +1,5 @@
-use Rattle.moo_disk.{proofs.Frozen.{frozen_through}, specs.Telling.{inner_of}, proofs.telling.TellingDisk.read_at.Goals as goal}
+use Rattle.moo_disk.{proofs.Frozen.{frozen_through}, specs.Telling.{inner_of}}
+use Rattle.moo_disk.proofs.telling.TellingDisk.read_at.Goals as goal
 
 pub returns-clause-frozen : goal.returns-clause-frozen
 returns-clause-frozen g c frozen =

@@ -1,4 +1,5 @@
-use Rattle.moo_files.{proofs.Words.{refl, LeavesState, IsKept}, proofs.RemainsLemmas.{keeps_closed, blank_closed, spares_closed}, proofs.remains.Remains.close.Goals as goal}
+use Rattle.moo_files.{proofs.Words.{refl, LeavesState, IsKept}, proofs.RemainsLemmas.{keeps_closed, blank_closed, spares_closed}}
+use Rattle.moo_files.proofs.remains.Remains.close.Goals as goal
 
 pub returns-in-Connection-clause-closed : goal.returns-in-Connection-clause-closed
 returns-in-Connection-clause-closed g c =

@@ -1,4 +1,5 @@
-use Rattle.moo_memory.{proofs.Words.{sym, refl, subst, get, contents, object_cmp, prop_cmp, slot_cmp, verb_cmp, petition_cmp, object_total, prop_total, slot_total, verb_total, petition_total, IsChanges}, proofs.Overlays.{get-overlaid}, proofs.draft.Draft.into_changes.Goals as goal}
+use Rattle.moo_memory.{proofs.Words.{sym, refl, subst, get, contents, object_cmp, prop_cmp, slot_cmp, verb_cmp, petition_cmp, object_total, prop_total, slot_total, verb_total, petition_total, IsChanges}, proofs.Overlays.{get-overlaid}}
+use Rattle.moo_memory.proofs.draft.Draft.into_changes.Goals as goal
 
 pub returns-in-Ok-Ok-Ok-Ok-Ok : goal.returns-in-Ok-Ok-Ok-Ok-Ok
 returns-in-Ok-Ok-Ok-Ok-Ok g c =

@@ -1,4 +1,5 @@
-use Rattle.moo_memory.{proofs.Words.{None, ap, ◌∙◌, unwrap_or, get, get-empty, from_entries, object_cmp, prop_cmp, row_has, row_defined}, proofs.Overlays.{overlaid-none}, proofs.draft.Draft.new.Goals as goal}
+use Rattle.moo_memory.{proofs.Words.{None, ap, ◌∙◌, unwrap_or, get, get-empty, from_entries, object_cmp, prop_cmp, row_has, row_defined}, proofs.Overlays.{overlaid-none}}
+use Rattle.moo_memory.proofs.draft.Draft.new.Goals as goal
 
 pub returns-clause-maps : goal.returns-clause-maps
 returns-clause-maps g c =

@@ -1,4 +1,5 @@
-use Rattle.moo_memory.{proofs.Words.{◌≡◌, true, false, ◌||◌, Some, None, sym, ap, ◌∙◌, rules, is_some, get, PropId, contents, prop_cmp, slot_cmp, prop_exact, row_defined, prop_total, first-none, first-found, first-skipped, overlaid}, proofs.Overlays.{get-overlaid}, proofs.Drafts.{draft-defines}, proofs.draft.DraftRows.next_defined.Goals as goal}
+use Rattle.moo_memory.{proofs.Words.{◌≡◌, true, false, ◌||◌, Some, None, sym, ap, ◌∙◌, rules, is_some, get, PropId, contents, prop_cmp, slot_cmp, prop_exact, row_defined, prop_total, first-none, first-found, first-skipped, overlaid}, proofs.Overlays.{get-overlaid}, proofs.Drafts.{draft-defines}}
+use Rattle.moo_memory.proofs.draft.DraftRows.next_defined.Goals as goal
 
 pub returns-in-None : goal.returns-in-None
 returns-in-None g c =

@@ -1,4 +1,5 @@
-use Rattle.moo_memory.{proofs.Words.{Option, ◌-◌, get, PropId, contents, prop_cmp, IsFirst, row_defined, overlaid}, proofs.draft.DraftRows.next_defined.Given as goal}
+use Rattle.moo_memory.proofs.Words.{Option, ◌-◌, get, PropId, contents, prop_cmp, IsFirst, row_defined, overlaid}
+use Rattle.moo_memory.proofs.draft.DraftRows.next_defined.Given as goal
 
 -- what is first past `last` is first past `after`
 abbrev pub invariant-loop-key : goal.invariant-loop-key

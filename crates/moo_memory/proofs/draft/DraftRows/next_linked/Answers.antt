@@ -1,4 +1,5 @@
-use Rattle.moo_memory.{proofs.Words.{◌≡◌, true, false, Some, None, sym, ap, ◌∙◌, rules, get, ObjNo, contents, object_cmp, object_exact, row_has, object_total, first-none, first-found, first-skipped, overlaid, is_candidate_of_either}, proofs.Overlays.{get-overlaid}, proofs.Drafts.{draft-covers}, proofs.draft.DraftRows.next_linked.Goals as goal}
+use Rattle.moo_memory.{proofs.Words.{◌≡◌, true, false, Some, None, sym, ap, ◌∙◌, rules, get, ObjNo, contents, object_cmp, object_exact, row_has, object_total, first-none, first-found, first-skipped, overlaid, is_candidate_of_either}, proofs.Overlays.{get-overlaid}, proofs.Drafts.{draft-covers}}
+use Rattle.moo_memory.proofs.draft.DraftRows.next_linked.Goals as goal
 
 pub returns-in-None : goal.returns-in-None
 returns-in-None g c =

@@ -1,4 +1,5 @@
-use Rattle.moo_memory.{proofs.Words.{Option, pos, ◌-ℤ◌, nat_abs, get, ObjNo, contents, object_cmp, IsFirst, row_has, overlaid}, proofs.draft.DraftRows.next_linked.Given as goal}
+use Rattle.moo_memory.proofs.Words.{Option, pos, ◌-ℤ◌, nat_abs, get, ObjNo, contents, object_cmp, IsFirst, row_has, overlaid}
+use Rattle.moo_memory.proofs.draft.DraftRows.next_linked.Given as goal
 
 -- what is first past `last` is first past `after`
 abbrev pub invariant-loop-key : goal.invariant-loop-key

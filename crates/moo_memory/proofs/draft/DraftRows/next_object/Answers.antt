@@ -1,4 +1,5 @@
-use Rattle.moo_memory.{proofs.Words.{contents, object_cmp, object_total}, proofs.Overlays.{next-overlaid}, proofs.draft.DraftRows.next_object.Goals as goal}
+use Rattle.moo_memory.{proofs.Words.{contents, object_cmp, object_total}, proofs.Overlays.{next-overlaid}}
+use Rattle.moo_memory.proofs.draft.DraftRows.next_object.Goals as goal
 
 pub returns : goal.returns
 returns g c =

@@ -1,4 +1,5 @@
-use Rattle.moo_memory.{proofs.Words.{contents, verb_cmp, verb_total}, proofs.Overlays.{next-overlaid}, proofs.draft.DraftRows.next_verb.Goals as goal}
+use Rattle.moo_memory.{proofs.Words.{contents, verb_cmp, verb_total}, proofs.Overlays.{next-overlaid}}
+use Rattle.moo_memory.proofs.draft.DraftRows.next_verb.Goals as goal
 
 pub returns : goal.returns
 returns g c =

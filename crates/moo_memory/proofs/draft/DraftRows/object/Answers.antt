@@ -1,4 +1,5 @@
-use Rattle.moo_memory.{proofs.Words.{sym, ◌∙◌, contents, object_cmp, object_total}, proofs.Overlays.{get-overlaid}, proofs.draft.DraftRows.object.Goals as goal}
+use Rattle.moo_memory.{proofs.Words.{sym, ◌∙◌, contents, object_cmp, object_total}, proofs.Overlays.{get-overlaid}}
+use Rattle.moo_memory.proofs.draft.DraftRows.object.Goals as goal
 
 pub returns : goal.returns
 returns g c =

@@ -1,4 +1,5 @@
-use Rattle.moo_memory.{proofs.Words.{sym, ◌∙◌, contents, petition_cmp, petition_total}, proofs.Overlays.{get-overlaid}, proofs.draft.DraftRows.petition.Goals as goal}
+use Rattle.moo_memory.{proofs.Words.{sym, ◌∙◌, contents, petition_cmp, petition_total}, proofs.Overlays.{get-overlaid}}
+use Rattle.moo_memory.proofs.draft.DraftRows.petition.Goals as goal
 
 pub returns : goal.returns
 returns g c =

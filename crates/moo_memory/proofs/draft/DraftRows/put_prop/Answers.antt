@@ -1,5 +1,7 @@
-use Rattle.moo_memory.{proofs.Words.{◌≡◌, ◌+◌, Some, is_some, sym, ap, ◌∙◌, contents, prop_cmp, slot_cmp, row_defined, prop_exact, lacked-insert, prop_total, slot_total, overlaid, of_changes}, proofs.Overlays.{overlaid-insert}, proofs.Drafts.{draft-put, either_way}, proofs.draft.DraftRows.put_prop.Goals as goal}
-use Rattle.std.{specs.FinMap as map, proofs.lemmas.Result.{on_err_weaker, on_ok_weaker}}
+use Rattle.moo_memory.{proofs.Words.{◌≡◌, ◌+◌, Some, is_some, sym, ap, ◌∙◌, contents, prop_cmp, slot_cmp, row_defined, prop_exact, lacked-insert, prop_total, slot_total, overlaid, of_changes}, proofs.Overlays.{overlaid-insert}, proofs.Drafts.{draft-put, either_way}}
+use Rattle.moo_memory.proofs.draft.DraftRows.put_prop.Goals as goal
+use Rattle.std.proofs.lemmas.Result.{on_err_weaker, on_ok_weaker}
+use Rattle.std.specs.FinMap as map
 
 pub returns-clause-ok : goal.returns-clause-ok
 returns-clause-ok g c =

@@ -1,5 +1,7 @@
-use Rattle.moo_memory.{proofs.Words.{◌≡◌, ◌+◌, None, refl, sym, ap, ◌∙◌, subst, contents, object_cmp, object_exact, object_total, overlaid, of_changes, EitherCovers}, proofs.Overlays.{overlaid-insert}, proofs.Drafts.{either-change, either_way}, proofs.draft.DraftRows.remove_object.Goals as goal}
-use Rattle.std.{specs.FinMap as map, proofs.lemmas.Result.{on_err_weaker, on_ok_weaker}}
+use Rattle.moo_memory.{proofs.Words.{◌≡◌, ◌+◌, None, refl, sym, ap, ◌∙◌, subst, contents, object_cmp, object_exact, object_total, overlaid, of_changes, EitherCovers}, proofs.Overlays.{overlaid-insert}, proofs.Drafts.{either-change, either_way}}
+use Rattle.moo_memory.proofs.draft.DraftRows.remove_object.Goals as goal
+use Rattle.std.proofs.lemmas.Result.{on_err_weaker, on_ok_weaker}
+use Rattle.std.specs.FinMap as map
 
 pub returns-clause-ok : goal.returns-clause-ok
 returns-clause-ok g c =

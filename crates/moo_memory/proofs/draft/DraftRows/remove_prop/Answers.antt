@@ -1,5 +1,7 @@
-use Rattle.moo_memory.{proofs.Words.{◌≡◌, ◌+◌, None, sym, ap, ◌∙◌, subst, contents, prop_cmp, slot_cmp, prop_exact, prop_total, overlaid, of_changes, AreOfDefiners}, proofs.Overlays.{overlaid-insert}, proofs.Drafts.{draft-remove, either_way}, proofs.draft.DraftRows.remove_prop.Goals as goal}
-use Rattle.std.{specs.FinMap as map, proofs.lemmas.Result.{on_err_weaker, on_ok_weaker}}
+use Rattle.moo_memory.{proofs.Words.{◌≡◌, ◌+◌, None, sym, ap, ◌∙◌, subst, contents, prop_cmp, slot_cmp, prop_exact, prop_total, overlaid, of_changes, AreOfDefiners}, proofs.Overlays.{overlaid-insert}, proofs.Drafts.{draft-remove, either_way}}
+use Rattle.moo_memory.proofs.draft.DraftRows.remove_prop.Goals as goal
+use Rattle.std.proofs.lemmas.Result.{on_err_weaker, on_ok_weaker}
+use Rattle.std.specs.FinMap as map
 
 pub returns-clause-ok : goal.returns-clause-ok
 returns-clause-ok g c =

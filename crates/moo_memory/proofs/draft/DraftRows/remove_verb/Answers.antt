@@ -1,5 +1,7 @@
-use Rattle.moo_memory.{proofs.Words.{◌≡◌, ◌+◌, None, ap, ◌∙◌, contents, verb_cmp, verb_exact, verb_total, overlaid}, proofs.Overlays.{overlaid-insert}, proofs.draft.DraftRows.remove_verb.Goals as goal}
-use Rattle.std.{specs.FinMap as map, proofs.lemmas.Result.{on_err_weaker, on_ok_weaker}}
+use Rattle.moo_memory.{proofs.Words.{◌≡◌, ◌+◌, None, ap, ◌∙◌, contents, verb_cmp, verb_exact, verb_total, overlaid}, proofs.Overlays.{overlaid-insert}}
+use Rattle.moo_memory.proofs.draft.DraftRows.remove_verb.Goals as goal
+use Rattle.std.proofs.lemmas.Result.{on_err_weaker, on_ok_weaker}
+use Rattle.std.specs.FinMap as map
 
 pub returns-clause-ok : goal.returns-clause-ok
 returns-clause-ok g c =

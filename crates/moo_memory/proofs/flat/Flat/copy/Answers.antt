@@ -1,5 +1,7 @@
-use Rattle.moo_memory.{proofs.Words.{rules, ap, ◌∙◌, sym, subst, refl, ⊤, get, contents, AreCovered, AreOfDefiners, ObjNo, PropId, Held, object_cmp, prop_cmp, slot_cmp}, proofs.flat.Flat.copy.Goals as goal}
-use Rattle.std.{proofs.lemmas.Map.Entries.{entries_from_clone}, specs.FinMap as map}
+use Rattle.moo_memory.proofs.Words.{rules, ap, ◌∙◌, sym, subst, refl, ⊤, get, contents, AreCovered, AreOfDefiners, ObjNo, PropId, Held, object_cmp, prop_cmp, slot_cmp}
+use Rattle.moo_memory.proofs.flat.Flat.copy.Goals as goal
+use Rattle.std.proofs.lemmas.Map.Entries.{entries_from_clone}
+use Rattle.std.specs.FinMap as map
 use Rattle.moo_rows.{specs.declared.row.VerbId.{VerbId}, specs.declared.row.PetitionId.{PetitionId}, specs.ObjectRow.{object_clone}, specs.SameClones.{prop_clone, slot_clone, verb_clone, petition_clone}}
 
 -- clones of equal keys and rows leave equal maps

@@ -1,4 +1,5 @@
-use Rattle.moo_memory.{proofs.Words.{ap, ◌∙◌, get, get-empty, from_entries, object_cmp, prop_cmp, row_has, row_defined}, proofs.flat.Flat.new.Goals as goal}
+use Rattle.moo_memory.proofs.Words.{ap, ◌∙◌, get, get-empty, from_entries, object_cmp, prop_cmp, row_has, row_defined}
+use Rattle.moo_memory.proofs.flat.Flat.new.Goals as goal
 
 pub invariant_of-result : goal.invariant_of-result
 invariant_of-result c = (

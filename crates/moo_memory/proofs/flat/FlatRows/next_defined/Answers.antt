@@ -1,4 +1,5 @@
-use Rattle.moo_memory.{proofs.Words.{◌≡◌, true, false, Some, None, rules, is_some, get, PropId, contents, prop_cmp, slot_cmp, row_defined, prop_total, first-none, first-found, first-skipped}, proofs.flat.FlatRows.next_defined.Goals as goal}
+use Rattle.moo_memory.proofs.Words.{◌≡◌, true, false, Some, None, rules, is_some, get, PropId, contents, prop_cmp, slot_cmp, row_defined, prop_total, first-none, first-found, first-skipped}
+use Rattle.moo_memory.proofs.flat.FlatRows.next_defined.Goals as goal
 use Rattle.moo_rows.specs.Exact.{prop_exact}
 
 pub returns-in-None : goal.returns-in-None

@@ -1,4 +1,5 @@
-use Rattle.moo_memory.{proofs.Words.{Option, ◌-◌, get, PropId, contents, prop_cmp, IsFirst, row_defined}, proofs.flat.FlatRows.next_defined.Given as goal}
+use Rattle.moo_memory.proofs.Words.{Option, ◌-◌, get, PropId, contents, prop_cmp, IsFirst, row_defined}
+use Rattle.moo_memory.proofs.flat.FlatRows.next_defined.Given as goal
 
 -- what is first past `last` is first past `after`
 abbrev pub invariant-loop-key : goal.invariant-loop-key

@@ -1,4 +1,5 @@
-use Rattle.moo_memory.{proofs.Words.{◌≡◌, true, false, Some, None, rules, get, ObjNo, contents, object_cmp, is_candidate, row_has, object_total, candidate-covers, first-none, first-found, first-skipped}, proofs.flat.FlatRows.next_linked.Goals as goal}
+use Rattle.moo_memory.proofs.Words.{◌≡◌, true, false, Some, None, rules, get, ObjNo, contents, object_cmp, is_candidate, row_has, object_total, candidate-covers, first-none, first-found, first-skipped}
+use Rattle.moo_memory.proofs.flat.FlatRows.next_linked.Goals as goal
 use Rattle.moo_rows.specs.Exact.{object_exact}
 
 pub returns-in-None : goal.returns-in-None

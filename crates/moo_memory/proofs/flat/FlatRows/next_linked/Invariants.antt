@@ -1,4 +1,5 @@
-use Rattle.moo_memory.{proofs.Words.{Option, pos, ◌-ℤ◌, nat_abs, get, ObjNo, contents, object_cmp, IsFirst, row_has}, proofs.flat.FlatRows.next_linked.Given as goal}
+use Rattle.moo_memory.proofs.Words.{Option, pos, ◌-ℤ◌, nat_abs, get, ObjNo, contents, object_cmp, IsFirst, row_has}
+use Rattle.moo_memory.proofs.flat.FlatRows.next_linked.Given as goal
 
 -- what is first past `last` is first past `after`
 abbrev pub invariant-loop-key : goal.invariant-loop-key

@@ -1,4 +1,5 @@
-use Rattle.moo_memory.{proofs.Words.{◌≡◌, Some, ap, ◌∙◌, rules, get, get-insert, contents, object_cmp, has_link, ties_of, object_total, covered-put, covered-there, stays-there}, proofs.flat.FlatRows.put_object.Goals as goal}
+use Rattle.moo_memory.proofs.Words.{◌≡◌, Some, ap, ◌∙◌, rules, get, get-insert, contents, object_cmp, has_link, ties_of, object_total, covered-put, covered-there, stays-there}
+use Rattle.moo_memory.proofs.flat.FlatRows.put_object.Goals as goal
 use Rattle.std.specs.Option.{option_map}
 
 pub invariant_of-self-then-are_same : goal.invariant_of-self-then-are_same

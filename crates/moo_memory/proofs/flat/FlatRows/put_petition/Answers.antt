@@ -1,4 +1,5 @@
-use Rattle.moo_memory.{proofs.Words.{ap, ◌∙◌, contents, Held, no_maps, object_cmp, prop_cmp, slot_cmp, verb_cmp, with_petition}, proofs.flat.FlatRows.put_petition.Goals as goal}
+use Rattle.moo_memory.proofs.Words.{ap, ◌∙◌, contents, Held, no_maps, object_cmp, prop_cmp, slot_cmp, verb_cmp, with_petition}
+use Rattle.moo_memory.proofs.flat.FlatRows.put_petition.Goals as goal
 
 -- (not by `search`, which takes the keys of properties for those of petitions)
 pub returns-clause-ok : goal.returns-clause-ok

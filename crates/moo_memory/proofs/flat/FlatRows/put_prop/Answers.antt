@@ -1,4 +1,5 @@
-use Rattle.moo_memory.{proofs.Words.{sym, ap, ◌∙◌, is_some, get, get-insert, contents, prop_cmp, slot_cmp, row_defined, prop_total, slot_total, lacked-insert, defined-put}, proofs.flat.FlatRows.put_prop.Goals as goal}
+use Rattle.moo_memory.proofs.Words.{sym, ap, ◌∙◌, is_some, get, get-insert, contents, prop_cmp, slot_cmp, row_defined, prop_total, slot_total, lacked-insert, defined-put}
+use Rattle.moo_memory.proofs.flat.FlatRows.put_prop.Goals as goal
 
 pub invariant_of-self-in_err-put-2 : goal.invariant_of-self-in_err-put-2
 invariant_of-self-in_err-put-2 c = (

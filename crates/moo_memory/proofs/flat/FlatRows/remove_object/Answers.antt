@@ -1,4 +1,5 @@
-use Rattle.moo_memory.{proofs.Words.{ap, ◌∙◌, get, get-remove, contents, object_cmp, object_total, covered-remove}, proofs.flat.FlatRows.remove_object.Goals as goal}
+use Rattle.moo_memory.proofs.Words.{ap, ◌∙◌, get, get-remove, contents, object_cmp, object_total, covered-remove}
+use Rattle.moo_memory.proofs.flat.FlatRows.remove_object.Goals as goal
 
 pub invariant_of-self : goal.invariant_of-self
 invariant_of-self c = (

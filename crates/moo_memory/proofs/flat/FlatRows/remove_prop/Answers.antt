@@ -1,4 +1,5 @@
-use Rattle.moo_memory.{proofs.Words.{ap, ◌∙◌, get, get-remove, contents, prop_cmp, slot_cmp, prop_total, defined-remove}, proofs.flat.FlatRows.remove_prop.Goals as goal}
+use Rattle.moo_memory.proofs.Words.{ap, ◌∙◌, get, get-remove, contents, prop_cmp, slot_cmp, prop_total, defined-remove}
+use Rattle.moo_memory.proofs.flat.FlatRows.remove_prop.Goals as goal
 
 pub invariant_of-self : goal.invariant_of-self
 invariant_of-self c = (

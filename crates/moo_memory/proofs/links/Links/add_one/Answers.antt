@@ -1,4 +1,5 @@
-use Rattle.moo_memory.{proofs.Words.{sym, ap, ◌∙◌, get, is_some, contents, object_cmp, LinkSets, tie_cmp, may_have, is_kept, object_total, tie_total, lacked-put, has-insert, on_ok, more-parents, more-locations, more-players, may-as-kept, kept-may}, proofs.links.Links.add_one.Goals as goal}
+use Rattle.moo_memory.proofs.Words.{sym, ap, ◌∙◌, get, is_some, contents, object_cmp, LinkSets, tie_cmp, may_have, is_kept, object_total, tie_total, lacked-put, has-insert, on_ok, more-parents, more-locations, more-players, may-as-kept, kept-may}
+use Rattle.moo_memory.proofs.links.Links.add_one.Goals as goal
 
 pub returns-in-ChildOf-clause-others : goal.returns-in-ChildOf-clause-others
 returns-in-ChildOf-clause-others c l q e =

@@ -1,5 +1,7 @@
-use Rattle.moo_memory.{proofs.Words.{rules, ◌∙◌, refl, ⊤, ObjNo}, proofs.links.Links.copy.Goals as goal}
-use Rattle.std.{proofs.lemmas.Map.Entries.{entries_from_clone}, specs.FinMap as map}
+use Rattle.moo_memory.proofs.Words.{rules, ◌∙◌, refl, ⊤, ObjNo}
+use Rattle.moo_memory.proofs.links.Links.copy.Goals as goal
+use Rattle.std.proofs.lemmas.Map.Entries.{entries_from_clone}
+use Rattle.std.specs.FinMap as map
 
 -- clones of equal keys leave equal maps
 pub returns : goal.returns

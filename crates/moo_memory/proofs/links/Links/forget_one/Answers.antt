@@ -1,4 +1,5 @@
-use Rattle.moo_memory.{proofs.Words.{sym, ap, ◌∙◌, contents, object_cmp, LinkSets, tie_cmp, may_have, less-parents, less-locations, less-players, may-as-kept, ties_have}, proofs.links.Links.forget_one.Goals as goal}
+use Rattle.moo_memory.proofs.Words.{sym, ap, ◌∙◌, contents, object_cmp, LinkSets, tie_cmp, may_have, less-parents, less-locations, less-players, may-as-kept, ties_have}
+use Rattle.moo_memory.proofs.links.Links.forget_one.Goals as goal
 
 pub returns-in-ChildOf : goal.returns-in-ChildOf
 returns-in-ChildOf c l q has e =

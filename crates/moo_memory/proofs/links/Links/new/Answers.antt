@@ -1,4 +1,5 @@
-use Rattle.moo_memory.{proofs.Words.{ap, ◌∙◌, get, get-empty, from_entries, object_cmp, tie_cmp, none-may}, proofs.links.Links.new.Goals as goal}
+use Rattle.moo_memory.proofs.Words.{ap, ◌∙◌, get, get-empty, from_entries, object_cmp, tie_cmp, none-may}
+use Rattle.moo_memory.proofs.links.Links.new.Goals as goal
 
 pub returns : goal.returns
 returns c =

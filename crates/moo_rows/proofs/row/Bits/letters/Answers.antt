@@ -1,4 +1,5 @@
-use Rattle.moo_rows.{proofs.Words.{◌≡◌, Bool, Some, true, false, refl, ap, ◌∙◌}, specs.Bits.{bits_of, letters_of}, proofs.row.Bits.letters.Goals as goal}
+use Rattle.moo_rows.{proofs.Words.{◌≡◌, Bool, Some, true, false, refl, ap, ◌∙◌}, specs.Bits.{bits_of, letters_of}}
+use Rattle.moo_rows.proofs.row.Bits.letters.Goals as goal
 use Rattle.std.proofs.Common.{rules}
 
 -- the letters of rights are read as these rights

@@ -1,4 +1,6 @@
-use Rattle.moo_rows.{proofs.Words.{◌≡◌, Option, None, Some, List, ObjNo, refl, ⊤}, specs.SameClones.{text_clone, list_clone}, specs.contracts.row.ObjListClone.TheImpl as list, proofs.row.ObjRowClone.clone.Goals as goal}
+use Rattle.moo_rows.{proofs.Words.{◌≡◌, Option, None, Some, List, ObjNo, refl, ⊤}, specs.SameClones.{text_clone, list_clone}}
+use Rattle.moo_rows.specs.contracts.row.ObjListClone.TheImpl as list
+use Rattle.moo_rows.proofs.row.ObjRowClone.clone.Goals as goal
 
 -- what a clone of a list, if there is one, says
 abbrev IsCloneOfAny : Option (List ObjNo) → Option (List ObjNo) → Type 0

@@ -1,4 +1,5 @@
-use Rattle.moo_rows.{specs.SameClones.{text_clone}, proofs.row.VerbRowClone.clone.Goals as goal}
+use Rattle.moo_rows.specs.SameClones.{text_clone}
+use Rattle.moo_rows.proofs.row.VerbRowClone.clone.Goals as goal
 
 pub returns : goal.returns
 returns c =

@@ -1,4 +1,5 @@
-use Rattle.moo_rows.{proofs.Words.{get, petitions_left}, proofs.Walking.{petitions-end, petitions-step, gives-row, progress}, proofs.walk.WalkPetitionIdIterator.next.Goals as goal}
+use Rattle.moo_rows.{proofs.Words.{get, petitions_left}, proofs.Walking.{petitions-end, petitions-step, gives-row, progress}}
+use Rattle.moo_rows.proofs.walk.WalkPetitionIdIterator.next.Goals as goal
 
 pub returns-in_err-key-clause-steps : goal.returns-in_err-key-clause-steps
 returns-in_err-key-clause-steps g c =

@@ -1,4 +1,5 @@
-use Rattle.moo_store.{proofs.Words.{sym, subst, StandsBehind}, proofs.apply.WorldAnswering.answer.Goals as goal}
+use Rattle.moo_store.proofs.Words.{sym, subst, StandsBehind}
+use Rattle.moo_store.proofs.apply.WorldAnswering.answer.Goals as goal
 
 pub returns : goal.returns
 returns g c = record {

@@ -1,4 +1,5 @@
-use Rattle.moo_store.{proofs.Words.{refl, sym, subst, AsksBatch}, proofs.Asking.{asked_one}, proofs.ask.QuestionsAnswering.answer.Goals as goal}
+use Rattle.moo_store.{proofs.Words.{refl, sym, subst, AsksBatch}, proofs.Asking.{asked_one}}
+use Rattle.moo_store.proofs.ask.QuestionsAnswering.answer.Goals as goal
 
 pub returns : goal.returns
 returns g c =

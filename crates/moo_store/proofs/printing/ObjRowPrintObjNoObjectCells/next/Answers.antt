@@ -1,4 +1,5 @@
-use Rattle.moo_store.{proofs.Words.{objects_left}, proofs.AllRows.{next_some, next_none}, proofs.printing.ObjRowPrintObjNoObjectCells.next.Goals as goal}
+use Rattle.moo_store.{proofs.Words.{objects_left}, proofs.AllRows.{next_some, next_none}}
+use Rattle.moo_store.proofs.printing.ObjRowPrintObjNoObjectCells.next.Goals as goal
 use Rattle.moo_rows.proofs.Walking.{objects-end, objects-step}
 
 pub returns-clause-some : goal.returns-clause-some

@@ -1,4 +1,5 @@
-use Rattle.moo_store.{proofs.Words.{petitions_left}, proofs.AllRows.{next_some, next_none}, proofs.printing.PetitionRowPrintPetitionIdPetitionCells.next.Goals as goal}
+use Rattle.moo_store.{proofs.Words.{petitions_left}, proofs.AllRows.{next_some, next_none}}
+use Rattle.moo_store.proofs.printing.PetitionRowPrintPetitionIdPetitionCells.next.Goals as goal
 use Rattle.moo_rows.proofs.Walking.{petitions-end, petitions-step}
 
 pub returns-clause-some : goal.returns-clause-some

@@ -1,4 +1,5 @@
-use Rattle.moo_store.{proofs.Words.{props_left}, proofs.AllRows.{next_some, next_none}, proofs.printing.PropRowPrintPropIdPropCells.next.Goals as goal}
+use Rattle.moo_store.{proofs.Words.{props_left}, proofs.AllRows.{next_some, next_none}}
+use Rattle.moo_store.proofs.printing.PropRowPrintPropIdPropCells.next.Goals as goal
 use Rattle.moo_rows.proofs.Walking.{props-end, props-step}
 
 pub returns-clause-some : goal.returns-clause-some

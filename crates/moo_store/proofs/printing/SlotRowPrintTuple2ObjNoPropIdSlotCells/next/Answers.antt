@@ -1,4 +1,5 @@
-use Rattle.moo_store.{proofs.Words.{slots_left}, proofs.AllRows.{next_some, next_none}, proofs.printing.SlotRowPrintTuple2ObjNoPropIdSlotCells.next.Goals as goal}
+use Rattle.moo_store.{proofs.Words.{slots_left}, proofs.AllRows.{next_some, next_none}}
+use Rattle.moo_store.proofs.printing.SlotRowPrintTuple2ObjNoPropIdSlotCells.next.Goals as goal
 use Rattle.moo_rows.proofs.Walking.{slots-end, slots-step}
 
 pub returns-clause-some : goal.returns-clause-some

@@ -1,4 +1,5 @@
-use Rattle.moo_store.{proofs.Words.{verbs_left}, proofs.AllRows.{next_some, next_none}, proofs.printing.VerbRowPrintTuple2ObjNoVerbIdVerbCells.next.Goals as goal}
+use Rattle.moo_store.{proofs.Words.{verbs_left}, proofs.AllRows.{next_some, next_none}}
+use Rattle.moo_store.proofs.printing.VerbRowPrintTuple2ObjNoVerbIdVerbCells.next.Goals as goal
 use Rattle.moo_rows.proofs.Walking.{verbs-end, verbs-step}
 
 pub returns-clause-some : goal.returns-clause-some

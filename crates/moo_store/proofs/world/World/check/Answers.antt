@@ -1,4 +1,5 @@
-use Rattle.moo_store.{proofs.Words.{sym, subst, OnOk, IsTrue, state, HasCleanDisk, Tables, Rests, ShowsRows, World, store_of, StandsFor}, proofs.CheckLemmas.{works_on, stands_on}, proofs.world.World.check.Goals as goal}
+use Rattle.moo_store.{proofs.Words.{sym, subst, OnOk, IsTrue, state, HasCleanDisk, Tables, Rests, ShowsRows, World, store_of, StandsFor}, proofs.CheckLemmas.{works_on, stands_on}}
+use Rattle.moo_store.proofs.world.World.check.Goals as goal
 
 pub returns-clause-shown : goal.returns-clause-shown
 returns-clause-shown g c =

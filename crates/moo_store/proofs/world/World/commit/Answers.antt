@@ -1,4 +1,5 @@
-use Rattle.moo_store.{proofs.Words.{◌≡◌, ◌⊎◌, false, Some, IsTrue, refl, sym, ap, subst, state, HasCleanDisk, IsGood, state_of, AreChanges, World, Prints, store_of, ShowsItsRows, IsAt, KeepsRows, LeavesRows, Tables, Rests, KeepsCells, ShowsRows, KeepsFaults, IsStopped, Store}, proofs.Crashes.{rows_left, keeps_state, rows_written}, proofs.Running.{when_ok}, proofs.world.World.commit.Goals as goal, proofs.world.World.commit.Goals.{then-is_err, else-is_err}}
+use Rattle.moo_store.{proofs.Words.{◌≡◌, ◌⊎◌, false, Some, IsTrue, refl, sym, ap, subst, state, HasCleanDisk, IsGood, state_of, AreChanges, World, Prints, store_of, ShowsItsRows, IsAt, KeepsRows, LeavesRows, Tables, Rests, KeepsCells, ShowsRows, KeepsFaults, IsStopped, Store}, proofs.Crashes.{rows_left, keeps_state, rows_written}, proofs.Running.{when_ok}, proofs.world.World.commit.Goals.{then-is_err, else-is_err}}
+use Rattle.moo_store.proofs.world.World.commit.Goals as goal
 
 pub returns-in-Err-clause-crash : goal.returns-in-Err-clause-crash
 returns-in-Err-clause-crash g c next shown exact clean trees lies =

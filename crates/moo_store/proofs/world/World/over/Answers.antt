@@ -1,4 +1,5 @@
-use Rattle.moo_store.{proofs.Words.{refl, state, state_of}, proofs.Crashes.{keeps_state}, proofs.world.World.over.Goals as goal}
+use Rattle.moo_store.{proofs.Words.{refl, state, state_of}, proofs.Crashes.{keeps_state}}
+use Rattle.moo_store.proofs.world.World.over.Goals as goal
 
 pub returns-clause-stands : goal.returns-clause-stands
 returns-clause-stands g c known shown = record {

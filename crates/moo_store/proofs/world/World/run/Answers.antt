@@ -1,4 +1,5 @@
-use Rattle.moo_store.{proofs.Words.{◌≡◌, ◌+◌, inr, vec_len, refl, sym, ◌∙◌, subst, arith, true, false, Ok, Err, ⊤, OutOfMemory, Closed, acknowledged, added, LeavesLed, store_of, World, IsGood}, proofs.Running.{when_ok, starts, goes_on, answers, is_at_end, stops, left_at, fails_of, runs_one, runs_through, runs_stopped, next_in_hand, fewer, stood, all_answered, has_failed, no_memory, same_fault}, proofs.Untouched.{is_over, wrote_at_start, wrote_on, wrote_stopped, same_stopped, led_over, led_stopped}, proofs.Stopped.{faults_same, faults_then, stopped_since, was_open}, proofs.world.World.run.Goals as goal}
+use Rattle.moo_store.{proofs.Words.{◌≡◌, ◌+◌, inr, vec_len, refl, sym, ◌∙◌, subst, arith, true, false, Ok, Err, ⊤, OutOfMemory, Closed, acknowledged, added, LeavesLed, store_of, World, IsGood}, proofs.Running.{when_ok, starts, goes_on, answers, is_at_end, stops, left_at, fails_of, runs_one, runs_through, runs_stopped, next_in_hand, fewer, stood, all_answered, has_failed, no_memory, same_fault}, proofs.Untouched.{is_over, wrote_at_start, wrote_on, wrote_stopped, same_stopped, led_over, led_stopped}, proofs.Stopped.{faults_same, faults_then, stopped_since, was_open}}
+use Rattle.moo_store.proofs.world.World.run.Goals as goal
 
 -- before the first batch
 

@@ -1,4 +1,5 @@
-use Rattle.moo_store.{proofs.Words.{◌≤◌, ◌+◌, ◌-◌, length, vec_len, vec_capacity, added, KeepsFaults, store_of}, proofs.Running.{Progress}, proofs.Untouched.{Wrote}, proofs.world.World.run.Given as goal}
+use Rattle.moo_store.{proofs.Words.{◌≤◌, ◌+◌, ◌-◌, length, vec_len, vec_capacity, added, KeepsFaults, store_of}, proofs.Running.{Progress}, proofs.Untouched.{Wrote}}
+use Rattle.moo_store.proofs.world.World.run.Given as goal
 
 abbrev pub invariant-loop-batch : goal.invariant-loop-batch
 invariant-loop-batch g l = record {

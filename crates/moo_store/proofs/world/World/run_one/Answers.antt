@@ -1,4 +1,5 @@
-use Rattle.moo_store.{proofs.Words.{◌≡◌, ◌<◌, Some, IfOk, refl, sym, ap, ◌∙◌, subst, true, false, Head, IsGood, state_of, judge, Accepted, Refused, NoRoom, Stale, AreChanges, World, Prints, IsRun, store_of}, proofs.Crashes.{states_left}, proofs.Judged.{closed_stands, no_memory_stands, refused_stands, accepted_stands}, proofs.Running.{accepted_low, accepted_is_run, at_changed, at_error}, proofs.Untouched.{nothing_written, accepted_writes, accepted_is_taken}, proofs.Stopped.{faults_same}, proofs.world.World.run_one.Goals as goal}
+use Rattle.moo_store.{proofs.Words.{◌≡◌, ◌<◌, Some, IfOk, refl, sym, ap, ◌∙◌, subst, true, false, Head, IsGood, state_of, judge, Accepted, Refused, NoRoom, Stale, AreChanges, World, Prints, IsRun, store_of}, proofs.Crashes.{states_left}, proofs.Judged.{closed_stands, no_memory_stands, refused_stands, accepted_stands}, proofs.Running.{accepted_low, accepted_is_run, at_changed, at_error}, proofs.Untouched.{nothing_written, accepted_writes, accepted_is_taken}, proofs.Stopped.{faults_same}}
+use Rattle.moo_store.proofs.world.World.run_one.Goals as goal
 use Rattle.moo_world.specs.Between.{BatchLeads}
 use Rattle.moo_text.specs.declared.reply.Reply.TheVariants as reply
 

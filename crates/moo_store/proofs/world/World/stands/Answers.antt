@@ -1,4 +1,5 @@
-use Rattle.moo_store.{proofs.Words.{◌≡◌, Bool, IsTrue, false, refl, subst, state, state_of, World, ShowsItsRows, StandsFor}, proofs.Crashes.{keeps_state}, proofs.world.World.stands.Goals as goal}
+use Rattle.moo_store.{proofs.Words.{◌≡◌, Bool, IsTrue, false, refl, subst, state, state_of, World, ShowsItsRows, StandsFor}, proofs.Crashes.{keeps_state}}
+use Rattle.moo_store.proofs.world.World.stands.Goals as goal
 
 pub returns : goal.returns
 returns g c =

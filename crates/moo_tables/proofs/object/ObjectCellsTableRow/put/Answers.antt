@@ -1,4 +1,5 @@
-use Rattle.moo_tables.{proofs.Words.{ap, ◌∙◌, Text, object_row}, proofs.ObjectLemmas.{put, put_fails}, proofs.RowLemmas.{ran_as}, proofs.StoppedLemmas.{with_values}, proofs.object.ObjectCellsTableRow.put.Goals as goal}
+use Rattle.moo_tables.{proofs.Words.{ap, ◌∙◌, Text, object_row}, proofs.ObjectLemmas.{put, put_fails}, proofs.RowLemmas.{ran_as}, proofs.StoppedLemmas.{with_values}}
+use Rattle.moo_tables.proofs.object.ObjectCellsTableRow.put.Goals as goal
 
 pub returns-in-Some-clause-put : goal.returns-in-Some-clause-put
 returns-in-Some-clause-put g c =

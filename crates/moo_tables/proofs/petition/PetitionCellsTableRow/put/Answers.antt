@@ -1,4 +1,5 @@
-use Rattle.moo_tables.{proofs.Words.{ap, ◌∙◌, Text, petition_row}, proofs.PetitionLemmas.{put, put_fails}, proofs.RowLemmas.{ran_as}, proofs.StoppedLemmas.{with_values}, proofs.petition.PetitionCellsTableRow.put.Goals as goal}
+use Rattle.moo_tables.{proofs.Words.{ap, ◌∙◌, Text, petition_row}, proofs.PetitionLemmas.{put, put_fails}, proofs.RowLemmas.{ran_as}, proofs.StoppedLemmas.{with_values}}
+use Rattle.moo_tables.proofs.petition.PetitionCellsTableRow.put.Goals as goal
 
 pub returns-in-Some-clause-put : goal.returns-in-Some-clause-put
 returns-in-Some-clause-put g c =

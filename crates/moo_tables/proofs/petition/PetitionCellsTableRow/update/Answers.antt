@@ -1,4 +1,5 @@
-use Rattle.moo_tables.{proofs.Words.{ap, ◌∙◌, Text, petition_row}, proofs.PetitionLemmas.{update, update_fails}, proofs.RowLemmas.{ran_as}, proofs.StoppedLemmas.{with_values}, proofs.petition.PetitionCellsTableRow.update.Goals as goal}
+use Rattle.moo_tables.{proofs.Words.{ap, ◌∙◌, Text, petition_row}, proofs.PetitionLemmas.{update, update_fails}, proofs.RowLemmas.{ran_as}, proofs.StoppedLemmas.{with_values}}
+use Rattle.moo_tables.proofs.petition.PetitionCellsTableRow.update.Goals as goal
 
 pub returns-in-Some-clause-over : goal.returns-in-Some-clause-over
 returns-in-Some-clause-over g c =

@@ -1,4 +1,5 @@
-use Rattle.moo_tables.{proofs.PropLemmas.{put, put_fails}, proofs.RowLemmas.{ran_as}, proofs.StoppedLemmas.{with_values}, proofs.prop.PropCellsTableRow.put.Goals as goal}
+use Rattle.moo_tables.{proofs.PropLemmas.{put, put_fails}, proofs.RowLemmas.{ran_as}, proofs.StoppedLemmas.{with_values}}
+use Rattle.moo_tables.proofs.prop.PropCellsTableRow.put.Goals as goal
 
 pub returns-clause-put : goal.returns-clause-put
 returns-clause-put g c = put _ _ _ c.args.self.now _ (ran_as _ _ _ _ _ _ c.prop_values.ensures c.run.ensures.ran)

@@ -1,4 +1,5 @@
-use Rattle.moo_tables.{proofs.PropLemmas.{update, update_fails}, proofs.RowLemmas.{ran_as}, proofs.StoppedLemmas.{with_values}, proofs.prop.PropCellsTableRow.update.Goals as goal}
+use Rattle.moo_tables.{proofs.PropLemmas.{update, update_fails}, proofs.RowLemmas.{ran_as}, proofs.StoppedLemmas.{with_values}}
+use Rattle.moo_tables.proofs.prop.PropCellsTableRow.update.Goals as goal
 
 pub returns-clause-over : goal.returns-clause-over
 returns-clause-over g c = update _ _ _ c.args.self.now _ (ran_as _ _ _ _ _ _ c.prop_values.ensures c.run.ensures.ran)

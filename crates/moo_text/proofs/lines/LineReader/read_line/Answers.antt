@@ -1,4 +1,5 @@
-use Rattle.moo_text.{proofs.Shared.{◌≡◌, ◌<◌, ◌+◌, ◌++◌, true, false, ℕ, List, Some, None, length, take, drop, sym, ap, subst, ◌∙◌, arith, rules, ◌==◌, position_from, length-drop, lines_side, ReadsLine, BreaksOff}, proofs.Kept.{kept_short, no_newline, newline_there, text_ends, last_line}, proofs.Giving.{handed_on}, proofs.SoFar.{piece_read, room_falls, some_there, found_line, ends_with, piece_fails, beside}, proofs.lines.LineReader.read_line.Goals as goal}
+use Rattle.moo_text.{proofs.Shared.{◌≡◌, ◌<◌, ◌+◌, ◌++◌, true, false, ℕ, List, Some, None, length, take, drop, sym, ap, subst, ◌∙◌, arith, rules, ◌==◌, position_from, length-drop, lines_side, ReadsLine, BreaksOff}, proofs.Kept.{kept_short, no_newline, newline_there, text_ends, last_line}, proofs.Giving.{handed_on}, proofs.SoFar.{piece_read, room_falls, some_there, found_line, ends_with, piece_fails, beside}}
+use Rattle.moo_text.proofs.lines.LineReader.read_line.Goals as goal
 
 pub put_kept-requires : goal.put_kept-requires
 put_kept-requires g c = omega (arith, kept_short 262146 c.loop-at.invariant.raw, ap length c.loop-at.invariant.kept)

@@ -1,4 +1,5 @@
-use Rattle.moo_value.{proofs.Words.{◌≡◌, Bool, true, false, cond, Ok, Err, Option, Some, ℕ, List, [], ◌∷◌, map, refl, sym, ap, subst, ◌∙◌, rules, str_eq_ignore_ascii_case, YieldsList-from_slice, tests, Code, NotALiteral, name, named}, proofs.code.Code.named.Goals as goal}
+use Rattle.moo_value.proofs.Words.{◌≡◌, Bool, true, false, cond, Ok, Err, Option, Some, ℕ, List, [], ◌∷◌, map, refl, sym, ap, subst, ◌∙◌, rules, str_eq_ignore_ascii_case, YieldsList-from_slice, tests, Code, NotALiteral, name, named}
+use Rattle.moo_value.proofs.code.Code.named.Goals as goal
 use Rattle.std.{proofs.Common.{None, option_map, Bor}, specs.List.{find}, specs.Option.{MatchOption}, proofs.lemmas.Iterator.Search.{find_from_yields_List}}
 
 abbrev Named : Type 0

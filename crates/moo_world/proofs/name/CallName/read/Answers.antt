@@ -1,4 +1,5 @@
-use Rattle.moo_world.{proofs.Words.{folded, spelled_is}, proofs.name.CallName.read.Goals as goal}
+use Rattle.moo_world.proofs.Words.{folded, spelled_is}
+use Rattle.moo_world.proofs.name.CallName.read.Goals as goal
 
 pub returns-clause-one : goal.returns-clause-one
 returns-clause-one c name = rw c.first_spelled.ensures (spelled_is (folded c.args.bytes.now) name)

@@ -1,5 +1,6 @@
 use Rattle.moo_rows.{specs.Walk.{props_left}, proofs.Walking.{props-end, props-step}}
-use Rattle.moo_cells.{proofs.Beside.{next_some, next_none}, proofs.tables.props.PropRowReadRow.next.Goals as goal}
+use Rattle.moo_cells.proofs.Beside.{next_some, next_none}
+use Rattle.moo_cells.proofs.tables.props.PropRowReadRow.next.Goals as goal
 
 pub returns-clause-some : goal.returns-clause-some
 returns-clause-some c = next_some c.args.rows.now.maps.props c.args.last c.next_prop.result (λ from. props_left from c.args.rows.now.maps) (props-step c.args.rows.now.maps c.args.last) c.next_prop.ensures

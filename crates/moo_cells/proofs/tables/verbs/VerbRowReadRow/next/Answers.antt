@@ -1,5 +1,6 @@
 use Rattle.moo_rows.{specs.Walk.{verbs_left}, proofs.Walking.{verbs-end, verbs-step}}
-use Rattle.moo_cells.{proofs.Beside.{next_some, next_none}, proofs.tables.verbs.VerbRowReadRow.next.Goals as goal}
+use Rattle.moo_cells.proofs.Beside.{next_some, next_none}
+use Rattle.moo_cells.proofs.tables.verbs.VerbRowReadRow.next.Goals as goal
 
 pub returns-clause-some : goal.returns-clause-some
 returns-clause-some c = next_some c.args.rows.now.maps.verbs c.args.last c.next_verb.result (λ from. verbs_left from c.args.rows.now.maps) (verbs-step c.args.rows.now.maps c.args.last) c.next_verb.ensures
