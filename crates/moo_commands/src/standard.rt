@@ -120,12 +120,13 @@ fn command_words(rt: &HostRuntime) -> io::Result<Vec<String>> {
 /// The whole program: `run_given` over the words of the command line, the files and ports of the system and the standard streams. It has no type
 /// parameter, so that the check of `main` needn't know what streams are.
 pub fn run_command(rt: &HostRuntime) -> u8 {
+    let changes = DiskChanges::new();
     let (status, left) = run_given(
         rt.alloc(),
         rt,
         command_words(rt),
         Unknown,
-        &mut System::new(rt, &DiskChanges::new()),
+        &mut System::new(rt, &changes),
         &mut rt.stdin(),
         &mut rt.stdout(),
     );

@@ -24,8 +24,10 @@ fn run_call<S: Alter + Drop>(alloc: Global, world: &mut World<S>, call: &str) ->
     }
     let text = format!(in alloc; "batch as #3\n{call}\nend\n")?;
     let mut written = Vec::new(alloc);
-    apply_text(alloc, text.as_bytes(), &mut written, world, &mut NoNotes)?;
-    Ok(())
+    match apply_text(alloc, text.as_bytes(), &mut written, world, &mut NoNotes) {
+        Ok(_) => Ok(()),
+        Err(_) => Err(Fail::from("the batch can't be run")),
+    }
 }
 
 /// The tables of a new world that has run one batch of this call, or none.
