@@ -38,18 +38,25 @@ pub record Reaches (old mid : State) : Type 0 where
 pub reaches_none : (s : State) → Reaches s s
 reaches_none s = record { inside = stays s; sees = λ clean tables seen. (tables, seen) }
 
-pub reaches_more : (a b c : State) (change : Tables → Tables) → Reaches a b → StaysInside b c → Changes change b c → Reaches a c
-reaches_more a b c change first quiet changes = record {
-  inside = stays_then a b c first.inside quiet;
+pub reaches_more : {a b c : State} {change : Tables → Tables} → Reaches a b → StaysInside b c → Changes change b c → Reaches a c
+reaches_more {a} {b} {c} {change} first quiet changes = record {
+  inside = stays_then first.inside quiet;
   sees = λ clean tables seen. let at = first.sees (clean_before b c _ quiet.survives clean) tables seen in (change at.0, (changes clean at.0 at.1).0);
 }
+
+pub reaches : {a b : State} {change : Tables → Tables} → StaysInside a b → Changes change a b → Reaches a b
+reaches {a} quiet changes = reaches_more (reaches_none a) quiet changes
+
+pub fails_after : {A : Type 0} {old mid new : State} (r : Result A Error) → Reaches old mid → StaysInside mid new → HasCauseIn mid new r → HasCauseIn old new r
+fails_after (Ok x) first quiet cause = λ clean tables seen. tt
+fails_after {A} {old} {mid} {new} (Err e) first quiet cause = λ clean tables seen.
+    let at = first.sees (clean_before mid new _ quiet.survives clean) tables seen in stops_since old mid new e first.inside.survives.counts first.inside.survives.limit at.1.is_open (cause clean at.0 at.1)
 
 -- the error is handed on
 pub err_again : {A B : Type 0} (r : Result A Error) (s : Result B Error) (e : Error) (P : Error → Type 0) → r ≡ Err e → IsErrAnd s (λ x. x ≡ e) → IfErr r P → IfErr s P
 err_again r (Ok x) e P was is it = absurd is
 err_again r (Err x) e P was is it = subst P (sym is) (subst (λ t. IfErr t P) was it)
 
-pub fails_after : {A : Type 0} (old mid new : State) (r : Result A Error) → Reaches old mid → StaysInside mid new → HasCauseIn mid new r → HasCauseIn old new r
-fails_after old mid new (Ok x) first quiet cause = λ clean tables seen. tt
-fails_after old mid new (Err e) first quiet cause = λ clean tables seen.
-    let at = first.sees (clean_before mid new _ quiet.survives clean) tables seen in stops_since old mid new e first.inside.survives.counts first.inside.survives.limit at.1.is_open (cause clean at.0 at.1)
+-- the error of a call after others is handed on
+pub err_after : {A B : Type 0} {old mid new : State} {e : Error} (r : Result A Error) (s : Result B Error) → Reaches old mid → StaysInside mid new → HasCauseIn mid new r → r ≡ Err e → IsErrAnd s (λ x. x ≡ e) → HasCauseIn old new s
+err_after {A} {B} {old} {mid} {new} {e} r s first quiet cause was is = λ clean tables seen. err_again r s e (StopsChange old new) was is (fails_after r first quiet cause clean tables seen)

@@ -1,5 +1,5 @@
 -- What the statement on petition_head does.
-use Rattle.moo_tables.{proofs.Words.{◌≡◌, ◌⊎◌, inl, inr, ℕ, ℤ, pos, List, [], ◌∷◌, ◌++◌, drop, codes, option_map, Some, None, Bool, true, false, ◌&&◌, Result, Ok, Err, OnOk, IsTrue, refl, ap, subst, ◌∙◌, list_all, and_parts, Int, Error, Row, column, with_rowid, cast_row, Chosen, Trees, rowid, has_rowid, put_row, holds, shown, Updates, Does, InsertOr, Values, Abort, Column, Enforced, IsDatabase, IsSound, has_computed, differ, Program, Datatype, NotNull, Has, all_has, is_int, understood, State, Executes, mode_of, statement_of, runs_as, AreConflicts, conflicts, petition_head_cells, with_counter, Tables, present_schema, petition_head_table, cells_at, petition_head_places, numbered_in, numbered_with, same_number, put_counter_text, AreKeyed, Sees, Changes, RanStatement, KeepsUnread, HasCauseIn}, proofs.TextLemmas.{put_counter_is, put_counter_plain, put_counter_one, number_terms, number_overwrite, counter_filter, writes_where}, proofs.RefusalLemmas.{IsAllowed, Upserting, each, halted, concluded, clear_one, update_stops, upsert_stops}, proofs.StoppedLemmas.{Ran, at_schema, stops}, proofs.StopNumberLemmas.{PassesNumbers}, proofs.NumberLemmas.{HasNumbers, stored_at}, proofs.UpsertLemmas.{Settles, WritesOver, upserts}, proofs.OverLemmas.{Found, OthersStay, StandsAlone, number_one, picks_given, number_anew, number_found, number_over, number_left}, proofs.ListingLemmas.{one_int, not_apart, exactly, find_one}, proofs.KeyLemmas.{after_put, number_exact, number_apart}, proofs.RowLemmas.{moo_quiet, put_keyed, rest, number_free, has_itself}, proofs.SeenLemmas.{schema_seen, sound_seen, counter_seen, sees_counter}}
+use Rattle.moo_tables.{proofs.Words.{◌≡◌, ◌⊎◌, inl, inr, ℕ, ℤ, pos, List, [], ◌∷◌, ◌++◌, drop, codes, option_map, Some, None, Bool, true, false, ◌&&◌, Result, Ok, Err, OnOk, IsTrue, refl, ap, subst, ◌∙◌, list_all, and_parts, Int, Error, Row, column, with_rowid, cast_row, Chosen, Trees, rowid, has_rowid, put_row, holds, shown, Updates, Does, InsertOr, Values, Abort, Column, Enforced, IsDatabase, IsSound, has_computed, differ, Program, Datatype, NotNull, Has, all_has, is_int, understood, State, Executes, mode_of, statement_of, runs_as, AreConflicts, conflicts, petition_head_cells, with_counter, Tables, present_schema, petition_head_table, cells_at, petition_head_places, numbered_in, numbered_with, same_number, put_counter_text, AreKeyed, Sees, Changes, RanStatement, KeepsUnread, HasCauseIn}, proofs.TextLemmas.{put_counter, number_terms, number_overwrite, counter_filter, writes_where}, proofs.RefusalLemmas.{IsAllowed, Upserting, each, halted, concluded, clear_one, update_stops, upsert_stops}, proofs.StoppedLemmas.{Ran, at_schema, stops}, proofs.StopNumberLemmas.{PassesNumbers}, proofs.NumberLemmas.{HasNumbers, stored_at}, proofs.UpsertLemmas.{Settles, WritesOver, upserts}, proofs.OverLemmas.{Found, OthersStay, StandsAlone, number_one, picks_given, number_anew, number_found, number_over, number_left}, proofs.ListingLemmas.{one_int, not_apart, exactly, find_one}, proofs.KeyLemmas.{after_put, number_exact, number_apart}, proofs.RowLemmas.{moo_quiet, put_keyed, rest, number_free, has_itself}, proofs.SeenLemmas.{schema_seen, sound_seen, counter_seen, sees_counter}}
 use Rattle.moo_tables.proofs.StopNumberLemmas as stop
 use Rattle.moo_tables.proofs.NumberLemmas as number
 use Rattle.sqlite_schema.specs.declared.command.Command.{Command}
@@ -102,7 +102,7 @@ puts old new next count tables seen h inside =
     let source = stored next in
     let old_rows = old.now.trees 10 in
     let keyed = counter_seen seen in
-    let w = runs_as put_counter_text (petition_head_cells next) old new present_schema has _ put_counter_is put_counter_plain count h in
+    let w = runs_as put_counter_text (petition_head_cells next) old new present_schema has _ put_counter.command put_counter.plain count h in
     let it = upserts present_schema moo_quiet 7 _ _ _ _ _ _ _ refl old new has (statement_of put_counter_text (understood present_schema put_counter_text)) (petition_head_cells next) count (0 ∷ []) (writes_where 10 counter_filter (number_overwrite petition_head_table)) (number_terms petition_head_table) 3 source refl w in
     let whole : with_rowid Chosen old_rows (cast_row petition_head_table source) ≡ source = ap (with_rowid Chosen old_rows) (kept next) in
     let met = subst (λ r. AreConflicts (Some (0 ∷ [])) present_schema.indexes petition_head_table old_rows r it.found) whole it.conflicts in
@@ -181,5 +181,5 @@ module _ (s : State) (tables : Tables) (seen : Sees s tables) (next : ℕ) (e : 
 pub put_fails : (old new : State) (next : ℕ) (r : Result ℕ Error) → Ran put_counter_text (petition_head_cells next) old new r → HasCauseIn old new r
 put_fails old new next (Ok count) ran = λ clean tables seen. tt
 put_fails old new next (Err e) ran = λ clean tables seen.
-    stops put_counter_text (petition_head_cells next) old new present_schema (schema_seen seen) _ put_counter_is put_counter_plain put_counter_one refl refl e
+    stops put_counter_text (petition_head_cells next) old new present_schema (schema_seen seen) _ put_counter.command put_counter.plain put_counter.one refl refl e
     (λ text does. refused old tables seen next e text (at_schema old.step_limit (mode_of old) (petition_head_cells next) old.now present_schema text put_command e (schema_seen seen) does)) (ran clean seen.inside)

@@ -1,5 +1,5 @@
 -- Keys that rise from row to row are in order.
-use Rattle.moo_tables.{proofs.Words.{◌≡◌, ◌↔◌, ℕ, ℤ, ◌+◌, ◌<◌, ◌≤◌, suc, drop, length, get_or, List, [], ◌∷◌, Option, Some, None, Bool, true, false, ◌&&◌, IsTrue, refl, sym, ap, ◌∙◌, arith, true≢false, AllByRecursion, IsTotalOrder, is_lt, int_cmp, Ordering, Less, Equal, Greater, drop_all, and_parts, and_from, on_total, then_total, Value, Int, Row, column, value_cmp, IsAscending, is_int, value_cmp_total, value_cmp-Int, all_weaker, Tables, AreKeyed, ListsTables, ArePaired, AreListed, tables_of, pair_cmp, is_above, has_two_numbers}, specs.declared.reading.CellLists.{CellLists}}
+use Rattle.moo_tables.{proofs.Words.{◌≡◌, ◌↔◌, ℕ, ℤ, ◌+◌, ◌<◌, ◌≤◌, suc, drop, length, get_or, List, [], ◌∷◌, Option, Some, None, Bool, true, false, ◌&&◌, IsTrue, refl, sym, ap, ◌∙◌, arith, true≢false, AllByRecursion, IsTotalOrder, is_lt, int_cmp, Ordering, Less, Equal, Greater, drop_all, and_parts, and_from, on_total, then_total, Value, Int, Row, column, value_cmp, IsAscending, is_int, value_cmp_total, value_cmp-Int, all_weaker, Tables, AreKeyed, ListsTables, ArePaired, tables_of, pair_cmp, is_above, has_two_numbers}, specs.declared.reading.CellLists.{CellLists}}
 use Rattle.std.proofs.Math.Seq.{drop-cons}
 
 less_of : (o : Ordering) → is_lt o ≡ true → o ≡ Less
@@ -130,15 +130,4 @@ lists_are lists tables it = λ i. record {
   verb = λ key. it.verb.found key i;
   petition = λ n. it.petition.found n i;
   petition_head = λ n. it.petition_head.found n i;
-}
-
-pub lists_rise : (lists : CellLists) (tables : Tables) → ListsTables lists tables → AreListed lists
-lists_rise lists tables it = record {
-  head = it.head.keyed;
-  object = it.object.keyed;
-  prop = it.prop.keyed;
-  slot = record { whole = it.slot.keyed; rise = it.slot.rise };
-  verb = record { whole = it.verb.keyed; rise = it.verb.rise };
-  petition = it.petition.keyed;
-  petition_head = it.petition_head.keyed;
 }

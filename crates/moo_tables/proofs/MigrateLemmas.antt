@@ -1,5 +1,5 @@
 -- What the migration does.
-use Rattle.moo_tables.{proofs.Words.{◌≡◌, ℕ, List, [], ◌∷◌, filter, not, true, false, Option, Ok, Err, Result, OnOk, IsTrue, refl, sym, subst, ◌∙◌, Null, Error, Row, col, overlay, understood, State, HasCleanDisk, Shows, KeepsCounts, statement_of, runs_as, ObjNo, PropId, SlotCells, Tables, present_schema, slot_tree, with_each, with_head_cells, with_slot_cells, migrated, AreKeyed, Holds, Sees, Rests, HasTables, StaysInside, Changes, RanStatement, HasNoSlot, IsEarlier}, proofs.TextLemmas.{empty_slots_text, empty_slots_is, empty_slots_plain, rowids_where}, proofs.InsideLemmas.{clean_before, commits, only_first}, proofs.ChangeLemmas.{slots_in_turn}, proofs.GrowLemmas.{Becomes}, proofs.QueryLemmas.{shows_all}, proofs.RowLemmas.{moo_quiet, went_out}, proofs.SeenLemmas.{SetsTree, schema_seen, sees_same}, proofs.StepLemmas.{deletes}}
+use Rattle.moo_tables.{proofs.Words.{◌≡◌, ℕ, List, [], ◌∷◌, filter, not, true, Option, Ok, Err, Result, OnOk, IsTrue, refl, sym, subst, ◌∙◌, Null, Error, Row, col, overlay, understood, State, HasCleanDisk, statement_of, runs_as, ObjNo, PropId, SlotCells, Tables, present_schema, slot_tree, with_each, with_head_cells, with_slot_cells, migrated, AreKeyed, Holds, Sees, HasTables, StaysInside, Changes, RanStatement, HasNoSlot, IsEarlier}, proofs.TextLemmas.{empty_slots_text, empty_slots, rowids_where}, proofs.InsideLemmas.{clean_before, only_first}, proofs.ChangeLemmas.{slots_in_turn}, proofs.GrowLemmas.{Becomes}, proofs.QueryLemmas.{shows_all}, proofs.RowLemmas.{moo_quiet, went_out}, proofs.SeenLemmas.{SetsTree, schema_seen, sees_same}, proofs.StepLemmas.{deletes}}
 use Rattle.moo_rows.specs.declared.row.Head.{Head}
 
 -- ---- a table that is emptied
@@ -9,7 +9,7 @@ empties_beside old new (Err e) ran = tt
 empties_beside old new (Ok count) ran = λ clean tables seen.
     let it = ran clean in
     let has = schema_seen seen in
-    let w = runs_as empty_slots_text [] old new present_schema has _ empty_slots_is empty_slots_plain count it.1 in
+    let w = runs_as empty_slots_text [] old new present_schema has _ empty_slots.command empty_slots.plain count it.1 in
     let step = deletes present_schema moo_quiet 3 _ _ _ _ _ _ _ refl old new has (statement_of empty_slots_text (understood present_schema empty_slots_text)) [] count (rowids_where 3 []) w in
     let sets : SetsTree old new 3 (new.now.trees 3) = record { schema_is = step.2.schema_is; sound = w.sound; is_open = w.shown.is_open; inside = it.0; rows_are = refl; others = step.2.applies.others } in
     sees_same sets tables seen (λ e. cc) (λ e. cc) (λ e. cc) (λ e. cc) (λ e. cc) (λ e. cc) (λ e. cc)
@@ -23,7 +23,7 @@ empties old new (Err e) ran = tt
 empties old new (Ok count) ran = λ clean has keyed.
     let it = ran clean in
     let rows = old.now.trees 3 in
-    let w = runs_as empty_slots_text [] old new present_schema has _ empty_slots_is empty_slots_plain count it.1 in
+    let w = runs_as empty_slots_text [] old new present_schema has _ empty_slots.command empty_slots.plain count it.1 in
     let step = deletes present_schema moo_quiet 3 _ _ _ _ _ _ _ refl old new has (statement_of empty_slots_text (understood present_schema empty_slots_text)) [] count (rowids_where 3 []) w in
     let shown = shows_all 3 [] (col 1 0 ∷ []) [] (overlay old.now.trees []) [] step.0 (step.1.answer Null) in
     step.2.applies.rows ∙ went_out (λ (key : Unit {0}) r. true) tt rows keyed [] [] [] step.0 shown (λ r. refl) ∙ none_left rows
@@ -34,12 +34,12 @@ goes_on old new text params (Ok count) ran clean = (ran clean).0
 
 -- ---- the statements of the migration, one after another
 
-pub all_migrated : (a b d e z : State) (head : Head) (slots : List ((ObjNo × PropId) × Option SlotCells)) (r : Result ℕ Error) → StaysInside b d → StaysInside d e → StaysInside e z
+pub all_migrated : (a : State) {b d e z : State} (head : Head) (slots : List ((ObjNo × PropId) × Option SlotCells)) (r : Result ℕ Error) → StaysInside b d → StaysInside d e → StaysInside e z
     → Becomes a b → Changes (with_head_cells head) b d → Changes (with_each with_slot_cells slots) d e → OnOk r (HasCleanDisk z → (tables : Tables) → Sees e tables → Sees z tables)
     → OnOk r (HasCleanDisk z → HasTables present_schema e → AreKeyed (e.now.trees 3) → HasNoSlot z.now)
     → OnOk r (HasCleanDisk z → (tables : Tables) → Holds a.now tables → IsEarlier tables.version → Sees z (migrated head slots tables) × HasNoSlot z.now)
-all_migrated a b d e z head slots (Err error) quiet-two quiet-three quiet-four one two three four five = tt
-all_migrated a b d e z head slots (Ok count) quiet-two quiet-three quiet-four one two three four five = λ clean tables holds earlier.
+all_migrated a {b} {d} {e} {z} head slots (Err error) quiet-two quiet-three quiet-four one two three four five = tt
+all_migrated a {b} {d} {e} {z} head slots (Ok count) quiet-two quiet-three quiet-four one two three four five = λ clean tables holds earlier.
     let late = clean_before e z _ quiet-four.survives clean in
     let mid = clean_before d e _ quiet-three.survives late in
     let early = clean_before b d _ quiet-two.survives mid in
@@ -49,15 +49,3 @@ all_migrated a b d e z head slots (Ok count) quiet-two quiet-three quiet-four on
     let same = third_step.1 ∙ second_step.1 ∙ first_step.1 in
     let keyed = subst AreKeyed (sym same) (subst (λ v. AreKeyed (a.now.trees (slot_tree v))) (only_first tables.version earlier) holds.slots) in
     (four clean _ third_step.0, five clean (schema_seen third_step.0) keyed)
-
--- ---- the whole transaction
-
-pub rests_then : (old last end : State) (next : Tables → Tables) (r : Result (Unit {0}) Error) → OnOk r (IsTrue last.in_transaction × Shows last end last.now last.now false × KeepsCounts last end × (end.marks ≡ []))
-    → ((tables : Tables) → Holds old.now tables → IsEarlier tables.version → Sees last (next tables)) → OnOk r ((tables : Tables) → Rests old tables → IsEarlier tables.version → Rests end (next tables))
-rests_then old last end next (Err e) ok seen = tt
-rests_then old last end next (Ok _) ok seen = λ tables was earlier. commits last end (next tables) ok.1 (seen tables was.holds earlier)
-
-pub empty_then : (old last end : State) (r : Result (Unit {0}) Error) → OnOk r (IsTrue last.in_transaction × Shows last end last.now last.now false × KeepsCounts last end × (end.marks ≡ []))
-    → ((tables : Tables) → Holds old.now tables → IsEarlier tables.version → HasNoSlot last.now) → OnOk r ((tables : Tables) → Rests old tables → IsEarlier tables.version → HasNoSlot end.now)
-empty_then old last end (Err e) ok none = tt
-empty_then old last end (Ok _) ok none = λ tables was earlier. subst (λ db. HasNoSlot db) (sym ok.1.now_is) (none tables was.holds earlier)

@@ -62,27 +62,6 @@ module _ {K C : Type 0} (name : List ℕ) (tree : ℕ) (columns : List Column) (
   module _ (at : ℕ) (is : slice_get present_schema.tables at ≡ Some (numbered name tree columns)) (writes : WritesByNumber at (numbered name tree columns)) (With : ℤ → Option Row → Tables → Tables) (keyed_seen : (s : State) (tables : Tables) → Sees s tables → AreKeyed (s.now.trees tree))
       (sees : (old new : State) (tables : Tables) (key : ℤ) (shown : Option Row) (rows : List Row) → Sees old tables → SetsTree old new tree rows → AreKeyed rows
       → ((k : ℤ) → numbered_in places rows k ≡ numbered_with key shown (numbered_in places (old.now.trees tree)) k) → Sees new (With key shown tables) × KeepsUnread old.now new.now) where
-    puts : (old new : State) (key : K) (row : C) (count : ℕ) (tables : Tables) → Sees old tables → Executes (put_text t) (cells key row) old new (Ok count) → IsTrue new.in_transaction → Sees new (With (number key) (Some (cells key row)) tables) × KeepsUnread old.now new.now
-    puts old new key row count tables seen h inside =
-        let has = schema_seen seen in
-        let n = number key in
-        let source = stored key row in
-        let params = cells key row in
-        let old_rows = old.now.trees tree in
-        let keyed = keyed_seen old tables seen in
-        let update = written_over tree (length columns) (number_overwrite t) in
-        let w = runs_as (put_text t) params old new present_schema has _ writes.put writes.put_plain count h in
-        let it = upserts present_schema moo_quiet at _ _ _ _ _ _ _ is old new has (statement_of (put_text t) (understood present_schema (put_text t))) params count (0 ∷ []) update (number_terms t) (length columns + 1) source (it_has.alone key row) w in
-        let whole : with_rowid Chosen old_rows (cast_row t source) ≡ source = ap (with_rowid Chosen old_rows) (kept key row) in
-        let met = subst (λ r. AreConflicts (Some (0 ∷ [])) present_schema.indexes t old_rows r it.found) whole it.conflicts in
-        let ends = subst (λ r. Settles present_schema t old.now.trees params update r it.found new.now.trees) whole it.settles in
-        let put = number_settles t n old.now.trees new.now.trees keyed (it_has.stored old.now.trees) params source (length columns) (number_overwrite t) (λ r in_it. meets key row r) (kept key row) (it_has.there key row) (λ r. refl) (kept_over key row) it.found met ends in
-        sees old new tables n (Some params) (put_row source (rest has_rowid n old_rows keyed)) seen
-        (record { schema_is = it.schema_is; sound = w.sound; is_open = w.shown.is_open; inside = inside; rows_are = put.0; others = put.1 })
-        (put_keyed has_rowid n old_rows keyed source refl)
-        (λ k. after_put same_number has_rowid (cells_at places) number_exact number_apart n source old_rows (has_itself n (drop 1 source)) (number_free n source old_rows refl) k
-        ∙ ap (λ shown. numbered_with n (Some shown) (numbered_in places old_rows) k) (it_has.placed key row))
-
     -- one row was written over, or none was there
     abbrev Overs : State → State → K → C → ℕ → Tables → Type 0
     Overs old new key row count tables = ((Sees new (With (number key) (Some (cells key row)) tables) × KeepsUnread old.now new.now) × (count ≡ 1)) ⊎ ((Sees new tables × KeepsUnread old.now new.now) × (count ≡ 0))
@@ -96,7 +75,7 @@ module _ {K C : Type 0} (name : List ℕ) (tree : ℕ) (columns : List Column) (
         let old_rows = old.now.trees tree in
         let keyed = keyed_seen old tables seen in
         let project = number_overwrite t in
-        let w = runs_as (update_text t) params old new present_schema has _ writes.update writes.update_plain count h in
+        let w = runs_as (update_text t) params old new present_schema has _ writes.update.command writes.update.plain count h in
         let it = updates present_schema moo_quiet at _ _ _ _ _ _ _ is old new has (statement_of (update_text t) (understood present_schema (update_text t))) params count (writes_where tree by_number project) w in
         let shown = subst (λ rs. IsPermutation (map (λ r. eval_all project (params ∷ r ∷ [])) (chosen by_number params rs)) it.answer) (it_has.stored old.now.trees) (shows_all tree by_number project [] (overlay old.now.trees []) params it.answer (it.answers.answer Null)) in
         let sets : (rows : List Row) → new.now.trees tree ≡ rows → SetsTree old new tree rows = λ rows is_so. record { schema_is = it.edited.schema_is; sound = w.sound; is_open = w.shown.is_open; inside = inside; rows_are = is_so; others = it.edited.applies.others } in
@@ -115,29 +94,44 @@ module _ {K C : Type 0} (name : List ℕ) (tree : ℕ) (columns : List Column) (
           | inr l ↦ inr (sees_still (sets old_rows (it.edited.applies.rows ∙ l.after_is)) tables seen, it.counted ∙ l.count)
         ]
 
-    removes : (old new : State) (key : K) (count : ℕ) (tables : Tables) → Sees old tables → Executes (remove_text t) (Int (number key) ∷ []) old new (Ok count) → IsTrue new.in_transaction → Sees new (With (number key) None tables) × KeepsUnread old.now new.now
-    removes old new key count tables seen h inside =
+    pub remove : (old new : State) (key : K) (r : Result ℕ Error) → RanStatement (remove_text t) (Int (number key) ∷ []) old new r → OnOk r (Changes (With (number key) None) old new)
+    remove old new key (Err e) ran = tt
+    remove old new key (Ok count) ran = λ clean tables seen.
         let has = schema_seen seen in
         let n = number key in
         let params : Row = Int n ∷ [] in
         let old_rows = old.now.trees tree in
         let keyed = keyed_seen old tables seen in
-        let w = runs_as (remove_text t) params old new present_schema has _ writes.remove writes.remove_plain count h in
+        let w = runs_as (remove_text t) params old new present_schema has _ writes.remove.command writes.remove.plain count (ran clean).1 in
         let it = deletes present_schema moo_quiet at _ _ _ _ _ _ _ is old new has (statement_of (remove_text t) (understood present_schema (remove_text t))) params count (rowids_where tree by_number) w in
         let shown = subst (λ rows. IsPermutation (map (λ r. rowid r ∷ []) (chosen by_number params rows)) it.0) (it_has.stored old.now.trees) (shows_all tree by_number (col 1 0 ∷ []) [] (overlay old.now.trees []) params it.0 (it.1.answer Null)) in
         let left = it.2.applies.rows ∙ went_out has_rowid n old_rows keyed by_number params [] it.0 shown (picks_number n []) in
         sees old new tables n None (rest has_rowid n old_rows keyed) seen
-        (record { schema_is = it.2.schema_is; sound = w.sound; is_open = w.shown.is_open; inside = inside; rows_are = left; others = it.2.applies.others })
+        (record { schema_is = it.2.schema_is; sound = w.sound; is_open = w.shown.is_open; inside = (ran clean).0; rows_are = left; others = it.2.applies.others })
         (rest_keyed has_rowid n old_rows keyed)
         (after_removal same_number has_rowid (cells_at places) number_exact number_apart n old_rows)
 
-    pub remove : (old new : State) (key : K) (r : Result ℕ Error) → RanStatement (remove_text t) (Int (number key) ∷ []) old new r → OnOk r (Changes (With (number key) None) old new)
-    remove old new key (Err e) ran = tt
-    remove old new key (Ok count) ran = λ clean tables seen. let it = ran clean in removes old new key count tables seen it.1 it.0
-
     pub put : (old new : State) (key : K) (row : C) (r : Result ℕ Error) → RanStatement (put_text t) (cells key row) old new r → OnOk r (Changes (With (number key) (Some (cells key row))) old new)
     put old new key row (Err e) ran = tt
-    put old new key row (Ok count) ran = λ clean tables seen. let it = ran clean in puts old new key row count tables seen it.1 it.0
+    put old new key row (Ok count) ran = λ clean tables seen.
+        let has = schema_seen seen in
+        let n = number key in
+        let source = stored key row in
+        let params = cells key row in
+        let old_rows = old.now.trees tree in
+        let keyed = keyed_seen old tables seen in
+        let update = written_over tree (length columns) (number_overwrite t) in
+        let w = runs_as (put_text t) params old new present_schema has _ writes.put.command writes.put.plain count (ran clean).1 in
+        let it = upserts present_schema moo_quiet at _ _ _ _ _ _ _ is old new has (statement_of (put_text t) (understood present_schema (put_text t))) params count (0 ∷ []) update (number_terms t) (length columns + 1) source (it_has.alone key row) w in
+        let whole : with_rowid Chosen old_rows (cast_row t source) ≡ source = ap (with_rowid Chosen old_rows) (kept key row) in
+        let met = subst (λ r. AreConflicts (Some (0 ∷ [])) present_schema.indexes t old_rows r it.found) whole it.conflicts in
+        let ends = subst (λ r. Settles present_schema t old.now.trees params update r it.found new.now.trees) whole it.settles in
+        let settled = number_settles t n old.now.trees new.now.trees keyed (it_has.stored old.now.trees) params source (length columns) (number_overwrite t) (λ r in_it. meets key row r) (kept key row) (it_has.there key row) (λ r. refl) (kept_over key row) it.found met ends in
+        sees old new tables n (Some params) (put_row source (rest has_rowid n old_rows keyed)) seen
+        (record { schema_is = it.schema_is; sound = w.sound; is_open = w.shown.is_open; inside = (ran clean).0; rows_are = settled.0; others = settled.1 })
+        (put_keyed has_rowid n old_rows keyed source refl)
+        (λ k. after_put same_number has_rowid (cells_at places) number_exact number_apart n source old_rows (has_itself n (drop 1 source)) (number_free n source old_rows refl) k
+        ∙ ap (λ shown. numbered_with n (Some shown) (numbered_in places old_rows) k) (it_has.placed key row))
 
     pub update : (old new : State) (key : K) (row : C) (r : Result ℕ Error) → RanStatement (update_text t) (cells key row) old new r → IfOk r (λ count. WritesOver (With (number key) (Some (cells key row))) count old new)
     update old new key row (Err e) ran = tt

@@ -72,28 +72,6 @@ module _ {K C : Type 0} (name : List ℕ) (tree : ℕ) (columns : List Column) (
   module _ (at : ℕ) (is : slice_get present_schema.tables at ≡ Some (paired name tree columns)) (writes : WritesByPair at (paired name tree columns)) (With : ℤ × ℤ → Option Row → Tables → Tables) (keyed_seen : (s : State) (tables : Tables) → Sees s tables → AreKeyed (s.now.trees tree)) (pairs_seen : (s : State) (tables : Tables) → Sees s tables → ArePairs (s.now.trees tree))
       (sees : (old new : State) (tables : Tables) (key : ℤ × ℤ) (shown : Option Row) (rows : List Row) → Sees old tables → SetsTree old new tree rows → AreKeyed rows
       → ((k : ℤ × ℤ) → paired_in places rows k ≡ paired_with key shown (paired_in places (old.now.trees tree)) k) → Sees new (With key shown tables) × KeepsUnread old.now new.now) where
-    puts : (old new : State) (key : K) (row : C) (count : ℕ) (tables : Tables) → Sees old tables → Executes (put_text t) (cells key row) old new (Ok count) → IsTrue new.in_transaction → Sees new (With (pair key) (Some (cells key row)) tables) × KeepsUnread old.now new.now
-    puts old new key row count tables seen h inside =
-        let has = schema_seen seen in
-        let two = pair key in
-        let params = cells key row in
-        let old_rows = old.now.trees tree in
-        let next = next_rowid old_rows in
-        let keyed = keyed_seen old tables seen in
-        let update = written_over tree (length columns) (pair_overwrite t) in
-        let w = runs_as (put_text t) params old new present_schema has _ writes.put writes.put_plain count h in
-        let it = upserts present_schema moo_quiet at _ _ _ _ _ _ _ is old new has (statement_of (put_text t) (understood present_schema (put_text t))) params count (1 ∷ 2 ∷ []) update (pair_terms t) (length columns + 1) (Null ∷ params) (it_has.alone key row) w in
-        let whole = fresh old_rows key row in
-        let met = subst (λ r. AreConflicts (Some (1 ∷ 2 ∷ [])) present_schema.indexes t old_rows r it.found) whole it.conflicts in
-        let ends = subst (λ r. Settles present_schema t old.now.trees params update r it.found new.now.trees) whole it.settles in
-        let put = pair_settles t two old.now.trees new.now.trees keyed (pairs_seen old tables seen) (it_has.stored old.now.trees) params (length columns) (pair_overwrite t) (λ r in_it. meets next key row r) (λ id. kept id key row) (λ id. it_has.there next id key row) (λ id r. refl) (over next key row) it.found met ends in
-        let number = put.0.number in
-        sees old new tables two (Some params) (put_row (Int number ∷ params) (rest has_pair two old_rows keyed)) seen
-        (record { schema_is = it.schema_is; sound = w.sound; is_open = w.shown.is_open; inside = inside; rows_are = put.0.rows_are; others = put.1 })
-        (put_keyed has_pair two old_rows keyed (Int number ∷ params) refl)
-        (λ k. after_put same_numbers has_pair (cells_at places) pair_exact pair_apart two (Int number ∷ params) old_rows (has_its_pair number key row) put.0.free k
-        ∙ ap (λ shown. paired_with two (Some shown) (paired_in places old_rows) k) (it_has.placed number key row))
-
     -- one row was written over, or none was there
     abbrev Overs : State → State → K → C → ℕ → Tables → Type 0
     Overs old new key row count tables = ((Sees new (With (pair key) (Some (cells key row)) tables) × KeepsUnread old.now new.now) × (count ≡ 1)) ⊎ ((Sees new tables × KeepsUnread old.now new.now) × (count ≡ 0))
@@ -108,7 +86,7 @@ module _ {K C : Type 0} (name : List ℕ) (tree : ℕ) (columns : List Column) (
         let pairs = pairs_seen old tables seen in
         let one = pairs.one two in
         let project = pair_overwrite t in
-        let w = runs_as (update_text t) params old new present_schema has _ writes.update writes.update_plain count h in
+        let w = runs_as (update_text t) params old new present_schema has _ writes.update.command writes.update.plain count h in
         let it = updates present_schema moo_quiet at _ _ _ _ _ _ _ is old new has (statement_of (update_text t) (understood present_schema (update_text t))) params count (writes_where tree by_pair project) w in
         let shown = subst (λ rs. IsPermutation (map (λ r. eval_all project (params ∷ r ∷ [])) (chosen by_pair params rs)) it.answer) (it_has.stored old.now.trees) (shows_all tree by_pair project [] (overlay old.now.trees []) params it.answer (it.answers.answer Null)) in
         let sets : (rows : List Row) → new.now.trees tree ≡ rows → SetsTree old new tree rows = λ rows is_so. record { schema_is = it.edited.schema_is; sound = w.sound; is_open = w.shown.is_open; inside = inside; rows_are = is_so; others = it.edited.applies.others } in
@@ -129,29 +107,45 @@ module _ {K C : Type 0} (name : List ℕ) (tree : ℕ) (columns : List Column) (
           | inr l ↦ inr (sees_still (sets old_rows (it.edited.applies.rows ∙ l.after_is)) tables seen, it.counted ∙ l.count)
         ]
 
-    removes : (old new : State) (key : K) (count : ℕ) (tables : Tables) → Sees old tables → Executes (remove_text t) (Int (pair key).0 ∷ Int (pair key).1 ∷ []) old new (Ok count) → IsTrue new.in_transaction → Sees new (With (pair key) None tables) × KeepsUnread old.now new.now
-    removes old new key count tables seen h inside =
+    pub remove : (old new : State) (key : K) (r : Result ℕ Error) → RanStatement (remove_text t) (Int (pair key).0 ∷ Int (pair key).1 ∷ []) old new r → OnOk r (Changes (With (pair key) None) old new)
+    remove old new key (Err e) ran = tt
+    remove old new key (Ok count) ran = λ clean tables seen.
         let has = schema_seen seen in
         let two = pair key in
         let params : Row = Int two.0 ∷ Int two.1 ∷ [] in
         let old_rows = old.now.trees tree in
         let keyed = keyed_seen old tables seen in
-        let w = runs_as (remove_text t) params old new present_schema has _ writes.remove writes.remove_plain count h in
+        let w = runs_as (remove_text t) params old new present_schema has _ writes.remove.command writes.remove.plain count (ran clean).1 in
         let it = deletes present_schema moo_quiet at _ _ _ _ _ _ _ is old new has (statement_of (remove_text t) (understood present_schema (remove_text t))) params count (rowids_where tree by_pair) w in
         let shown = subst (λ rows. IsPermutation (map (λ r. rowid r ∷ []) (chosen by_pair params rows)) it.0) (it_has.stored old.now.trees) (shows_all tree by_pair (col 1 0 ∷ []) [] (overlay old.now.trees []) params it.0 (it.1.answer Null)) in
         let left = it.2.applies.rows ∙ went_out has_pair two old_rows keyed by_pair params [] it.0 shown (picks_pair two []) in
         sees old new tables two None (rest has_pair two old_rows keyed) seen
-        (record { schema_is = it.2.schema_is; sound = w.sound; is_open = w.shown.is_open; inside = inside; rows_are = left; others = it.2.applies.others })
+        (record { schema_is = it.2.schema_is; sound = w.sound; is_open = w.shown.is_open; inside = (ran clean).0; rows_are = left; others = it.2.applies.others })
         (rest_keyed has_pair two old_rows keyed)
         (after_removal same_numbers has_pair (cells_at places) pair_exact pair_apart two old_rows)
 
-    pub remove : (old new : State) (key : K) (r : Result ℕ Error) → RanStatement (remove_text t) (Int (pair key).0 ∷ Int (pair key).1 ∷ []) old new r → OnOk r (Changes (With (pair key) None) old new)
-    remove old new key (Err e) ran = tt
-    remove old new key (Ok count) ran = λ clean tables seen. let it = ran clean in removes old new key count tables seen it.1 it.0
-
     pub put : (old new : State) (key : K) (row : C) (r : Result ℕ Error) → RanStatement (put_text t) (cells key row) old new r → OnOk r (Changes (With (pair key) (Some (cells key row))) old new)
     put old new key row (Err e) ran = tt
-    put old new key row (Ok count) ran = λ clean tables seen. let it = ran clean in puts old new key row count tables seen it.1 it.0
+    put old new key row (Ok count) ran = λ clean tables seen.
+        let has = schema_seen seen in
+        let two = pair key in
+        let params = cells key row in
+        let old_rows = old.now.trees tree in
+        let next = next_rowid old_rows in
+        let keyed = keyed_seen old tables seen in
+        let update = written_over tree (length columns) (pair_overwrite t) in
+        let w = runs_as (put_text t) params old new present_schema has _ writes.put.command writes.put.plain count (ran clean).1 in
+        let it = upserts present_schema moo_quiet at _ _ _ _ _ _ _ is old new has (statement_of (put_text t) (understood present_schema (put_text t))) params count (1 ∷ 2 ∷ []) update (pair_terms t) (length columns + 1) (Null ∷ params) (it_has.alone key row) w in
+        let whole = fresh old_rows key row in
+        let met = subst (λ r. AreConflicts (Some (1 ∷ 2 ∷ [])) present_schema.indexes t old_rows r it.found) whole it.conflicts in
+        let ends = subst (λ r. Settles present_schema t old.now.trees params update r it.found new.now.trees) whole it.settles in
+        let settled = pair_settles t two old.now.trees new.now.trees keyed (pairs_seen old tables seen) (it_has.stored old.now.trees) params (length columns) (pair_overwrite t) (λ r in_it. meets next key row r) (λ id. kept id key row) (λ id. it_has.there next id key row) (λ id r. refl) (over next key row) it.found met ends in
+        let number = settled.0.number in
+        sees old new tables two (Some params) (put_row (Int number ∷ params) (rest has_pair two old_rows keyed)) seen
+        (record { schema_is = it.schema_is; sound = w.sound; is_open = w.shown.is_open; inside = (ran clean).0; rows_are = settled.0.rows_are; others = settled.1 })
+        (put_keyed has_pair two old_rows keyed (Int number ∷ params) refl)
+        (λ k. after_put same_numbers has_pair (cells_at places) pair_exact pair_apart two (Int number ∷ params) old_rows (has_its_pair number key row) settled.0.free k
+        ∙ ap (λ shown. paired_with two (Some shown) (paired_in places old_rows) k) (it_has.placed number key row))
 
     pub update : (old new : State) (key : K) (row : C) (r : Result ℕ Error) → RanStatement (update_text t) (cells key row) old new r → IfOk r (λ count. WritesOver (With (pair key) (Some (cells key row))) count old new)
     update old new key row (Err e) ran = tt

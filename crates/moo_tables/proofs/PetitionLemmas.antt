@@ -68,13 +68,13 @@ passes = record {
 }
 
 pub remove_fails : (old new : State) (id : PetitionId) (r : Result ℕ Error) → Ran remove_petition_text (Int (pos id.0) ∷ []) old new r → HasCauseIn old new r
-remove_fails old new id = stop.remove _ 9 _ number_of whole has_numbers passes 6 refl petition_writes (λ s tables seen. petitions_seen seen) old new (pos id.0) petition_writes.remove_one
+remove_fails old new id = stop.remove _ 9 _ number_of whole has_numbers passes 6 refl petition_writes (λ s tables seen. petitions_seen seen) old new (pos id.0) petition_writes.remove.one
 
 pub put_fails : (old new : State) (id : PetitionId) (row : Whole) (r : Result ℕ Error) → Ran put_petition_text (whole id row) old new r → HasCauseIn old new r
-put_fails old new id row = stop.put _ 9 _ number_of whole has_numbers passes 6 refl petition_writes (λ s tables seen. petitions_seen seen) old new id row petition_writes.put_one
+put_fails old new id row = stop.put _ 9 _ number_of whole has_numbers passes 6 refl petition_writes (λ s tables seen. petitions_seen seen) old new id row petition_writes.put.one
 
 pub update_fails : (old new : State) (id : PetitionId) (row : Whole) (r : Result ℕ Error) → Ran update_petition_text (whole id row) old new r → HasCauseIn old new r
-update_fails old new id row = stop.update _ 9 _ number_of whole has_numbers passes 6 refl petition_writes (λ s tables seen. petitions_seen seen) old new id row petition_writes.update_one
+update_fails old new id row = stop.update _ 9 _ number_of whole has_numbers passes 6 refl petition_writes (λ s tables seen. petitions_seen seen) old new id row petition_writes.update.one
 
 pub keep_fails : (old new : State) (id : PetitionId) (row : PetitionCells) (r : Result ℕ Error) → Ran keep_petition_text (values id row) old new r → HasCauseIn old new r
 keep_fails old new id row =

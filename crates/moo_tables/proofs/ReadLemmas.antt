@@ -1,5 +1,5 @@
 -- What the queries of the tables answer.
-use Rattle.moo_tables.{proofs.Words.{◌≡◌, ◌⊎◌, ◌&&◌, None, ℕ, ℤ, List, [], ◌∷◌, map, drop, codes, option_map, true, false, not, Vec, inl, inr, Result, Ok, Err, IfOk, OnOk, OnErr, IsTrue, refl, sym, ap, subst, ◌∙◌, is_eq, ordering_then, IsPermutation, Global, Contains-permutation, IsPermutation-sym, and_parts, not-true, Null, Error, Row, column, value_cmp, Term, eval_all, Query, Output, output, output_cmp, overlay, Schema, Table, Trees, Column, AllByRecursion, Database, understood, State, HasCleanDisk, Shown, ShowsRows, Survives, CommitsShowing, IsUnchanged, IsRolledBack, timed, IsPlain, reads_as, never_commits, survives_weaker, survives_then, IsAscending, is_int, then-Equal, output_cmp_total, Datatype, NotNull, Unique, clashes, are_typed, are_present, has_computed, plain, IsSound, Has, all_has, all_from, has_contained, contains_had, ascending-map, ascending_from_map, ascending_weaker, all_map, Version, First, Second, Tables, required, schema_of, slot_tree, head_table, object_table, prop_table, petition_table, petition_head_table, slot_table, slot2_table, verb_table, has_pair, cells_at, found_in, numbered_in, paired_in, head_places, object_places, prop_places, slot_places, verb_places, petition_places, petition_head_places, select_text, AreKeyed, Holds, Rests, HasTables, ReadsTables, FailsToRead, ListsNumbers, ListsPairs, IsRowBelow, has_key_pair, has_petitions, petition_rows, if◌then◌else◌}, proofs.TextLemmas.{plain_query, in_order, number_order, pair_order}, proofs.SelectLemmas.{IsSelect, number_columns, pair_columns, slots_table, select_head, select_object, select_prop, select_slot, select_verb, select_petition, select_counter}, proofs.InsideLemmas.{clean_before}, proofs.StreamLemmas.{unchanged_then, failed_then}, proofs.QueryLemmas.{chosen, Selects, selects, shows_in_order, shown_rows}, proofs.SortLemmas.{rises-sort_by}, proofs.ListingLemmas.{find-map, find_alike, one_pair, two_ints, lists_numbers, no_ties}}
+use Rattle.moo_tables.{proofs.Words.{◌≡◌, ◌⊎◌, ◌&&◌, None, ℕ, ℤ, List, [], ◌∷◌, map, drop, codes, option_map, true, false, not, Vec, inl, inr, Result, Ok, Err, IfOk, OnOk, OnErr, IsTrue, refl, sym, ap, subst, ◌∙◌, is_eq, ordering_then, IsPermutation, Global, Contains-permutation, IsPermutation-sym, and_parts, not-true, Null, Error, Row, column, value_cmp, Term, eval_all, Query, Output, output, output_cmp, overlay, Schema, Table, Trees, Column, Program, AllByRecursion, Database, understood, State, HasCleanDisk, Shown, ShowsRows, Survives, CommitsShowing, IsUnchanged, IsRolledBack, timed, IsPlain, reads_as, never_commits, survives_weaker, survives_then, IsAscending, is_int, then-Equal, output_cmp_total, Datatype, NotNull, Unique, clashes, are_typed, are_present, has_computed, plain, IsSound, Has, all_has, all_from, has_contained, contains_had, ascending-map, ascending_from_map, ascending_weaker, all_map, Version, First, Second, Tables, required, schema_of, slot_tree, head_table, object_table, prop_table, petition_table, petition_head_table, slot_table, slot2_table, verb_table, has_pair, cells_at, found_in, numbered_in, paired_in, head_places, object_places, prop_places, slot_places, verb_places, petition_places, petition_head_places, select_text, AreKeyed, Holds, Rests, HasTables, ReadsTables, FailsToRead, ListsNumbers, ListsPairs, IsRowBelow, has_key_pair, has_petitions, petition_rows, if◌then◌else◌}, proofs.TextLemmas.{plain_query, in_order, number_order, pair_order}, proofs.SelectLemmas.{IsSelect, number_columns, pair_columns, slots_table, select_head, select_object, select_prop, select_slot, select_verb, select_petition, select_counter}, proofs.InsideLemmas.{clean_before}, proofs.StreamLemmas.{unchanged_then, failed_then}, proofs.QueryLemmas.{chosen, Selects, selects, shows_in_order, shown_rows}, proofs.SortLemmas.{rises-sort_by}, proofs.ListingLemmas.{find-map, find_alike, one_pair, two_ints, lists_numbers, no_ties}}
 use Rattle.std.{proofs.Common.{Ordering, Less, Equal}, specs.Cmp.{on_total}}
 use Rattle.sqlite_schema.specs.declared.schema.Kind.TheVariants.{Integer}
 use Rattle.sqlite_keyed.{specs.Lists.{sort_by}, proofs.SortLemmas.{sorted_is-sort_by, IsPermutation-sort_by, sort_by-map}}
@@ -120,38 +120,34 @@ module _ {schema : Schema} {H : Type 0} (shown : H → State) {old new : H} wher
 
 -- ---- a query with no parameters, whose text is known
 
-module _ (schema : Schema) (sql : List ℕ) (known : IsPlain (understood schema sql)) (old new : State) (r : Result (Vec Row Global) Error) (survives : Survives old new (CommitsShowing sql [] old)) where
+module _ {schema : Schema} {sql : List ℕ} {program : Program} {names : List (List ℕ)} (known : IsSelect schema sql program names) {old new : State} (survives : Survives old new (CommitsShowing sql [] old)) where
   plain_in : HasTables schema old → IsPlain (understood old.now.schema sql)
-  plain_in is = subst (λ s. IsPlain (understood s sql)) (sym is) known
+  plain_in is = subst (λ s. IsPlain (understood s sql)) (sym is) known.plain
 
   quiet : (HasCleanDisk old → HasTables schema old) → Survives old new (λ _. ⊥)
-  quiet has = commits_nothing schema sql old new known has survives
+  quiet has = commits_nothing schema sql old new known.plain has survives
 
-  pub reads : (HasCleanDisk new → IsPlain (understood old.now.schema sql) → IfOk r (λ rows. Shown sql [] old new rows.items)) → OnOk r (ReadsTables schema old new)
-  reads ok = go r ok
-    where
-      go : (r : Result (Vec Row Global) Error) → (HasCleanDisk new → IsPlain (understood old.now.schema sql) → IfOk r (λ rows. Shown sql [] old new rows.items)) → OnOk r (ReadsTables schema old new)
-      go (Err e) ok = tt
-      go (Ok rows) ok = record {
-        clean = clean_before old new _ survives;
-        same = λ clean has. unchanged_as sql [] old new rows.items (plain_in has) (ok clean (plain_in has));
-        crash = quiet;
-      }
+  pub has_read : (rows : Vec Row Global) → (HasCleanDisk new → IsPlain (understood old.now.schema sql) → Shown sql [] old new rows.items) → ReadsTables schema old new
+  has_read rows shown = record { clean = clean_before old new _ survives; same = λ clean has. unchanged_as sql [] old new rows.items (plain_in has) (shown clean (plain_in has)); crash = quiet }
 
-  pub fails : (HasCleanDisk new → IsPlain (understood old.now.schema sql) → OnErr r (IsUnchanged old new ⊎ IsRolledBack old new)) → OnErr r (FailsToRead schema old new)
-  fails kept = go r kept
-    where
-      go : (r : Result (Vec Row Global) Error) → (HasCleanDisk new → IsPlain (understood old.now.schema sql) → OnErr r (IsUnchanged old new ⊎ IsRolledBack old new)) → OnErr r (FailsToRead schema old new)
-      go (Ok rows) kept = tt
-      go (Err e) kept = record {
-        clean = clean_before old new _ survives;
-        kept = λ clean has. kept clean (plain_in has);
-        crash = quiet;
-      }
+  pub has_failed : (HasCleanDisk new → IsPlain (understood old.now.schema sql) → IsUnchanged old new ⊎ IsRolledBack old new) → FailsToRead schema old new
+  has_failed kept = record { clean = clean_before old new _ survives; kept = λ clean has. kept clean (plain_in has); crash = quiet }
+
+  pub reads : (r : Result (Vec Row Global) Error) → (HasCleanDisk new → IsPlain (understood old.now.schema sql) → IfOk r (λ rows. Shown sql [] old new rows.items)) → OnOk r (ReadsTables schema old new)
+  reads (Err e) shown = tt
+  reads (Ok rows) shown = has_read rows shown
+
+  pub fails : (r : Result (Vec Row Global) Error) → (HasCleanDisk new → IsPlain (understood old.now.schema sql) → OnErr r (IsUnchanged old new ⊎ IsRolledBack old new)) → OnErr r (FailsToRead schema old new)
+  fails (Ok rows) kept = tt
+  fails (Err e) kept = has_failed kept
+
+-- the tables are there after a query as they were
+pub rests_read : {version : Version} {a b : State} (tables : Tables) → ReadsTables (schema_of version) a b → HasCleanDisk b → tables.version ≡ version → Rests a tables → Rests b tables
+rests_read {version} {a} {b} tables read clean is was = rests_on a b tables (read.same clean (was.holds.schema ∙ ap schema_of is)) was
 
 -- the text reads the tables that the connection has
-pub plain_of : (sql : List ℕ) (old : State) (tables : Tables) (version : Version) → Holds old.now tables → tables.version ≡ version → IsPlain (understood (schema_of version) sql) → IsPlain (understood old.now.schema sql)
-plain_of sql old tables version holds at known = subst (λ s. IsPlain (understood s sql)) (sym (holds.schema ∙ ap schema_of at)) known
+pub plain_of : (sql : List ℕ) (db : Database) (tables : Tables) (version : Version) → Holds db tables → tables.version ≡ version → IsPlain (understood (schema_of version) sql) → IsPlain (understood db.schema sql)
+plain_of sql db tables version holds at known = subst (λ s. IsPlain (understood s sql)) (sym (holds.schema ∙ ap schema_of at)) known
 
 -- what a query shows of the tables that the connection has
 pub lists : (sql : List ℕ) (old new : State) (r : Result (Vec Row Global) Error) (Lists : List Row → Tables → Type 0)

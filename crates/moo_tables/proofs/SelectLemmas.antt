@@ -20,93 +20,49 @@ SelectsByNumber schema t = IsSelect schema (select_text t) (in_order t.tree (num
 abbrev SelectsByPair : Schema → Table → Type 0
 SelectsByPair schema t = IsSelect schema (select_text t) (in_order t.tree (pair_columns t) pair_order) (names t)
 
-selects_by_number : (schema : Schema) (t : Table) → Means (understood schema (select_text t)) (Select (in_order t.tree (number_columns t) number_order) (names t)) → reads_listing schema (select_text t) ≡ false → SelectsByNumber schema t
-selects_by_number schema t means unlisted = record { command = means_command (understood schema (select_text t)) _ means; plain = means_plain (understood schema (select_text t)) _ means; unlisted = unlisted }
-
-selects_by_pair : (schema : Schema) (t : Table) → Means (understood schema (select_text t)) (Select (in_order t.tree (pair_columns t) pair_order) (names t)) → reads_listing schema (select_text t) ≡ false → SelectsByPair schema t
-selects_by_pair schema t means unlisted = record { command = means_command (understood schema (select_text t)) _ means; plain = means_plain (understood schema (select_text t)) _ means; unlisted = unlisted }
+selects : (schema : Schema) (t : Table) (program : Program) → Means (understood schema (select_text t)) (Select program (names t)) → reads_listing schema (select_text t) ≡ false → IsSelect schema (select_text t) program (names t)
+selects schema t program means unlisted = record { command = means_command (understood schema (select_text t)) _ means; plain = means_plain (understood schema (select_text t)) _ means; unlisted = unlisted }
 
 -- ---- the tables of both versions
 
-head_first : SelectsByNumber first_schema head_table
-unfolding understood everything
-head_first = selects_by_number first_schema head_table (refl, refl, refl) refl
-
-head_second : SelectsByNumber second_schema head_table
-unfolding understood everything
-head_second = selects_by_number second_schema head_table (refl, refl, refl) refl
-
 pub select_head : (version : Version) → SelectsByNumber (schema_of version) head_table
-select_head First = head_first
-select_head Second = head_second
-
-object_first : SelectsByNumber first_schema object_table
 unfolding understood everything
-object_first = selects_by_number first_schema object_table (refl, refl, refl) refl
-
-object_second : SelectsByNumber second_schema object_table
-unfolding understood everything
-object_second = selects_by_number second_schema object_table (refl, refl, refl) refl
+select_head First = selects first_schema head_table _ (refl, refl, refl) refl
+select_head Second = selects second_schema head_table _ (refl, refl, refl) refl
 
 pub select_object : (version : Version) → SelectsByNumber (schema_of version) object_table
-select_object First = object_first
-select_object Second = object_second
-
-prop_first : SelectsByNumber first_schema prop_table
 unfolding understood everything
-prop_first = selects_by_number first_schema prop_table (refl, refl, refl) refl
-
-prop_second : SelectsByNumber second_schema prop_table
-unfolding understood everything
-prop_second = selects_by_number second_schema prop_table (refl, refl, refl) refl
+select_object First = selects first_schema object_table _ (refl, refl, refl) refl
+select_object Second = selects second_schema object_table _ (refl, refl, refl) refl
 
 pub select_prop : (version : Version) → SelectsByNumber (schema_of version) prop_table
-select_prop First = prop_first
-select_prop Second = prop_second
-
-verb_first : SelectsByPair first_schema verb_table
 unfolding understood everything
-verb_first = selects_by_pair first_schema verb_table (refl, refl, refl) refl
-
-verb_second : SelectsByPair second_schema verb_table
-unfolding understood everything
-verb_second = selects_by_pair second_schema verb_table (refl, refl, refl) refl
+select_prop First = selects first_schema prop_table _ (refl, refl, refl) refl
+select_prop Second = selects second_schema prop_table _ (refl, refl, refl) refl
 
 pub select_verb : (version : Version) → SelectsByPair (schema_of version) verb_table
-select_verb First = verb_first
-select_verb Second = verb_second
+unfolding understood everything
+select_verb First = selects first_schema verb_table _ (refl, refl, refl) refl
+select_verb Second = selects second_schema verb_table _ (refl, refl, refl) refl
 
 -- ---- the slots, each version's from its own table
 
 abbrev pub slots_table : Version → Table
 slots_table version = if has_lettered_bits version then slot_table else slot2_table
 
-slot_first : SelectsByPair first_schema slot_table
-unfolding understood everything
-slot_first = selects_by_pair first_schema slot_table (refl, refl, refl) refl
-
-slot_second : SelectsByPair second_schema slot2_table
-unfolding understood everything
-slot_second = selects_by_pair second_schema slot2_table (refl, refl, refl) refl
-
 pub select_slot : (version : Version) → IsSelect (schema_of version) (select_text (slots_table version)) (in_order (slot_tree version) (pair_columns slot2_table) pair_order) (names slot2_table)
-select_slot First = slot_first
-select_slot Second = slot_second
+unfolding understood everything
+select_slot First = selects first_schema slot_table _ (refl, refl, refl) refl
+select_slot Second = selects second_schema slot2_table _ (refl, refl, refl) refl
 
 -- ---- petition and petition_head, which a version with petitions has
 
-petition_second : SelectsByNumber second_schema petition_table
-unfolding understood everything
-petition_second = selects_by_number second_schema petition_table (refl, refl, refl) refl
-
 pub select_petition : (version : Version) → IsTrue (has_petitions version) → SelectsByNumber (schema_of version) petition_table
-select_petition First has = absurd (true≢false (sym has))
-select_petition Second has = petition_second
-
-counter_second : SelectsByNumber second_schema petition_head_table
 unfolding understood everything
-counter_second = selects_by_number second_schema petition_head_table (refl, refl, refl) refl
+select_petition First has = absurd (true≢false (sym has))
+select_petition Second has = selects second_schema petition_table _ (refl, refl, refl) refl
 
 pub select_counter : (version : Version) → IsTrue (has_petitions version) → SelectsByNumber (schema_of version) petition_head_table
+unfolding understood everything
 select_counter First has = absurd (true≢false (sym has))
-select_counter Second has = counter_second
+select_counter Second has = selects second_schema petition_head_table _ (refl, refl, refl) refl

@@ -159,19 +159,19 @@ module _ {K C : Type 0} (name : List ℕ) (tree : ℕ) (columns : List Column) (
     pub update : (old new : State) (key : K) (row : C) → IsOne (length (update_text t)) (length (cells key row)) (understood present_schema (update_text t)) → (r : Result ℕ Error) → Ran (update_text t) (cells key row) old new r → HasCauseIn old new r
     update old new key row one (Ok count) ran = λ clean tables seen. tt
     update old new key row one (Err e) ran = λ clean tables seen.
-        stops (update_text t) (cells key row) old new present_schema (schema_seen seen) _ writes.update writes.update_plain one refl refl e
+        stops (update_text t) (cells key row) old new present_schema (schema_seen seen) _ writes.update.command writes.update.plain one refl refl e
         (λ text does. updates at is old tables seen (keyed_seen old tables seen) e key row text (at_schema old.step_limit (mode_of old) (cells key row) old.now present_schema text (Update at (writes_where tree by_number (number_overwrite t))) e (schema_seen seen) does)) (ran clean seen.inside)
 
     pub put : (old new : State) (key : K) (row : C) → IsOne (length (put_text t)) (length (cells key row)) (understood present_schema (put_text t)) → (r : Result ℕ Error) → Ran (put_text t) (cells key row) old new r → HasCauseIn old new r
     put old new key row one (Ok count) ran = λ clean tables seen. tt
     put old new key row one (Err e) ran = λ clean tables seen.
-        stops (put_text t) (cells key row) old new present_schema (schema_seen seen) _ writes.put writes.put_plain one refl refl e
+        stops (put_text t) (cells key row) old new present_schema (schema_seen seen) _ writes.put.command writes.put.plain one refl refl e
         (λ text does. puts at is old tables seen (keyed_seen old tables seen) e key row text (at_schema old.step_limit (mode_of old) (cells key row) old.now present_schema text (InsertOr at Abort (Values (number_terms t) (length columns + 1)) (record { target = Some (0 ∷ []); update = Some (written_over tree (length columns) (number_overwrite t)) } ∷ [])) e (schema_seen seen) does)) (ran clean seen.inside)
 
     pub remove : (old new : State) (n : ℤ) → IsOne (length (remove_text t)) 1 (understood present_schema (remove_text t)) → (r : Result ℕ Error) → Ran (remove_text t) (Int n ∷ []) old new r → HasCauseIn old new r
     remove old new n one (Ok count) ran = λ clean tables seen. tt
     remove old new n one (Err e) ran = λ clean tables seen.
-        stops (remove_text t) (Int n ∷ []) old new present_schema (schema_seen seen) _ writes.remove writes.remove_plain one refl refl e
+        stops (remove_text t) (Int n ∷ []) old new present_schema (schema_seen seen) _ writes.remove.command writes.remove.plain one refl refl e
         (λ text does. removes at is old tables seen (keyed_seen old tables seen) e n text (at_schema old.step_limit (mode_of old) (Int n ∷ []) old.now present_schema text (Delete at (writes_where tree by_number (col 1 0 ∷ []))) e (schema_seen seen) does)) (ran clean seen.inside)
 
   module _ {B : Type 0} (place : ℕ) (values : K → B → Row) (over : K → B → Value → Row) (keeps : KeepsNumbers (numbered name tree columns) place number values over) (whole : B → List ℕ → C) (same : (key : K) (b : B) (text : List ℕ) → cells key (whole b text) ≡ over key b (Text text))

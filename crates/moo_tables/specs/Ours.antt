@@ -1,7 +1,9 @@
 -- Which tables are ours.
-use Rattle.std.specs.Prelude.{◌≡◌, ℕ, false, List, [], ◌∷◌, Some, None}
+use Rattle.std.specs.Prelude.{◌≡◌, ℕ, false, if◌then◌else◌, map, List, [], ◌∷◌, Some, None}
 use Rattle.sqlite.specs.Table.{Table}
 use Rattle.sqlite_value.specs.Keys.{plain}
+use Rattle.moo_tables.specs.declared.columns.OurTable.{OurTable}
+use Rattle.moo_tables.specs.Columns.{numbered, paired, required}
 
 -- no constraint but the key, and no column that is computed
 pub record HasNoRules (t : Table) : Type 0 where
@@ -30,3 +32,9 @@ pub record IsPaired (name : List ℕ) (tree : ℕ) (t : Table) : Type 0 where
   pub primary : t.primary ≡ 1 ∷ 2 ∷ []
   pub uniques : t.uniques ≡ (1 ∷ 2 ∷ []) ∷ []
   pub orders : t.orders ≡ plain ∷ []
+
+-- the table as the schema has it
+abbrev pub our_table : OurTable → Table
+our_table t =
+    let columns = map (λ c. required c.1 c.0.now) t.columns.now in
+    if t.is_paired then paired t.name.now t.tree columns else numbered t.name.now t.tree columns

@@ -14,42 +14,42 @@ use crate::counter::{CREATE_PETITION_HEAD, put_counter};
 use crate::head::put_head;
 use crate::petition::CREATE_PETITION;
 use crate::slot::{CREATE_SLOT2, SlotCells};
-use crate::statement::run;
+use crate::statement::Run;
 use crate::writing::write_rows;
 use moo_rows::{Head, PropId};
 use moo_value::ObjNo;
-use sqlite::{Alter, Connection, Error, Transaction};
+use sqlite::{Alter, Connection, Error};
 
 /// Makes the tables that the first version lacks, empty, and leaves the others as they are.
-pub(crate) fn create_added_tables<S: Alter>(tx: &mut Transaction<'_, S>) -> Result<usize, Error>
-    ensures same_reference { tx.new.conn.ghost_name ≡ tx.old.conn.ghost_name }
-    ensures inside { StaysInside (state S.Store tx.old.conn.now) (state S.Store tx.new.conn.now) }
-    ensures made { OnOk result (HasCleanDisk (state S.Store tx.new.conn.now) → (tables : _) → Holds (state S.Store tx.old.conn.now).now tables → tables.version ≡ First → Sees (state S.Store tx.new.conn.now) (grown tables) × KeepsUnread (state S.Store tx.old.conn.now).now (state S.Store tx.new.conn.now).now) }
+pub(crate) fn create_added_tables<T: Run>(tx: &mut T) -> Result<usize, Error>
+    ensures same_reference { T.lender tx.new ≡ T.lender tx.old }
+    ensures inside { StaysInside (T.state tx.old) (T.state tx.new) }
+    ensures made { OnOk result (HasCleanDisk (T.state tx.new) → (tables : _) → Holds (T.state tx.old).now tables → tables.version ≡ First → Sees (T.state tx.new) (grown tables) × KeepsUnread (T.state tx.old).now (T.state tx.new).now) }
 {
-    run(tx, CREATE_SLOT2, &[])?;
-    run(tx, CREATE_PETITION, &[])?;
-    run(tx, CREATE_PETITION_HEAD, &[])
+    tx.run(CREATE_SLOT2, &[])?;
+    tx.run(CREATE_PETITION, &[])?;
+    tx.run(CREATE_PETITION_HEAD, &[])
 }
 
 /// Makes the tables of the present version with this head and these slots, within a transaction.
 ///
 /// The first petition has the number 1. Every row of the table `slot` is deleted, which only the first version reads.
-fn write_migrated<S: Alter>(
-    tx: &mut Transaction<'_, S>,
+fn write_migrated<T: Run>(
+    tx: &mut T,
     head: &Head,
     slots: &[((ObjNo, PropId), Option<SlotCells>)],
 ) -> Result<usize, Error>
     requires { head.now.seq < 2 ^ 63 }
-    ensures same_reference { tx.new.conn.ghost_name ≡ tx.old.conn.ghost_name }
-    ensures inside { StaysInside (state S.Store tx.old.conn.now) (state S.Store tx.new.conn.now) }
-    ensures goes_on { HasCleanDisk (state S.Store tx.new.conn.now) → OnOk result (IsTrue (state S.Store tx.new.conn.now).in_transaction) }
-    ensures migrated { OnOk result (HasCleanDisk (state S.Store tx.new.conn.now) → (tables : _) → Holds (state S.Store tx.old.conn.now).now tables → IsEarlier tables.version → Sees (state S.Store tx.new.conn.now) (migrated head.now slots.now tables) × HasNoSlot (state S.Store tx.new.conn.now).now) }
+    ensures same_reference { T.lender tx.new ≡ T.lender tx.old }
+    ensures inside { StaysInside (T.state tx.old) (T.state tx.new) }
+    ensures goes_on { HasCleanDisk (T.state tx.new) → OnOk result (IsTrue (T.state tx.new).in_transaction) }
+    ensures migrated { OnOk result (HasCleanDisk (T.state tx.new) → (tables : _) → Holds (T.state tx.old).now tables → IsEarlier tables.version → Sees (T.state tx.new) (migrated head.now slots.now tables) × HasNoSlot (T.state tx.new).now) }
 {
     create_added_tables(tx)?;
     put_counter(tx, 1)?;
     put_head(tx, head)?;
     write_rows(tx, slots)?;
-    run(tx, "DELETE FROM slot", &[])
+    tx.run("DELETE FROM slot", &[])
 }
 
 /// Makes tables of an earlier version those of the present one, all or nothing.

@@ -1,24 +1,40 @@
 //! Which version of the tables a database has.
 
-ghost use Rattle.std.specs.Prelude.{◌≡◌, ◌≢◌, ◌↔◌, [], ◌∷◌, drop, IsTrue, IfOk, IfSome, IfNone};
+ghost use Rattle.std.specs.Prelude.{◌≡◌, ◌≢◌, ◌↔◌, [], ◌∷◌, map, IsTrue, IfOk, IfSome, IfNone};
 ghost use Rattle.std.specs.List.{AllByRecursion};
 ghost use Rattle.sqlite_value.specs.Keys.{plain};
-ghost use Rattle.moo_tables.specs.Tables.{head_table, object_table, prop_table, slot_table, verb_table, slot2_table, petition_table, petition_head_table, key_index, first_schema, second_schema, schema_of};
-ghost use Rattle.moo_tables.specs.Ours.{HasNoRules, IsNumbered, IsPaired};
+ghost use Rattle.moo_tables.specs.Tables.{key_index, first_schema, second_schema, schema_of};
+ghost use Rattle.moo_tables.specs.Ours.{HasNoRules, IsNumbered, IsPaired, our_table};
 
-use crate::counter::are_petition_head_columns;
-use crate::head::are_head_columns;
-use crate::object::are_object_columns;
-use crate::petition::are_petition_columns;
-use crate::prop::are_prop_columns;
-use crate::slot::{are_slot_columns, are_slot2_columns};
-use crate::verb::are_verb_columns;
+use crate::columns::{OurTable, are_required};
+use crate::counter::PETITION_HEAD;
+use crate::head::HEAD;
+use crate::object::OBJECT;
+use crate::petition::PETITION;
+use crate::prop::PROP;
+use crate::slot::{SLOT, SLOT2};
+use crate::verb::VERB;
 use crate::version::Version;
 use sqlite_items::Items;
 use sqlite_schema::code::Terms;
 use sqlite_schema::schema::{Index, Schema, Table};
 use sqlite_value::keys::Order;
 use std::alloc::{AllocError, Global};
+
+/// The tables of the first version, in the order in which they are made.
+const FIRST: &[OurTable] = &[HEAD, OBJECT, PROP, SLOT, VERB];
+
+/// Those of the second.
+const SECOND: &[OurTable] = &[
+    HEAD,
+    OBJECT,
+    PROP,
+    SLOT,
+    VERB,
+    SLOT2,
+    PETITION,
+    PETITION_HEAD,
+];
 
 fn are_none(alloc: Global, terms: &Terms) -> Result<bool, AllocError>
     ensures { IfOk result (λ none. IsTrue none ↔ terms.now ≡ []) }
@@ -102,60 +118,30 @@ fn is_paired(table: &Table, name: &[u8], tree: u32) -> bool
         && is_one_plain(table.orders.as_slice())
 }
 
-fn is_head(table: &Table) -> bool
+fn is_table(table: &Table, ours: &OurTable) -> bool
     requires { HasNoRules table.now }
-    ensures { IsTrue result ↔ table.now ≡ head_table }
+    ensures { IsTrue result ↔ table.now ≡ our_table ours.now }
 {
-    is_numbered(table, b"head", 0) && are_head_columns(table.columns.as_slice())
+    let name = ours.name.as_bytes();
+    let is_keyed = if ours.is_paired {
+        is_paired(table, name, ours.tree)
+    } else {
+        is_numbered(table, name, ours.tree)
+    };
+    is_keyed && are_required(table.columns.as_slice(), ours.columns)
 }
 
-fn is_object(table: &Table) -> bool
-    requires { HasNoRules table.now }
-    ensures { IsTrue result ↔ table.now ≡ object_table }
+fn are_tables(tables: &[Table], ours: &[OurTable]) -> bool
+    requires { AllByRecursion HasNoRules tables.now }
+    ensures { IsTrue result ↔ tables.now ≡ map our_table ours.now }
 {
-    is_numbered(table, b"object", 1) && are_object_columns(table.columns.as_slice())
-}
-
-fn is_prop(table: &Table) -> bool
-    requires { HasNoRules table.now }
-    ensures { IsTrue result ↔ table.now ≡ prop_table }
-{
-    is_numbered(table, b"prop", 2) && are_prop_columns(table.columns.as_slice())
-}
-
-fn is_slot(table: &Table) -> bool
-    requires { HasNoRules table.now }
-    ensures { IsTrue result ↔ table.now ≡ slot_table }
-{
-    is_paired(table, b"slot", 3) && are_slot_columns(table.columns.as_slice())
-}
-
-fn is_verb(table: &Table) -> bool
-    requires { HasNoRules table.now }
-    ensures { IsTrue result ↔ table.now ≡ verb_table }
-{
-    is_paired(table, b"verb", 5) && are_verb_columns(table.columns.as_slice())
-}
-
-fn is_slot2(table: &Table) -> bool
-    requires { HasNoRules table.now }
-    ensures { IsTrue result ↔ table.now ≡ slot2_table }
-{
-    is_paired(table, b"slot2", 7) && are_slot2_columns(table.columns.as_slice())
-}
-
-fn is_petition(table: &Table) -> bool
-    requires { HasNoRules table.now }
-    ensures { IsTrue result ↔ table.now ≡ petition_table }
-{
-    is_numbered(table, b"petition", 9) && are_petition_columns(table.columns.as_slice())
-}
-
-fn is_petition_head(table: &Table) -> bool
-    requires { HasNoRules table.now }
-    ensures { IsTrue result ↔ table.now ≡ petition_head_table }
-{
-    is_numbered(table, b"petition_head", 10) && are_petition_head_columns(table.columns.as_slice())
+    match (tables, ours) {
+        ([], []) => true,
+        ([table, tables @ ..], [first, ours @ ..]) => {
+            is_table(table, first) && are_tables(tables, ours)
+        }
+        _ => false,
+    }
 }
 
 fn is_key(index: &Index, name: &[u8], tree: u32, table: u32) -> bool
@@ -173,35 +159,14 @@ fn are_first_tables(tables: &[Table]) -> bool
     requires { AllByRecursion HasNoRules tables.now }
     ensures { IsTrue result ↔ tables.now ≡ first_schema.tables }
 {
-    match tables {
-        [head, object, prop, slot, verb] => {
-            is_head(head) && is_object(object) && is_prop(prop) && is_slot(slot) && is_verb(verb)
-        }
-        _ => false,
-    }
-}
-
-/// Whether they are the tables that the second version adds.
-fn are_added_tables(tables: &[Table]) -> bool
-    requires { AllByRecursion HasNoRules tables.now }
-    ensures { IsTrue result ↔ tables.now ≡ drop 5 second_schema.tables }
-{
-    match tables {
-        [slot2, petition, petition_head] => {
-            is_slot2(slot2) && is_petition(petition) && is_petition_head(petition_head)
-        }
-        _ => false,
-    }
+    are_tables(tables, FIRST)
 }
 
 fn are_second_tables(tables: &[Table]) -> bool
     requires { AllByRecursion HasNoRules tables.now }
     ensures { IsTrue result ↔ tables.now ≡ second_schema.tables }
 {
-    match tables.split_at_checked(5) {
-        Some((first, added)) => are_first_tables(first) && are_added_tables(added),
-        None => false,
-    }
+    are_tables(tables, SECOND)
 }
 
 fn are_first_keys(indexes: &[Index]) -> bool

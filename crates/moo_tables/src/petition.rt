@@ -1,7 +1,6 @@
-//! The table `petition`: its making, writing and reading, and the test of its columns.
+//! The table `petition`: its making, writing and reading, and its columns.
 
-ghost use Rattle.std.specs.Prelude.{Some, None, ◌≡◌, ◌↔◌, ◌∷◌, [], pos, IsTrue, IfOk, OnOk};
-ghost use Rattle.sqlite.specs.Held.{state};
+ghost use Rattle.std.specs.Prelude.{Some, None, ◌≡◌, ◌∷◌, [], pos, IfOk, OnOk};
 ghost use Rattle.sqlite.specs.Values.{bound};
 ghost use Rattle.sqlite.specs.declared.types.Value.TheVariants.{Null, Int, Text};
 ghost use Rattle.moo_tables.specs.Cause.{HasCauseIn};
@@ -9,15 +8,15 @@ ghost use Rattle.moo_tables.specs.Cells.{with_petition_cells};
 ghost use Rattle.moo_tables.specs.Columns.{all_but};
 ghost use Rattle.moo_tables.specs.Over.{WritesOver};
 ghost use Rattle.moo_tables.specs.Inside.{StaysInside, Changes};
-ghost use Rattle.moo_tables.specs.Petition.{petition_row, petition_table};
+ghost use Rattle.moo_tables.specs.Petition.{petition_row};
 
-use crate::columns::{is_number, is_text};
-use crate::statement::{counter_value, object_value, run, text_value};
+use crate::columns::OurTable;
+use crate::statement::{Run, counter_value, object_value, text_value};
 use crate::table_row::TableRow;
 use moo_rows::PetitionId;
 use moo_value::ObjNo;
-use sqlite::{Alter, Error, Transaction};
-use sqlite_schema::schema::Column;
+use sqlite::Error;
+use sqlite_schema::schema::Kind;
 use sqlite_value::value::ValueRef;
 
 /// Makes the table.
@@ -59,20 +58,15 @@ fn petition_key(id: PetitionId) -> [ValueRef<'static>; 1]
 }
 
 /// Writes over the row with a key, if there is one, and leaves the cell of its calls. Answers how many rows it wrote over: one or none.
-fn keep_petition<S: Alter>(
-    tx: &mut Transaction<'_, S>,
-    id: PetitionId,
-    row: &PetitionCells,
-) -> Result<usize, Error>
+fn keep_petition<T: Run>(tx: &mut T, id: PetitionId, row: &PetitionCells) -> Result<usize, Error>
     requires stays { row.now.calls ≡ None }
-    ensures same_reference { tx.new.conn.ghost_name ≡ tx.old.conn.ghost_name }
-    ensures inside { StaysInside (state S.Store tx.old.conn.now) (state S.Store tx.new.conn.now) }
-    ensures over { IfOk result (λ count. WritesOver (with_petition_cells id (Some row.now)) count (state S.Store tx.old.conn.now) (state S.Store tx.new.conn.now)) }
-    ensures put { OnOk result (Changes (with_petition_cells id (Some row.now)) (state S.Store tx.old.conn.now) (state S.Store tx.new.conn.now)) }
-    ensures cause { HasCauseIn (state S.Store tx.old.conn.now) (state S.Store tx.new.conn.now) result }
+    ensures same_reference { T.lender tx.new ≡ T.lender tx.old }
+    ensures inside { StaysInside (T.state tx.old) (T.state tx.new) }
+    ensures over { IfOk result (λ count. WritesOver (with_petition_cells id (Some row.now)) count (T.state tx.old) (T.state tx.new)) }
+    ensures put { OnOk result (Changes (with_petition_cells id (Some row.now)) (T.state tx.old) (T.state tx.new)) }
+    ensures cause { HasCauseIn (T.state tx.old) (T.state tx.new) result }
 {
-    run(
-        tx,
+    tx.run(
         "UPDATE petition SET who = ?2 WHERE id = ?1",
         &kept_petition_values(id, row),
     )
@@ -83,14 +77,9 @@ impl TableRow for PetitionCells {
 
     ghost with_row = { with_petition_cells };
 
-    fn update<S: Alter>(
-        &self,
-        tx: &mut Transaction<'_, S>,
-        id: PetitionId,
-    ) -> Result<usize, Error> {
+    fn update<T: Run>(&self, tx: &mut T, id: PetitionId) -> Result<usize, Error> {
         match &self.calls {
-            Some(calls) => run(
-                tx,
+            Some(calls) => tx.run(
                 "UPDATE petition SET who = ?2, calls = ?3 WHERE id = ?1",
                 &petition_values(id, self, calls.as_slice()),
             ),
@@ -98,10 +87,9 @@ impl TableRow for PetitionCells {
         }
     }
 
-    fn put<S: Alter>(&self, tx: &mut Transaction<'_, S>, id: PetitionId) -> Result<usize, Error> {
+    fn put<T: Run>(&self, tx: &mut T, id: PetitionId) -> Result<usize, Error> {
         match &self.calls {
-            Some(calls) => run(
-                tx,
+            Some(calls) => tx.run(
                 "INSERT INTO petition VALUES (?1, ?2, ?3) ON CONFLICT (id) DO UPDATE SET who = ?2, calls = ?3",
                 &petition_values(id, self, calls.as_slice()),
             ),
@@ -109,18 +97,19 @@ impl TableRow for PetitionCells {
         }
     }
 
-    fn remove<S: Alter>(tx: &mut Transaction<'_, S>, id: PetitionId) -> Result<usize, Error> {
-        run(tx, "DELETE FROM petition WHERE id = ?1", &petition_key(id))
+    fn remove<T: Run>(tx: &mut T, id: PetitionId) -> Result<usize, Error> {
+        tx.run("DELETE FROM petition WHERE id = ?1", &petition_key(id))
     }
 }
 
-pub(crate) fn are_petition_columns(columns: &[Column]) -> bool
-    ensures { IsTrue result ↔ columns.now ≡ petition_table.columns }
-{
-    match columns {
-        [id, who, calls] => {
-            is_number(id, b"id") && is_number(who, b"who") && is_text(calls, b"calls")
-        }
-        _ => false,
-    }
-}
+/// The table, as a database has it.
+pub(crate) const PETITION: OurTable = OurTable {
+    name: "petition",
+    tree: 9,
+    is_paired: false,
+    columns: &[
+        ("id", Kind::Integer),
+        ("who", Kind::Integer),
+        ("calls", Kind::Text),
+    ],
+};

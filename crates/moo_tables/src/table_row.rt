@@ -1,13 +1,13 @@
 //! What the writer of rows asks of a table.
 
 ghost use Rattle.std.specs.Prelude.{◌≡◌, Option, Some, None, IfOk, OnOk};
-ghost use Rattle.sqlite.specs.Held.{state};
 ghost use Rattle.moo_tables.specs.Cause.{HasCauseIn};
 ghost use Rattle.moo_tables.specs.Tables.{Tables};
 ghost use Rattle.moo_tables.specs.Over.{WritesOver};
 ghost use Rattle.moo_tables.specs.Inside.{StaysInside, Changes};
 
-use sqlite::{Alter, Error, Transaction};
+use crate::statement::Run;
+use sqlite::Error;
 
 /// A row without its key, of a table that has many.
 pub(crate) trait TableRow {
@@ -16,23 +16,23 @@ pub(crate) trait TableRow {
     ghost with_row: { Self.Key → Option Self → Tables → Tables };
 
     /// Writes over the row with a key, if there is one. Answers how many rows it wrote over: one or none.
-    fn update<S: Alter>(&self, tx: &mut Transaction<'_, S>, key: Self::Key) -> Result<usize, Error>
-        ensures same_reference { tx.new.conn.ghost_name ≡ tx.old.conn.ghost_name }
-        ensures inside { StaysInside (state S.Store tx.old.conn.now) (state S.Store tx.new.conn.now) }
-        ensures over { IfOk result (λ count. WritesOver (with_row key (Some self.now)) count (state S.Store tx.old.conn.now) (state S.Store tx.new.conn.now)) }
-        ensures cause { HasCauseIn (state S.Store tx.old.conn.now) (state S.Store tx.new.conn.now) result };
+    fn update<T: Run>(&self, tx: &mut T, key: Self::Key) -> Result<usize, Error>
+        ensures same_reference { T.lender tx.new ≡ T.lender tx.old }
+        ensures inside { StaysInside (T.state tx.old) (T.state tx.new) }
+        ensures over { IfOk result (λ count. WritesOver (with_row key (Some self.now)) count (T.state tx.old) (T.state tx.new)) }
+        ensures cause { HasCauseIn (T.state tx.old) (T.state tx.new) result };
 
     /// Puts a row, in place of the one with its key if there is one.
-    fn put<S: Alter>(&self, tx: &mut Transaction<'_, S>, key: Self::Key) -> Result<usize, Error>
-        ensures same_reference { tx.new.conn.ghost_name ≡ tx.old.conn.ghost_name }
-        ensures inside { StaysInside (state S.Store tx.old.conn.now) (state S.Store tx.new.conn.now) }
-        ensures put { OnOk result (Changes (with_row key (Some self.now)) (state S.Store tx.old.conn.now) (state S.Store tx.new.conn.now)) }
-        ensures cause { HasCauseIn (state S.Store tx.old.conn.now) (state S.Store tx.new.conn.now) result };
+    fn put<T: Run>(&self, tx: &mut T, key: Self::Key) -> Result<usize, Error>
+        ensures same_reference { T.lender tx.new ≡ T.lender tx.old }
+        ensures inside { StaysInside (T.state tx.old) (T.state tx.new) }
+        ensures put { OnOk result (Changes (with_row key (Some self.now)) (T.state tx.old) (T.state tx.new)) }
+        ensures cause { HasCauseIn (T.state tx.old) (T.state tx.new) result };
 
     /// Deletes the row with a key, if there is one.
-    fn remove<S: Alter>(tx: &mut Transaction<'_, S>, key: Self::Key) -> Result<usize, Error>
-        ensures same_reference { tx.new.conn.ghost_name ≡ tx.old.conn.ghost_name }
-        ensures inside { StaysInside (state S.Store tx.old.conn.now) (state S.Store tx.new.conn.now) }
-        ensures gone { OnOk result (Changes (with_row key None) (state S.Store tx.old.conn.now) (state S.Store tx.new.conn.now)) }
-        ensures cause { HasCauseIn (state S.Store tx.old.conn.now) (state S.Store tx.new.conn.now) result };
+    fn remove<T: Run>(tx: &mut T, key: Self::Key) -> Result<usize, Error>
+        ensures same_reference { T.lender tx.new ≡ T.lender tx.old }
+        ensures inside { StaysInside (T.state tx.old) (T.state tx.new) }
+        ensures gone { OnOk result (Changes (with_row key None) (T.state tx.old) (T.state tx.new)) }
+        ensures cause { HasCauseIn (T.state tx.old) (T.state tx.new) result };
 }

@@ -1,24 +1,20 @@
 //! A change of the rows of one table, whichever it is.
 
 ghost use Rattle.std.specs.Prelude.{◌≡◌, Some, OnOk};
-ghost use Rattle.sqlite.specs.Held.{state};
 ghost use Rattle.moo_tables.specs.Cells.{with_each};
 ghost use Rattle.moo_tables.specs.Cause.{HasCauseIn};
 ghost use Rattle.moo_tables.specs.Inside.{StaysInside, Changes};
 
+use crate::statement::Run;
 use crate::table_row::TableRow;
-use sqlite::{Alter, Error, Transaction};
+use sqlite::Error;
 
 /// Writes over the row with the key, or puts a new one if no row has it. Answers whether one had it.
-fn write_over<S: Alter, R: TableRow>(
-    tx: &mut Transaction<'_, S>,
-    key: R::Key,
-    row: &R,
-) -> Result<bool, Error>
-    ensures same_reference { tx.new.conn.ghost_name ≡ tx.old.conn.ghost_name }
-    ensures inside { StaysInside (state S.Store tx.old.conn.now) (state S.Store tx.new.conn.now) }
-    ensures written { OnOk result (Changes (R.with_row key (Some row.now)) (state S.Store tx.old.conn.now) (state S.Store tx.new.conn.now)) }
-    ensures cause { HasCauseIn (state S.Store tx.old.conn.now) (state S.Store tx.new.conn.now) result }
+fn write_over<T: Run, R: TableRow>(tx: &mut T, key: R::Key, row: &R) -> Result<bool, Error>
+    ensures same_reference { T.lender tx.new ≡ T.lender tx.old }
+    ensures inside { StaysInside (T.state tx.old) (T.state tx.new) }
+    ensures written { OnOk result (Changes (R.with_row key (Some row.now)) (T.state tx.old) (T.state tx.new)) }
+    ensures cause { HasCauseIn (T.state tx.old) (T.state tx.new) result }
 {
     let count = row.update(tx, key)?;
     if count > 0 {
@@ -31,16 +27,16 @@ fn write_over<S: Alter, R: TableRow>(
 /// Puts the new row, or deletes the old one if there is no new one. Answers whether the next row is expected to be there.
 ///
 /// If a row is expected, the cheaper statement is tried first, which only writes over one.
-fn write_row<S: Alter, R: TableRow>(
-    tx: &mut Transaction<'_, S>,
+fn write_row<T: Run, R: TableRow>(
+    tx: &mut T,
     key: R::Key,
     cells: &Option<R>,
     expected: bool,
 ) -> Result<bool, Error>
-    ensures same_reference { tx.new.conn.ghost_name ≡ tx.old.conn.ghost_name }
-    ensures inside { StaysInside (state S.Store tx.old.conn.now) (state S.Store tx.new.conn.now) }
-    ensures written { OnOk result (Changes (R.with_row key cells.now) (state S.Store tx.old.conn.now) (state S.Store tx.new.conn.now)) }
-    ensures cause { HasCauseIn (state S.Store tx.old.conn.now) (state S.Store tx.new.conn.now) result }
+    ensures same_reference { T.lender tx.new ≡ T.lender tx.old }
+    ensures inside { StaysInside (T.state tx.old) (T.state tx.new) }
+    ensures written { OnOk result (Changes (R.with_row key cells.now) (T.state tx.old) (T.state tx.new)) }
+    ensures cause { HasCauseIn (T.state tx.old) (T.state tx.new) result }
 {
     match cells {
         Some(row) if expected => write_over(tx, key, row),
@@ -56,14 +52,14 @@ fn write_row<S: Alter, R: TableRow>(
 }
 
 /// Writes these changes, one after another. After a row that wasn't there the others are taken to be new too.
-pub(crate) fn write_rows<S: Alter, R: TableRow>(
-    tx: &mut Transaction<'_, S>,
+pub(crate) fn write_rows<T: Run, R: TableRow>(
+    tx: &mut T,
     changes: &[(R::Key, Option<R>)],
 ) -> Result<(), Error>
-    ensures same_reference { tx.new.conn.ghost_name ≡ tx.old.conn.ghost_name }
-    ensures inside { StaysInside (state S.Store tx.old.conn.now) (state S.Store tx.new.conn.now) }
-    ensures written { OnOk result (Changes (with_each R.with_row changes.now) (state S.Store tx.old.conn.now) (state S.Store tx.new.conn.now)) }
-    ensures cause { HasCauseIn (state S.Store tx.old.conn.now) (state S.Store tx.new.conn.now) result }
+    ensures same_reference { T.lender tx.new ≡ T.lender tx.old }
+    ensures inside { StaysInside (T.state tx.old) (T.state tx.new) }
+    ensures written { OnOk result (Changes (with_each R.with_row changes.now) (T.state tx.old) (T.state tx.new)) }
+    ensures cause { HasCauseIn (T.state tx.old) (T.state tx.new) result }
 {
     let mut expected = true;
     for change in changes {

@@ -1,25 +1,21 @@
-use Rattle.moo_tables.{proofs.Words.{rules, ◌≡◌, ◌⊎◌, [], Result, Ok, Err, OnErr, false, refl, inl, sym, subst, ◌∙◌, state, HasCleanDisk, Shown, Survives, CommitsShowing, IsUnchanged, IsRolledBack}, proofs.StreamLemmas.{IsGiving, begins, refused, survives_on, failed_on, unchanged_on, gives_on, shown_on}, proofs.query.all_rows.Given.{Over}}
+use Rattle.moo_tables.{proofs.Words.{rules, ◌≡◌, refl, inl, ◌∙◌}, proofs.InsideLemmas.{always}, proofs.StreamLemmas.{IsGiving, begins, refused, survives_on, failed_on, unchanged_on, gives_on, shown_on}, proofs.query.all_rows.Given.{Over}}
 use Rattle.moo_tables.proofs.query.all_rows.Goals as goal
-
-always : {A E P : Type 0} (r : Result A E) → P → OnErr r P
-always (Ok a) it = tt
-always (Err e) it = it
 
 -- the connection that is handed back is the one that the query had
 
-row_end : (g : Over) (c : goal.After-drop-all-in_err-row g) → c.next.follows.lender-at-none.conn.now ≡ c.conn-in_err-row-1.given.0
+row_end : (g : Over) (c : goal.After-drop-all-in_err-row g) → c.conn-in_err-row-1.given.0 ≡ c.next.follows.lender-at-none.conn.now
 row_end g c = search rules
 
-rows_end : (g : Over) (c : goal.After-conn-in_default-1 g) → c.next.follows.lender-at-none.conn.now ≡ c.conn-in_default-1.given.0
+rows_end : (g : Over) (c : goal.After-conn-in_default-1 g) → c.conn-in_default-1.given.0 ≡ c.next.follows.lender-at-none.conn.now
 rows_end g c = search rules
 
-copy_end : (g : Over) (c : goal.After-drop-all-in_err-copy g) → c.next.follows.lender-at-none.conn.now ≡ c.conn-in_err-copy-1.given.0
+copy_end : (g : Over) (c : goal.After-drop-all-in_err-copy g) → c.conn-in_err-copy-1.given.0 ≡ c.next.follows.lender-at-none.conn.now
 copy_end g c = search rules
 
-push_end : (g : Over) (c : goal.After-drop-all-in_err-push g) → c.next.follows.lender-at-none.conn.now ≡ c.conn-in_err-push-1.given.0
+push_end : (g : Over) (c : goal.After-drop-all-in_err-push g) → c.conn-in_err-push-1.given.0 ≡ c.next.follows.lender-at-none.conn.now
 push_end g c = search rules
 
-last_end : (g : Over) (c : goal.After-drop-all-2 g) → c.rows.rows.conn.now ≡ c.conn-2-1.given.0
+last_end : (g : Over) (c : goal.After-drop-all-2 g) → c.conn-2-1.given.0 ≡ c.rows.rows.conn.now
 last_end g c = search rules
 
 pub returns-in_err-rows-clause-kept : goal.returns-in_err-rows-clause-kept
@@ -32,87 +28,44 @@ rows-init g c =
     (refl, rw c.new-all.ensures.items (begins g.S.Store c.args.sql.now c.args.conn.now c.in_ok-rows.rows.conn.now made.mode made.survives made.begun))
 
 pub returns-in_err-row-clause-outside : goal.returns-in_err-row-clause-outside
-returns-in_err-row-clause-outside g c h =
-    let now = c.next.follows.lender-at-none.conn.now in
-    let same = row_end g c in
-    subst (λ h. h.in_transaction ≡ false) same (c.next.follows.holds-at-none.mode (c.rows.invariant.1.outside h))
+returns-in_err-row-clause-outside g c h = rw (row_end g c) (c.next.follows.holds-at-none.mode (c.rows.invariant.1.outside h))
 
 pub returns-in_err-row-clause-kept : goal.returns-in_err-row-clause-kept
 returns-in_err-row-clause-kept g c clean plain =
-    let now = c.next.follows.lender-at-none.conn.now in
-    let moved = c.next.follows.holds-at-none in
-    let same = row_end g c in
-    let late = subst (λ h. HasCleanDisk (state g.S.Store h)) (sym same) clean in
-    let it = failed_on g.S.Store c.args.sql.now c.args.conn.now c.rows.rows.conn.now now c.rows.all.items c.rows.invariant.1 moved.survives c.in_err-row.field-0.0 (λ late. rw c.in_err-row.was at (moved.kept late)) late plain in
-    always c.from_residual-in_err-row.result (subst (λ h. IsUnchanged (state g.S.Store c.args.conn.now) (state g.S.Store h) ⊎ IsRolledBack (state g.S.Store c.args.conn.now) (state g.S.Store h)) same it)
+    always c.from_residual-in_err-row.result (rw (row_end g c) (failed_on g.S.Store _ _ _ c.next.follows.lender-at-none.conn.now _ c.rows.invariant.1 c.next.follows.holds-at-none.survives c.in_err-row.field-0.0 (λ late. rw c.in_err-row.was at (c.next.follows.holds-at-none.kept late)) (rw (row_end g c) at clean) plain))
 
 pub returns-in_err-row-clause-survives : goal.returns-in_err-row-clause-survives
-returns-in_err-row-clause-survives g c =
-    let now = c.next.follows.lender-at-none.conn.now in
-    let same = row_end g c in
-    subst (λ h. Survives (state g.S.Store c.args.conn.now) (state g.S.Store h) (CommitsShowing c.args.sql.now [] (state g.S.Store c.args.conn.now))) same (survives_on g.S.Store c.args.sql.now c.args.conn.now c.rows.rows.conn.now now c.rows.all.items c.rows.invariant.1 c.next.follows.holds-at-none.survives)
+returns-in_err-row-clause-survives g c = rw (row_end g c) (survives_on g.S.Store _ _ _ c.next.follows.lender-at-none.conn.now _ c.rows.invariant.1 c.next.follows.holds-at-none.survives)
 
 pub returns-in_default-clause-outside : goal.returns-in_default-clause-outside
-returns-in_default-clause-outside g c h =
-    let now = c.next.follows.lender-at-none.conn.now in
-    let same = rows_end g c in
-    subst (λ h. h.in_transaction ≡ false) same (c.next.follows.holds-at-none.mode (c.rows.invariant.1.outside h))
+returns-in_default-clause-outside g c h = rw (rows_end g c) (c.next.follows.holds-at-none.mode (c.rows.invariant.1.outside h))
 
 pub returns-in_default-clause-shown : goal.returns-in_default-clause-shown
 returns-in_default-clause-shown g c clean plain =
-    let now = c.next.follows.lender-at-none.conn.now in
-    let moved = c.next.follows.holds-at-none in
-    let same = rows_end g c in
-    let late = subst (λ h. HasCleanDisk (state g.S.Store h)) (sym same) clean in
-    subst (λ h. Shown c.args.sql.now [] (state g.S.Store c.args.conn.now) (state g.S.Store h) c.rows.all.items) same (shown_on g.S.Store c.args.sql.now c.args.conn.now c.rows.rows.conn.now now c.rows.all.items c.rows.invariant.1 moved.survives (λ late. rw (c.in_ok-row.was, c.in_default.is) at (moved.ok late)) late plain)
+    rw (rows_end g c) (shown_on g.S.Store _ _ _ c.next.follows.lender-at-none.conn.now _ c.rows.invariant.1 c.next.follows.holds-at-none.survives (λ late. rw (c.in_ok-row.was, c.in_default.is) at (c.next.follows.holds-at-none.ok late)) (rw (rows_end g c) at clean) plain)
 
 pub returns-in_default-clause-survives : goal.returns-in_default-clause-survives
-returns-in_default-clause-survives g c =
-    let now = c.next.follows.lender-at-none.conn.now in
-    let same = rows_end g c in
-    subst (λ h. Survives (state g.S.Store c.args.conn.now) (state g.S.Store h) (CommitsShowing c.args.sql.now [] (state g.S.Store c.args.conn.now))) same (survives_on g.S.Store c.args.sql.now c.args.conn.now c.rows.rows.conn.now now c.rows.all.items c.rows.invariant.1 c.next.follows.holds-at-none.survives)
+returns-in_default-clause-survives g c = rw (rows_end g c) (survives_on g.S.Store _ _ _ c.next.follows.lender-at-none.conn.now _ c.rows.invariant.1 c.next.follows.holds-at-none.survives)
 
 pub returns-in_err-copy-clause-outside : goal.returns-in_err-copy-clause-outside
-returns-in_err-copy-clause-outside g c h =
-    let now = c.next.follows.lender-at-none.conn.now in
-    let same = copy_end g c in
-    subst (λ h. h.in_transaction ≡ false) same (c.next.follows.holds-at-none.mode (c.rows.invariant.1.outside h))
+returns-in_err-copy-clause-outside g c h = rw (copy_end g c) (c.next.follows.holds-at-none.mode (c.rows.invariant.1.outside h))
 
 pub returns-in_err-copy-clause-kept : goal.returns-in_err-copy-clause-kept
 returns-in_err-copy-clause-kept g c clean plain =
-    let now = c.next.follows.lender-at-none.conn.now in
-    let moved = c.next.follows.holds-at-none in
-    let same = copy_end g c in
-    let late = subst (λ h. HasCleanDisk (state g.S.Store h)) (sym same) clean in
-    let it = inl (unchanged_on g.S.Store c.args.sql.now c.args.conn.now c.rows.rows.conn.now now c.rows.all.items c.rows.invariant.1 moved.survives (λ late. rw c.in_ok-row.was at (moved.same late)) late plain) in
-    always c.from_residual-in_err-copy.result (subst (λ h. IsUnchanged (state g.S.Store c.args.conn.now) (state g.S.Store h) ⊎ IsRolledBack (state g.S.Store c.args.conn.now) (state g.S.Store h)) same it)
+    always c.from_residual-in_err-copy.result (rw (copy_end g c) (inl (unchanged_on g.S.Store _ _ _ c.next.follows.lender-at-none.conn.now _ c.rows.invariant.1 c.next.follows.holds-at-none.survives (λ late. rw c.in_ok-row.was at (c.next.follows.holds-at-none.same late)) (rw (copy_end g c) at clean) plain)))
 
 pub returns-in_err-copy-clause-survives : goal.returns-in_err-copy-clause-survives
-returns-in_err-copy-clause-survives g c =
-    let now = c.next.follows.lender-at-none.conn.now in
-    let same = copy_end g c in
-    subst (λ h. Survives (state g.S.Store c.args.conn.now) (state g.S.Store h) (CommitsShowing c.args.sql.now [] (state g.S.Store c.args.conn.now))) same (survives_on g.S.Store c.args.sql.now c.args.conn.now c.rows.rows.conn.now now c.rows.all.items c.rows.invariant.1 c.next.follows.holds-at-none.survives)
+returns-in_err-copy-clause-survives g c = rw (copy_end g c) (survives_on g.S.Store _ _ _ c.next.follows.lender-at-none.conn.now _ c.rows.invariant.1 c.next.follows.holds-at-none.survives)
 
 pub returns-in_err-push-clause-outside : goal.returns-in_err-push-clause-outside
-returns-in_err-push-clause-outside g c h =
-    let now = c.next.follows.lender-at-none.conn.now in
-    let same = push_end g c in
-    subst (λ h. h.in_transaction ≡ false) same (c.next.follows.holds-at-none.mode (c.rows.invariant.1.outside h))
+returns-in_err-push-clause-outside g c h = rw (push_end g c) (c.next.follows.holds-at-none.mode (c.rows.invariant.1.outside h))
 
 pub returns-in_err-push-clause-kept : goal.returns-in_err-push-clause-kept
 returns-in_err-push-clause-kept g c clean plain =
-    let now = c.next.follows.lender-at-none.conn.now in
-    let moved = c.next.follows.holds-at-none in
-    let same = push_end g c in
-    let late = subst (λ h. HasCleanDisk (state g.S.Store h)) (sym same) clean in
-    let it = inl (unchanged_on g.S.Store c.args.sql.now c.args.conn.now c.rows.rows.conn.now now c.rows.all.items c.rows.invariant.1 moved.survives (λ late. rw c.in_ok-row.was at (moved.same late)) late plain) in
-    always c.from_residual-in_err-push.result (subst (λ h. IsUnchanged (state g.S.Store c.args.conn.now) (state g.S.Store h) ⊎ IsRolledBack (state g.S.Store c.args.conn.now) (state g.S.Store h)) same it)
+    always c.from_residual-in_err-push.result (rw (push_end g c) (inl (unchanged_on g.S.Store _ _ _ c.next.follows.lender-at-none.conn.now _ c.rows.invariant.1 c.next.follows.holds-at-none.survives (λ late. rw c.in_ok-row.was at (c.next.follows.holds-at-none.same late)) (rw (push_end g c) at clean) plain)))
 
 pub returns-in_err-push-clause-survives : goal.returns-in_err-push-clause-survives
-returns-in_err-push-clause-survives g c =
-    let now = c.next.follows.lender-at-none.conn.now in
-    let same = push_end g c in
-    subst (λ h. Survives (state g.S.Store c.args.conn.now) (state g.S.Store h) (CommitsShowing c.args.sql.now [] (state g.S.Store c.args.conn.now))) same (survives_on g.S.Store c.args.sql.now c.args.conn.now c.rows.rows.conn.now now c.rows.all.items c.rows.invariant.1 c.next.follows.holds-at-none.survives)
+returns-in_err-push-clause-survives g c = rw (push_end g c) (survives_on g.S.Store _ _ _ c.next.follows.lender-at-none.conn.now _ c.rows.invariant.1 c.next.follows.holds-at-none.survives)
 
 pub rows-preserved : goal.rows-preserved
 rows-preserved g c =
@@ -123,20 +76,10 @@ rows-preserved g c =
     (moved.same_reference ∙ c.rows.invariant.0, same)
 
 pub returns-clause-outside : goal.returns-clause-outside
-returns-clause-outside g c h =
-    let now = c.rows.rows.conn.now in
-    let same = last_end g c in
-    subst (λ h. h.in_transaction ≡ false) same (c.rows.invariant.1.outside h)
+returns-clause-outside g c h = rw (last_end g c) (c.rows.invariant.1.outside h)
 
 pub returns-clause-kept : goal.returns-clause-kept
-returns-clause-kept g c clean plain =
-    let now = c.rows.rows.conn.now in
-    let same = last_end g c in
-    let late = subst (λ h. HasCleanDisk (state g.S.Store h)) (sym same) clean in
-    subst (λ h. IsUnchanged (state g.S.Store c.args.conn.now) (state g.S.Store h) ⊎ IsRolledBack (state g.S.Store c.args.conn.now) (state g.S.Store h)) same (inl (c.rows.invariant.1.given late plain).1)
+returns-clause-kept g c clean plain = rw (last_end g c) (inl (c.rows.invariant.1.given (rw (last_end g c) at clean) plain).1)
 
 pub returns-clause-survives : goal.returns-clause-survives
-returns-clause-survives g c =
-    let now = c.rows.rows.conn.now in
-    let same = last_end g c in
-    subst (λ h. Survives (state g.S.Store c.args.conn.now) (state g.S.Store h) (CommitsShowing c.args.sql.now [] (state g.S.Store c.args.conn.now))) same c.rows.invariant.1.survives
+returns-clause-survives g c = rw (last_end g c) c.rows.invariant.1.survives

@@ -1,14 +1,14 @@
-use Rattle.moo_tables.proofs.Words.{subst, sym, OnOk, state, Changes}
+use Rattle.moo_tables.proofs.Words.{subst, sym, OnOk, Changes}
 use Rattle.moo_tables.proofs.writing.write_row.Goals as goal
 
 pub returns-in-Some-clause-written : goal.returns-in-Some-clause-written
 returns-in-Some-clause-written g c =
-    subst (λ cells. OnOk c.write_over.result (Changes (g.R.TableRow.with_row c.args.key cells) (state g.S.Store c.args.tx.now.conn.now) (state g.S.Store c.write_over.new.tx.conn.now))) (sym c.in-Some.is) c.write_over.ensures.written
+    subst (λ cells. OnOk c.write_over.result (Changes (g.R.TableRow.with_row c.args.key cells) (g.T.Run.state c.args.tx.now) (g.T.Run.state c.write_over.new.tx))) (sym c.in-Some.is) c.write_over.ensures.written
 
 pub returns-in_ok-put-in-Some-2-clause-written : goal.returns-in_ok-put-in-Some-2-clause-written
 returns-in_ok-put-in-Some-2-clause-written g c =
-    subst (λ cells. Changes (g.R.TableRow.with_row c.args.key cells) (state g.S.Store c.args.tx.now.conn.now) (state g.S.Store c.put.new.tx.conn.now)) (sym c.in-Some-2.is) c.in_ok-put-in-Some-2.ensures.put
+    subst (λ cells. Changes (g.R.TableRow.with_row c.args.key cells) (g.T.Run.state c.args.tx.now) (g.T.Run.state c.put.new.tx)) (sym c.in-Some-2.is) c.in_ok-put-in-Some-2.ensures.put
 
 pub returns-in_ok-remove-in-None-clause-written : goal.returns-in_ok-remove-in-None-clause-written
 returns-in_ok-remove-in-None-clause-written g c =
-    subst (λ cells. Changes (g.R.TableRow.with_row c.args.key cells) (state g.S.Store c.args.tx.now.conn.now) (state g.S.Store c.remove.new.tx.conn.now)) (sym c.in-None.is) c.in_ok-remove-in-None.ensures.gone
+    subst (λ cells. Changes (g.R.TableRow.with_row c.args.key cells) (g.T.Run.state c.args.tx.now) (g.T.Run.state c.remove.new.tx)) (sym c.in-None.is) c.in_ok-remove-in-None.ensures.gone

@@ -1,37 +1,33 @@
-use Rattle.moo_tables.{proofs.Words.{StopsChange, ◌∙◌, take, subst, sym, take_all, state, with_each, Sees, KeepsUnread}, proofs.InsideLemmas.{stays_then, changes_then}, proofs.CauseLemmas.{Reaches, err_again, fails_after}, proofs.ChangeLemmas.{fold_more}}
+use Rattle.moo_tables.{proofs.Words.{◌∙◌, take, subst, sym, take_all, with_each, Sees, KeepsUnread}, proofs.InsideLemmas.{stays_then, changes_then}, proofs.CauseLemmas.{Reaches, err_after}, proofs.ChangeLemmas.{fold_more}}
 use Rattle.moo_tables.proofs.writing.write_rows.Goals as goal
 
 pub loop-change-preserved : goal.loop-change-preserved
 loop-change-preserved g c =
-    let old = state g.S.Store c.args.tx.now.conn.now in
-    let mid = state g.S.Store c.loop-change.tx.conn.now in
-    let new = state g.S.Store c.write_row.new.tx.conn.now in
+    let old = g.T.Run.state c.args.tx.now in
+    let new = g.T.Run.state c.write_row.new.tx in
     let with_row = g.R.TableRow.with_row in
     let was = c.loop-change.invariant in
     let done = c.in_ok-expected.ensures in
     let x = c.change-item.result in (
       done.same_reference ∙ was.0,
-      stays_then old mid new was.1 done.inside,
+      stays_then was.1 done.inside,
       λ clean tables seen. subst (λ t. Sees new t × KeepsUnread old.now new.now) (sym (fold_more (λ t y. with_row y.0 y.1 t) tables c.args.changes.now c.loop-change.change-index x c.loop-change-test.true c.change-item.is))
-          (changes_then old mid new (with_each with_row (take c.loop-change.change-index c.args.changes.now)) (with_row x.0 x.1) done.inside was.2 done.written clean tables seen),
+          (changes_then done.inside was.2 done.written clean tables seen),
     )
 
 pub returns-clause-written : goal.returns-clause-written
 returns-clause-written g c clean tables seen =
-    let old = state g.S.Store c.args.tx.now.conn.now in
-    let new = state g.S.Store c.loop-change.tx.conn.now in
+    let old = g.T.Run.state c.args.tx.now in
+    let new = g.T.Run.state c.loop-change.tx in
     subst (λ changes. Sees new (with_each g.R.TableRow.with_row changes tables) × KeepsUnread old.now new.now) (take_all c.loop-change.change-index c.args.changes.now c.loop-change-test.false) (c.loop-change.invariant.2 clean tables seen)
 
 pub returns-in_err-expected-clause-inside : goal.returns-in_err-expected-clause-inside
-returns-in_err-expected-clause-inside g c =
-    stays_then (state g.S.Store c.args.tx.now.conn.now) (state g.S.Store c.loop-change.tx.conn.now) (state g.S.Store c.write_row.new.tx.conn.now) c.loop-change.invariant.1 c.write_row.ensures.inside
+returns-in_err-expected-clause-inside g c = stays_then c.loop-change.invariant.1 c.write_row.ensures.inside
 
 pub returns-in_err-expected-clause-cause : goal.returns-in_err-expected-clause-cause
-returns-in_err-expected-clause-cause g c clean tables seen =
-    let old = state g.S.Store c.args.tx.now.conn.now in
-    let mid = state g.S.Store c.loop-change.tx.conn.now in
-    let new = state g.S.Store c.write_row.new.tx.conn.now in
+returns-in_err-expected-clause-cause g c =
+    let old = g.T.Run.state c.args.tx.now in
+    let mid = g.T.Run.state c.loop-change.tx in
     let was = c.loop-change.invariant in
     let reached : Reaches old mid = record { inside = was.1; sees = λ clean tables seen. (with_each g.R.TableRow.with_row (take c.loop-change.change-index c.args.changes.now) tables, (was.2 clean tables seen).0) } in
-    let done = fails_after old mid new c.write_row.result reached c.write_row.ensures.inside c.write_row.ensures.cause clean tables seen in
-    err_again c.write_row.result c.from_residual.result c.in_err-expected.field-0.0 (StopsChange old new) c.in_err-expected.was c.from_residual.ensures.1 done
+    err_after c.write_row.result c.from_residual.result reached c.write_row.ensures.inside c.write_row.ensures.cause c.in_err-expected.was c.from_residual.ensures.1

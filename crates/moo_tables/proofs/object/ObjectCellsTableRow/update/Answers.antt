@@ -3,10 +3,8 @@ use Rattle.moo_tables.proofs.object.ObjectCellsTableRow.update.Goals as goal
 
 pub returns-in-Some-clause-over : goal.returns-in-Some-clause-over
 returns-in-Some-clause-over g c =
-    let values = c.object_values.ensures ∙ ap (λ text. object_row c.args.n c.args.self.now.row (Text text)) c.as_slice.ensures.value in
-    update _ _ _ c.args.self.now c.in-Some.accept _ c.in-Some.is (ran_as _ _ _ _ _ _ values c.run.ensures.ran)
+    update _ _ _ c.args.self.now c.in-Some.accept _ c.in-Some.is (ran_as _ _ _ _ _ _ (c.object_values.ensures ∙ ap (λ text. object_row c.args.n c.args.self.now.row (Text text)) c.as_slice.ensures.value) c.run.ensures.ran)
 
 pub returns-in-Some-clause-cause : goal.returns-in-Some-clause-cause
 returns-in-Some-clause-cause g c =
-    let values = c.object_values.ensures ∙ ap (λ text. object_row c.args.n c.args.self.now.row (Text text)) c.as_slice.ensures.value in
-    update_fails _ _ _ (c.args.self.now, c.in-Some.accept.items) _ (with_values _ _ _ _ _ _ values c.run.ensures.executes)
+    update_fails _ _ _ (c.args.self.now, c.in-Some.accept.items) _ (with_values _ _ _ _ _ _ (c.object_values.ensures ∙ ap (λ text. object_row c.args.n c.args.self.now.row (Text text)) c.as_slice.ensures.value) c.run.ensures.executes)

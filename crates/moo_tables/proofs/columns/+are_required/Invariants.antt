@@ -1,0 +1,5 @@
+use Rattle.moo_tables.proofs.Words.{length}
+use Rattle.moo_tables.proofs.columns.+are_required.Given as goal
+
+abbrev pub decreases-are_required : goal.decreases-are_required
+decreases-are_required l = length l.columns.now
