@@ -1,8 +1,9 @@
 -- Files that hold no database yet.
-use Rattle.moo_files.proofs.Words.{◌≡◌, ◌⊎◌, ◌∙◌, true, inl, inr, ℕ, ◌≤◌, [], Result, Ok, Err, IfOk, IfErr, arith, refl, sym, subst, ∥∥₁_map, Ghosts, Files, OnlyReads, Image, AreWhole, outcomes, IsPageSize, version_in, in_use, IsBlankFile, IsNew, reserved, stored_size, Recovers, StandsAs, IsUnreadable, trimmed_whole, not_blank, catalog_rows, all_trees, file_trees, IsOurs, state_of, Held, FileStore, Finds, file_state, HoldsDatabase, IsEmpty, IsNothing, LeavesFiles, NamesSize, BeginsWell, SaysSums, AreFoundIn, image_of, Leftover, same_image, empty_is_sound, IsBlank, LeavesBlank}
+use Rattle.moo_files.proofs.Words.{◌≡◌, ◌⊎◌, ◌∙◌, true, inl, inr, ℕ, ◌≤◌, ◌<◌, [], IsTrue, ap, listed_from, Result, Ok, Err, IfOk, IfErr, arith, refl, sym, subst, ∥∥₁_map, Ghosts, Files, OnlyReads, Image, AreWhole, outcomes, IsPageSize, version_in, in_use, IsBlankFile, IsNew, reserved, stored_size, Recovers, StandsAs, IsUnreadable, trimmed_whole, not_blank, catalog_rows, all_trees, file_trees, IsOurs, state_of, Held, FileStore, Finds, file_state, HoldsDatabase, IsEmpty, IsNothing, LeavesFiles, NamesSize, BeginsWell, SaysSums, AreFoundIn, image_of, Leftover, same_image, empty_is_sound, IsBlank, LeavesBlank}
 use Rattle.sqlite_pages.specs.PageMap.{PageMap}
 use Rattle.sqlite_pool.proofs.ResealLemmas.{adopts_of}
-use Rattle.sqlite_store.{specs.Db.{trees_in}, proofs.BuildLemmas.{new_is_empty}, proofs.ListingLemmas.{past_version, named_tree}}
+use Rattle.std.proofs.Common.{◌^◌}
+use Rattle.sqlite_store.{specs.FileStore.{view, schema_of, IsReady}, specs.Db.{trees_in}, proofs.BuildLemmas.{new_is_empty}, proofs.ListingLemmas.{past_version, named_tree}}
 use Rattle.sqlite_store.specs.Opening as store
 use Rattle.sqlite_trees.specs.Tree.{Trees}
 use Rattle.sqlite_wal.proofs.CleanLemmas.{both_clean}
@@ -24,6 +25,14 @@ empty_database size image pages valid found ours =
       (size, valid, record { pages = pages; wanted = []; schema = _; found = adopts_of size image pages found; ours = ours; reads = refl; sound = empty_is_sound db unlisted }),
       (λ tree low. past_version tree low (all_trees size [] (in_use size pages)) (version_in pages) ∙ named_tree tree low size [] (in_use size pages), unlisted),
     )
+
+-- what `create` makes has no rows, and no table is listed
+pub made_empty : {D : Type 0} {g : Ghosts D} (store : FileStore D g) → IsReady store → schema_of store ≡ [] → IsTrue (view store).is_clean
+    → ((tree : ℕ) → tree < 2 ^ 32 → (view store).committed tree ≡ []) → IsEmpty (view store).trees
+made_empty store ready none clean empty = (
+  λ tree low. ap (λ d. d tree) ready.clean ∙ empty tree low,
+  rw clean (catalog_rows _ _ _ ∙ ap (listed_from 0) none),
+)
 
 -- what `create` leaves on its way
 pub on_the_way : (size : ℕ) (image : Image) → size ≡ 1024 → IsPageSize (stored_size size)

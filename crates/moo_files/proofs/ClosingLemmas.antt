@@ -1,6 +1,5 @@
 -- From the steps of closing to what is closed.
-use Rattle.std.proofs.Common.{◌⊎◌, inl, inr, ℕ, ◌≤◌, arith}
-use Rattle.sqlite_disk.specs.Disk.{MoreFaults}
+use Rattle.std.proofs.Common.{inl, inr, ℕ, arith}
 use Rattle.sqlite_trees.{specs.Tree.{Trees}, specs.View.{View, IsQuiet}}
 
 pub quiet_then : {S : Type 0} {view : S → View} {faults : S → ℕ} {recovers : S → Trees → Type 0} {is_shielded : S → Type 0} {a b c : S} → IsQuiet view faults recovers is_shielded a b → IsQuiet view faults recovers is_shielded b c → IsQuiet view faults recovers is_shielded a c

@@ -1,5 +1,5 @@
 -- From what the files hold to what a connection to them keeps.
-use Rattle.moo_files.{proofs.Words.{◌≡◌, ◌≢◌, ◌⊎◌, inl, inr, ℕ, zero, suc, ◌≤◌, Result, Ok, Err, IfErr, [], ap, arith, sym, subst, subst₂, ◌∙◌, length, IsTrue, ∥∥₁_elim, ∥∥₁_map, Trees-set, Trees, HasCleanDisk, Survives, Opens, IsLive, Held, IsEmpty, IsNothing, file_state, empty_is_sound, Ghosts, FileStore, Error, State, Tables, schema_of, first_schema, no_schema, ShowsState, LeavesState, Left, IsOfStore, Adopts, StoreFault, IsBlank, HoldsTrees, HoldsTables, HoldsState, HasOtherTables, HasAnyTable, IsMigrated, IsKept, ReadsAs, ReadsAsOurs, HoldsNoTable}, proofs.BlankLemmas.{holds_none}, proofs.RemainsLemmas.{found_empty, begun_empty}}
+use Rattle.moo_files.{proofs.Words.{◌≡◌, ◌≢◌, ◌⊎◌, inl, inr, ℕ, ◌≤◌, Result, Ok, Err, IfErr, [], ap, arith, sym, subst, subst₂, ◌∙◌, IsTrue, ∥∥₁_elim, ∥∥₁_map, Trees-set, Trees, HasCleanDisk, Survives, Opens, IsLive, Held, IsEmpty, IsNothing, file_state, empty_is_sound, Ghosts, FileStore, Error, State, Tables, schema_of, no_schema, ShowsState, LeavesState, Left, IsOfStore, Adopts, StoreFault, IsBlank, HoldsTrees, HoldsTables, HoldsState, HasOtherTables, HasAnyTable, IsMigrated, IsKept, ReadsAs, ReadsAsOurs, HoldsNoTable}, proofs.BlankLemmas.{holds_none}, proofs.RemainsLemmas.{found_empty, begun_empty}}
 use Rattle.sqlite.{specs.Recovery.{Image}, specs.Schema.{Schema}, specs.State.{State as Database}, specs.Start.{FindsIn}, specs.Effect.{Database as Content, IsDatabase}}
 use Rattle.sqlite_trees.specs.Objects.{catalog_tree}
 use Rattle.sqlite_catalog.specs.Listing.{IsSound}

@@ -4,11 +4,9 @@ ghost use Rattle.std.specs.Prelude.{◌≡◌, [], IsTrue, IfOk, IfErr, false};
 ghost use Rattle.sqlite_wal.specs.PageSize.{bytes_of};
 ghost use Rattle.sqlite_wal.specs.Reads.{AreClean};
 ghost use Rattle.sqlite_trees.specs.Tree.{Trees};
-ghost use Rattle.sqlite_store.specs.FileStore.{view};
-ghost use Rattle.sqlite_store.specs.Unopened.{state_of, files_of, wanted_by, AreUsable, Creates};
+ghost use Rattle.sqlite_store.specs.Unopened.{state_of, files_of, wanted_by};
 ghost use Rattle.sqlite.specs.State.{HasCleanDisk};
 ghost use Rattle.sqlite.specs.Held.{IsNew};
-ghost use Rattle.sqlite.specs.Opening.{IsMade};
 ghost use Rattle.sqlite.specs.Files.{file_state, IsOpened, HoldsDatabase, IsEmpty, IsCleanLeft, image_of};
 ghost use Rattle.moo_files.specs.Blank.{IsBlank, MakesOrFinds, LeavesBlank, SparesFiles};
 
@@ -72,21 +70,6 @@ fn unopened<D: Disk>(
     }
 }
 
-/// Makes a database without tables in files that hold none.
-fn create_blank<D: Disk>(fresh: Unopened<D>) -> Result<FileStore<D>, (Error, Unopened<D>)>
-    requires usable { AreUsable fresh }
-    requires none { wanted_by fresh ≡ [] }
-    ensures made { IfOk result (λ store. IsTrue (view store).is_clean → IsMade fresh store) }
-    ensures honest { IfOk result (λ store. IsTrue (view store).is_clean → IsTrue (state_of fresh).is_clean) }
-    ensures falls { IfErr result (λ e. IsTrue (state_of e.1).is_clean → IsTrue (state_of fresh).is_clean) }
-    ensures kept { IfErr result (λ e. IsTrue (state_of e.1).is_clean → Creates fresh (state_of e.1)) }
-{
-    match fresh.create() {
-        Ok(store) => Ok(store),
-        Err((error, left)) => Err((make_error(error), left)),
-    }
-}
-
 /// A connection to a new database without tables, in files that hold none.
 fn connect_blank<D: Disk + Drop>(
     alloc: Global,
@@ -108,9 +91,9 @@ fn connect_blank<D: Disk + Drop>(
         Ok(fresh) => fresh,
         Err(left) => return Err((NO_MEMORY, Leftover::Files(left))),
     };
-    let store = match create_blank(fresh) {
+    let store = match fresh.create() {
         Ok(store) => store,
-        Err((error, left)) => return Err((error, Leftover::Unopened(left))),
+        Err((error, left)) => return Err((make_error(error), Leftover::Unopened(left))),
     };
     match Connection::over(alloc, store) {
         Ok(conn) => Ok(conn),

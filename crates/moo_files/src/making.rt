@@ -197,7 +197,7 @@ pub fn create_at<H: WorldFiles<Unknown>>(
     match create_from(alloc, host, path, Unknown) {
         Ok(world) => Ok(world),
         Err((fault, remains)) => {
-            remains.close().shut();
+            remains.shut();
             Err(fault)
         }
     }

@@ -163,7 +163,7 @@ pub fn open_at<H: WorldFiles<Unknown>>(
     match open_from(alloc, host, path, Unknown) {
         Ok(world) => Ok(world),
         Err((fault, remains)) => {
-            remains.close().shut();
+            remains.shut();
             Err(fault)
         }
     }

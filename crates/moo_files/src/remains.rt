@@ -57,10 +57,17 @@ impl<T: Drop, D: Disk + Drop> Remains<T, D> {
         }
     }
 
-    /// Lets go of what is left: files that are open are shut. What is known of a connection weighs on each function that drops one, so this
-    /// drop stands alone.
+    /// Lets go of what is left: files that are open are shut. A connection is closed first, as `close` does it, since what is known of the
+    /// store in files would weigh on a function that drops one.
     pub fn shut(self) {
-        let _shut = self;
+        match self {
+            Remains::Untouched(_start) => {}
+            Remains::NotOpened(_seal) => {}
+            Remains::Leftover(_left) => {}
+            Remains::Connection(conn) => {
+                let _left = close_connection(conn);
+            }
+        }
     }
 }
 

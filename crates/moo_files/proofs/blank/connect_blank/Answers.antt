@@ -1,22 +1,25 @@
-use Rattle.moo_files.{proofs.Words.{◌≡◌, ◌∙◌, false, ap, sym, subst, subst₂, inl, inr, arith, seen_image, outcomes, bytes_of, IsPageSize, are_clean, AreClean, IsBlankFile, stored_size, state_of, image, clean_of, no_doubt, IsEmpty, image_of, stored_used}, proofs.BlankLemmas.{on_the_way}}
+use Rattle.moo_files.{proofs.Words.{◌≡◌, ◌∙◌, false, ap, sym, subst, subst₂, inl, inr, arith, seen_image, outcomes, bytes_of, IsPageSize, are_clean, AreClean, IsBlankFile, stored_size, state_of, image, clean_of, no_doubt, IsEmpty, image_of, stored_used}, proofs.BlankLemmas.{made_empty, on_the_way}}
 use Rattle.moo_files.proofs.blank.connect_blank.Goals as goal
 use Rattle.sqlite_store.{specs.FileStore.{view}, specs.Laws.{settled_at}}
 use Rattle.sqlite.proofs.OpenLemmas.{pool_files}
 
 pub over-requires : goal.over-requires
-over-requires g c none = (c.in-Ok-create_blank.ensures.made (clean_of _ none)).fresh
+over-requires g c none =
+    let e = c.in-Ok-create.ensures in
+    record { sound = e.ready.sound none; numbered = e.numbered; clean = e.ready.clean; unmarked = e.ready.unmarked }
 
 pub returns-in-Ok-over-clause-honest : goal.returns-in-Ok-over-clause-honest
 returns-in-Ok-over-clause-honest g c none =
     let fresh = c.in-Ok.fresh in
-    let still = clean_of (view c.in-Ok-create_blank.store).is_clean (omega (arith, c.in-Ok-over.ensures.clean)) in
-    sym ((pool_files fresh.pool).1 ∙ ap (λ f. are_clean g.D.Disk f.0 f.1) c.in-Ok.ensures.files) ∙ c.in-Ok-create_blank.ensures.honest still
+    let still = clean_of (view c.in-Ok-create.store).is_clean (omega (arith, c.in-Ok-over.ensures.clean)) in
+    sym ((pool_files fresh.pool).1 ∙ ap (λ f. are_clean g.D.Disk f.0 f.1) c.in-Ok.ensures.files) ∙ c.in-Ok-create.ensures.honest still
 
 pub returns-in-Ok-over-clause-empty : goal.returns-in-Ok-over-clause-empty
 returns-in-Ok-over-clause-empty g c none =
-    let it = c.in-Ok-create_blank.ensures.made (clean_of (view c.in-Ok-create_blank.store).is_clean (omega (arith, c.in-Ok-over.ensures.clean))) in
+    let e = c.in-Ok-create.ensures in
+    let still = clean_of (view c.in-Ok-create.store).is_clean (omega (arith, c.in-Ok-over.ensures.clean)) in
     let trees = sym (ap (λ d. d.trees) (c.in-Ok-over.ensures.opens none).0.clean) ∙ c.in-Ok-over.ensures.trees none in
-    subst IsEmpty (sym trees) (it.empty, it.unlisted)
+    subst IsEmpty (sym trees) (made_empty c.in-Ok-create.store e.ready (e.schema ∙ c.in-Ok.ensures.none) still (e.empty still))
 
 pub returns-in-Err-clause-falls : goal.returns-in-Err-clause-falls
 returns-in-Err-clause-falls g c clean = subst₂ (λ a b. AreClean g.D.Disk a b) c.in-Err.ensures.back.0 c.in-Err.ensures.back.1 clean
@@ -24,13 +27,13 @@ returns-in-Err-clause-falls g c clean = subst₂ (λ a b. AreClean g.D.Disk a b)
 pub returns-in-Err-clause-left : goal.returns-in-Err-clause-left
 returns-in-Err-clause-left g c clean blank found lies = subst₂ (λ a b. outcomes g.D.Disk a b found) c.in-Err.ensures.back.0 c.in-Err.ensures.back.1 lies
 
-pub returns-in-Err-create_blank-clause-falls : goal.returns-in-Err-create_blank-clause-falls
-returns-in-Err-create_blank-clause-falls g c clean =
+pub returns-in-Err-create-clause-falls : goal.returns-in-Err-create-clause-falls
+returns-in-Err-create-clause-falls g c clean =
     let fresh = c.in-Ok.fresh in
-    sym ((pool_files fresh.pool).1 ∙ ap (λ f. are_clean g.D.Disk f.0 f.1) c.in-Ok.ensures.files) ∙ c.in-Err-create_blank.ensures.falls clean
+    sym ((pool_files fresh.pool).1 ∙ ap (λ f. are_clean g.D.Disk f.0 f.1) c.in-Ok.ensures.files) ∙ c.in-Err-create.ensures.falls clean
 
-pub returns-in-Err-create_blank-clause-left : goal.returns-in-Err-create_blank-clause-left
-returns-in-Err-create_blank-clause-left g c clean blank found may =
+pub returns-in-Err-create-clause-left : goal.returns-in-Err-create-clause-left
+returns-in-Err-create-clause-left g c clean blank found may =
     let fresh = c.in-Ok.fresh in
     let made = c.in-Ok.ensures in
     let given = c.args.size in
@@ -39,7 +42,7 @@ returns-in-Err-create_blank-clause-left g c clean blank found may =
     let nothing : IsBlankFile (state_of fresh).page_size (image fresh) = subst₂ IsBlankFile (sym size) (sym seen) blank in
     let whole : IsPageSize (bytes_of given) = (given.smallest, given.largest, given.power, given.aligned) in
     let valid : IsPageSize (stored_size (state_of fresh).page_size) = subst IsPageSize (sym (ap stored_size made.size ∙ stored_used given false)) whole in
-    elim ((c.in-Err-create_blank.ensures.kept clean).blank nothing found may) [
+    elim ((c.in-Err-create.ensures.unharmed clean).blank nothing found may) [
       | inl was ↦ inl (subst (λ f. outcomes g.D.Disk f.0 f.1 found) made.files ((pool_files fresh.pool).2 found was))
       | inr way ↦ inr (on_the_way (state_of fresh).page_size found size valid (rw made.none at way))
     ]
@@ -48,13 +51,14 @@ pub returns-in-Err-over-clause-falls : goal.returns-in-Err-over-clause-falls
 returns-in-Err-over-clause-falls g c late =
     let fresh = c.in-Ok.fresh in
     let now = no_doubt _ late in
-    let still = clean_of (view c.in-Ok-create_blank.store).is_clean (omega (arith, c.in-Err-over.ensures.unharmed.clean)) in
-    sym ((pool_files fresh.pool).1 ∙ ap (λ f. are_clean g.D.Disk f.0 f.1) c.in-Ok.ensures.files) ∙ c.in-Ok-create_blank.ensures.honest still
+    let still = clean_of (view c.in-Ok-create.store).is_clean (omega (arith, c.in-Err-over.ensures.unharmed.clean)) in
+    sym ((pool_files fresh.pool).1 ∙ ap (λ f. are_clean g.D.Disk f.0 f.1) c.in-Ok.ensures.files) ∙ c.in-Ok-create.ensures.honest still
 
 pub returns-in-Err-over-clause-left : goal.returns-in-Err-over-clause-left
 returns-in-Err-over-clause-left g c late blank found may =
     let now = no_doubt _ late in
-    let store = c.in-Ok-create_blank.store in
-    let it = c.in-Ok-create_blank.ensures.made (clean_of (view store).is_clean (omega (arith, c.in-Err-over.ensures.unharmed.clean))) in
-    let is = settled_at store g.met.D.Disk.seen_may_stay found it.is_open (c.in-Err-over.ensures.unharmed.outcomes found may) ∙ sym it.fresh.clean in
-    subst IsEmpty (sym is) (it.empty, it.unlisted)
+    let store = c.in-Ok-create.store in
+    let e = c.in-Ok-create.ensures in
+    let still = clean_of (view store).is_clean (omega (arith, c.in-Err-over.ensures.unharmed.clean)) in
+    let is = settled_at store g.met.D.Disk.seen_may_stay found (e.ready.is_open (no_doubt _ still)) (c.in-Err-over.ensures.unharmed.outcomes found may) ∙ sym e.ready.clean in
+    subst IsEmpty (sym is) (made_empty store e.ready (e.schema ∙ c.in-Ok.ensures.none) still (e.empty still))
