@@ -1,12 +1,42 @@
 -- The links of a draft's objects, and the properties that its objects define.
-use Rattle.moo_memory.{proofs.Words.{◌≡◌, Bool, true, false, ◌||◌, cond, Option, None, Some, Less, Equal, Greater, Ordering, unwrap_or, is_some, refl, sym, ap, ◌∙◌, subst, eq_by_cmp, is_eq, FinMap, get, insert, get-insert, ObjNo, PropId, object_exact, object_cmp, prop_cmp, slot_cmp, is_kept, is_candidate, is_to_nothing, has_link, ties_of, ties_have, row_has, row_defined, AreOfDefiners, or_first, or_second, object_total, prop_total, overlaid, of_changes, is_that, may_have_own, is_candidate_of_either, EitherCovers}, specs.declared.own.OwnLinks.{OwnLinks}, proofs.Overlays.{get-overlaid}}
-use Rattle.std.{specs.Prelude.{⊤, OnErr, OnOk}, proofs.Common.{Result, Ok, Err}, specs.Option.{option_map}, proofs.lemmas.Bool.{true≢false}}
+use Rattle.moo_memory.{proofs.Words.{◌≡◌, Bool, true, false, ◌||◌, ◌+◌, cond, Option, None, Some, Less, Equal, Greater, Ordering, unwrap_or, is_some, refl, sym, ap, ◌∙◌, subst, eq_by_cmp, is_eq, FinMap, get, insert, get-insert, ObjNo, PropId, Held, Maps, LinkSets, may_have, may-as-kept, kept-may, on_ok, has-insert, lacked-insert, slot_total, changed, object_exact, object_cmp, prop_cmp, slot_cmp, is_kept, is_candidate, is_to_nothing, has_link, ties_of, row_has, row_defined, AreOfDefiners, or_first, or_second, object_total, prop_total, overlaid, of_changes, is_that, may_have_own, is_candidate_of_either, EitherCovers}, specs.declared.own.OwnLinks.{OwnLinks}, proofs.Overlays.{get-overlaid, overlaid-insert}}
+use Rattle.std.{specs.Prelude.{⊤, ℕ, OnErr, OnOk}, proofs.Common.{Result, Ok, Err}, proofs.lemmas.Bool.{true≢false}, specs.Cmp.{IsTotalOrder}, proofs.lemmas.Map.Lookups.{CmpEqualImpliesEq}, proofs.lemmas.Result.{on_err_weaker, on_ok_weaker}}
 use Rattle.moo_rows.{specs.declared.row.ObjRow.{ObjRow}, specs.declared.row.PropRow.{PropRow}, specs.declared.row.Link.{Link}, proofs.Linking.{defined-put, defined-remove}}
 
 -- what holds whether a call succeeds or not
-pub either_way : {T E A B P : Type 0} (r : Result T E) → OnOk r A → OnErr r B → (A → P) → (B → P) → P
+either_way : {T E A B P : Type 0} (r : Result T E) → OnOk r A → OnErr r B → (A → P) → (B → P) → P
 either_way (Ok x) ok err f g = f ok
 either_way (Err e) ok err f g = g err
+
+-- a map of the rows that a draft is seen as is changed as the draft is, and so is their count
+pub seen-written : {M : Type 0} (of : Maps → M) (put : M → Maps → Maps) (f : M → M) (g : ℕ → ℕ) {before now : Held} {new : M} {count : ℕ}
+    → before ≡ now → new ≡ f (of before.maps) → count ≡ g before.writes
+    → record before { maps = put new before.maps; writes = count } ≡ record now { maps = put (f (of now.maps)) now.maps; writes = g now.writes }
+seen-written of put f g same is counted = λ i.
+    record (same i) { maps = put ((is ∙ ap (λ (h : Held). f (of h.maps)) same) i) (same i).maps; writes = (counted ∙ ap (λ (h : Held). g h.writes) same) i }
+
+-- a change is put over the rows below, or there is no memory for it: what the draft is seen as says so
+module _ {K X T E : Type 0} {cmp : K → K → Ordering} (total : IsTotalOrder cmp) (exact : CmpEqualImpliesEq cmp) (of : Maps → FinMap cmp X) (put : FinMap cmp X → Maps → Maps)
+    {before now : Held} (same : before ≡ now) (r : Result T E) (below : FinMap cmp X) (old new : FinMap cmp (Option X)) (count : ℕ) (seen : of before.maps ≡ overlaid below old) where
+  pub seen-put : (key : K) (o : Option X) → OnOk r ((new ≡ insert old key o) × (count ≡ before.writes + 1))
+      → OnOk r (record before { maps = put (overlaid below new) before.maps; writes = count } ≡ record now { maps = put (changed (of now.maps) key o) now.maps; writes = now.writes + 1 })
+  seen-put key o ok = on_ok_weaker r (λ (h : (new ≡ insert old key o) × (count ≡ before.writes + 1)). seen-written of put (λ m. changed m key o) (λ n. n + 1) same
+      (ap (overlaid below) h.0 ∙ overlaid-insert total exact below old key o ∙ sym (ap (λ m. changed m key o) seen)) h.1) ok
+
+  pub seen-refused : OnErr r ((new ≡ old) × (count ≡ before.writes)) → OnErr r (record before { maps = put (overlaid below new) before.maps; writes = count } ≡ record now { maps = put (of now.maps) now.maps })
+  seen-refused err = on_err_weaker r (λ (h : (new ≡ old) × (count ≡ before.writes)). seen-written of put (λ m. m) (λ n. n) same (ap (overlaid below) h.0 ∙ sym seen) h.1) err
+
+-- ---- links
+
+-- who is kept for no link but those that it was kept for may have no others
+pub may-as-before : (before old new : LinkSets) → old ≡ before → (l : Link) (q : ObjNo) → (is_kept new l q ≡ false → is_kept old l q ≡ false) → may_have new l q ≡ false → may_have before l q ≡ false
+may-as-before before old new same l q kept e = ap (λ s. may_have s l q) (sym same) ∙ may-as-kept old new l q kept e
+
+-- who was put among those that are kept for a link may have it
+pub may-as-put : {K U E : Type 0} {cmp : K → K → Ordering} → IsTotalOrder cmp → (r : Result U E) (old new : FinMap cmp ⊤) (k : K) (sets : LinkSets) (link l : Link) (q : ObjNo) → link ≡ l
+    → (is_some (get new k) ≡ true → is_kept sets l q ≡ true) → OnOk r (new ≡ insert old k tt) → OnOk r (may_have sets link q ≡ true)
+may-as-put total r old new k sets link l q is kept ok =
+    on_ok r (λ e. kept-may sets link q (ap (λ l. is_kept sets l q) is ∙ kept (ap (λ m. is_some (get m k)) e ∙ has-insert total old k tt))) ok
 
 -- ---- objects
 
@@ -36,10 +66,10 @@ module _ (below : ObjNo → Option ObjRow) where
   either-more above old new covers kept l q e = covers l q (kept l q e)
 
   -- an object is changed
-  pub either-change : (changes new : FinMap object_cmp (Option ObjRow)) (own : OwnLinks) (key : ObjNo) (o : Option ObjRow) → EitherCovers below (of_changes changes) own
+  changed-covers : (changes new : FinMap object_cmp (Option ObjRow)) (own : OwnLinks) (key : ObjNo) (o : Option ObjRow) → EitherCovers below (of_changes changes) own
       → ((l : Link) → may_have_own own l key ≡ false → row_has l (below key) ≡ false → row_has l o ≡ false)
       → new ≡ insert changes key o → EitherCovers below (of_changes new) own
-  either-change changes new own key o covers there is l q e f =
+  changed-covers changes new own key o covers there is l q e f =
       ap (λ m. row_has l (of_changes m q)) is ∙ ap (λ p. row_has l (unwrap_or p None)) (get-insert object_total changes key o q) ∙ by (object_cmp q key) refl
     where
       by : (c : Ordering) → object_cmp q key ≡ c → row_has l (unwrap_or (cond (is_eq c) (Some o) (get changes q)) None) ≡ false
@@ -49,9 +79,12 @@ module _ (below : ObjNo → Option ObjRow) where
       by Less c = covers l q e f
       by Greater c = covers l q e f
 
-pub ties_have-row : (l : Link) (o : Option ObjRow) → ties_have l (option_map ties_of o) ≡ row_has l o
-ties_have-row l None = refl
-ties_have-row l (Some r) = refl
+  -- or there is no memory for it
+  pub either-change : {T E : Type 0} (V W : Type 0) (r : Result T E) (changes new : FinMap object_cmp (Option ObjRow)) (own : OwnLinks) (key : ObjNo) (o : Option ObjRow) → OnOk r ((new ≡ insert changes key o) × V) → OnErr r ((new ≡ changes) × W)
+      → EitherCovers below (of_changes changes) own → ((l : Link) → may_have_own own l key ≡ false → row_has l (below key) ≡ false → row_has l o ≡ false) → EitherCovers below (of_changes new) own
+  either-change V W r changes new own key o ok err covers there =
+      either_way r ok err (λ (h : (new ≡ insert changes key o) × V). changed-covers changes new own key o covers there h.0)
+      (λ (h : (new ≡ changes) × W). subst (λ m. EitherCovers below (of_changes m) own) (sym h.0) covers)
 
 -- a row whose links may be, or are below
 pub put-there : (l : Link) (row : ObjRow) (b : Bool) → (has_link l (ties_of row) ≡ true → b ≡ true) → b ≡ false → has_link l (ties_of row) ≡ false
@@ -81,11 +114,15 @@ module _ (changes new : FinMap prop_cmp (Option PropRow)) (key : PropId) where
       by true = refl
       by false = refl
 
-  -- a property is put, and its definer with it
-  pub draft-put : (old definers : FinMap slot_cmp ⊤) (row : PropRow) → AreOfDefiners (of_changes changes) old
-      → definers ≡ insert old (row.definer, key) tt → new ≡ insert changes key (Some row) → AreOfDefiners (of_changes new) definers
-  draft-put old definers row covers put is = defined-put (of_changes changes) (of_changes new) key old definers row covers put (read_change (Some row) is)
+  -- a property is put, and its definer with it; the definer alone if there is no memory for the row
+  pub draft-put : {T E : Type 0} (V W : Type 0) (r : Result T E) (old definers : FinMap slot_cmp ⊤) (row : PropRow) → OnOk r ((new ≡ insert changes key (Some row)) × V) → OnErr r ((new ≡ changes) × W)
+      → AreOfDefiners (of_changes changes) old → definers ≡ insert old (row.definer, key) tt → AreOfDefiners (of_changes new) definers
+  draft-put V W r old definers row ok err covers put =
+      either_way r ok err (λ (h : (new ≡ insert changes key (Some row)) × V). defined-put (of_changes changes) (of_changes new) key old definers row covers put (read_change (Some row) h.0))
+      (λ (h : (new ≡ changes) × W) x id e. ap (λ m. row_defined x (of_changes m id)) h.0 ∙ covers x id (lacked-insert slot_total old (row.definer, key) tt (x, id) (ap (λ m. is_some (get m (x, id))) (sym put) ∙ e)))
 
-  -- a property is removed
-  pub draft-remove : (definers : FinMap slot_cmp ⊤) → AreOfDefiners (of_changes changes) definers → new ≡ insert changes key None → AreOfDefiners (of_changes new) definers
-  draft-remove definers covers is = defined-remove (of_changes changes) (of_changes new) key definers definers covers (λ x id _ e. e) (read_change None is)
+  -- a property is removed, or there is no memory to
+  pub draft-remove : {T E : Type 0} (V W : Type 0) (r : Result T E) (definers : FinMap slot_cmp ⊤) → OnOk r ((new ≡ insert changes key None) × V) → OnErr r ((new ≡ changes) × W) → AreOfDefiners (of_changes changes) definers → AreOfDefiners (of_changes new) definers
+  draft-remove V W r definers ok err covers =
+      either_way r ok err (λ (h : (new ≡ insert changes key None) × V). defined-remove (of_changes changes) (of_changes new) key definers definers covers (λ x id _ e. e) (read_change None h.0))
+      (λ (h : (new ≡ changes) × W). subst (λ m. AreOfDefiners (of_changes m) definers) (sym h.0) covers)

@@ -1,5 +1,5 @@
 -- The next key of a map with changes over it.
-use Rattle.moo_memory.proofs.Words.{◌≡◌, ◌≢◌, ◌+◌, Bool, true, false, ◌||◌, Option, None, Some, List, [], ◌∷◌, cond, length, Less, Equal, Greater, Ordering, IsSome, IsTrue, unwrap_or, is_some, refl, sym, ap, ◌∙◌, subst, arith, ordering_reverse, eq_by_cmp, FinMap, get, entries, insert, empty, from_entries, find, get-entries, get-insert, get-remove, same_map, len-entries, len-empty, contents, IsNextAt, IsNext, changed, changed_all, overlaid, row_over, IsNextOfEither}
+use Rattle.moo_memory.proofs.Words.{◌≡◌, ◌≢◌, ◌+◌, Bool, true, false, ◌||◌, Option, None, Some, List, [], ◌∷◌, cond, length, Less, Equal, Greater, Ordering, IsSome, IsTrue, unwrap_or, is_some, refl, sym, ap, ◌∙◌, subst, arith, ordering_reverse, match_ordering, lesser, eq_by_cmp, FinMap, get, entries, insert, empty, from_entries, find, get-entries, get-insert, get-remove, same_map, len-entries, len-empty, contents, IsNextAt, IsNext, changed, changed_all, overlaid, row_over, IsNextOfEither}
 use Rattle.std.{specs.Cmp.{IsTotalOrder}, specs.BTreeMap.{BTreeMap}, proofs.lemmas.Map.Lookups.{CmpEqualImpliesEq}}
 use Rattle.moo_rows.{specs.Walk.{entries_past}, proofs.Walking.{next-step, onward}}
 
@@ -50,6 +50,23 @@ module _ {K X : Type 0} {cmp : K → K → Ordering} (row_at : K → Option X) (
     fewer from key h removed =
         let e = next-step total exact changes from key None (ap is_some removed, h.1, λ q past less. (h.2 q past less).1) removed in
         omega (arith, ap length e)
+
+-- the lesser of what is next in the base and what is next among the changes
+module _ {K X : Type 0} {cmp : K → K → Ordering} (total : IsTotalOrder cmp) (exact : CmpEqualImpliesEq cmp) (row_at : K → Option X) (changes : FinMap cmp (Option X)) where
+  pub next-of-either : (from r s : Option K) → IsNextAt cmp row_at from r → IsNext changes from s → IsNextOfEither row_at changes from (lesser cmp r s)
+  next-of-either from None None h k = λ q past. (h q past, k q past)
+  next-of-either from None (Some y) h k = ((λ i. is_some (h y k.1 i) || k.0 i), k.1, λ q past less. (h q past, k.2 q past less))
+  next-of-either from (Some x) None h k = ((λ i. h.0 i || is_some (get changes x)), h.1, λ q past less. (h.2 q past less, k q past))
+  next-of-either from (Some x) (Some y) h k =
+      elim (cmp y x) as (λ o. cmp y x ≡ o → IsNextOfEither row_at changes from (match_ordering o (Some y) (Some x) (Some x))) [
+        | Less ↦ λ o. ((λ i. is_some (h.2 y k.1 o i) || k.0 i), k.1, λ q past less. (h.2 q past (total.trans q y x less o), k.2 q past less))
+        | Equal ↦ λ o. ((λ i. h.0 i || is_some (get changes x)), h.1, λ q past less. (h.2 q past less, k.2 q past (subst (λ z. cmp q z ≡ Less) (sym (exact y x o)) less)))
+        | Greater ↦ λ o. (
+          (λ i. h.0 i || is_some (get changes x)),
+          h.1,
+          λ q past less. (h.2 q past less, k.2 q past (total.trans q x y less (total.antisymm x y ∙ ap ordering_reverse o))),
+        )
+      ] refl
 
 unwrapped : {X : Type 0} (b : Bool) (o : Option X) (f : Option (Option X)) (d : Option X) → cond b o (unwrap_or f d) ≡ unwrap_or (cond b (Some o) f) d
 unwrapped true o f d = refl

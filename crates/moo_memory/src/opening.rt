@@ -1,8 +1,9 @@
 //! The rows that a new world begins with.
 
 ghost use Rattle.std.specs.Prelude.{◌≡◌, IfOk, OnOk};
-ghost use Rattle.moo_rows.specs.Maps.{no_maps};
-ghost use Rattle.moo_rows.specs.Opening.{opening_maps};
+ghost use Rattle.moo_rows.specs.Maps.{no_maps, with_object};
+ghost use Rattle.moo_rows.specs.Opening.{opening_maps, root_class, first_room, wizard};
+ghost use Rattle.moo_rows.specs.declared.row.ObjRow.{ObjRow};
 
 use crate::flat::Flat;
 use moo_rows::{ObjList, ObjRow, Rows};
@@ -13,6 +14,47 @@ const ROOT: ObjNo = ObjNo(1);
 
 const WIZARD: ObjNo = ObjNo(3);
 
+/// The row of the root class.
+fn root_class(alloc: Global) -> Result<ObjRow, AllocError>
+    ensures { IfOk result (λ row. row ≡ root_class) }
+{
+    let mut row = ObjRow::plain(alloc, b"Root Class", WIZARD, ObjNo(-1))?;
+    row.f = true;
+    Ok(row)
+}
+
+/// The row of the first room.
+fn first_room(alloc: Global) -> Result<ObjRow, AllocError>
+    ensures { IfOk result (λ row. row ≡ first_room) }
+{
+    let mut row = ObjRow::plain(alloc, b"The First Room", WIZARD, ROOT)?;
+    row.accept = Some(ObjList::from_vec(vec![in alloc; ROOT]?));
+    Ok(row)
+}
+
+/// The row of the wizard.
+fn wizard(alloc: Global) -> Result<ObjRow, AllocError>
+    ensures { IfOk result (λ row. row ≡ wizard) }
+{
+    let mut row = ObjRow::plain(alloc, b"Wizard", WIZARD, ROOT)?;
+    row.location = ObjNo(2);
+    row.player = true;
+    row.programmer = true;
+    row.wizard = true;
+    Ok(row)
+}
+
+/// Puts a row, if there was memory for it.
+fn put_row<R: Rows>(
+    rows: &mut R,
+    key: ObjNo,
+    row: Result<ObjRow, AllocError>,
+) -> Result<(), AllocError>
+    ensures { OnOk result ((wanted : ObjRow) → IfOk row (λ row. row ≡ wanted) → R.held rows.new ≡ with_object (R.held rows.old) key wanted) }
+{
+    rows.put_object(key, row?)
+}
+
 /// Puts the rows that a new world begins with if there are none: the system object, the root class, the first room and the
 /// wizard. An `Err` is a lack of memory, and some of them may be there then.
 pub fn put_opening<R: Rows>(rows: &mut R, alloc: Global) -> Result<(), AllocError>
@@ -22,20 +64,11 @@ pub fn put_opening<R: Rows>(rows: &mut R, alloc: Global) -> Result<(), AllocErro
     let mut head = rows.head();
     head.top = WIZARD.0;
     rows.set_head(head);
-    let system_object = ObjRow::plain(alloc, b"System Object", WIZARD, ROOT)?;
-    rows.put_object(ObjNo(0), system_object)?;
-    let mut root_class = ObjRow::plain(alloc, b"Root Class", WIZARD, ObjNo(-1))?;
-    root_class.f = true;
-    rows.put_object(ROOT, root_class)?;
-    let mut first_room = ObjRow::plain(alloc, b"The First Room", WIZARD, ROOT)?;
-    first_room.accept = Some(ObjList::from_vec(vec![in alloc; ROOT]?));
-    rows.put_object(ObjNo(2), first_room)?;
-    let mut wizard = ObjRow::plain(alloc, b"Wizard", WIZARD, ROOT)?;
-    wizard.location = ObjNo(2);
-    wizard.player = true;
-    wizard.programmer = true;
-    wizard.wizard = true;
-    rows.put_object(WIZARD, wizard)?;
+    let system_object = ObjRow::plain(alloc, b"System Object", WIZARD, ROOT);
+    put_row(rows, ObjNo(0), system_object)?;
+    put_row(rows, ROOT, root_class(alloc))?;
+    put_row(rows, ObjNo(2), first_room(alloc))?;
+    put_row(rows, WIZARD, wizard(alloc))?;
     Ok(())
 }
 

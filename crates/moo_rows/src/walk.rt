@@ -3,12 +3,10 @@
 ghost use Rattle.std.specs.Prelude.{◌≡◌};
 ghost use Rattle.std.specs.FinMap as map;
 ghost use Rattle.std.specs.Iterator.{YieldsFirstBy, item_count};
-ghost use Rattle.moo_rows.specs.Links.{linked_left, defined_left};
+ghost use Rattle.moo_rows.specs.Links.{defined_left};
 ghost use Rattle.moo_rows.specs.Walk.{objects_left, props_left, slots_left, verbs_left, petitions_left, slots_of_left, verbs_of_left};
 
-use crate::row::{
-    Link, ObjRow, PetitionId, PetitionRow, PropId, PropRow, SlotRow, VerbId, VerbRow,
-};
+use crate::row::{ObjRow, PetitionId, PetitionRow, PropId, PropRow, SlotRow, VerbId, VerbRow};
 use crate::rows::Rows;
 use moo_value::ObjNo;
 
@@ -178,35 +176,6 @@ pub fn each_verb_of<R: Rows>(rows: &R, object: ObjNo, last: VerbId) -> WalkOf<'_
     ensures { verbs_of_left result.object result.last (R.held result.rows.now).maps ≡ verbs_of_left object last (R.held rows.now).maps }
 {
     WalkOf { rows, object, last }
-}
-
-/// The rows of the objects that have a link with their keys, in the order of the keys.
-#[derive(Drop)]
-pub struct WalkLinked<'a, R> {
-    rows: &'a R,
-    link: Link,
-    last: ObjNo,
-}
-
-impl<'a, R: Rows> Iterator for WalkLinked<'a, R> {
-    type Item = (ObjNo, &'a ObjRow);
-
-    ghost next_gives = { YieldsFirstBy (λ p. (p.0, p.1.now)) (λ s. linked_left s.link s.last (R.held s.rows.now).maps) };
-
-    ghost remaining = { item_count (λ s. linked_left s.link s.last (R.held s.rows.now).maps) };
-
-    fn next(&mut self) -> Option<(ObjNo, &'a ObjRow)> {
-        let key = self.rows.next_linked(self.link, self.last)?;
-        self.last = key;
-        Some(key).zip(self.rows.object(key))
-    }
-}
-
-/// The objects past a number that have the link, with their rows, in order: from `#-1` on all of them. Takes no memory.
-pub fn each_linked<R: Rows>(rows: &R, link: Link, last: ObjNo) -> WalkLinked<'_, R>
-    ensures { linked_left result.link result.last (R.held result.rows.now).maps ≡ linked_left link last (R.held rows.now).maps }
-{
-    WalkLinked { rows, link, last }
 }
 
 /// The rows of the properties that an object defines with their keys, in the order of the keys.

@@ -1,22 +1,22 @@
-use Rattle.std.proofs.Common.{◌≡◌, Option, sym, ◌∙◌, subst, rules}
+use Rattle.std.{proofs.Common.{◌≡◌, Option, sym, ◌∙◌, subst}, proofs.lemmas.Bool.{true≢false}}
 use Rattle.moo_memory.{specs.Without.{Without}, proofs.Changing.{one-kept, one-left_out, all-seen, without-changes}}
 use Rattle.moo_memory.proofs.changes.differing_rows.Goals as goal
 
 pub loop-key-preserved-in-Continue-1 : goal.loop-key-preserved-in-Continue-1
 loop-key-preserved-in-Continue-1 g c =
-    let differs : ¬ (g.B.Base.row_at c.args.base c.in-Some.key ≡ c.in-Some.row) = λ e. let t = c.has_row.ensures.1 (c.get.ensures ∙ e) in cc in
+    let differs : ¬ (g.B.Base.row_at c.args.base c.in-Some.key ≡ c.in-Some.row) = λ e. true≢false (sym (c.has_row.ensures.1 (c.get.ensures ∙ e)) ∙ c.if-not-has_row.true) in
     one-kept (λ e. g.B.Base.row_at c.args.base e.0 ≡ e.1) c.args.changes.entries c.loop-key.changed.items c.loop-key.key-iterator (c.in-Some.key, c.in-Some.row) c.push.new.self.items c.next.new.self
     c.in-Some.ensures.steps c.in_ok-push.ensures.items differs c.loop-key.invariant
 
 pub loop-key-preserved : goal.loop-key-preserved
 loop-key-preserved g c =
-    let same : g.B.Base.row_at c.args.base c.in-Some.key ≡ c.in-Some.row = sym c.get.ensures ∙ c.has_row.ensures.0 (search rules) in
+    let same : g.B.Base.row_at c.args.base c.in-Some.key ≡ c.in-Some.row = sym c.get.ensures ∙ c.has_row.ensures.0 c.if-not-has_row.false in
     one-left_out (λ e. g.B.Base.row_at c.args.base e.0 ≡ e.1) c.args.changes.entries c.loop-key.changed.items c.loop-key.key-iterator (c.in-Some.key, c.in-Some.row) c.next.new.self
     c.in-Some.ensures.steps same c.loop-key.invariant
 
 pub loop-key-preserved-else-not-has_row : goal.loop-key-preserved-else-not-has_row
 loop-key-preserved-else-not-has_row g c =
-    let same : g.B.Base.row_at c.args.base c.in-Some.key ≡ c.in-Some.row = sym c.get.ensures ∙ c.has_row.ensures.0 (search rules) in
+    let same : g.B.Base.row_at c.args.base c.in-Some.key ≡ c.in-Some.row = sym c.get.ensures ∙ c.has_row.ensures.0 c.if-not-has_row.false in
     one-left_out (λ e. g.B.Base.row_at c.args.base e.0 ≡ e.1) c.args.changes.entries c.loop-key.changed.items c.loop-key.key-iterator (c.in-Some.key, c.in-Some.row) c.next.new.self
     c.in-Some.ensures.steps same c.loop-key.invariant
 

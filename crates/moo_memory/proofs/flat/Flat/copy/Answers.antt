@@ -7,18 +7,13 @@ use Rattle.moo_rows.{specs.declared.row.VerbId.{VerbId}, specs.declared.row.Peti
 -- clones of equal keys and rows leave equal maps
 pub returns : goal.returns
 returns c =
-    let objects = entries_from_clone _ _ (λ (x y : ObjNo) h. search rules) object_clone c.self.inside.objects.entries c.in_ok-clone.field-0.entries c.in_ok-clone.ensures.cases in
-    let props = entries_from_clone _ _ (λ (x y : PropId) h. search rules) prop_clone c.self.inside.props.entries c.in_ok-clone-2.field-0.entries c.in_ok-clone-2.ensures.cases in
-    let slots = entries_from_clone _ _ (λ (x y : ObjNo × PropId) h. search rules) slot_clone c.self.inside.slots.entries c.in_ok-clone-3.field-0.entries c.in_ok-clone-3.ensures.cases in
-    let verbs = entries_from_clone _ _ (λ (x y : ObjNo × VerbId) h. search rules) verb_clone c.self.inside.verbs.entries c.in_ok-clone-4.field-0.entries c.in_ok-clone-4.ensures.cases in
-    let petitions = entries_from_clone _ _ (λ (x y : PetitionId) h. search rules) petition_clone c.self.inside.petitions.entries c.in_ok-clone-5.field-0.entries c.in_ok-clone-5.ensures.cases in
     (λ i. record {
       head = c.self.inside.head;
-      objects = map.from_entries (objects i);
-      props = map.from_entries (props i);
-      slots = map.from_entries (slots i);
-      verbs = map.from_entries (verbs i);
-      petitions = map.from_entries (petitions i);
+      objects = map.from_entries (entries_from_clone _ _ (λ (x y : ObjNo) h. search rules) object_clone c.self.inside.objects.entries c.in_ok-clone.field-0.entries c.in_ok-clone.ensures.cases i);
+      props = map.from_entries (entries_from_clone _ _ (λ (x y : PropId) h. search rules) prop_clone c.self.inside.props.entries c.in_ok-clone-2.field-0.entries c.in_ok-clone-2.ensures.cases i);
+      slots = map.from_entries (entries_from_clone _ _ (λ (x y : ObjNo × PropId) h. search rules) slot_clone c.self.inside.slots.entries c.in_ok-clone-3.field-0.entries c.in_ok-clone-3.ensures.cases i);
+      verbs = map.from_entries (entries_from_clone _ _ (λ (x y : ObjNo × VerbId) h. search rules) verb_clone c.self.inside.verbs.entries c.in_ok-clone-4.field-0.entries c.in_ok-clone-4.ensures.cases i);
+      petitions = map.from_entries (entries_from_clone _ _ (λ (x y : PetitionId) h. search rules) petition_clone c.self.inside.petitions.entries c.in_ok-clone-5.field-0.entries c.in_ok-clone-5.ensures.cases i);
     }) ∙ ap (λ (held : Held). held.maps) c.self.view_is
 
 pub invariant_of-result : goal.invariant_of-result

@@ -1,6 +1,6 @@
-use Rattle.moo_memory.proofs.Words.{◌≡◌, Some, ap, ◌∙◌, rules, get, get-insert, contents, object_cmp, has_link, ties_of, object_total, covered-put, covered-there, stays-there}
+use Rattle.moo_memory.proofs.Words.{◌≡◌, Some, ap, ◌∙◌, arith, rules, get, get-insert, contents, object_cmp, has_link, ties_of, object_total, covered-put, covered-there, stays-there}
 use Rattle.moo_memory.proofs.flat.FlatRows.put_object.Goals as goal
-use Rattle.std.specs.Option.{option_map}
+use Rattle.std.{specs.Option.{option_map}, proofs.lemmas.Grind.{common_steps}}
 
 pub invariant_of-self-then-are_same : goal.invariant_of-self-then-are_same
 invariant_of-self-then-are_same c =
@@ -22,3 +22,9 @@ invariant_of-self-2 c =
           (λ q. ap (λ m. get m q) c.in_ok-old.ensures.ok ∙ get-insert object_total (contents object_cmp c.self.inside.objects) c.args.key c.args.row q),
       c.self.invariant.1,
     )
+
+pub returns-clause-ok : goal.returns-clause-ok
+returns-clause-ok c = grind (arith, common_steps)
+
+pub returns-then-are_same-clause-ok : goal.returns-then-are_same-clause-ok
+returns-then-are_same-clause-ok c = grind (arith, common_steps)
