@@ -157,15 +157,12 @@ values_again zero v vs b s le = absurd (omega (arith, front_shorter b v s.1.2 (i
 values_again (suc most) v [] b s le =
     let front = item_front v [] b s.0 s.1 in
     let end = closing s.1.2 s.1.5 in
-    let here : behind_value v (values_at most) s.1.2 ≡ Some (v ∷ []) = rw (end.1, end.2) refl in
-    ap (option_and_then (λ x. behind_value x.0 (values_at most) x.1)) front ∙ here
+    rw (front, end.1, end.2) refl
 values_again (suc most) v (w ∷ ws) b s le =
     let front = item_front v (w ∷ ws) b s.0 s.1 in
     let c = comma_again w ws s.1.2 s.1.5 in
-    let shorter : length c.0 ≤ most = omega (arith, front_shorter b v s.1.2 front, mark_shorter 44 s.1.2 c.0 c.1) in
-    let more = values_again most w ws c.0 c.3 shorter in
-    let here : behind_value v (values_at most) s.1.2 ≡ Some (v ∷ w ∷ ws) = rw (c.2, c.1, more) refl in
-    ap (option_and_then (λ x. behind_value x.0 (values_at most) x.1)) front ∙ here
+    let more = values_again most w ws c.0 c.3 (omega (arith, front_shorter b v s.1.2 front, mark_shorter 44 s.1.2 c.0 c.1)) in
+    rw (front, c.2, c.1, more) refl
 
 no_value : (b end : List ℕ) → after_blanks b ≡ 41 ∷ end → front_of b ≡ None
 unfolding front_of literal_at

@@ -1,23 +1,15 @@
 -- Reading line by line gives the one way in which a text is cut.
-use Rattle.moo_text.{proofs.Shared.{◌≡◌, ℕ, suc, ◌+◌, ◌<◌, ◌≤◌, Bool, true, false, cond, ◌⊎◌, inl, inr, List, [], ◌∷◌, ◌++◌, length, Option, Some, None, refl, sym, ap, subst, ◌∙◌, append_assoc, arith, nat_lt, ◌&&◌, ◌==◌, option_map_or, append-nil, length-append, after_blanks, Call, is_short, is_end_word, is_blank_line, is_end_line, SpellsHeader, SpellsCall, header_of, call_of, between, within, skipping, Header, Next}, specs.Cut.{AreBlankLines, HaveNoEnd, IsContentLine, IsNoHeader, IsNoCall, AreCalls, IsBatch, IsFirstBad, IsMalformed, IsTruncated, Cuts}, specs.declared.next.Next.TheVariants.{Batch as Whole, Malformed, Truncated, End}, proofs.Headers.{header_taken, header_again}, proofs.Calls.{call_taken, call_again}}
+use Rattle.moo_text.{proofs.Shared.{◌≡◌, ℕ, suc, ◌+◌, ◌<◌, ◌≤◌, Bool, true, false, cases_Bool, cond, ◌⊎◌, inl, inr, List, [], ◌∷◌, ◌++◌, length, Option, Some, None, refl, sym, ap, subst, ◌∙◌, append_assoc, arith, nat_lt, ◌&&◌, ◌==◌, option_map_or, append-nil, length-append, after_blanks, Call, is_short, is_end_word, is_blank_line, is_end_line, SpellsHeader, SpellsCall, header_of, call_of, between, within, skipping, Header, Next}, specs.Cut.{AreBlankLines, HaveNoEnd, IsContentLine, IsNoHeader, IsNoCall, AreCalls, IsBatch, IsFirstBad, IsMalformed, IsTruncated, Cuts}, specs.declared.next.Next.TheVariants.{Batch as Whole, Malformed, Truncated, End}, proofs.Reading.{none_if}, proofs.Headers.{header_taken, header_again}, proofs.Calls.{call_taken, call_again}}
 use Rattle.moo_world.specs.declared.call.Batch.{Batch}
 
 no_header : (line : List ℕ) → IsNoHeader line → header_of line ≡ None
-no_header line none = by_read (header_of line) refl
-  where
-    by_read : (o : Option Header) → header_of line ≡ o → o ≡ None
-    by_read None e = refl
-    by_read (Some h) e = absurd (none h (header_taken line h e))
+no_header line none = none_if (header_of line) (λ h e. none h (header_taken line h e))
 
 is_no_header : (line : List ℕ) → header_of line ≡ None → IsNoHeader line
 is_no_header line none h s = let e : None ≡ Some h = sym none ∙ header_again line h s in cc
 
 no_call : (line : List ℕ) → IsNoCall line → call_of line ≡ None
-no_call line none = by_read (call_of line) refl
-  where
-    by_read : (o : Option Call) → call_of line ≡ o → o ≡ None
-    by_read None e = refl
-    by_read (Some c) e = absurd (none c (call_taken line c e))
+no_call line none = none_if (call_of line) (λ c e. none c (call_taken line c e))
 
 is_no_call : (line : List ℕ) → call_of line ≡ None → IsNoCall line
 is_no_call line none c s = let e : None ≡ Some c = sym none ∙ call_again line c s in cc
@@ -120,13 +112,9 @@ blank_not_end : (line : List ℕ) → is_blank_line line ≡ true → is_end_lin
 blank_not_end line blank = by_bytes (is_short line) (after_blanks line) blank
   where
     by_bytes : (short : Bool) (bytes : List ℕ) → (short && (length bytes == 0)) ≡ true → (short && is_end_word bytes) ≡ false
-    by_bytes short [] e = by_short short
-      where
-        by_short : (b : Bool) → (b && false) ≡ false
-        by_short true = refl
-        by_short false = refl
+    by_bytes true [] e = refl
     by_bytes true (c ∷ cs) e = absurd (no_nil (length cs) e)
-    by_bytes false (c ∷ cs) e = refl
+    by_bytes false bytes e = refl
 
 calls_no_end : (body : List (List ℕ)) (calls : List Call) → AreCalls body calls → HaveNoEnd body
 calls_no_end [] calls are = tt
@@ -155,17 +143,10 @@ out_is : (lines : List (List ℕ)) (n : ℕ) (rest : List (List ℕ)) → IsFirs
 out_is lines n rest (inl h) none = (h.0, rest, h.3, h.1, none)
 out_is lines n rest (inr b) none = (b.0, b.2 ++ b.3 ∷ rest, b.11, b.5, no_end-append b.2 (b.3 ∷ rest) (calls_no_end b.2 b.4 b.7) (b.9.not_end, none))
 
-to_test : (b : Bool) → (b ≡ true) ⊎ (b ≡ false)
-to_test true = inl refl
-to_test false = inr refl
-
-to_call : (o : Option Call) → ((c : Call) × (o ≡ Some c)) ⊎ (o ≡ None)
-to_call None = inr refl
-to_call (Some c) = inl (c, refl)
-
-to_header : (o : Option Header) → ((p : Header) × (o ≡ Some p)) ⊎ (o ≡ None)
-to_header None = inr refl
-to_header (Some p) = inl (p, refl)
+-- an option is some or none
+some_or_none : {A : Type 0} (o : Option A) → ((x : A) × (o ≡ Some x)) ⊎ (o ≡ None)
+some_or_none None = inr refl
+some_or_none (Some x) = inl (x, refl)
 
 next_line : (blanks : List (List ℕ)) (header : List ℕ) (p : Header) (front : List (List ℕ)) (calls : List Call) (line : List ℕ) (rest : List (List ℕ))
     → Cuts (blanks ++ header ∷ ((front ++ line ∷ []) ++ rest)) (within p calls (1 + length (front ++ line ∷ [])) rest) → Cuts (blanks ++ header ∷ (front ++ line ∷ rest)) (within p calls (1 + length front + 1) rest)
@@ -184,13 +165,13 @@ mutual
   pub cut_between : (blanks lines : List (List ℕ)) → AreBlankLines blanks → Cuts (blanks ++ lines) (between lines)
   cut_between blanks [] all = rw append-nil all
   cut_between blanks (line ∷ lines) all =
-      elim (to_test (is_blank_line line)) [
+      elim (cases_Bool (is_blank_line line)) [
         | inl blank ↦ rw blank (subst (λ (t : List (List ℕ)). Cuts t (between lines)) (append_assoc blanks (line ∷ []) lines) (cut_between (blanks ++ line ∷ []) lines (blanks-push blanks line all blank)))
-        | inr not_blank ↦ elim (to_test (is_end_line line)) [
+        | inr not_blank ↦ elim (cases_Bool (is_end_line line)) [
           | inl end ↦ rw (not_blank, end) (blanks, line ∷ lines, lines, refl, all, inl (line, not_blank, end, refl, refl), cut_between [] lines tt)
           | inr not_end ↦
               let text : IsContentLine line = record { not_blank = not_blank; not_end = not_end } in
-              elim (to_header (header_of line)) [
+              elim (some_or_none (header_of line)) [
                 | inl h ↦ rw (not_blank, not_end, h.1) (cut_within blanks line h.0 [] [] lines all text (header_taken line h.0 h.1) refl (omega arith))
                 | inr none ↦ rw (not_blank, not_end, none) (cut_skipping blanks (line ∷ lines) 1 [] lines all (inl (line, text, is_no_header line none, refl, refl)) tt)
               ]
@@ -200,7 +181,7 @@ mutual
   cut_skipping : (blanks lines : List (List ℕ)) (n : ℕ) (over rest : List (List ℕ)) → AreBlankLines blanks → IsFirstBad lines n (over ++ rest) → HaveNoEnd over → Cuts (blanks ++ lines) (skipping n rest)
   cut_skipping blanks lines n over [] all bad none = (blanks, lines, refl, all, out_is lines n over (rw append-nil at bad) none, refl)
   cut_skipping blanks lines n over (line ∷ rest) all bad none =
-      elim (to_test (is_end_line line)) [
+      elim (cases_Bool (is_end_line line)) [
         | inl end ↦ rw end (blanks, lines, rest, refl, all, inr (over, line, bad, none, end), cut_between [] rest tt)
         | inr not_end ↦ rw not_end (cut_skipping blanks lines n (over ++ line ∷ []) rest all (subst (IsFirstBad lines n) (sym (append_assoc over (line ∷ []) rest)) bad) (no_end-append over (line ∷ []) none (not_end, tt)))
       ]
@@ -209,14 +190,14 @@ mutual
       → Cuts (blanks ++ header ∷ (front ++ rest)) (within p calls (1 + length front) rest)
   cut_within blanks header p front calls [] all text is are few = (blanks, header ∷ (front ++ []), refl, all, (header, front ++ [], refl, text, no_end-append front [] (calls_no_end front calls are) tt), refl)
   cut_within blanks header p front calls (line ∷ rest) all text is are few =
-      elim (to_test (is_blank_line line)) [
+      elim (cases_Bool (is_blank_line line)) [
         | inl blank ↦ rw blank (next_line blanks header p front calls line rest (cut_within blanks header p (front ++ line ∷ []) calls rest all text is (calls-push_blank front calls line are blank) few))
-        | inr not_blank ↦ elim (to_test (is_end_line line)) [
+        | inr not_blank ↦ elim (cases_Bool (is_end_line line)) [
           | inl end ↦ rw (not_blank, end) (blanks, header ∷ (front ++ line ∷ rest), rest, refl, all, record { header = header; body = front; last = line; whole = refl; is_text = text; is_header = is; are_calls = are; few = few; not_blank = not_blank; is_end = end }, cut_between [] rest tt)
           | inr not_end ↦
               let here : IsContentLine line = record { not_blank = not_blank; not_end = not_end } in
-              elim (to_call (call_of line)) [
-                | inl c ↦ elim (to_test (nat_lt (length calls) 1000)) [
+              elim (some_or_none (call_of line)) [
+                | inl c ↦ elim (cases_Bool (nat_lt (length calls) 1000)) [
                   | inl room ↦ rw (not_blank, not_end, c.1, room) (next_line blanks header p front (calls ++ c.0 ∷ []) line rest (cut_within blanks header p (front ++ line ∷ []) (calls ++ c.0 ∷ []) rest all text is (calls-push front calls line c.0 are here (call_taken line c.0 c.1)) (has_room calls c.0 room)))
                   | inr full ↦ rw (not_blank, not_end, c.1, full) (cut_skipping blanks (header ∷ (front ++ line ∷ rest)) (1 + length front + 1) [] rest all (inr (header, p, front, line, calls, text, is, are, few, here, inr (is_full calls full few), refl, omega arith)) tt)
                 ]

@@ -56,8 +56,8 @@ gives_then_breaks a b c given fault p room q = record {
   count = subst (λ (n : ℕ). Explains a.room n fault) (sym (length-append given q.given)) (Explains-then a.room b.room (length given) (length q.given) fault room q.count);
 }
 
-pub ReadsOn-breaks : (a b c : Side) (P : List ℕ → List ℕ → Type 0) (fault : TextFault) → ReadsOn a b P → BreaksOff b c fault → BreaksOff a c fault
-ReadsOn-breaks a b c P fault p q = gives_then_breaks a b c p.given fault p.gives p.room q
+pub ReadsOn-breaks : {a b c : Side} {P : List ℕ → List ℕ → Type 0} {fault : TextFault} → ReadsOn a b P → BreaksOff b c fault → BreaksOff a c fault
+ReadsOn-breaks {a} {b} {c} {P} {fault} p q = gives_then_breaks a b c p.given fault p.gives p.room q
 
 -- what was read before a call that is stopped stands, whatever the reader may give behind it
 pub ReadsOn-stand : (a b c : Side) (P : List ℕ → List ℕ → Type 0) (fault : TextFault) (p : ReadsOn a b P) (q : BreaksOff b c fault) (rest : List ℕ) → (c.ended ≡ true → rest ≡ [])
@@ -70,5 +70,5 @@ pub out_of_memory : (a b : Side) (given : List ℕ) → ReaderGives a b given �
 out_of_memory a b given p room = record { given = given; gives = p; count = omega (arith, room) }
 
 -- a fault that is handed on
-pub handed_on : {T : Type 0} (r : Result T TextFault) (P : TextFault → Type 0) (fault : TextFault) → IsErrAnd r (λ e. e ≡ fault) → P fault → IfErr r P
-handed_on r P fault is e = let p = err_from_is_err_and r is in rw (p.1, p.2) e
+pub handed_on : {T : Type 0} (r : Result T TextFault) (P : TextFault → Type 0) {fault : TextFault} → IsErrAnd r (λ e. e ≡ fault) → P fault → IfErr r P
+handed_on r P is e = let p = err_from_is_err_and r is in rw (p.1, p.2) e

@@ -45,9 +45,6 @@ pub nothing_left : (t : List ℕ) → (length t == 0) ≡ true → t ≡ []
 nothing_left [] e = refl
 nothing_left (c ∷ cs) e = absurd (grind (arith, e))
 
-object_whole : Value × List ℕ → Option ObjNo
-object_whole x = cond (length x.1 == 0) (object_value x.0) None
-
 pub object_taken : (w : List ℕ) (o : ObjNo) → object_of w ≡ Some o → SpellsObject o.0 w × InRange an_object o.0
 object_taken w o e = elim (chosen (begins_with_byte 35 w) (option_and_then (λ x. cond (length x.1 == 0) (object_value x.0) None) (front_of w)) None (Some o) e) [
   | inl here ↦
@@ -111,13 +108,9 @@ place_taken w n e = elim (chosen (is_place w) (Some (value_after 0 w)) None (Som
 
 place_again : (w : List ℕ) (n : ℕ) → SpellsPlace n w → place_number w ≡ Some n
 place_again w n s =
-    let digits = digits_again w s.each in
-    let some = le_again 1 (length w) (omega (arith, s.some)) in
-    let few = le_again (length w) 19 s.few in
     let small = le_again (value_after 0 w) 9223372036854775807 (subst (λ (m : ℕ). m ≤ 9223372036854775807) s.value s.in_range) in
-    let is : is_place w ≡ true = joined (joined (joined digits some) few) small in
-    let here : place_number w ≡ Some (value_after 0 w) = rw is refl in
-    here ∙ ap (λ (m : ℕ). Some m) (sym s.value)
+    let is : is_place w ≡ true = joined (joined (joined (digits_again w s.each) (le_again 1 (length w) (omega (arith, s.some)))) (le_again (length w) 19 s.few)) small in
+    rw is (ap (λ (m : ℕ). Some m) (sym s.value))
 
 last_taken : (ws : List (List ℕ)) (n : ℕ) → last_place ws ≡ Some n → (w : List ℕ) × (ws ≡ w ∷ []) × SpellsPlace n w
 last_taken [] n e = absurd cc
@@ -149,9 +142,6 @@ behind_taken (o ∷ more) h e =
     let m = map_some (λ at. record { programmer = t.0; at = at }) (at_of more) h t.2 in
     (o, more, refl, t.1 ∙ ap (λ (x : Header). Some x.programmer) m.2, m.1 ∙ ap (λ (x : Header). Some x.at) m.2)
 
-short_taken : (line : List ℕ) → is_short line ≡ true → length line ≤ 262144
-short_taken line e = le_taken (length line) 262144 e
-
 pub header_taken : (line : List ℕ) (h : Header) → header_of line ≡ Some h → SpellsHeader h line
 header_taken line h e = elim (chosen (is_short line) (option_and_then header_behind (option_and_then (behind_word (codes "as")) (behind_word (codes "batch") (words_of_line line)))) None (Some h) e) [
   | inl here ↦
@@ -160,7 +150,7 @@ header_taken line h e = elim (chosen (is_short line) (option_and_then header_beh
       let t = behind_taken a.0 h a.2 in
       let o = object_taken t.0 h.programmer t.3 in
       record {
-        short = short_taken line here.0;
+        short = le_taken (length line) 262144 here.0;
         object = t.0;
         more = t.1;
         words_are = word_taken (codes "batch") (words_of_line line) b.0 b.1 ∙ ap (λ (ws : List (List ℕ)). codes "batch" ∷ ws) (word_taken (codes "as") b.0 a.0 b.2 ∙ ap (λ (ws : List (List ℕ)). codes "as" ∷ ws) t.2);
@@ -178,8 +168,4 @@ header_again line h s =
     let place = at_again s.more h.at s.place in
     let behind : header_behind (s.object ∷ s.more) ≡ Some h = rw (object, place) refl in
     let first : behind_word (codes "batch") (words_of_line line) ≡ Some (codes "as" ∷ s.object ∷ s.more) = ap (behind_word (codes "batch")) s.words_are ∙ word_again (codes "batch") (codes "as" ∷ s.object ∷ s.more) in
-    let second = word_again (codes "as") (s.object ∷ s.more) in
-    let whole : option_and_then header_behind (option_and_then (behind_word (codes "as")) (behind_word (codes "batch") (words_of_line line))) ≡ Some h =
-    ap (λ (o : Option (List (List ℕ))). option_and_then header_behind (option_and_then (behind_word (codes "as")) o)) first ∙ ap (option_and_then header_behind) second ∙ behind in
-    let here : header_of line ≡ option_and_then header_behind (option_and_then (behind_word (codes "as")) (behind_word (codes "batch") (words_of_line line))) = rw short refl in
-    here ∙ whole
+    rw short (ap (λ (o : Option (List (List ℕ))). option_and_then header_behind (option_and_then (behind_word (codes "as")) o)) first ∙ ap (option_and_then header_behind) (word_again (codes "as") (s.object ∷ s.more)) ∙ behind)

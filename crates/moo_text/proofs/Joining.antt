@@ -1,5 +1,5 @@
 -- The items that are read from call to call, over the bytes that were given in all of them.
-use Rattle.moo_text.{proofs.Shared.{◌≡◌, ℕ, true, List, [], ◌∷◌, ◌++◌, Option, Some, None, refl, sym, ap, subst, ◌∙◌, append_assoc, length, append-nil, length-append, items, TakesNext, Side, untouched, ReaderGives, Explains, BreaksOff, ReadsNext, ReadsItems, ReadsAll, StopsBehind, GivesAll, GivesFront, TextFault, Next}, specs.declared.next.Next.TheVariants.{Batch as Whole, Malformed, Truncated, End}, proofs.Giving.{ReaderGives-then, Explains-then, ReadsOn-none, ReadsOn-then, ReadsOn-stand}}
+use Rattle.moo_text.{proofs.Shared.{◌≡◌, ℕ, true, List, [], ◌∷◌, ◌++◌, Option, Some, None, refl, sym, ap, subst, ◌∙◌, append_assoc, length, append-nil, length-append, items, TakesNext, Side, untouched, ReaderGives, Explains, BreaksOff, ReadsNext, ReadsItems, ReadsAll, StopsBehind, GivesAll, TextFault, Next}, specs.declared.next.Next.TheVariants.{Batch as Whole, Malformed, Truncated, End}, proofs.Giving.{ReaderGives-then, Explains-then, ReadsOn-none, ReadsOn-then, ReadsOn-stand}}
 use Rattle.std.specs.Io.KnownBytes.{Consumes, IsAtEnd}
 
 pub items_none : (a : Side) → ReadsItems a a []
@@ -33,14 +33,6 @@ all_given left room c given g ended = by_known left c.left g.known (g.at_end (λ
     by_known None now known end = tt
     by_known (Some text) None known end = absurd known
     by_known (Some text) (Some rest) known end = sym (append-nil given) ∙ ap (λ (t : List ℕ). given ++ t) (sym end) ∙ sym known
-
-pub front_given : (a b : Side) (given : List ℕ) → ReaderGives a b given → GivesFront a.left given
-front_given a b given g = by_known a.left b.left g.known
-  where
-    by_known : (left now : Option (List ℕ)) → Consumes left now given → GivesFront left given
-    by_known None now known = tt
-    by_known (Some text) None known = absurd known
-    by_known (Some text) (Some rest) known = (rest, known)
 
 -- a call is stopped behind these items
 pub items_stop : (left : Option (List ℕ)) (room : ℕ) (b c : Side) (done : List Next) (fault : TextFault) → ReadsItems (untouched left room) b done → BreaksOff b c fault → StopsBehind left room c done fault

@@ -1,8 +1,13 @@
 -- Reading a header and a call from left to right.
-use Rattle.moo_text.proofs.Shared.{◌≡◌, ℕ, zero, suc, ◌-◌, ◌<◌, ◌≤◌, true, false, inl, inr, List, [], ◌∷◌, ◌++◌, length, drop, Option, Some, None, Ok, Err, refl, sym, ap, ◌∙◌, append_assoc, arith, ◌↔◌, option_map, option_and_then, ◌==◌, ◌&&◌, list_all, eqb-true, length-append, Value, Spells, Fits, Ends, Front, literal_at, value_at, after_blanks, chosen, fits, folded, is_all_blank, found, front_of, behind_value, values_at, behind_mark, after_mark, call_name}
+use Rattle.moo_text.proofs.Shared.{◌≡◌, ℕ, zero, suc, ◌-◌, ◌<◌, ◌≤◌, true, inl, inr, List, [], ◌∷◌, ◌++◌, length, drop, Option, Some, None, Ok, Err, refl, sym, ap, ◌∙◌, append_assoc, arith, ◌↔◌, option_map, option_and_then, ◌==◌, ◌&&◌, list_all, eqb-true, length-append, Value, Spells, Fits, Ends, Front, literal_at, value_at, after_blanks, chosen, fits, folded, is_all_blank, found, front_of, behind_value, values_at, behind_mark, after_mark, call_name}
 use Rattle.std.proofs.lemmas.List.Folds.{list_all-append}
 use Rattle.moo_value.{specs.Reading.{Read}, proofs.Literals.{front_taken, front_again, literal_again, value_taken, takes, blanks_taken}}
 use Rattle.moo_world.{specs.Names.{spelling}, specs.declared.name.CallName.{CallName}, specs.Names.{spelled_is}}
+
+-- an option that is never some
+pub none_if : {A : Type 0} (o : Option A) → ((x : A) → o ≡ Some x → ⊥) → o ≡ None
+none_if None never = refl
+none_if (Some x) never = absurd (never x refl)
 
 -- ---- the literal in front
 
@@ -53,17 +58,6 @@ front_shorter b v rest e = let f = front_read b v rest e in omega (arith, f.some
 abbrev pub GoesOn : List ℕ → List Value → List ℕ → Type 0
 GoesOn bytes values rest = (most : ℕ) × (length rest ≤ most) × (values_at (length bytes) bytes ≡ option_map (λ vs. values ++ vs) (values_at most rest))
 
-map_none : (o : Option (List Value)) → option_map (λ vs. [] ++ vs) o ≡ o
-map_none None = refl
-map_none (Some vs) = refl
-
-pub at_start : (bytes : List ℕ) (none : List Value) → none ≡ [] → GoesOn bytes none bytes
-at_start bytes none e = (length bytes, omega arith, sym (ap (λ (us : List Value). option_map (λ vs. us ++ vs) (values_at (length bytes) bytes)) e ∙ map_none (values_at (length bytes) bytes)))
-
-pub no_literal : (bytes : List ℕ) (values : List Value) (rest : List ℕ) → GoesOn bytes values rest → front_of rest ≡ None → values_at (length bytes) bytes ≡ None
-no_literal bytes values rest (zero, enough, e) none = e
-no_literal bytes values rest (suc most, enough, e) none = e ∙ rw none refl
-
 map_push : (values : List Value) (v : Value) (o : Option (List Value)) → option_map (λ vs. values ++ vs) (option_map (λ vs. v ∷ vs) o) ≡ option_map (λ vs. (values ++ v ∷ []) ++ vs) o
 map_push values v None = refl
 map_push values v (Some vs) = ap (λ (t : List Value). Some t) (sym (append_assoc values (v ∷ []) vs))
@@ -82,9 +76,9 @@ one_read bytes values rest v after (suc most, enough, e) is = record {
   goes_on = e ∙ ap (λ (o : Option (Value × List ℕ)). option_map (λ vs. values ++ vs) (option_and_then (λ x. behind_value x.0 (values_at most) x.1) o)) is;
 }
 
-pub comma_read : (bytes : List ℕ) (values pushed : List Value) (v : Value) (after others : List ℕ) → ValueRead bytes values v after → after_mark 41 after ≡ None → after_mark 44 after ≡ Some others
+pub comma_read : {bytes : List ℕ} {values pushed : List Value} {v : Value} {after others : List ℕ} → ValueRead bytes values v after → after_mark 41 after ≡ None → after_mark 44 after ≡ Some others
     → length others ≤ length after → pushed ≡ values ++ v ∷ [] → GoesOn bytes pushed others
-comma_read bytes values pushed v after others r unclosed comma shorter is =
+comma_read {values = values} {v = v} {after = after} {others = others} r unclosed comma shorter is =
     let step : behind_value v (values_at r.most) after ≡ option_map (λ vs. v ∷ vs) (values_at r.most others) = rw (unclosed, comma) refl in (
       r.most,
       omega (arith, r.enough),
@@ -92,19 +86,9 @@ comma_read bytes values pushed v after others r unclosed comma shorter is =
           ∙ ap (λ (us : List Value). option_map (λ vs. us ++ vs) (values_at r.most others)) (sym is),
     )
 
-pub closed_read : (bytes : List ℕ) (values : List Value) (v : Value) (after end : List ℕ) → ValueRead bytes values v after → after_mark 41 after ≡ Some end → is_all_blank end ≡ true → values_at (length bytes) bytes ≡ Some (values ++ v ∷ [])
-closed_read bytes values v after end r close blank =
+pub closed_read : {bytes : List ℕ} {values : List Value} {v : Value} {after end : List ℕ} → ValueRead bytes values v after → after_mark 41 after ≡ Some end → is_all_blank end ≡ true → values_at (length bytes) bytes ≡ Some (values ++ v ∷ [])
+closed_read {values = values} {v = v} {after = after} r close blank =
     let step : behind_value v (values_at r.most) after ≡ Some (v ∷ []) = rw (close, blank) refl in
-    r.goes_on ∙ ap (λ (o : Option (List Value)). option_map (λ vs. values ++ vs) o) step
-
-pub broken_read : (bytes : List ℕ) (values : List Value) (v : Value) (after end : List ℕ) → ValueRead bytes values v after → after_mark 41 after ≡ Some end → is_all_blank end ≡ false → values_at (length bytes) bytes ≡ None
-broken_read bytes values v after end r close more =
-    let step : behind_value v (values_at r.most) after ≡ None = rw (close, more) refl in
-    r.goes_on ∙ ap (λ (o : Option (List Value)). option_map (λ vs. values ++ vs) o) step
-
-pub unmarked_read : (bytes : List ℕ) (values : List Value) (v : Value) (after : List ℕ) → ValueRead bytes values v after → after_mark 41 after ≡ None → after_mark 44 after ≡ None → values_at (length bytes) bytes ≡ None
-unmarked_read bytes values v after r unclosed alone =
-    let step : behind_value v (values_at r.most) after ≡ None = rw (unclosed, alone) refl in
     r.goes_on ∙ ap (λ (o : Option (List Value)). option_map (λ vs. values ++ vs) o) step
 
 -- what stands behind blanks is no longer
@@ -125,11 +109,7 @@ pub name_found : (w : List ℕ) (name : CallName) → folded w ≡ spelling name
 name_found w name e = (spelled_is (folded w) name).1 e
 
 pub name_none : (w : List ℕ) → ((name : CallName) → folded w ≡ spelling name → ⊥) → call_name w ≡ None
-name_none w never = by_found (call_name w) refl
-  where
-    by_found : (o : Option CallName) → call_name w ≡ o → call_name w ≡ None
-    by_found None e = e
-    by_found (Some name) e = absurd (never name ((spelled_is (folded w) name).0 e))
+name_none w never = none_if (call_name w) (λ name e. never name ((spelled_is (folded w) name).0 e))
 
 pub name_is : (w : List ℕ) (read : Option CallName) → ((name : CallName) → (read ≡ Some name) ↔ (folded w ≡ spelling name)) → read ≡ call_name w
 name_is w None reads = sym (name_none w (λ name e. let h : None ≡ Some name = (reads name).1 e in cc))

@@ -1,5 +1,5 @@
 -- A line of which so much is read, over the bytes that were given meanwhile.
-use Rattle.moo_text.{proofs.Shared.{◌≡◌, ℕ, ◌+◌, ◌≤◌, ◌<◌, false, List, [], ◌++◌, length, take, drop, Option, Some, sym, ap, subst, ◌∙◌, append_assoc, arith, append-nil, length-append, length-take, ◌==◌, strip_carriage_return, TakesLine, Side, IsOver, ReaderGives, ReadsLine, BreaksOff, TextFault, OutOfMemory}, proofs.Kept.{HasNoNewline, LineSoFar, NewlineAt, none-append, kept_again, end_found}, proofs.Giving.{ReaderGives-none, ReaderGives-then, gives_then_breaks, out_of_memory}}
+use Rattle.moo_text.{proofs.Shared.{◌≡◌, ℕ, ◌+◌, ◌≤◌, ◌<◌, false, List, [], ◌++◌, length, take, drop, Option, Some, sym, ap, subst, ◌∙◌, append_assoc, arith, length-append, length-take, ◌==◌, strip_carriage_return, TakesLine, Side, IsOver, ReaderGives, ReadsLine, BreaksOff, TextFault}, proofs.Kept.{HasNoNewline, LineSoFar, NewlineAt, none-append, kept_again, end_found}, proofs.Giving.{ReaderGives-then, gives_then_breaks}}
 
 pub record SoFar (start now : Side) (line : List ℕ) : Type 0 where
   pub given : List ℕ
@@ -9,9 +9,6 @@ pub record SoFar (start now : Side) (line : List ℕ) : Type 0 where
   pub none : HasNoNewline raw
   pub kept : line ≡ take 262146 raw
   pub whole : start.ahead ++ given ≡ raw ++ now.ahead
-
-pub nothing_yet : (start : Side) (line : List ℕ) → line ≡ [] → SoFar start start line
-nothing_yet start line e = record { given = []; raw = []; gives = ReaderGives-none start; room = omega arith; none = tt; kept = e; whole = append-nil start.ahead }
 
 -- the bytes that are read ahead change, and the reader isn't read
 abbrev pub beside : Side → List ℕ → Side
@@ -27,9 +24,9 @@ breaks_from : (a b : Side) (ahead : List ℕ) (fault : TextFault) → BreaksOff 
 breaks_from a b ahead fault o = record { given = o.given; gives = gives_from a b ahead o.given o.gives; count = o.count }
 
 -- what was read ahead is used up, and a piece is read
-pub piece_read : (start now next : Side) (line longer used : List ℕ) → SoFar start now line → HasNoNewline now.ahead → longer ≡ take 262146 (line ++ now.ahead)
+pub piece_read : {start now next : Side} {line used : List ℕ} (longer : List ℕ) → SoFar start now line → HasNoNewline now.ahead → longer ≡ take 262146 (line ++ now.ahead)
     → ReaderGives (beside now used) next next.ahead → now.room ≡ length next.ahead + next.room → SoFar start next longer
-piece_read start now next line longer used s none put took less = record {
+piece_read {start} {now} {next} {line} {used} longer s none put took less = record {
   given = s.given ++ next.ahead;
   raw = s.raw ++ now.ahead;
   gives = ReaderGives-then start now next s.given next.ahead s.gives (gives_from now next used next.ahead took);
@@ -49,14 +46,14 @@ behind start now line s rest = record {
 }
 
 -- what may still be used falls by what the line has
-pub room_falls : (start now : Side) (line : List ℕ) → SoFar start now line → length line + (length now.ahead + now.room) ≤ length start.ahead + start.room
-room_falls start now line s =
+pub room_falls : {start now : Side} {line : List ℕ} → SoFar start now line → length line + (length now.ahead + now.room) ≤ length start.ahead + start.room
+room_falls {start} {now} {line} s =
     omega (arith, s.room, ap length s.kept, length-take 262146 s.raw, ap length s.whole, length-append start.ahead s.given, length-append s.raw now.ahead)
 
 -- the line's end is found
-pub found_line : (start now : Side) (line next left : List ℕ) (at : ℕ) → SoFar start now line → NewlineAt now.ahead at → next ≡ take 262146 (line ++ take at now.ahead) → left ≡ drop (at + 1) now.ahead
+pub found_line : {start now : Side} {line : List ℕ} (next left : List ℕ) {at : ℕ} → SoFar start now line → NewlineAt now.ahead at → next ≡ take 262146 (line ++ take at now.ahead) → left ≡ drop (at + 1) now.ahead
     → ReadsLine start (beside now left) (Some (strip_carriage_return next))
-found_line start now line next left at s there put is = record {
+found_line {start} {now} {line} next left {at} s there put is = record {
   given = s.given;
   gives = gives_to start now left s.given s.gives;
   room = s.room;
@@ -64,8 +61,8 @@ found_line start now line next left at s there put is = record {
 }
 
 -- the text is at its end
-pub ends_with : (start now : Side) (line : List ℕ) (found : Option (List ℕ)) → SoFar start now line → IsOver now → ((text : List ℕ) → LineSoFar text line [] → TakesLine text [] found) → ReadsLine start now found
-ends_with start now line found s over take = record {
+pub ends_with : {start now : Side} {line : List ℕ} (found : Option (List ℕ)) → SoFar start now line → IsOver now → ((text : List ℕ) → LineSoFar text line [] → TakesLine text [] found) → ReadsLine start now found
+ends_with {start} {now} {line} found s over take = record {
   given = s.given;
   gives = s.gives;
   room = s.room;
@@ -77,9 +74,5 @@ ends_with start now line found s over take = record {
 pub some_there : (n : ℕ) → (n == 0) ≡ false → 0 < n
 some_there n e = grind (arith, e)
 
--- memory is refused, or no piece is read
-pub line_refused : (start now : Side) (line : List ℕ) → SoFar start now line → BreaksOff start now OutOfMemory
-line_refused start now line s = out_of_memory start now s.given s.gives s.room
-
-pub piece_fails : (start now next : Side) (line used : List ℕ) (fault : TextFault) → SoFar start now line → BreaksOff (beside now used) next fault → BreaksOff start next fault
-piece_fails start now next line used fault s o = gives_then_breaks start now next s.given fault s.gives s.room (breaks_from now next used fault o)
+pub piece_fails : {start now next : Side} {line used : List ℕ} {fault : TextFault} → SoFar start now line → BreaksOff (beside now used) next fault → BreaksOff start next fault
+piece_fails {start} {now} {next} {line} {used} {fault} s o = gives_then_breaks start now next s.given fault s.gives s.room (breaks_from now next used fault o)

@@ -15,9 +15,6 @@ returns-clause-kept c =
 
 pub returns-clause-ok : goal.returns-clause-ok
 returns-clause-ok c =
-    let old = c.args.out.now.items in
-    let first = c.put_line.new.out.items in
-    let second = c.put_answers.new.out.items in
-    put_last c.extend_from_slice.result old second (codes "end\n") (accepted_text c.args.seq c.args.answers.now) c.extend_from_slice.new.self.items c.extend_from_slice.ensures.items
-    (line_and_two old first second (codes "accepted ") (decimal c.args.seq) (10 ∷ []) (flat_map answer_line c.args.answers.now) (codes "end\n") c.in_ok-put_line.ensures.ok
-    (c.in_ok-put_answers.ensures.ok ∙ ap (λ (values : List Value). first ++ flat_map answer_line values) c.items.ensures))
+    put_last c.extend_from_slice.result _ c.put_answers.new.out.items (codes "end\n") (accepted_text c.args.seq c.args.answers.now) _ c.extend_from_slice.ensures.items
+    (line_and_two _ _ _ (codes "accepted ") (decimal c.args.seq) (10 ∷ []) (flat_map answer_line c.args.answers.now) (codes "end\n") c.in_ok-put_line.ensures.ok
+    (c.in_ok-put_answers.ensures.ok ∙ ap (λ (values : List Value). c.put_line.new.out.items ++ flat_map answer_line values) c.items.ensures))
