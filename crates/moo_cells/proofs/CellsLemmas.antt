@@ -1,6 +1,6 @@
 -- Damage of tables, and damage of the rows that they show.
-use Rattle.moo_cells.{proofs.Words.{◌≡◌, ◌⊎◌, inl, inr, ◌<◌, pos, negsuc, Option, Some, None, refl, sym, subst, ◌∙◌, arith, get, Row, Maps, IsGood, Tables, head_cells, version_number, Kind, BadHead, BadCell, PastHead, NoParent, ParentLoop, NoPlace, PlaceLoop, NoDefiner, DoubleName, StrangeSlot, MissingSlot, ClearDefiner, StrangeVerb, Mismatch, Key, Object, Prop, Slot, Verb, Petition, rank, NoneBefore, IsLeast, IsFirstInRows, InRows, AreWithin, HeadIs, ReadsHead, IsRead, ObjectFits, PropFits, SlotFits, VerbFits, PetitionFits, ShowsOrNone, ShowsObject, ShowsProp, ShowsSlot, ShowsVerb, ShowsPetition, ShowsRows, IsNewer, IsBadHead, IsBadCell, IsMet, Damage, SaysOfCells, CellFault, Damaged, NewerVersion, OutOfMemory}, proofs.GoodRows.{head_limits, object_fits, prop_fits, slot_fits_here, verb_fits_here, counter_fits, petition_fits_here, good_within}, proofs.HeadLemmas.{head_known, head_not_newer}, proofs.OneRows.{one_rows}}
-use Rattle.moo_damage.{specs.declared.kind.Key.TheVariants.{Head}, proofs.Clean.{clean}, proofs.Told.{none_told}}
+use Rattle.moo_cells.{proofs.Words.{◌≡◌, ◌⊎◌, inl, inr, ◌<◌, pos, negsuc, Option, Some, None, refl, sym, subst, ◌∙◌, arith, get, Row, Maps, IsGood, Tables, head_cells, version_number, Kind, BadHead, BadCell, PastHead, NoParent, ParentLoop, NoPlace, PlaceLoop, NoDefiner, DoubleName, StrangeSlot, MissingSlot, ClearDefiner, StrangeVerb, Mismatch, Key, Object, Prop, Slot, Verb, Petition, rank, NoneBefore, IsLeast, IsFirstInRows, InRows, AreWithin, HeadIs, ReadsHead, IsRead, ObjectFits, PropFits, SlotFits, VerbFits, PetitionFits, ShowsOrNone, ShowsObject, ShowsProp, ShowsSlot, ShowsVerb, ShowsPetition, ShowsRows, IsNewer, IsBadHead, IsBadCell, IsMet, Damage, SaysOfCells, CellFault, Damaged, NewerVersion, OutOfMemory}, proofs.GoodRows.{head_limits, object_fits, prop_fits, slot_fits_here, verb_fits_here, counter_fits, petition_fits_here, good_within}, proofs.HeadLemmas.{head_known, head_not_newer}, proofs.OneCells.{one_some}, proofs.OneRows.{one_rows}, proofs.Ranks.{at_head, by_rank}}
+use Rattle.moo_damage.{specs.declared.kind.Key.TheVariants.{Head}, proofs.Clean.{clean}, proofs.Least.{none_met as none_in_rows}, proofs.Told.{none_told}}
 
 none_is : {A : Type 0} (o : Option A) (a : A) → o ≡ None → o ≡ Some a → ⊥
 none_is o a p q = let e : None ≡ Some a = sym p ∙ q in cc
@@ -18,12 +18,9 @@ module _ (t : Tables) (m : Maps) (shown : ShowsRows t m) (good : IsGood m) where
   not_newer = head_not_newer t.version t.head (head_cells t.version m.head) m.head head_is reads_head
 
   not_bad_head : (key : Key) → ¬ (IsBadHead t key)
-  not_bad_head Head bad = bad.0 (head_known (version_number t.version) t.head (head_cells t.version m.head) m.head head_is reads_head, (m.head.next_petition, (shown.counter, counter_fits m good)))
-  not_bad_head (Object n) bad = bad
-  not_bad_head (Prop n) bad = bad
-  not_bad_head (Slot n i) bad = bad
-  not_bad_head (Verb n i) bad = bad
-  not_bad_head (Petition n) bad = bad
+  not_bad_head key met =
+      let bad : IsBadHead t Head = subst (IsBadHead t) (at_head t key met) met in
+      bad.0 (head_known (version_number t.version) t.head (head_cells t.version m.head) m.head head_is reads_head, (m.head.next_petition, (shown.counter, counter_fits m good)))
 
   -- the cells that show a row within its limits can be read
   is_read : {K X : Type 0} (shows : K → Row → X → Type 0) (fits : K → X → Type 0) (key : K) (cells : Row) (o : Option Row) (x : Option X) → ((row : X) → x ≡ Some row → fits key row) → ShowsOrNone (shows key) o x → o ≡ Some cells
@@ -31,11 +28,7 @@ module _ (t : Tables) (m : Maps) (shown : ShowsRows t m) (good : IsGood m) where
   is_read shows fits key cells None x fit s e = absurd (none_is None cells refl e)
   is_read shows fits key cells (Some c) None fit s e = absurd s
   is_read shows fits key cells (Some c) (Some row) fit s e =
-      let same : c ≡ cells = one c cells e in
-      (key, row, (subst (λ c. shows key c row) same s, fit row refl))
-    where
-      one : (a b : Row) → Some a ≡ Some b → a ≡ b
-      one a b e = cc
+      (key, row, (subst (λ c. shows key c row) (one_some c cells e) s, fit row refl))
 
   not_bad_cell : (key : Key) → ¬ (IsBadCell t key)
   not_bad_cell Head bad = bad
@@ -77,38 +70,10 @@ kind_of t StrangeVerb = inr (record { up = λ m key s w met. (m, s, w, met); dow
 kind_of t Mismatch = inr (record { up = λ m key s w met. (m, s, w, met); down = λ m key s w met. in_rows t m met.0 Mismatch key s w met.1 met.2 met.3 })
 
 no_rows : (m : Maps) (kind : Kind) → rank kind < 3 → (key : Key) → InRows m kind key → ⊥
-no_rows m BadHead under Head met = met
-no_rows m BadHead under (Object n) met = met
-no_rows m BadHead under (Prop (pos i)) met = met
-no_rows m BadHead under (Prop (negsuc i)) met = met
-no_rows m BadHead under (Slot n (pos i)) met = met
-no_rows m BadHead under (Slot n (negsuc i)) met = met
-no_rows m BadHead under (Verb n (pos i)) met = met
-no_rows m BadHead under (Verb n (negsuc i)) met = met
-no_rows m BadHead under (Petition (pos i)) met = met
-no_rows m BadHead under (Petition (negsuc i)) met = met
-no_rows m BadCell under Head met = met
-no_rows m BadCell under (Object n) met = met
-no_rows m BadCell under (Prop (pos i)) met = met
-no_rows m BadCell under (Prop (negsuc i)) met = met
-no_rows m BadCell under (Slot n (pos i)) met = met
-no_rows m BadCell under (Slot n (negsuc i)) met = met
-no_rows m BadCell under (Verb n (pos i)) met = met
-no_rows m BadCell under (Verb n (negsuc i)) met = met
-no_rows m BadCell under (Petition (pos i)) met = met
-no_rows m BadCell under (Petition (negsuc i)) met = met
-no_rows m PastHead under key met = absurd (omega arith)
-no_rows m NoParent under key met = absurd (omega arith)
-no_rows m ParentLoop under key met = absurd (omega arith)
-no_rows m NoPlace under key met = absurd (omega arith)
-no_rows m PlaceLoop under key met = absurd (omega arith)
-no_rows m NoDefiner under key met = absurd (omega arith)
-no_rows m DoubleName under key met = absurd (omega arith)
-no_rows m StrangeSlot under key met = absurd (omega arith)
-no_rows m MissingSlot under key met = absurd (omega arith)
-no_rows m ClearDefiner under key met = absurd (omega arith)
-no_rows m StrangeVerb under key met = absurd (omega arith)
-no_rows m Mismatch under key met = absurd (omega arith)
+no_rows m kind under key = by_rank (λ k. InRows m k key → ⊥) (none_in_rows m BadHead no no no no no key) (none_in_rows m BadCell no no no no no key) kind under
+  where
+    no : {X : Type 0} → X → ⊥ → ⊥
+    no x h = h
 
 -- the damage of rows is that of the tables that show them
 pub rows_damage : (t : Tables) (m : Maps) → ShowsRows t m → AreWithin m → ¬ (IsNewer t) × NoneBefore (IsMet t) 3 → (kind : Kind) (key : Key) → IsFirstInRows m kind key → Damage t kind key
@@ -129,24 +94,8 @@ rows_damage t m shown within none kind key first = (none.0, (before, least (kind
 pub none_met : (t : Tables) (m : Maps) → ShowsRows t m → IsGood m → (kind : Kind) (key : Key) → ¬ (IsMet t kind key)
 none_met t m shown good kind key met = go kind (kind_of t kind) met
   where
-    low : (kind : Kind) → rank kind < 3 → IsMet t kind key → ⊥
-    low BadHead under met = not_bad_head t m shown good key met
-    low BadCell under met = not_bad_cell t m shown good key met
-    low PastHead under met = absurd (omega arith)
-    low NoParent under met = absurd (omega arith)
-    low ParentLoop under met = absurd (omega arith)
-    low NoPlace under met = absurd (omega arith)
-    low PlaceLoop under met = absurd (omega arith)
-    low NoDefiner under met = absurd (omega arith)
-    low DoubleName under met = absurd (omega arith)
-    low StrangeSlot under met = absurd (omega arith)
-    low MissingSlot under met = absurd (omega arith)
-    low ClearDefiner under met = absurd (omega arith)
-    low StrangeVerb under met = absurd (omega arith)
-    low Mismatch under met = absurd (omega arith)
-
     go : (kind : Kind) → (rank kind < 3) ⊎ OfRows t kind → IsMet t kind key → ⊥
-    go kind (inl under) met = low kind under met
+    go kind (inl under) met = by_rank (λ k. ¬ (IsMet t k key)) (not_bad_head t m shown good key) (not_bad_cell t m shown good key) kind under met
     go kind (inr of) met = none_told m (clean m good) kind key (of.down m key shown (good_within m good) met)
 
 -- so nothing is said of them but want of memory

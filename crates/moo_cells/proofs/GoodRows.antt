@@ -7,15 +7,12 @@ use Rattle.moo_world.{specs.Objects.{same_object, same_object-Decides}, proofs.S
 use Rattle.moo_props.{proofs.Walked.{slot_here}, specs.Names.{name_of}}
 use Rattle.moo_damage.{specs.declared.trees.TreeLink.{TreeLink}, specs.declared.trees.TreeLink.TheVariants.{Parent, Location}, specs.Damage.{next_of, link_of, HasEnd}, proofs.Clean.{clean}}
 
-none_some : {A : Type 0} (x : A) → None ≡ Some x → ⊥
-none_some x e = cc
-
 abbrev Limits : Maps → Type 0
 Limits m = KeepsLimits (without_slots (world_of m))
 
 -- what a list that passes a test is made of passes it
 last_passes : {U : Type 0} (p : U → Bool) (o : Option U) (u : U) → o ≡ Some u → list_all p (cons_option o []) ≡ true → p u ≡ true
-last_passes p None u e h = absurd (none_some u e)
+last_passes p None u e h = absurd cc
 last_passes p (Some v) u e h = ap p (sym (same_Some v u e)) ∙ (and_parts _ _ h).0
 
 made_passes : {U : Type 0} (f : ℕ → Option U) (p : U → Bool) (n : ℕ) → list_all p (filter_map f (numbers_below n)) ≡ true → (i : ℕ) → i < n → (u : U) → f i ≡ Some u → p u ≡ true
@@ -64,7 +61,7 @@ module _ (m : Maps) (good : IsGood m) where
   end_number link x (y ∷ l) climbs = go (get m.objects x) refl climbs.2
     where
       go : (o : Option ObjRow) → get m.objects x ≡ o → option_map (link_of link) (get m.objects x) ≡ Some climbs.1 → is_number x ≡ true
-      go None e is = absurd (none_some climbs.1 (ap (option_map (link_of link)) (sym e) ∙ is))
+      go None e is = let none : None ≡ Some climbs.1 = ap (option_map (link_of link)) (sym e) ∙ is in absurd cc
       go (Some row) e is = object_number x row e
 
   link_number : (link : TreeLink) (x : ObjNo) (row : ObjRow) → get m.objects x ≡ Some row → HasEnd link m x → is_number (link_of link row) ≡ true

@@ -1,5 +1,5 @@
 -- The head, from the rows of its table, and the number of the next petition, from those of its own.
-use Rattle.moo_cells.{proofs.Words.{◌≡◌, ◌≢◌, inl, inr, ℕ, ℤ, pos, ◌<ℤ◌, ◌≤ℤ◌, List, [], ◌∷◌, length, get_or, find, cond, Bool, true, false, true≢false, Option, Some, None, refl, sym, ap, subst, ◌∙◌, arith, IsTrue, ints, Row, column, rowid, has_rowid, Head, Version, First, Second, version_number, petition_head_cells, greatest, head_row, HeadIs, ReadsHead, ReadsNewer, ReadsKnown, IsNewerThan, HasHead, IsCounter, ReadsCounter, HasCounter, SaysOfHead, ShowsCounter, CellFault, Damaged, NewerVersion, OutOfMemory, has_petitions, ShowsNext}, specs.HeadCells.{cells_of, IsHead}, specs.declared.head.HeadCells.{HeadCells}, proofs.Keys.{self_tied, tied_number, number_apart}, proofs.Texts.{int_inj}}
+use Rattle.moo_cells.{proofs.Words.{◌≡◌, ◌≢◌, inl, inr, ℕ, ℤ, pos, ◌<ℤ◌, ◌≤ℤ◌, List, [], ◌∷◌, length, get_or, find, cond, Bool, true, false, true≢false, Option, Some, None, refl, sym, ap, subst, ◌∙◌, arith, IsTrue, ints, Row, column, rowid, has_rowid, Head, Version, First, Second, version_number, petition_head_cells, greatest, head_row, HeadIs, ReadsHead, ReadsNewer, ReadsKnown, IsNewerThan, HasHead, IsCounter, ReadsCounter, HasCounter, SaysOfHead, ShowsCounter, CellFault, Damaged, NewerVersion, OutOfMemory, has_petitions, ShowsNext}, specs.HeadCells.{cells_of, IsHead}, specs.declared.head.HeadCells.{HeadCells}, proofs.Keys.{self_tied, tied_number, number_apart}, proofs.Texts.{int_inj}, proofs.OneCells.{one_some}}
 use Rattle.sqlite.{specs.declared.types.Value.TheVariants.{Int as Number}, specs.Edit.{id_in}}
 use Rattle.sqlite_rules.{specs.Lists.{Has}, proofs.ListLemmas.{all_has}}
 use Rattle.sqlite_trees.specs.View.{is_int}
@@ -52,13 +52,6 @@ not_newer cells n is low k =
     let same = version_is cells n is k.0 k.1 k.2 k.3 k.4 k.5 in
     let above = k.6 in absurd (omega (arith, ints))
 
--- the version is a known one, and not that of the tables
-pub other_version : (v : ℤ) (cells : Row) (n : HeadCells) → cells ≡ cells_of n → n.version ≤ℤ greatest → n.version ≢ v → ¬ (ReadsKnown v cells) × ¬ (ReadsNewer greatest cells)
-other_version v cells n is low other = (
-  (λ k. other (version_is cells n is v (pos k.0.seq) k.0.top (pos k.0.next_prop) (pos k.0.next_verb) k.1.0)),
-  not_newer cells n is low,
-)
-
 -- the counters are outside their limits
 pub outside : (v : ℤ) (cells : Row) (n : HeadCells) → cells ≡ cells_of n → n.version ≤ℤ greatest → ((head : Head) → ¬ (IsHead n head)) → ¬ (ReadsKnown v cells) × ¬ (ReadsNewer greatest cells)
 outside v cells n is low none = (
@@ -74,10 +67,6 @@ outside v cells n is low none = (
       })),
   not_newer cells n is low,
 )
-
-pub head_shown : (v : ℤ) (cells : Row) (n : HeadCells) (head : Head) → cells ≡ cells_of n → n.id ≡ pos 1 → n.version ≡ v → IsHead n head → ReadsHead v head cells
-head_shown v cells n head is id version h =
-    (is ∙ (λ i. Number (id i) ∷ Number (version i) ∷ Number (h.seq i) ∷ Number (h.top i) ∷ Number (h.next_prop i) ∷ Number (h.next_verb i) ∷ []), h.fits)
 
 -- ---- one row
 
@@ -170,9 +159,6 @@ head_not_newer version table cells head is reads newer =
     let same = one_some cells newer.0 (sym is.row ∙ newer.1.row) in
     let shown = sym reads.0 ∙ same ∙ newer.2.5 in
     is_known version newer.2.0 newer.2.6 (int_inj (version_number version) newer.2.0 (ap (λ (c : Row). column c 1) shown))
-  where
-    one_some : (a b : Row) → Some a ≡ Some b → a ≡ b
-    one_some a b e = cc
 
 -- ---- the number of the next petition
 

@@ -1,7 +1,6 @@
 -- A cell shows one thing within the limits at most.
-use Rattle.moo_cells.{proofs.Words.{◌≡◌, ℕ, pos, List, [], ◌∷◌, map, find, Bool, true, false, Option, Some, None, Result, Ok, Err, refl, sym, ap, subst, ◌∙◌, Value, Row, column, ObjNo, Spells, Fits, spread, one_spelled, whole, accept_fits, state_fits, fits_tested, Version, flag_cell, object_list, ShowsAccept, ShowsBits, ShowsSlotState, has_lettered_bits, ShowsRights}, proofs.Texts.{int_inj, text_inj, fits_list, spread_objects}}
+use Rattle.moo_cells.{proofs.Words.{◌≡◌, ℕ, pos, List, [], ◌∷◌, map, find, Bool, true, false, Option, Some, None, Result, Ok, Err, refl, sym, ap, subst, ◌∙◌, Value, Row, column, ObjNo, Spells, Fits, spread, one_spelled, whole, accept_fits, state_fits, fits_tested, Version, flag_cell, object_list, ShowsAccept, ShowsBits, ShowsSlotState, has_lettered_bits, ShowsRights}, proofs.Texts.{int_inj, text_in, text_inj, fits_list, spread_objects}}
 use Rattle.std.specs.Str.{bytes_eq}
-use Rattle.sqlite.specs.declared.types.Value.TheVariants.{Null, Int as Number, Real, Text, Blob}
 use Rattle.moo_value.{specs.declared.value.Value.{Value as MooValue}, specs.declared.value.Value.TheVariants.{Obj, List as a_list}, specs.Reading.{literal_at}, specs.declared.fault.LiteralFault.{LiteralFault}, specs.declared.fault.LiteralFault.TheVariants.{NotALiteral}, proofs.Literals.{front_again}}
 use Rattle.moo_rows.{specs.declared.row.SlotState.{SlotState}, specs.declared.row.SlotState.TheVariants.{Clear, Set}, specs.declared.row.ObjectSpec.{ObjectSpec}, specs.declared.row.ObjectSpec.TheVariants.{This, Any as any_object, None as no_object}, specs.declared.row.Preposition.{Preposition}, specs.declared.row.Preposition.TheVariants.{None as no_preposition, Any as any_preposition, Set as a_set}, specs.declared.row.PrepositionSet.TheVariants.{With, At, InFrontOf, In, OnTopOf, OutOf, Over, Through, Under, Behind, Beside, For, Is, As, Off}, specs.Bits.{bits_of}, specs.declared.row.Bits.{Bits}, proofs.BitsNumber.{bits_number-injective}}
 use Rattle.moo_world.specs.Prepositions.{all_sets, prep_text, object_spec_text}
@@ -60,15 +59,8 @@ rights_one false cell x y p q = bits_number-injective x y (int_inj _ _ (sym p �
 pub bits_one : (version : Version) (cell : Value) (x y : Bits) → ShowsBits version cell x → ShowsBits version cell y → x ≡ y
 bits_one version = rights_one (has_lettered_bits version)
 
-abbrev text_of : Value → List ℕ
-text_of Null = []
-text_of (Number n) = []
-text_of (Real x) = []
-text_of (Text t) = t
-text_of (Blob b) = []
-
 abbrev pub text_at : ℕ → Row → List ℕ
-text_at k c = text_of (column c k)
+text_at k c = text_in (column c k)
 
 -- ---- literals
 

@@ -1,5 +1,5 @@
 -- The rows of all tables.
-use Rattle.moo_cells.{proofs.Words.{◌≡◌, ◌⊎◌, inl, inr, ℕ, ℤ, pos, negsuc, ◌<◌, find, Option, Some, None, refl, sym, ap, subst, ◌∙◌, arith, get, AllByRecursion, Row, has_rowid, Maps, and_from, Tables, tables_of, has_key_pair, version_number, Kind, BadHead, BadCell, PastHead, NoParent, ParentLoop, NoPlace, PlaceLoop, NoDefiner, DoubleName, StrangeSlot, MissingSlot, ClearDefiner, StrangeVerb, Mismatch, Key, Object, Prop, Slot, Verb, Petition, rank, IsBelow, NoneBefore, AreWithin, HeadIs, ReadsHead, HasHead, ReadsCounter, HasCounter, SaysOfHead, IsRead, ReadsObject, ReadsProp, ReadsSlot, ReadsVerb, ReadsPetition, ShowsOrNone, ShowsObject, ShowsProp, ShowsSlot, ShowsVerb, ShowsPetition, ShowsRows, HoldsTable, SaysUnread, object_number, prop_number, slot_number, verb_number, petition_number, object_key, prop_key, slot_key, verb_key, petition_key, IsLess, IsPairLess, IsNewer, IsBadCell, IsMet, SaysOfCells, CellFault, Damaged, NewerVersion, OutOfMemory}, proofs.Keys.{objects_bear, props_bear, slots_bear, verbs_bear, petitions_bear}, proofs.HeadLemmas.{head_known, head_not_newer}, proofs.Table.{none_unread, no_other}}
+use Rattle.moo_cells.{proofs.Words.{◌≡◌, ℕ, ℤ, Bool, List, pos, negsuc, ◌<◌, find, Option, Some, None, sym, ap, subst, ◌∙◌, arith, get, AllByRecursion, Row, has_rowid, Maps, and_from, Tables, tables_of, has_key_pair, version_number, Kind, BadHead, Key, rank, IsBelow, NoneBefore, AreWithin, HeadIs, ReadsHead, HasHead, ReadsCounter, HasCounter, SaysOfHead, IsRead, ReadsObject, ReadsProp, ReadsSlot, ReadsVerb, ReadsPetition, ShowsOrNone, ShowsObject, ShowsProp, ShowsSlot, ShowsVerb, ShowsPetition, ShowsRows, HoldsTable, SaysUnread, object_number, prop_number, slot_number, verb_number, petition_number, object_key, prop_key, slot_key, verb_key, petition_key, IsLess, IsPairLess, IsNewer, IsBadHead, IsBadCell, IsMet, SaysOfCells, CellFault, Damaged, NewerVersion, OutOfMemory}, proofs.Keys.{objects_bear, props_bear, slots_bear, verbs_bear, petitions_bear}, proofs.HeadLemmas.{head_known, head_not_newer}, proofs.OneCells.{one_some}, proofs.Table.{none_unread, no_other}, proofs.Ranks.{at_head, by_key, by_rank}, specs.Unread.{IsUnread, FirstUnread}}
 use Rattle.moo_rows.specs.declared.row.Head.{Head as HeadRow}
 use Rattle.moo_tables.specs.declared.reading.CellLists.{CellLists}
 use Rattle.moo_damage.specs.declared.kind.Key.TheVariants.{Head}
@@ -10,15 +10,9 @@ shows_of reads shows f (Some c) (Some x) h = f c x h
 shows_of reads shows f (Some c) None h = absurd h
 shows_of reads shows f None (Some x) h = absurd h
 
-inside : {X : Type 0} (z x : X) → Some z ≡ Some x → z ≡ x
-inside z x e = cc
-
-none_some : {X : Type 0} (x : X) → None ≡ Some x → ⊥
-none_some x e = cc
-
 read_of : {X : Type 0} (reads : Row → X → Type 0) (o : Option Row) (y : Option X) (x : X) → ShowsOrNone reads o y → y ≡ Some x → (c : Row) × reads c x
-read_of reads None None x h e = absurd (none_some x e)
-read_of reads (Some c) (Some z) x h e = (c, subst (reads c) (inside z x e) h)
+read_of reads None None x h e = absurd cc
+read_of reads (Some c) (Some z) x h e = (c, subst (reads c) (one_some z x e) h)
 read_of reads (Some c) None x h e = absurd h
 read_of reads None (Some z) x h e = absurd h
 
@@ -96,65 +90,15 @@ read_all lists cells m0 m1 m2 m3 m4 m5 is reads counter k1 k2 k3 k4 k5 objects p
 
 -- ---- what is told of tables
 
-no_kind : (kind : Kind) → rank kind < 1 → ⊥
-no_kind BadHead under = absurd (omega arith)
-no_kind BadCell under = absurd (omega arith)
-no_kind PastHead under = absurd (omega arith)
-no_kind NoParent under = absurd (omega arith)
-no_kind ParentLoop under = absurd (omega arith)
-no_kind NoPlace under = absurd (omega arith)
-no_kind PlaceLoop under = absurd (omega arith)
-no_kind NoDefiner under = absurd (omega arith)
-no_kind DoubleName under = absurd (omega arith)
-no_kind StrangeSlot under = absurd (omega arith)
-no_kind MissingSlot under = absurd (omega arith)
-no_kind ClearDefiner under = absurd (omega arith)
-no_kind StrangeVerb under = absurd (omega arith)
-no_kind Mismatch under = absurd (omega arith)
-
-head_kind : (kind : Kind) → rank kind < 2 → kind ≡ BadHead
-head_kind BadHead under = refl
-head_kind BadCell under = absurd (omega arith)
-head_kind PastHead under = absurd (omega arith)
-head_kind NoParent under = absurd (omega arith)
-head_kind ParentLoop under = absurd (omega arith)
-head_kind NoPlace under = absurd (omega arith)
-head_kind PlaceLoop under = absurd (omega arith)
-head_kind NoDefiner under = absurd (omega arith)
-head_kind DoubleName under = absurd (omega arith)
-head_kind StrangeSlot under = absurd (omega arith)
-head_kind MissingSlot under = absurd (omega arith)
-head_kind ClearDefiner under = absurd (omega arith)
-head_kind StrangeVerb under = absurd (omega arith)
-head_kind Mismatch under = absurd (omega arith)
-
-cell_kind : (kind : Kind) → rank kind < 3 → (kind ≡ BadHead) ⊎ (kind ≡ BadCell)
-cell_kind BadHead under = inl refl
-cell_kind BadCell under = inr refl
-cell_kind PastHead under = absurd (omega arith)
-cell_kind NoParent under = absurd (omega arith)
-cell_kind ParentLoop under = absurd (omega arith)
-cell_kind NoPlace under = absurd (omega arith)
-cell_kind PlaceLoop under = absurd (omega arith)
-cell_kind NoDefiner under = absurd (omega arith)
-cell_kind DoubleName under = absurd (omega arith)
-cell_kind StrangeSlot under = absurd (omega arith)
-cell_kind MissingSlot under = absurd (omega arith)
-cell_kind ClearDefiner under = absurd (omega arith)
-cell_kind StrangeVerb under = absurd (omega arith)
-cell_kind Mismatch under = absurd (omega arith)
-
 -- a bad head is told as it is
 pub says_head : (lists : CellLists) (fault : CellFault) → (let t = tables_of lists in SaysOfHead (HasHead (version_number lists.version) t.head × HasCounter lists.version t.petition_head) (IsNewer t) fault) → SaysOfCells (tables_of lists) fault
-says_head lists (Damaged kind key) says = rw (says.0, says.1) (says.3, ((λ k under other met. no_kind k under), ((says.2, says.3), (λ other under met. none other under met))))
+says_head lists (Damaged kind key) says = rw (says.0, says.1) (says.3, ((λ k under other met. none_first k under), ((says.2, says.3), (λ other under met. none other under met))))
   where
+    none_first : (kind : Kind) → rank kind < 1 → ⊥
+    none_first kind under = by_rank (λ k. rank k < 1 → ⊥) (λ no. absurd (omega arith)) (λ no. absurd (omega arith)) kind (omega arith) under
+
     none : (other : Key) → IsBelow other Head → IsMet (tables_of lists) BadHead other → ⊥
-    none Head under met = absurd (omega arith)
-    none (Object n) under met = met
-    none (Prop n) under met = met
-    none (Slot n i) under met = met
-    none (Verb n i) under met = met
-    none (Petition n) under met = met
+    none other under met = let no : IsBelow Head Head = subst (λ k. IsBelow k Head) (at_head (tables_of lists) other met) under in absurd (omega arith)
 says_head lists NewerVersion says = says
 says_head lists OutOfMemory says = absurd says
 
@@ -163,98 +107,60 @@ module _ (lists : CellLists) (head : HeadRow) (cells : Row) (is : HeadIs (λ n. 
   abbrev t : Tables
   t = tables_of lists
 
-  no_bad_head : (key : Key) → ¬ (IsMet t BadHead key)
-  no_bad_head Head met = met.0 (head_known (version_number lists.version) t.head cells head is reads, (head.next_petition, counter))
-  no_bad_head (Object n) met = met
-  no_bad_head (Prop n) met = met
-  no_bad_head (Slot n i) met = met
-  no_bad_head (Verb n i) met = met
-  no_bad_head (Petition n) met = met
+  no_bad_head : (key : Key) → ¬ (IsBadHead t key)
+  no_bad_head key met =
+      let bad : IsBadHead t Head = subst (IsBadHead t) (at_head t key met) met in
+      bad.0 (head_known (version_number lists.version) t.head cells head is reads, (head.next_petition, counter))
 
   before : (kind : Kind) → rank kind < 2 → (key : Key) → ¬ (IsMet t kind key)
-  before kind under key met = no_bad_head key (subst (λ k. IsMet t k key) (head_kind kind under) met)
+  before kind under key = by_rank (λ k. rank k < 2 → ¬ (IsMet t k key)) (λ low. no_bad_head key) (λ low. absurd (omega arith)) kind (omega arith) under
+
+  -- what can't be read in one table is told where no cell below it is bad
+  says_of : {J K X : Type 0} (has : J → Row → Bool) {reads : K → Row → X → Type 0} {below : J → J → Type 0} {key_of : J → Key} (rows : List Row) → ((j : J) → IsUnread reads (λ k. find (has k) rows) j → IsBadCell t (key_of j))
+      → ((j : J) → FirstUnread reads below (λ k. find (has k) rows) j → (other : Key) → IsBelow other (key_of j) → ¬ (IsBadCell t other)) → (fault : CellFault) → SaysUnread has reads below key_of rows fault → SaysOfCells t fault
+  says_of has rows bad least (Damaged kind key) says = rw (says.1, says.2) (head_not_newer lists.version t.head cells head is reads, (before, (bad says.0 says.3.bad, least says.0 says.3)))
+  says_of has rows bad least NewerVersion says = absurd says
+  says_of has rows bad least OutOfMemory says = tt
 
   pub says_object : (fault : CellFault) → SaysUnread has_rowid (ReadsObject lists.version) IsLess object_key lists.object.items fault → SaysOfCells t fault
-  says_object (Damaged kind key) says = rw (says.1, says.2) (head_not_newer lists.version t.head cells head is reads, (before, (says.3.bad, least)))
-    where
-      least : (other : Key) → IsBelow other (Object says.0) → ¬ (IsBadCell t other)
-      least Head under bad = bad
-      least (Object n) under bad = says.3.least n under bad
-      least (Prop n) under bad = absurd (omega arith)
-      least (Slot n i) under bad = absurd (omega arith)
-      least (Verb n i) under bad = absurd (omega arith)
-      least (Petition n) under bad = absurd (omega arith)
-  says_object NewerVersion says = absurd says
-  says_object OutOfMemory says = tt
+  says_object = says_of has_rowid lists.object.items (λ j bad. bad) (λ j first. by_key (λ other. IsBelow other (object_key j) → ¬ (IsBadCell t other))
+      (λ under bad. bad) first.least (λ n under bad. absurd (omega arith)) (λ n i under bad. absurd (omega arith)) (λ n i under bad. absurd (omega arith)) (λ n under bad. absurd (omega arith)))
 
   module _ (objects : AllByRecursion (IsRead (ReadsObject lists.version)) lists.object.items) where
+    no_object : (n : ℤ) → ¬ (IsUnread (ReadsObject lists.version) t.object n)
+    no_object = none_unread (objects_bear lists.version) lists.object.items objects
+
     pub says_prop : (fault : CellFault) → SaysUnread has_rowid (ReadsProp lists.version) IsLess prop_key lists.prop.items fault → SaysOfCells t fault
-    says_prop (Damaged kind key) says = rw (says.1, says.2) (head_not_newer lists.version t.head cells head is reads, (before, (says.3.bad, least)))
-      where
-        least : (other : Key) → IsBelow other (Prop says.0) → ¬ (IsBadCell t other)
-        least Head under bad = bad
-        least (Object n) under bad = none_unread (objects_bear lists.version) lists.object.items objects n bad
-        least (Prop n) under bad = says.3.least n under bad
-        least (Slot n i) under bad = absurd (omega arith)
-        least (Verb n i) under bad = absurd (omega arith)
-        least (Petition n) under bad = absurd (omega arith)
-    says_prop NewerVersion says = absurd says
-    says_prop OutOfMemory says = tt
+    says_prop = says_of has_rowid lists.prop.items (λ j bad. bad) (λ j first. by_key (λ other. IsBelow other (prop_key j) → ¬ (IsBadCell t other))
+        (λ under bad. bad) (λ n under. no_object n) first.least (λ n i under bad. absurd (omega arith)) (λ n i under bad. absurd (omega arith)) (λ n under bad. absurd (omega arith)))
 
     module _ (props : AllByRecursion (IsRead (ReadsProp lists.version)) lists.prop.items) where
+      no_prop : (n : ℤ) → ¬ (IsUnread (ReadsProp lists.version) t.prop n)
+      no_prop = none_unread (props_bear lists.version) lists.prop.items props
+
       pub says_slot : (fault : CellFault) → SaysUnread has_key_pair (ReadsSlot lists.version) IsPairLess slot_key lists.slot.items fault → SaysOfCells t fault
-      says_slot (Damaged kind key) says = rw (says.1, says.2) (head_not_newer lists.version t.head cells head is reads, (before, (says.3.bad, least)))
-        where
-          least : (other : Key) → IsBelow other (Slot says.0.0 says.0.1) → ¬ (IsBadCell t other)
-          least Head under bad = bad
-          least (Object n) under bad = none_unread (objects_bear lists.version) lists.object.items objects n bad
-          least (Prop n) under bad = none_unread (props_bear lists.version) lists.prop.items props n bad
-          least (Slot n i) under bad = says.3.least (n, i) under bad
-          least (Verb n i) under bad = absurd (omega arith)
-          least (Petition n) under bad = absurd (omega arith)
-      says_slot NewerVersion says = absurd says
-      says_slot OutOfMemory says = tt
+      says_slot = says_of has_key_pair lists.slot.items (λ j bad. bad) (λ j first. by_key (λ other. IsBelow other (slot_key j) → ¬ (IsBadCell t other))
+          (λ under bad. bad) (λ n under. no_object n) (λ n under. no_prop n) (λ n i. first.least (n, i)) (λ n i under bad. absurd (omega arith)) (λ n under bad. absurd (omega arith)))
 
       module _ (slots : AllByRecursion (IsRead (ReadsSlot lists.version)) lists.slot.items) where
+        no_slot : (key : ℤ × ℤ) → ¬ (IsUnread (ReadsSlot lists.version) t.slot key)
+        no_slot = none_unread (slots_bear lists.version) lists.slot.items slots
+
         pub says_verb : (fault : CellFault) → SaysUnread has_key_pair (ReadsVerb lists.version) IsPairLess verb_key lists.verb.items fault → SaysOfCells t fault
-        says_verb (Damaged kind key) says = rw (says.1, says.2) (head_not_newer lists.version t.head cells head is reads, (before, (says.3.bad, least)))
-          where
-            least : (other : Key) → IsBelow other (Verb says.0.0 says.0.1) → ¬ (IsBadCell t other)
-            least Head under bad = bad
-            least (Object n) under bad = none_unread (objects_bear lists.version) lists.object.items objects n bad
-            least (Prop n) under bad = none_unread (props_bear lists.version) lists.prop.items props n bad
-            least (Slot n i) under bad = none_unread (slots_bear lists.version) lists.slot.items slots (n, i) bad
-            least (Verb n i) under bad = says.3.least (n, i) under bad
-            least (Petition n) under bad = absurd (omega arith)
-        says_verb NewerVersion says = absurd says
-        says_verb OutOfMemory says = tt
+        says_verb = says_of has_key_pair lists.verb.items (λ j bad. bad) (λ j first. by_key (λ other. IsBelow other (verb_key j) → ¬ (IsBadCell t other))
+            (λ under bad. bad) (λ n under. no_object n) (λ n under. no_prop n) (λ n i under. no_slot (n, i)) (λ n i. first.least (n, i)) (λ n under bad. absurd (omega arith)))
 
         module _ (verbs : AllByRecursion (IsRead (ReadsVerb lists.version)) lists.verb.items) where
+          no_verb : (key : ℤ × ℤ) → ¬ (IsUnread (ReadsVerb lists.version) t.verb key)
+          no_verb = none_unread (verbs_bear lists.version) lists.verb.items verbs
+
           pub says_petition : (fault : CellFault) → SaysUnread has_rowid (ReadsPetition lists.version) IsLess petition_key lists.petition.items fault → SaysOfCells t fault
-          says_petition (Damaged kind key) says = rw (says.1, says.2) (head_not_newer lists.version t.head cells head is reads, (before, (says.3.bad, least)))
-            where
-              least : (other : Key) → IsBelow other (Petition says.0) → ¬ (IsBadCell t other)
-              least Head under bad = bad
-              least (Object n) under bad = none_unread (objects_bear lists.version) lists.object.items objects n bad
-              least (Prop n) under bad = none_unread (props_bear lists.version) lists.prop.items props n bad
-              least (Slot n i) under bad = none_unread (slots_bear lists.version) lists.slot.items slots (n, i) bad
-              least (Verb n i) under bad = none_unread (verbs_bear lists.version) lists.verb.items verbs (n, i) bad
-              least (Petition n) under bad = says.3.least n under bad
-          says_petition NewerVersion says = absurd says
-          says_petition OutOfMemory says = tt
+          says_petition = says_of has_rowid lists.petition.items (λ j bad. bad) (λ j first. by_key (λ other. IsBelow other (petition_key j) → ¬ (IsBadCell t other))
+              (λ under bad. bad) (λ n under. no_object n) (λ n under. no_prop n) (λ n i under. no_slot (n, i)) (λ n i under. no_verb (n, i)) first.least)
 
           -- where each row of each table is read, neither of the first two kinds is met
           pub none_met : AllByRecursion (IsRead (ReadsPetition lists.version)) lists.petition.items → ¬ (IsNewer t) × NoneBefore (IsMet t) 3
-          none_met petitions = (head_not_newer lists.version t.head cells head is reads, λ kind under key met. go kind key (cell_kind kind under) met)
+          none_met petitions = (head_not_newer lists.version t.head cells head is reads, λ kind under key. by_rank (λ k. ¬ (IsMet t k key)) (no_bad_head key) (bad_cell key) kind under)
             where
               bad_cell : (key : Key) → ¬ (IsBadCell t key)
-              bad_cell Head bad = bad
-              bad_cell (Object n) bad = none_unread (objects_bear lists.version) lists.object.items objects n bad
-              bad_cell (Prop n) bad = none_unread (props_bear lists.version) lists.prop.items props n bad
-              bad_cell (Slot n i) bad = none_unread (slots_bear lists.version) lists.slot.items slots (n, i) bad
-              bad_cell (Verb n i) bad = none_unread (verbs_bear lists.version) lists.verb.items verbs (n, i) bad
-              bad_cell (Petition n) bad = none_unread (petitions_bear lists.version) lists.petition.items petitions n bad
-
-              go : (kind : Kind) (key : Key) → (kind ≡ BadHead) ⊎ (kind ≡ BadCell) → IsMet t kind key → ⊥
-              go kind key (inl same) met = no_bad_head key (subst (λ k. IsMet t k key) same met)
-              go kind key (inr same) met = bad_cell key (subst (λ k. IsMet t k key) same met)
+              bad_cell = by_key (λ key. ¬ (IsBadCell t key)) (λ bad. bad) no_object no_prop (λ n i. no_slot (n, i)) (λ n i. no_verb (n, i)) (none_unread (petitions_bear lists.version) lists.petition.items petitions)

@@ -26,6 +26,18 @@ tied Less h = cc
 tied Equal h = refl
 tied Greater h = cc
 
+-- the rows that were taken and those that are left, at the next one and at the end
+
+pub takes_next : {cells : List Row} (front : List Row) {left rest : List Row} {r : Row} → front ++ left ≡ cells → left ≡ r ∷ rest → front ++ r ∷ rest ≡ cells
+takes_next front so step = ap (λ l. front ++ l) (sym step) ∙ so
+
+pub takes_on : {cells : List Row} (front : List Row) {left rest : List Row} {r : Row} → front ++ left ≡ cells → left ≡ r ∷ rest → (front ++ r ∷ []) ++ rest ≡ cells
+takes_on front {rest = rest} {r = r} so step = append_assoc front (r ∷ []) rest ∙ takes_next front so step
+
+pub took_all : (front left : List Row) {cells : List Row} → front ++ left ≡ cells → length left ≡ 0 → front ≡ cells
+took_all front [] so none = sym (append-nil front) ∙ so
+took_all front (r ∷ left) so none = absurd (omega arith)
+
 module _ {J K X : Type 0} {has : J → Row → Bool} {number : K → J} {reads : K → Row → X → Type 0} {up : Row → Row → Type 0} {below : J → J → Type 0} (bears : Bears has number reads up below) where
   -- no row in front has the key of a later one
   pub fresh : (j : J) (front : List Row) (r : Row) (rest : List Row) → IsAscending up (front ++ r ∷ rest) → has j r ≡ true → find (has j) front ≡ None
@@ -103,31 +115,20 @@ module _ {J K X : Type 0} {has : J → Row → Bool} {number : K → J} {reads :
     read = tt;
   }
 
-  module _ (cells front : List Row) (r : Row) (rest : List Row) (whole : front ++ r ∷ rest ≡ cells) (rise : IsAscending up cells) where
+  -- a loop that took `front` stands before `left`, of which it takes the first row
+  module _ {cells : List Row} (front : List Row) {left rest : List Row} {r : Row} (whole : front ++ left ≡ cells) (steps : left ≡ r ∷ rest) (rise : IsAscending up cells) where
     rises : IsAscending up (front ++ r ∷ rest)
-    rises = subst (IsAscending up) (sym whole) rise
+    rises = subst (IsAscending up) (sym (takes_next front whole steps)) rise
 
-    pub held_more : {cmp : K → K → Ordering} → IsTotalOrder cmp → IsAntisymmetric cmp → (m n : FinMap cmp X) → HoldsTable has number reads front m → TakesRow reads r m n → HoldsTable has number reads (front ++ r ∷ []) n
-    held_more {cmp} total exact m n held taken =
+    pub held_more : {cmp : K → K → Ordering} → IsTotalOrder cmp → IsAntisymmetric cmp → {m n : FinMap cmp X} → HoldsTable has number reads front m → TakesRow reads r m n → HoldsTable has number reads (front ++ r ∷ []) n
+    held_more {cmp} total exact {m} {n} held taken =
         let Q : FinMap cmp X → Type 0 = λ n. HoldsTable has number reads (front ++ r ∷ []) n in
         subst Q (sym taken.put) (record {
           shown = step total exact front r rest rises taken.key taken.row taken.is_read m held.shown;
           read = all_then (IsRead reads) front r held.read (taken.key, taken.row, taken.is_read);
         })
 
-    pub held_first : {cmp : K → K → Ordering} → (m : FinMap cmp X) → HoldsTable has number reads front m → ¬ (IsRead reads r) → (k : J) → has k r ≡ true → FirstUnread reads below (λ j. find (has j) cells) k
-    held_first m held bad k mine =
+    pub held_first : {cmp : K → K → Ordering} {m : FinMap cmp X} → HoldsTable has number reads front m → ¬ (IsRead reads r) → (k : J) → has k r ≡ true → FirstUnread reads below (λ j. find (has j) cells) k
+    held_first held bad k mine =
         let P : List Row → Type 0 = λ c. FirstUnread reads below (λ j. find (has j) c) k in
-        subst P whole (first_unread front r rest rises held.read bad k mine)
-
--- the rows that were taken and those that are left, at the next one and at the end
-
-pub takes_next : (cells front left rest : List Row) (r : Row) → front ++ left ≡ cells → left ≡ r ∷ rest → front ++ r ∷ rest ≡ cells
-takes_next cells front left rest r so step = ap (λ l. front ++ l) (sym step) ∙ so
-
-pub takes_on : (cells front left rest : List Row) (r : Row) → front ++ left ≡ cells → left ≡ r ∷ rest → (front ++ r ∷ []) ++ rest ≡ cells
-takes_on cells front left rest r so step = append_assoc front (r ∷ []) rest ∙ takes_next cells front left rest r so step
-
-pub took_all : (cells front left : List Row) → front ++ left ≡ cells → length left ≡ 0 → front ≡ cells
-took_all cells front [] so none = sym (append-nil front) ∙ so
-took_all cells front (r ∷ left) so none = absurd (omega arith)
+        subst P (takes_next front whole steps) (first_unread front r rest rises held.read bad k mine)

@@ -1,27 +1,21 @@
 -- Texts in cells.
 use Rattle.moo_cells.proofs.Words.{◌≡◌, ◌≢◌, ℕ, zero, suc, ℤ, List, [], ◌∷◌, ◌≤◌, ◌<◌, length, map, get_or, take, Bool, true, false, true≢false, Some, Result, Ok, Err, refl, sym, ap, subst, ◌∙◌, arith, if◌then◌else◌, ◌==◌, ◌&&◌, nat_le, list_all, and_parts, and_from, le-leb, leb-true, Value, ObjNo, Spells, Fits, HoldInside, InRange, gather, nesting, spread, one_spelled, is_text, is_number, all_within_limits, is_named, are_few, are_shallow, has_word, state_fits, accept_fits, text_tested, fits_tested, fits_of, range_of, fits_signed, calls_fit, object_list, ShowsSlotState}
 use Rattle.std.{specs.Result.{is_err}, proofs.lemmas.List.{take_all}}
-use Rattle.sqlite.specs.declared.types.Value.TheVariants.{Null, Int, Real, Text, Blob}
+use Rattle.sqlite.specs.declared.types.Value.TheVariants.{Int, Text}
 use Rattle.moo_value.{specs.Text.{IsText, AllAllowed}, specs.TextFaults.{IsTextFault}, specs.declared.fault.LiteralFault.{LiteralFault}, specs.declared.fault.LiteralFault.TheVariants.{NotALiteral, OutOfRange, BadByte, TooDeep, TooLong, OutOfMemory}, specs.declared.value.Value.{Value as MooValue}, specs.declared.value.Value.TheVariants.{Obj, List as a_list}, specs.Reading.{Fails}, specs.Values.{Values, no_values, levels}}
 use Rattle.moo_rows.{specs.declared.row.SlotState.{SlotState}, specs.declared.row.SlotState.TheVariants.{Clear, Set}}
 use Rattle.moo_verbs.{specs.declared.fault.VerbFault.{VerbFault}, specs.declared.fault.VerbFault.TheVariants.{BadNames}}
 
-abbrev text_in : Value → List ℕ
-text_in Null = []
-text_in (Int n) = []
-text_in (Real x) = []
+abbrev pub text_in : Value → List ℕ
 text_in (Text t) = t
-text_in (Blob b) = []
+text_in v = []
 
 pub text_inj : (s t : List ℕ) → Text s ≡ Text t → s ≡ t
 text_inj s t e = ap text_in e
 
 abbrev int_in : ℤ → Value → ℤ
-int_in n Null = n
 int_in n (Int m) = m
-int_in n (Real x) = n
-int_in n (Text t) = n
-int_in n (Blob b) = n
+int_in n v = n
 
 pub int_inj : (m n : ℤ) → Int m ≡ Int n → m ≡ n
 int_inj m n e = ap (int_in m) e
@@ -105,9 +99,6 @@ pub not_empty : (s : List ℕ) → (length s == 0) ≡ false → s ≡ [] → �
 not_empty s some none = true≢false (ap (λ l. length l == 0) (sym none) ∙ some)
 
 -- ---- a list that a literal spells
-
-pub spells_list : (b : List ℕ) (vs : Values) (items : List MooValue) (objects : List ObjNo) → Spells (a_list vs) b → gather items ≡ vs → items ≡ map Obj objects → Spells (object_list objects) b
-spells_list b vs items objects spells gathered same = subst (λ v. Spells v b) (ap a_list (sym gathered ∙ ap gather same)) spells
 
 pub fits_spelled : (vs : Values) (items : List MooValue) (objects : List ObjNo) → Fits (a_list vs) → gather items ≡ vs → items ≡ map Obj objects → length objects ≤ 1000 → accept_fits (Some objects) ≡ true
 fits_spelled vs items objects fits gathered same short = list_fits objects short (subst Fits (ap a_list (sym gathered ∙ ap gather same)) fits)

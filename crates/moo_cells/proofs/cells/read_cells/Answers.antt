@@ -19,8 +19,7 @@ returns-in_err-rows-clause-undamaged c known none =
 pub returns-in-Some-clause-undamaged : goal.returns-in-Some-clause-undamaged
 returns-in-Some-clause-undamaged c known none =
     let first = subst (λ (o : Option (Kind × Key)). IfSome o (λ d. IsFirstInRows c.in_ok-rows.rows.maps d.0 d.1)) c.in-Some.is c.in_ok-damage.ensures.first in
-    let t = tables_of c.args.lists in
-    absurd (none c.in-Some.kind c.in-Some.key (rows_damage t c.in_ok-rows.rows.maps c.in_ok-rows.ensures.shown c.in_ok-rows.ensures.within c.in_ok-rows.ensures.read c.in-Some.kind c.in-Some.key first).1.1.0)
+    absurd (none c.in-Some.kind c.in-Some.key (rows_damage (tables_of c.args.lists) c.in_ok-rows.rows.maps c.in_ok-rows.ensures.shown c.in_ok-rows.ensures.within c.in_ok-rows.ensures.read c.in-Some.kind c.in-Some.key first).1.1.0)
 
 pub returns-in-Some-clause-fault : goal.returns-in-Some-clause-fault
 returns-in-Some-clause-fault c =
@@ -30,8 +29,7 @@ returns-in-Some-clause-fault c =
 pub returns-in-Some-clause-whole : goal.returns-in-Some-clause-whole
 returns-in-Some-clause-whole c m shown good =
     let first = subst (λ (o : Option (Kind × Key)). IfSome o (λ d. IsFirstInRows c.in_ok-rows.rows.maps d.0 d.1)) c.in-Some.is c.in_ok-damage.ensures.first in
-    let t = tables_of c.args.lists in
-    absurd (none_met t m shown good c.in-Some.kind c.in-Some.key (rows_damage t c.in_ok-rows.rows.maps c.in_ok-rows.ensures.shown c.in_ok-rows.ensures.within c.in_ok-rows.ensures.read c.in-Some.kind c.in-Some.key first).1.1.0)
+    absurd (none_met (tables_of c.args.lists) m shown good c.in-Some.kind c.in-Some.key (rows_damage (tables_of c.args.lists) c.in_ok-rows.rows.maps c.in_ok-rows.ensures.shown c.in_ok-rows.ensures.within c.in_ok-rows.ensures.read c.in-Some.kind c.in-Some.key first).1.1.0)
 
 pub returns-in-None-clause-one : goal.returns-in-None-clause-one
 returns-in-None-clause-one c m shown good = one_good (tables_of c.args.lists) c.in_ok-rows.rows.maps m c.in_ok-rows.ensures.shown c.in_ok-rows.ensures.within shown good

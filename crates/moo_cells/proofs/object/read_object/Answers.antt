@@ -3,8 +3,7 @@ use Rattle.moo_cells.proofs.object.read_object.Goals as goal
 
 pub returns-in_err-number-clause-err : goal.returns-in_err-number-clause-err
 returns-in_err-number-clause-err c =
-    let p = err_from_is_err_and c.from_residual.result c.from_residual.ensures.1 in
-    rw p.1 (λ fault read. c.in_err-number.ensures.err read.0 read.2.1.number (columns_read c.args.version c.args.cells.now read).number)
+    rw (err_from_is_err_and c.from_residual.result c.from_residual.ensures.1).1 (λ fault read. c.in_err-number.ensures.err read.0 read.2.1.number (columns_read c.args.version c.args.cells.now read).number)
 
 pub returns-in_err-name-clause-err : goal.returns-in_err-name-clause-err
 returns-in_err-name-clause-err c =
@@ -28,8 +27,7 @@ returns-in_err-location-clause-err c =
 
 pub returns-in_err-flags-clause-err : goal.returns-in_err-flags-clause-err
 returns-in_err-flags-clause-err c =
-    let p = err_from_is_err_and c.from_residual-in_err-flags.result c.from_residual-in_err-flags.ensures.1 in
-    rw p.1 (λ fault read. c.in_err-flags.ensures.err (flags_in read.1) (columns_read c.args.version c.args.cells.now read).flags)
+    rw (err_from_is_err_and c.from_residual-in_err-flags.result c.from_residual-in_err-flags.ensures.1).1 (λ fault read. c.in_err-flags.ensures.err (flags_in read.1) (columns_read c.args.version c.args.cells.now read).flags)
 
 pub returns-in_err-accept-clause-err : goal.returns-in_err-accept-clause-err
 returns-in_err-accept-clause-err c =

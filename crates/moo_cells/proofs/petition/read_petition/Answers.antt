@@ -3,8 +3,7 @@ use Rattle.moo_cells.proofs.petition.read_petition.Goals as goal
 
 pub returns-in_err-id-clause-err : goal.returns-in_err-id-clause-err
 returns-in_err-id-clause-err c =
-    let p = err_from_is_err_and c.from_residual.result c.from_residual.ensures.1 in
-    rw p.1 (λ fault read. c.in_err-id.ensures.err read.0.0 read.2.1.number (ap (λ (r : Row). column r 0) read.2.0.2))
+    rw (err_from_is_err_and c.from_residual.result c.from_residual.ensures.1).1 (λ fault read. c.in_err-id.ensures.err read.0.0 read.2.1.number (ap (λ (r : Row). column r 0) read.2.0.2))
 
 pub returns-in_err-who-clause-err : goal.returns-in_err-who-clause-err
 returns-in_err-who-clause-err c =

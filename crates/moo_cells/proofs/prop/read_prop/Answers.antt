@@ -3,13 +3,11 @@ use Rattle.moo_cells.proofs.prop.read_prop.Goals as goal
 
 pub returns-in_err-id-clause-err : goal.returns-in_err-id-clause-err
 returns-in_err-id-clause-err c =
-    let p = err_from_is_err_and c.from_residual.result c.from_residual.ensures.1 in
-    rw p.1 (λ fault read. c.in_err-id.ensures.err read.0.0 read.2.1.number (ap (λ (r : Row). column r 0) read.2.0))
+    rw (err_from_is_err_and c.from_residual.result c.from_residual.ensures.1).1 (λ fault read. c.in_err-id.ensures.err read.0.0 read.2.1.number (ap (λ (r : Row). column r 0) read.2.0))
 
 pub returns-in_err-definer-clause-err : goal.returns-in_err-definer-clause-err
 returns-in_err-definer-clause-err c =
-    let p = err_from_is_err_and c.from_residual-in_err-definer.result c.from_residual-in_err-definer.ensures.1 in
-    rw p.1 (λ fault read. c.in_err-definer.ensures.err read.1.definer read.2.1.definer (ap (λ (r : Row). column r 1) read.2.0))
+    rw (err_from_is_err_and c.from_residual-in_err-definer.result c.from_residual-in_err-definer.ensures.1).1 (λ fault read. c.in_err-definer.ensures.err read.1.definer read.2.1.definer (ap (λ (r : Row). column r 1) read.2.0))
 
 pub returns-in_err-name-clause-err : goal.returns-in_err-name-clause-err
 returns-in_err-name-clause-err c =

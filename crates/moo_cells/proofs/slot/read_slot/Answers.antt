@@ -3,18 +3,15 @@ use Rattle.moo_cells.proofs.slot.read_slot.Goals as goal
 
 pub returns-in_err-object-clause-err : goal.returns-in_err-object-clause-err
 returns-in_err-object-clause-err c =
-    let p = err_from_is_err_and c.from_residual.result c.from_residual.ensures.1 in
-    rw p.1 (λ fault read. c.in_err-object.ensures.err read.0.0 read.2.1.object (ap (λ (r : Row). column r 0) read.2.0.4))
+    rw (err_from_is_err_and c.from_residual.result c.from_residual.ensures.1).1 (λ fault read. c.in_err-object.ensures.err read.0.0 read.2.1.object (ap (λ (r : Row). column r 0) read.2.0.4))
 
 pub returns-in_err-prop-clause-err : goal.returns-in_err-prop-clause-err
 returns-in_err-prop-clause-err c =
-    let p = err_from_is_err_and c.from_residual-in_err-prop.result c.from_residual-in_err-prop.ensures.1 in
-    rw p.1 (λ fault read. c.in_err-prop.ensures.err read.0.1.0 read.2.1.number (ap (λ (r : Row). column r 1) read.2.0.4))
+    rw (err_from_is_err_and c.from_residual-in_err-prop.result c.from_residual-in_err-prop.ensures.1).1 (λ fault read. c.in_err-prop.ensures.err read.0.1.0 read.2.1.number (ap (λ (r : Row). column r 1) read.2.0.4))
 
 pub returns-in_err-owner-clause-err : goal.returns-in_err-owner-clause-err
 returns-in_err-owner-clause-err c =
-    let p = err_from_is_err_and c.from_residual-in_err-owner.result c.from_residual-in_err-owner.ensures.1 in
-    rw p.1 (λ fault read. c.in_err-owner.ensures.err read.1.owner read.2.1.owner (ap (λ (r : Row). column r 2) read.2.0.4))
+    rw (err_from_is_err_and c.from_residual-in_err-owner.result c.from_residual-in_err-owner.ensures.1).1 (λ fault read. c.in_err-owner.ensures.err read.1.owner read.2.1.owner (ap (λ (r : Row). column r 2) read.2.0.4))
 
 pub returns-in_err-bits-clause-err : goal.returns-in_err-bits-clause-err
 returns-in_err-bits-clause-err c =

@@ -3,13 +3,11 @@ use Rattle.moo_cells.proofs.verb.read_verb.Goals as goal
 
 pub returns-in_err-object-clause-err : goal.returns-in_err-object-clause-err
 returns-in_err-object-clause-err c =
-    let p = err_from_is_err_and c.from_residual.result c.from_residual.ensures.1 in
-    rw p.1 (λ fault read. c.in_err-object.ensures.err read.0.0 read.2.1.object (ap (λ (r : Row). column r 0) read.2.0.2))
+    rw (err_from_is_err_and c.from_residual.result c.from_residual.ensures.1).1 (λ fault read. c.in_err-object.ensures.err read.0.0 read.2.1.object (ap (λ (r : Row). column r 0) read.2.0.2))
 
 pub returns-in_err-id-clause-err : goal.returns-in_err-id-clause-err
 returns-in_err-id-clause-err c =
-    let p = err_from_is_err_and c.from_residual-in_err-id.result c.from_residual-in_err-id.ensures.1 in
-    rw p.1 (λ fault read. c.in_err-id.ensures.err read.0.1.0 read.2.1.number (ap (λ (r : Row). column r 1) read.2.0.2))
+    rw (err_from_is_err_and c.from_residual-in_err-id.result c.from_residual-in_err-id.ensures.1).1 (λ fault read. c.in_err-id.ensures.err read.0.1.0 read.2.1.number (ap (λ (r : Row). column r 1) read.2.0.2))
 
 pub returns-in_err-names-clause-err : goal.returns-in_err-names-clause-err
 returns-in_err-names-clause-err c =
@@ -23,8 +21,7 @@ returns-in_err-owner-clause-err c =
 
 pub returns-in_err-bits-clause-err : goal.returns-in_err-bits-clause-err
 returns-in_err-bits-clause-err c =
-    let p = err_from_is_err_and c.from_residual-in_err-bits.result c.from_residual-in_err-bits.ensures.1 in
-    rw p.1 (λ fault read. c.in_err-bits.ensures.err read.2.0.0 read.1.bits read.2.0.1 (ap (λ (r : Row). column r 4) read.2.0.2))
+    rw (err_from_is_err_and c.from_residual-in_err-bits.result c.from_residual-in_err-bits.ensures.1).1 (λ fault read. c.in_err-bits.ensures.err read.2.0.0 read.1.bits read.2.0.1 (ap (λ (r : Row). column r 4) read.2.0.2))
 
 pub returns-in_err-args-clause-err : goal.returns-in_err-args-clause-err
 returns-in_err-args-clause-err c =

@@ -1,4 +1,4 @@
-use Rattle.moo_cells.{proofs.Words.{rules, ◌≡◌, ◌∷◌, sym, length, refl, ap, ◌∙◌, w64, arith, into_iter_items, into_iter_len, to_z-of_z, verb_total, verb_exact, Maps, Verb, IsTrue, column}, proofs.Keys.{verbs_bear, pair_mine}, proofs.Table.{held_none, held_more, held_first, takes_next, takes_on, took_all}, proofs.Within.{taken}}
+use Rattle.moo_cells.{proofs.Words.{rules, ◌≡◌, ◌∷◌, sym, length, refl, ap, ◌∙◌, w64, arith, into_iter_items, into_iter_len, to_z-of_z, verb_total, verb_exact, Maps, Verb, IsTrue, column}, proofs.Keys.{verbs_bear, pair_mine}, proofs.Table.{held_none, held_more, held_first, takes_on, took_all}, proofs.Within.{taken}}
 use Rattle.moo_cells.proofs.tables.verbs.read_verbs.Goals as goal
 use Rattle.sqlite_trees.specs.View.{is_int}
 
@@ -10,46 +10,34 @@ loop-row-init c =
 
 pub loop-row-preserved : goal.loop-row-preserved
 loop-row-preserved c =
-    let cells = c.args.cells.items in
     let at = c.loop-row in
-    let row = c.in-Some.row in
-    let left = into_iter_items at.row-iterator in
-    let rest = into_iter_items c.next.new.self in
-    let steps : left ≡ row ∷ rest = c.in-Some.ensures.steps.0 in
+    let steps : into_iter_items at.row-iterator ≡ c.in-Some.row ∷ into_iter_items c.next.new.self = c.in-Some.ensures.steps.0 in
     let was = at.invariant.left in
     let gone = c.in-Some.ensures.steps.1 in
     let short = ap length steps in record {
-      whole = takes_on cells at.yielded left rest row at.invariant.whole steps;
+      whole = takes_on at.yielded at.invariant.whole steps;
       left = omega arith;
-      holds = held_more (verbs_bear c.args.version) cells at.yielded row rest (takes_next cells at.yielded left rest row at.invariant.whole steps) c.requires.listed.rise verb_total verb_exact at.rows.maps.verbs c.take_verb.new.rows.maps.verbs at.invariant.holds c.in-Ok.ensures.ok;
+      holds = held_more (verbs_bear c.args.version) at.yielded at.invariant.whole steps c.requires.listed.rise verb_total verb_exact at.invariant.holds c.in-Ok.ensures.ok;
       kept = c.in-Ok.ensures.kept ∙ ap (λ (m : Maps). record m { verbs = c.take_verb.new.rows.maps.verbs }) at.invariant.kept;
     }
 
 pub returns : goal.returns
 returns c =
-    let at = c.loop-row in
-    let none = c.in-None.ensures.steps in
-    let all = took_all c.args.cells.items at.yielded (into_iter_items at.row-iterator) at.invariant.whole (sym at.invariant.left ∙ none.0) in
+    let all = took_all c.loop-row.yielded (into_iter_items c.loop-row.row-iterator) c.loop-row.invariant.whole (sym c.loop-row.invariant.left ∙ c.in-None.ensures.steps.0) in
     search rules
 
 pub returns-in-Err-Unreadable-clause-fault : goal.returns-in-Err-Unreadable-clause-fault
 returns-in-Err-Unreadable-clause-fault c =
-    let cells = c.args.cells.items in
-    let at = c.loop-row in
-    let row = c.in-Some.row in
-    let left = into_iter_items at.row-iterator in
-    let rest = into_iter_items c.next.new.self in
-    let steps : left ≡ row ∷ rest = c.in-Some.ensures.steps.0 in
-    let one = to_z-of_z w64 c.int_in.result c.int_in.ensures.fits in
-    let two = to_z-of_z w64 c.int_in-in-Err-Unreadable.result c.int_in-in-Err-Unreadable.ensures.fits in (
-      (c.int_in.result, c.int_in-in-Err-Unreadable.result),
-      refl,
-      λ i. Verb (one i) (two i),
-      held_first (verbs_bear c.args.version) cells at.yielded row rest (takes_next cells at.yielded left rest row at.invariant.whole steps) c.requires.listed.rise at.rows.maps.verbs at.invariant.holds (c.in-Err-Unreadable.ensures.err c.in-Err-Unreadable.field-0-is) (c.int_in.result, c.int_in-in-Err-Unreadable.result) (pair_mine row c.int_in.result c.int_in-in-Err-Unreadable.result c.int_in.ensures.value c.int_in-in-Err-Unreadable.ensures.value),
-    )
+    let n = c.int_in in
+    let k = c.int_in-in-Err-Unreadable in
+    let one = to_z-of_z w64 n.result n.ensures.fits in
+    let two = to_z-of_z w64 k.result k.ensures.fits in
+    let unread = c.in-Err-Unreadable.ensures.err c.in-Err-Unreadable.field-0-is in
+    let first = held_first (verbs_bear c.args.version) c.loop-row.yielded c.loop-row.invariant.whole c.in-Some.ensures.steps.0 c.requires.listed.rise c.loop-row.invariant.holds unread in
+    ((n.result, k.result), refl, λ i. Verb (one i) (two i), first (n.result, k.result) (pair_mine c.in-Some.row n.result k.result n.ensures.value k.ensures.value))
 
 pub int_in-requires : goal.int_in-requires
-int_in-requires c = (taken (λ r. IsTrue (is_int (column r 0)) × IsTrue (is_int (column r 1))) c.args.cells.items c.loop-row.yielded (into_iter_items c.loop-row.row-iterator) (into_iter_items c.next.new.self) c.in-Some.row c.requires.listed.whole c.loop-row.invariant.whole c.in-Some.ensures.steps.0).0
+int_in-requires c = (taken (λ r. IsTrue (is_int (column r 0)) × IsTrue (is_int (column r 1))) c.loop-row.yielded c.requires.listed.whole c.loop-row.invariant.whole c.in-Some.ensures.steps.0).0
 
 pub int_in-requires-in-Err-Unreadable : goal.int_in-requires-in-Err-Unreadable
-int_in-requires-in-Err-Unreadable c = (taken (λ r. IsTrue (is_int (column r 0)) × IsTrue (is_int (column r 1))) c.args.cells.items c.loop-row.yielded (into_iter_items c.loop-row.row-iterator) (into_iter_items c.next.new.self) c.in-Some.row c.requires.listed.whole c.loop-row.invariant.whole c.in-Some.ensures.steps.0).1
+int_in-requires-in-Err-Unreadable c = (taken (λ r. IsTrue (is_int (column r 0)) × IsTrue (is_int (column r 1))) c.loop-row.yielded c.requires.listed.whole c.loop-row.invariant.whole c.in-Some.ensures.steps.0).1
