@@ -1,3 +1,4 @@
 mod AcceptLaws
 mod Changed
 pub mod Passed
+pub mod Refused

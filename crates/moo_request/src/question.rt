@@ -16,7 +16,7 @@ pub enum Topic {
 }
 
 /// What a GET asks.
-#[derive(Clone, Copy, Debug, PartialEq, Eq, Drop)]
+#[derive(Clone, Copy, Drop)]
 pub enum Question {
     /// The number of accepted batches.
     Seq,

@@ -1,86 +1,43 @@
 use Rattle.std.proofs.Common.{rules, ◌≡◌, refl, ap, sym, ◌∙◌}
-use Rattle.moo_rows.specs.Bits.{verb_bits_of}
-use Rattle.moo_world.{specs.World.{is_object, has_word}, specs.Outcomes.{Done, Failed}, specs.Answers.{zero}, specs.Descriptors.{found_verb}, specs.Directories.{verb_info_set}, specs.VerbCalls.{set_verb_info}, specs.Rights.{may_write_verb, may_make_owner}}
+use Rattle.moo_world.{specs.Outcomes.{Done, Failed}, specs.Answers.{zero}, specs.Directories.{verb_info_set}, specs.VerbCalls.{set_verb_info}}
 use Rattle.moo_verbs.specs.Places.{verb_place}
-use Rattle.moo_call_parts.{specs.Outcomes.{world_in}, proofs.Passed.{check_passed, found_passed}}
-use Rattle.moo_verb_calls.proofs.Refused.{check_failed, found_failed}
+use Rattle.moo_call_parts.{specs.Outcomes.{world_in}, proofs.{Passed.{check_passed, found_passed}, Refused.{check_failed, found_failed}}}
 use Rattle.moo_verb_calls.proofs.changing.set_verb_info.Goals as goal
 
 pub returns-then-not-valid-clause-comes : goal.returns-then-not-valid-clause-comes
-returns-then-not-valid-clause-comes g c = (check_failed (is_object (world_in (g.R.Rows.held c.args.rows.now)) c.args.x) _ _ (sym c.valid.ensures ∙ c.if-not-valid.true), refl)
+returns-then-not-valid-clause-comes g c = (check_failed _ _ _ (sym c.valid.ensures ∙ c.if-not-valid.true), refl)
 
 pub returns-in_default-clause-comes : goal.returns-in_default-clause-comes
-returns-in_default-clause-comes g c =
-    let w = world_in (g.R.Rows.held c.args.rows.now) in
-    let found = found_verb w c.args.x c.args.desc.now in (
-      check_passed (is_object w c.args.x) _ _ (sym c.valid.ensures ∙ c.if-not-valid.false)
-          ∙ found_failed found _ _ (sym {b = found} c.in_default.ensures.verb),
-      refl,
-    )
+returns-in_default-clause-comes g c = (check_passed _ _ _ (sym c.valid.ensures ∙ c.if-not-valid.false) ∙ found_failed _ _ _ (sym c.in_default.ensures.verb), refl)
 
 pub returns-in_err-bits-clause-comes : goal.returns-in_err-bits-clause-comes
 returns-in_err-bits-clause-comes g c =
-    let old = g.R.Rows.held c.args.rows.now in
-    let w = world_in old in
+    let w = world_in (g.R.Rows.held c.args.rows.now) in
     let info = c.args.verb.info in
-    let verb = c.in-Some.found in
-    let found = found_verb w c.args.x c.args.desc.now in
     let failed : set_verb_info w c.args.programmer c.args.x c.args.desc.now (info.owner, info.perms.now) c.args.verb.names.now ≡ Failed c.in_err-bits.field-0.0 =
-    check_passed (is_object w c.args.x) _ _ (sym c.valid.ensures ∙ c.if-not-valid.false)
-    ∙ found_passed found (verb_place old.maps c.args.x verb.id, verb.row.now) _ _ (sym {b = found} c.in-Some.ensures.verb)
-    ∙ c.in_err-bits.ensures.err _
-    in search rules
+    check_passed _ _ _ (sym c.valid.ensures ∙ c.if-not-valid.false) ∙ found_passed _ _ _ _ (sym c.in-Some.ensures.verb) ∙ c.in_err-bits.ensures.err _ in search rules
 
 pub returns-then-not-may_write_verb-clause-comes : goal.returns-then-not-may_write_verb-clause-comes
-returns-then-not-may_write_verb-clause-comes g c =
-    let old = g.R.Rows.held c.args.rows.now in
-    let w = world_in old in
-    let info = c.args.verb.info in
-    let verb = c.in-Some.found in
-    let found = found_verb w c.args.x c.args.desc.now in
-    let read = verb_bits_of info.perms.now in (
-      check_passed (is_object w c.args.x) _ _ (sym c.valid.ensures ∙ c.if-not-valid.false)
-          ∙ found_passed found (verb_place old.maps c.args.x verb.id, verb.row.now) _ _ (sym {b = found} c.in-Some.ensures.verb)
-          ∙ check_passed (is_object w info.owner) _ _ c.in_ok-bits.ensures.owner
-          ∙ found_passed read c.in_ok-bits.bits _ _ c.in_ok-bits.ensures.bits
-          ∙ check_passed (has_word c.args.verb.names.now) _ _ c.in_ok-bits.ensures.names
-          ∙ check_failed (may_write_verb w c.args.programmer verb.row.now) _ _ (sym c.may_write_verb.ensures ∙ c.if-not-may_write_verb.true),
-      refl,
-    )
+returns-then-not-may_write_verb-clause-comes g c = (
+  check_passed _ _ _ (sym c.valid.ensures ∙ c.if-not-valid.false) ∙ found_passed _ _ _ _ (sym c.in-Some.ensures.verb)
+      ∙ check_passed _ _ _ c.in_ok-bits.ensures.owner ∙ found_passed _ _ _ _ c.in_ok-bits.ensures.bits ∙ check_passed _ _ _ c.in_ok-bits.ensures.names
+      ∙ check_failed _ _ _ (sym c.may_write_verb.ensures ∙ c.if-not-may_write_verb.true),
+  refl,
+)
 
 pub returns-then-not-may_make_owner-clause-comes : goal.returns-then-not-may_make_owner-clause-comes
-returns-then-not-may_make_owner-clause-comes g c =
-    let old = g.R.Rows.held c.args.rows.now in
-    let w = world_in old in
-    let info = c.args.verb.info in
-    let verb = c.in-Some.found in
-    let found = found_verb w c.args.x c.args.desc.now in
-    let read = verb_bits_of info.perms.now in (
-      check_passed (is_object w c.args.x) _ _ (sym c.valid.ensures ∙ c.if-not-valid.false)
-          ∙ found_passed found (verb_place old.maps c.args.x verb.id, verb.row.now) _ _ (sym {b = found} c.in-Some.ensures.verb)
-          ∙ check_passed (is_object w info.owner) _ _ c.in_ok-bits.ensures.owner
-          ∙ found_passed read c.in_ok-bits.bits _ _ c.in_ok-bits.ensures.bits
-          ∙ check_passed (has_word c.args.verb.names.now) _ _ c.in_ok-bits.ensures.names
-          ∙ check_passed (may_write_verb w c.args.programmer verb.row.now) _ _ (sym c.may_write_verb.ensures ∙ c.if-not-may_write_verb.false)
-          ∙ check_failed (may_make_owner w c.args.programmer info.owner) _ _ (sym c.may_make_owner.ensures ∙ c.if-not-may_make_owner.true),
-      refl,
-    )
+returns-then-not-may_make_owner-clause-comes g c = (
+  check_passed _ _ _ (sym c.valid.ensures ∙ c.if-not-valid.false) ∙ found_passed _ _ _ _ (sym c.in-Some.ensures.verb)
+      ∙ check_passed _ _ _ c.in_ok-bits.ensures.owner ∙ found_passed _ _ _ _ c.in_ok-bits.ensures.bits ∙ check_passed _ _ _ c.in_ok-bits.ensures.names
+      ∙ check_passed _ _ _ (sym c.may_write_verb.ensures ∙ c.if-not-may_write_verb.false) ∙ check_failed _ _ _ (sym c.may_make_owner.ensures ∙ c.if-not-may_make_owner.true),
+  refl,
+)
 
 pub returns-clause-comes : goal.returns-clause-comes
 returns-clause-comes g c =
     let old = g.R.Rows.held c.args.rows.now in
-    let w = world_in old in
-    let info = c.args.verb.info in
-    let verb = c.in-Some.found in
-    let place = verb_place old.maps c.args.x verb.id in
-    let found = found_verb w c.args.x c.args.desc.now in
-    let read = verb_bits_of info.perms.now in
-    check_passed (is_object w c.args.x) _ _ (sym c.valid.ensures ∙ c.if-not-valid.false)
-    ∙ found_passed found (place, verb.row.now) _ _ (sym {b = found} c.in-Some.ensures.verb)
-    ∙ check_passed (is_object w info.owner) _ _ c.in_ok-bits.ensures.owner
-    ∙ found_passed read c.in_ok-bits.bits _ _ c.in_ok-bits.ensures.bits
-    ∙ check_passed (has_word c.args.verb.names.now) _ _ c.in_ok-bits.ensures.names
-    ∙ check_passed (may_write_verb w c.args.programmer verb.row.now) _ _ (sym c.may_write_verb.ensures ∙ c.if-not-may_write_verb.false)
-    ∙ check_passed (may_make_owner w c.args.programmer info.owner) _ _ (sym c.may_make_owner.ensures ∙ c.if-not-may_make_owner.false)
-    ∙ ap (λ names. Done zero (verb_info_set w c.args.x place info.owner c.in_ok-bits.bits names)) (sym c.in_ok-names.ensures)
-    ∙ ap (Done zero) (sym c.in_ok-set_info.ensures.world)
+    let place = verb_place old.maps c.args.x c.in-Some.found.id in
+    check_passed _ _ _ (sym c.valid.ensures ∙ c.if-not-valid.false) ∙ found_passed _ _ _ _ (sym c.in-Some.ensures.verb)
+    ∙ check_passed _ _ _ c.in_ok-bits.ensures.owner ∙ found_passed _ _ _ _ c.in_ok-bits.ensures.bits ∙ check_passed _ _ _ c.in_ok-bits.ensures.names
+    ∙ check_passed _ _ _ (sym c.may_write_verb.ensures ∙ c.if-not-may_write_verb.false) ∙ check_passed _ _ _ (sym c.may_make_owner.ensures ∙ c.if-not-may_make_owner.false)
+    ∙ ap (λ names. Done zero (verb_info_set (world_in old) c.args.x place c.args.verb.info.owner c.in_ok-bits.bits names)) (sym c.in_ok-names.ensures) ∙ ap (Done zero) (sym c.in_ok-set_info.ensures.world)
