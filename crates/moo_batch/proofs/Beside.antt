@@ -35,10 +35,6 @@ module _ (petitions : FinMap petition_cmp PetitionRow) (next : ℕ) (t : Maps) w
       field : {A : Type 0} (f : Maps → A) → f (beside_by petitions next t) ≡ f t → f new.maps ≡ f old.maps
       field f same = ap f is ∙ same ∙ sym (ap f was)
 
--- nothing changed
-pub kept-same : (held : Held) → IsGood held.maps → KeepsGoodRows KeepsNumbers held held
-kept-same held good = record { good = good; seq = refl; base = refl; numbers = numbers_same held.maps held.maps refl refl refl refl }
-
 -- ---- a petition more, and one less
 
 abbrev kept_stand : Maps → PetitionId → FinMap petition_cmp PetitionRow

@@ -1,7 +1,7 @@
 -- A call by its name and what it is given.
-use Rattle.std.{proofs.Common.{◌≡◌, false, List, [], ◌∷◌, Option, None, Some, refl, sym, ap, ◌∙◌}, specs.Prelude.{is_some, if◌then◌else◌}, specs.Option.{option_and_then, option_map}, proofs.lemmas.Bool.{true≢false}}
-use Rattle.moo_value.{specs.declared.value.Value.{Value}, specs.declared.value.Value.TheVariants.{Int, Obj, Str, Error, List as a_list}}
-use Rattle.moo_world.{specs.declared.call.Call.{Call}, specs.declared.name.CallName.{CallName}, specs.declared.name.PetitionCall.{PetitionCall}, specs.Names.{call_name_of, petition_call}, specs.Petitions.{begins_with_text}, specs.Requests.{call_in}}
+use Rattle.std.{proofs.Common.{◌≡◌, List, [], ◌∷◌, Option, None, Some, refl, sym, ap, ◌∙◌}, specs.Prelude.{is_some, if◌then◌else◌}, specs.Option.{option_and_then, option_map}}
+use Rattle.moo_value.{specs.declared.value.Value.{Value}, specs.declared.value.Value.TheVariants.{Str}}
+use Rattle.moo_world.{specs.declared.call.Call.{Call}, specs.declared.name.CallName.{CallName}, specs.declared.name.PetitionCall.{PetitionCall}, specs.Names.{call_name_of, petition_call}, specs.Requests.{call_in}}
 
 -- the name of a call on the world
 abbrev pub on_world : Option CallName → Option CallName
@@ -27,11 +27,3 @@ call_in-some values args text n is found = ap call_in is ∙ named_so args (call
 
 pub call_in-none : (values args : List Value) (text : List _) → values ≡ Str text ∷ args → None ≡ on_world (call_name_of text) → call_in values ≡ None
 call_in-none values args text is found = ap call_in is ∙ named_so args (call_name_of text) ∙ ap (option_map (call_of args)) (sym found)
-
-pub call_in-nameless : (values : List Value) → begins_with_text values ≡ false → call_in values ≡ None
-call_in-nameless [] h = refl
-call_in-nameless (Int n ∷ rest) h = refl
-call_in-nameless (Obj x ∷ rest) h = refl
-call_in-nameless (Str s ∷ rest) h = absurd (true≢false h)
-call_in-nameless (Error e ∷ rest) h = refl
-call_in-nameless (a_list l ∷ rest) h = refl

@@ -15,16 +15,6 @@ pub record HaveStepped (before : Held) (p : ObjNo) (all : List Value) (now : Hel
   pub numbers : (last : Maps) → HeldCallsLead p left now.maps last → HeldCallsLead p all before.maps last
   pub fit : list_all fits left ≡ true
 
-pub stepped-none : (before : Held) (p : ObjNo) (all : List Value) → IsGood before.maps → list_all fits all ≡ true → HaveStepped before p all before all
-stepped-none before p all good fit = record {
-  steps = refl;
-  good = good;
-  beside = refl;
-  base = refl;
-  numbers = λ last lead. lead;
-  fit = fit;
-}
-
 -- the state of rows that differ from others in their world alone
 with_world : (mid new : Held) → beside_world new.maps ≡ beside_world mid.maps → record (state_in mid) { world = world_in new } ≡ state_in new
 with_world mid new same = ap (λ b. record { world = world_in new; petitions = b.1.1; next_petition = b.1.0; seq = b.0 }) (sym same)

@@ -1,5 +1,5 @@
 -- A task over a connection.
-use Rattle.moo_commands.proofs.Words.{◌≡◌, ◌⊎◌, inl, inr, ℕ, List, [], Option, Result, Ok, Err, IfOk, IfErr, refl, sym, subst, subst₂, ap, ◌∙◌, Bool, true, false, IsTrue, MatchResult, ⊤, HasCleanDisk, Survives, Held, state, Task, Stand, Failure, Usage, NoFile, Store, Damaged, NewerVersion, NotADump, NoBatches, Read, Write, TooLong, Port, NoMemory, Reports, store_failure, Given, Leads, MayLead, Done, StopsTask, ShowsTables, EndsTask, RunsFrom, RunsUnseen, IsOpening, MayRefuse, LeavesAsBefore, LeavesNothingNew, only_reads, serves, Batch, State, LeavesLed, World, store_of, CrashLeaves, ShowsState}
+use Rattle.moo_commands.proofs.Words.{◌≡◌, ◌⊎◌, inl, inr, ℕ, List, [], Option, Result, Ok, Err, IfOk, IfErr, refl, sym, subst, subst₂, ap, ◌∙◌, Bool, true, false, IsTrue, MatchResult, ⊤, HasCleanDisk, Survives, Held, state, Task, Stand, Failure, Store, Damaged, NewerVersion, Reports, store_failure, Given, Leads, MayLead, Done, StopsTask, ShowsTables, EndsTask, RunsFrom, RunsUnseen, IsOpening, MayRefuse, LeavesAsBefore, LeavesNothingNew, only_reads, serves, Batch, State, LeavesLed, World, store_of, CrashLeaves, ShowsState}
 use Rattle.sqlite.{specs.State.{State as Database}, specs.Store.{Ghosts}, specs.declared.error.Error.{Error}}
 use Rattle.moo_words.{specs.declared.task.Action.{Action}, specs.declared.task.Action.TheVariants.{Apply, Check, Serve}}
 use Rattle.moo_store.{specs.declared.fault.StoreFault.{StoreFault}, specs.Opening.{IsOfStore, Adopts}}
@@ -132,20 +132,6 @@ each_refusal store_fault.Closed = tt
 
 pub of_refusal : (fault : StoreFault) (failure : Failure) → failure ≡ store_failure fault → MayRefuse failure
 of_refusal fault failure of = subst MayRefuse (sym of) (each_refusal fault)
-
-pub opening_refuses : (failure : Failure) → IsOpening failure → MayRefuse failure
-opening_refuses (Store error) it = tt
-opening_refuses NoMemory it = tt
-opening_refuses Usage it = absurd it
-opening_refuses NoFile it = tt
-opening_refuses (Damaged kind key) it = tt
-opening_refuses NewerVersion it = tt
-opening_refuses (NotADump line) it = absurd it
-opening_refuses NoBatches it = absurd it
-opening_refuses Read it = absurd it
-opening_refuses Write it = absurd it
-opening_refuses TooLong it = absurd it
-opening_refuses Port it = absurd it
 
 -- what is known of one whose tables are known
 pub surely : (task : Task) (s : State) (given : Given) (old new : Option (List ℕ)) (status : ℕ) (Clean : Type 0) (Crash : Stand → Type 0) (Led : Leads) (Shown : Type 0)

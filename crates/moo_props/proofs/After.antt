@@ -1,5 +1,5 @@
 -- Rows in which the objects and slots are as after a change of parent show the reparented world.
-use Rattle.moo_props.{proofs.Words.{◌≡◌, ℕ, ◌<◌, Bool, true, false, Option, None, Some, List, ◌++◌, refl, sym, ap, ◌∙◌, subst, is_some, unwrap_or, if◌then◌else◌, option_map, option_or, FinMap, get, false≢true, both_ways, none-some, same_Some, ObjNo, ObjRow, PropRow, PropId, SlotRow, Maps, object_cmp, slot_cmp, Name, Property, same_object, folded, is_among, World, WorldObject, Slot, IsWellFormed, NamesDiffer, is_object, chain, defined_by_any, property_named, slot_of, owner_of, fresh, with_slots, without_slots, reparented, LookUps, IsSound, look_ups, world_of, prop_id, object_shown, slot_seen, world_shown, MayReparent, lost, gained, unless_defined_by, new_split, lost_is, gained_is, definer_among, named_owed, no_slot, objects_same, SameButSlots-rebuilt, same_world, slot_shown, is_object_seen, owed_listed, Chain-chain, chain_of_none, is_defined_among, slot_after, row_after, fresh_row, some_of, SlotHere, slot_from, true_from_ne_false}, proofs.Definers.{new_is, no_clash, leaving, arriving, staying}, proofs.Cases.{none_of, some_map}, proofs.Gains.{object_of_chain, object_row, defines_pair, new_object, slot_of_owed}, proofs.Walked.{seen_at}}
+use Rattle.moo_props.{proofs.Words.{◌≡◌, ℕ, ◌<◌, Bool, true, false, Option, None, Some, List, ◌++◌, refl, sym, ap, ◌∙◌, subst, is_some, unwrap_or, if◌then◌else◌, option_map, option_or, FinMap, get, false≢true, both_ways, none-some, same_Some, ObjNo, ObjRow, PropRow, PropId, SlotRow, Maps, object_cmp, slot_cmp, Name, Property, same_object, folded, is_among, World, WorldObject, Slot, IsWellFormed, NamesDiffer, is_object, chain, defined_by_any, property_named, slot_of, owner_of, fresh, with_slots, without_slots, reparented, LookUps, IsSound, look_ups, world_of, prop_id, object_shown, slot_seen, world_shown, MayReparent, lost, gained, unless_defined_by, new_split, lost_is, gained_is, definer_among, named_owed, no_slot, objects_same, SameButSlots-rebuilt, same_world, is_object_seen, owed_listed, Chain-chain, is_defined_among, slot_after, row_after, fresh_row, some_of, SlotHere, slot_from, true_from_ne_false}, proofs.Definers.{new_is, no_clash, leaving, arriving, staying}, proofs.Cases.{none_of, some_map}, proofs.Gains.{object_of_chain, object_row, defines_pair, new_object, slot_of_owed}, proofs.Walked.{seen_at}}
 use Rattle.moo_world.{specs.World.{with_parent}, specs.Manual.{manual_slot}, proofs.Inheritance.ManualLaw.{below as below_of, no_new, definer_of_slot, manual_law}, proofs.Inheritance.Owed.{named_so, named_once, some_named, defined_by_any-append, named-append}, proofs.Shown.Slots.{no_slot_from}}
 
 module _ (t : Maps) (sound : IsSound t) (x q : ObjNo) (may : MayReparent (world_of t) x q) where

@@ -1,5 +1,5 @@
 -- The properties that some of an object's chain define are among its slots.
-use Rattle.moo_props.{proofs.Words.{◌≡◌, Bool, true, false, Option, None, Some, List, [], ◌∷◌, refl, sym, ap, ◌∙◌, inl, inr, ◌&&◌, unwrap_or, option_map, filter, list_any, get, entries, get-entries, entries_sorted, false≢true, and_parts, or_cases, ObjNo, PropId, PropRow, prop_exact, Maps, prop_cmp, prop_total, is_among, IsGood, world_of, World, chain, listed, decided_alike, some_of, any_map, ids_among, is_only_of, is_defined_only, props_only_of, not}, proofs.Shared.{Entry, has_id, is_id, is_id-Decides, object_of_chain, passing, slot_on_heir, walk, walk_meets}, proofs.Ascending.{rises_made, ascend}, proofs.SameKeys.{unique}, proofs.WalkOrder.{passing_ids_rise}, proofs.Walked.{any_filter}}
+use Rattle.moo_props.{proofs.Words.{◌≡◌, Bool, true, false, List, [], ◌∷◌, refl, sym, ap, ◌∙◌, inl, inr, ◌&&◌, unwrap_or, option_map, filter, list_any, get, entries, get-entries, entries_sorted, false≢true, and_parts, or_cases, ObjNo, PropId, PropRow, prop_exact, Maps, prop_cmp, prop_total, is_among, IsGood, world_of, World, chain, listed, decided_alike, some_of, any_map, ids_among, is_only_of, is_defined_only, props_only_of, not}, proofs.Shared.{Entry, has_id, is_id, is_id-Decides, object_of_chain, passing, slot_on_heir, walk, walk_meets}, proofs.Ascending.{rises_made, ascend}, proofs.SameKeys.{unique}, proofs.WalkOrder.{passing_ids_rise}, proofs.Walked.{any_filter}}
 
 module _ (t : Maps) (good : IsGood t) (y : ObjNo) (these others : List ObjNo) (within : (d : ObjNo) → is_among d these ≡ true → is_among d (chain (world_of t) y) ≡ true) where
   abbrev w : World

@@ -1,5 +1,5 @@
 -- The keys that a change touches are in order.
-use Rattle.moo_props.proofs.Words.{◌≡◌, Bool, true, false, cond, T, List, [], ◌∷◌, ◌++◌, map, Ordering, Less, refl, sym, ap, ◌∙◌, subst, tied_itself, int_eq, ordering_then, filter, AllByRecursion, entries, is_sorted, entries_sorted, ObjNo, PropId, Maps, object_cmp, prop_cmp, slot_cmp, verb_cmp, object_total, first_of, chain, is_among, world_of, lost, gained, links_to, linked_among, verbs_among, AreAscending, owners_under, props_of, removed_keys, added_keys, keys_on, keys_over, cond_both}
+use Rattle.moo_props.proofs.Words.{◌≡◌, Bool, T, List, [], ◌∷◌, ◌++◌, map, Ordering, Less, refl, sym, ap, ◌∙◌, subst, tied_itself, int_eq, ordering_then, filter, AllByRecursion, entries, is_sorted, entries_sorted, ObjNo, PropId, Maps, object_cmp, prop_cmp, slot_cmp, verb_cmp, object_total, first_of, chain, is_among, world_of, lost, gained, links_to, linked_among, verbs_among, AreAscending, owners_under, props_of, removed_keys, added_keys, keys_on, keys_over, cond_both}
 use Rattle.std.specs.FinMap.Entries.{below_all}
 use Rattle.moo_rows.proofs.Walking.{second_of, less_of}
 

@@ -1,5 +1,5 @@
 -- Cases that many proofs share.
-use Rattle.moo_props.proofs.Words.{◌≡◌, Bool, true, false, cond, ◌||◌, ◌&&◌, Option, None, Some, refl, sym, ap, option_map, is_some, if◌then◌else◌, unwrap_or, false≢true, none-some, ◌∙◌}
+use Rattle.moo_props.proofs.Words.{◌≡◌, Bool, true, false, cond, ◌&&◌, Option, None, Some, refl, sym, ap, option_map, is_some, if◌then◌else◌, unwrap_or, false≢true, none-some, ◌∙◌}
 
 -- ---- options
 

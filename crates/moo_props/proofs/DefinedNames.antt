@@ -1,5 +1,5 @@
 -- The names that an object defines are those of the properties' entries that have it as definer.
-use Rattle.moo_props.{proofs.Words.{◌≡◌, ◌≢◌, ℕ, zero, suc, ◌≤◌, Bool, true, false, cond, T, Option, None, Some, List, [], ◌∷◌, ◌++◌, map, Less, refl, sym, ap, ◌∙◌, subst, inl, inr, arith, append-nil, is_some, unwrap_or, if◌then◌else◌, option_map, option_and_then, nat_cmp_is, filter, filter_map, cons_option, AllByRecursion, eq_by_cmp, get, get-entries, is_sorted, entries, entries_sorted, false≢true, filter_map-append, ObjNo, ObjRow, PropId, PropRow, Maps, prop_cmp, prop_exact, prop_total, Name, same_object, same_object-Decides, WorldObject, property_names_of, IsSound, look_ups, world_of, world_shown, object_shown, numbers_below, name_on, prop_id, key-Decides, false_from_ne_true, cases_eq, cases_lt, lt-ltb, le-ltb}, proofs.Cases.{cond_same}, proofs.Numbers.{no_names}}
+use Rattle.moo_props.{proofs.Words.{◌≡◌, ◌≢◌, ℕ, zero, suc, ◌≤◌, Bool, true, false, cond, T, Option, None, Some, List, [], ◌∷◌, ◌++◌, map, Less, refl, sym, ap, ◌∙◌, subst, inl, inr, arith, append-nil, is_some, unwrap_or, if◌then◌else◌, option_map, option_and_then, nat_cmp_is, filter, filter_map, cons_option, AllByRecursion, eq_by_cmp, get, get-entries, is_sorted, entries, entries_sorted, filter_map-append, ObjNo, ObjRow, PropId, PropRow, Maps, prop_cmp, prop_exact, prop_total, Name, same_object, WorldObject, property_names_of, IsSound, look_ups, world_of, world_shown, object_shown, numbers_below, name_on, prop_id, key-Decides, false_from_ne_true, cases_eq, cases_lt, lt-ltb, le-ltb}, proofs.Cases.{cond_same}, proofs.Numbers.{no_names}}
 use Rattle.std.{specs.Prelude.{nat_lt}, specs.FinMap.{find}, specs.FinMap.Entries.{same_entries, find-append}}
 use Rattle.moo_world.proofs.Shown.EntriesInOrder.{all_then, sorted_then, past_each}
 

@@ -1,5 +1,5 @@
 -- The slots that are removed with an object are those that go with it.
-use Rattle.moo_props.{proofs.Words.{◌≡◌, Bool, true, false, ◌||◌, Option, None, Some, List, [], ◌∷◌, ◌++◌, refl, sym, ap, ◌∙◌, subst, inl, inr, ◌&&◌, is_some, unwrap_or, if◌then◌else◌, option_map, eq_by_cmp, int_eq, list_any, AllByRecursion, get, entries, get-entries, entries_sorted, false≢true, or_cases, ObjNo, ObjRow, PropId, PropRow, SlotRow, slot_exact, Maps, prop_cmp, slot_cmp, slot_total, same_object, is_among, same_object-Decides, chain, IsGood, LookUps, look_ups, world_of, decided_alike, any-append, chain_of_row, goes_with, dropped_keys, ids_for, ids_among, dropped_over, defines, ArePresent, AreAscending, owners_under, props_of, keys_on, some_of, listed, own_entries, all_made, is_object_seen, and-false, and-true}, proofs.Shared.{Entry, has_id, is_id, is_id-Decides, key_parts, object_of_chain, own_among, passing, slot_on_heir, under_is, walk, walk_held}, proofs.Ascending.{Rises, rises_made, keys_by, keys_rise, props_rise, under_rise, ascend}, proofs.LessRows.{is_own_id}, proofs.NewSlots.{has_all}, proofs.SameKeys.{holds, unique}, proofs.WalkOrder.{walk_own, walk_ids_rise}}
+use Rattle.moo_props.{proofs.Words.{◌≡◌, Bool, true, false, ◌||◌, Option, None, Some, List, [], ◌∷◌, ◌++◌, refl, sym, ap, ◌∙◌, subst, inl, inr, ◌&&◌, is_some, unwrap_or, if◌then◌else◌, option_map, eq_by_cmp, int_eq, list_any, AllByRecursion, get, entries, get-entries, entries_sorted, false≢true, or_cases, ObjNo, ObjRow, PropId, PropRow, SlotRow, slot_exact, Maps, prop_cmp, slot_cmp, slot_total, same_object, is_among, same_object-Decides, chain, IsGood, LookUps, look_ups, world_of, decided_alike, any-append, goes_with, dropped_keys, ids_for, ids_among, dropped_over, defines, ArePresent, AreAscending, owners_under, props_of, keys_on, some_of, listed, own_entries, all_made, is_object_seen, and-false, and-true}, proofs.Shared.{Entry, has_id, is_id, is_id-Decides, key_parts, object_of_chain, own_among, passing, slot_on_heir, under_is, walk, walk_held}, proofs.Ascending.{Rises, rises_made, keys_by, keys_rise, props_rise, under_rise, ascend}, proofs.LessRows.{is_own_id}, proofs.NewSlots.{has_all}, proofs.SameKeys.{holds, unique}, proofs.WalkOrder.{walk_own, walk_ids_rise}}
 use Rattle.std.specs.FinMap.{find}
 
 -- ---- what the code lists

@@ -1,5 +1,5 @@
 -- A property that x gains has a slot on q.
-use Rattle.moo_props.{proofs.Words.{◌≡◌, ℕ, ◌<◌, Bool, true, false, Option, None, Some, ◌∷◌, ◌++◌, refl, sym, ap, ◌∙◌, subst, ◌⊎◌, inl, inr, is_some, if◌then◌else◌, option_map, option_and_then, filter_map, list_any, false≢true, and_parts, none-some, same_Some, ObjNo, ObjRow, PropRow, Maps, Name, Property, same_object, same_text, same_property, folded, is_among, same_object-Decides, same_text-Decides, World, Slot, IsWellFormed, NamesDiffer, is_object, chain, property_names_of, defined_by, defined_by_any, property_named, slot_of, LookUps, IsSound, look_ups, world_of, numbers_below, name_on, object_shown, MayReparent, gained, names_shown, is_object_seen, object_seen, owed_listed, Chain-chain, chain_of_none, chain-step, some_of, any_map, SlotHere, slot_from, true_from_ne_false, cases_order}, proofs.Cases.{some_map}, proofs.Definers.{only_gained}}
+use Rattle.moo_props.{proofs.Words.{◌≡◌, ℕ, ◌<◌, Bool, true, None, Some, ◌∷◌, ◌++◌, refl, sym, ap, ◌∙◌, subst, inl, inr, is_some, if◌then◌else◌, option_map, option_and_then, filter_map, list_any, false≢true, and_parts, same_Some, ObjNo, ObjRow, PropRow, Maps, Name, Property, same_object, same_text, same_property, folded, is_among, same_object-Decides, same_text-Decides, World, Slot, IsWellFormed, NamesDiffer, is_object, chain, property_names_of, defined_by, defined_by_any, property_named, slot_of, LookUps, IsSound, look_ups, world_of, numbers_below, name_on, object_shown, MayReparent, gained, names_shown, is_object_seen, object_seen, owed_listed, Chain-chain, chain_of_none, chain-step, some_of, any_map, SlotHere, slot_from, true_from_ne_false, cases_order}, proofs.Cases.{some_map}, proofs.Definers.{only_gained}}
 use Rattle.std.specs.List.{IsDistinct}
 use Rattle.moo_world.{specs.Objects.{same_property-self}, proofs.Inheritance.Keeping.{named_is}, proofs.Shown.PairLists.{distinct_map, pairs_left}, proofs.Shown.Numbered.{any_from, no_later}}
 

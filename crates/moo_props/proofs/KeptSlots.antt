@@ -1,5 +1,5 @@
 -- The slots of one name on an object that stays, once some slots are gone.
-use Rattle.moo_props.{proofs.Words.{◌≡◌, ℕ, Bool, false, Option, None, Some, refl, sym, ap, ◌∙◌, ◌&&◌, is_some, if◌then◌else◌, none-some, false_from_ne_true, true_from_ne_false, ObjNo, Name, Slot, slot_of, LookUps, AreSound, slot_seen, world_shown, some_of, SlotHere, slot_from, true}, proofs.Walked.{seen_at}}
+use Rattle.moo_props.{proofs.Words.{◌≡◌, ℕ, Bool, false, Option, None, Some, refl, sym, ap, ◌∙◌, is_some, if◌then◌else◌, none-some, true_from_ne_false, ObjNo, Name, Slot, slot_of, LookUps, AreSound, slot_seen, world_shown, some_of, SlotHere, slot_from, true}, proofs.Walked.{seen_at}}
 
 module _ (before after : LookUps) (sound : AreSound before) (sound_after : AreSound after) (y : ObjNo) (n : Name) (there : is_some (before.object y) ≡ true) (still : is_some (after.object y) ≡ true) where
   -- if what is here passes and was here, and what was here and passes is here still

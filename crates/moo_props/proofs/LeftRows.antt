@@ -1,5 +1,5 @@
 -- The rows once an object is dropped, key by key, and how many were written.
-use Rattle.moo_props.{proofs.Words.{◌≡◌, ◌≤◌, ◌+◌, Bool, true, false, Option, None, Some, List, [], ◌∷◌, length, refl, sym, ap, ◌∙◌, arith, length-append, ◌&&◌, ◌||◌, is_some, unwrap_or, if◌then◌else◌, option_map, get, remove, entries, get-entries, entries_sorted, false≢true, both_ways, same_Some, ObjNo, ObjRow, PropId, PropRow, SlotRow, VerbId, object_exact, slot_exact, Maps, Held, wrote, object_cmp, slot_cmp, object_total, slot_total, nothing, same_object, is_among, same_object-Decides, WorldObject, chain, is_object, parent_of, IsGood, look_ups, world_of, object_shown, object_seen, no_parent, goes_with, dropped_keys, links_to, released_row, ids_for, ids_among, verbs_among, linked_among, dropped_over, slots_dropped, props_removed, verbs_removed, with_released, row_released, rows_released, defines, ArePresent, AreAbsent, owners_under, props_of, keys_on, without_on, own_entries, all_made, false_from_ne_true}, proofs.Shared.{none_of, own_under, walk}, specs.Dropped.{slot_left, prop_left, verb_left, heir, row_left}, proofs.LessRows.{held1, held2, held3, held5, only5, slots5, props5, verbs5, objects5}, proofs.Moved.{writes-without, length-made}}
+use Rattle.moo_props.{proofs.Words.{◌≡◌, ◌≤◌, ◌+◌, Bool, true, false, Option, None, Some, List, [], ◌∷◌, length, refl, sym, ap, ◌∙◌, arith, length-append, ◌&&◌, ◌||◌, is_some, unwrap_or, if◌then◌else◌, option_map, get, remove, entries, get-entries, entries_sorted, both_ways, same_Some, ObjNo, ObjRow, PropId, PropRow, SlotRow, VerbId, object_exact, slot_exact, Maps, Held, wrote, object_cmp, slot_cmp, object_total, slot_total, nothing, same_object, is_among, same_object-Decides, WorldObject, chain, is_object, parent_of, IsGood, look_ups, world_of, object_shown, object_seen, no_parent, goes_with, dropped_keys, links_to, released_row, ids_for, ids_among, verbs_among, linked_among, dropped_over, slots_dropped, props_removed, verbs_removed, with_released, row_released, rows_released, defines, ArePresent, AreAbsent, owners_under, props_of, keys_on, without_on, own_entries, all_made, false_from_ne_true}, proofs.Shared.{none_of, own_under, walk}, specs.Dropped.{slot_left, prop_left, verb_left, heir, row_left}, proofs.LessRows.{held1, held2, held3, held5, only5, slots5, props5, verbs5, objects5}, proofs.Moved.{writes-without, length-made}}
 use Rattle.std.specs.FinMap.{find}
 use Rattle.moo_world.{specs.Numbers.{not_of}, specs.World.{Climbs, location_of}, proofs.Ancestry.Chains.{Climbs-unique}, proofs.Ancestry.Trees.{nothing_is_no_object}}
 

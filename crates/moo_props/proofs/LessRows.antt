@@ -1,5 +1,5 @@
 -- The rows once an object is dropped, by their look-ups.
-use Rattle.moo_props.{proofs.Words.{◌≡◌, ℕ, Bool, true, false, cond, ◌||◌, Option, None, Some, List, [], ◌∷◌, refl, sym, ap, ◌∙◌, ◌&&◌, is_some, unwrap_or, if◌then◌else◌, option_map, eq_by_cmp, int_eq, list_any, get, remove, entries, get-insert, get-remove, get-entries, entries_sorted, false≢true, both_ways, none-some, same_Some, ObjNo, ObjRow, PropId, PropRow, SlotRow, VerbId, VerbRow, object_exact, Maps, Held, wrote, object_cmp, verb_cmp, object_total, prop_total, Property, nothing, same_object, is_among, same_object-Decides, same_object-eq, Slot, is_object, chain, defined_by_any, property_named, IsGood, LookUps, look_ups, world_of, prop_id, verb_id, object_key, definer_among, named_owed, is_object_seen, chain_of_row, Chain-chain, links_to, released_row, ids_for, ids_among, verbs_among, linked_among, slots_dropped, props_removed, verbs_removed, with_released, row_released, rows_released, name_of, owners_under, props_of, without_on, some_of, listed, or_parts, or-false}, proofs.Shared.{all_change, but_slots, cond_again, cond_alike, cond_same, cond_under, has_id, is_id, own_among, own_under, same_base, same_maps, under_is, walk}, proofs.Folding.{slot_at-without}, proofs.Lessened.{is_own, less_object}, proofs.Moved.{keeps-without, has}, proofs.Folds.{but_objects, but_props, but_verbs}, proofs.NewSlots.{has_all}}
+use Rattle.moo_props.{proofs.Words.{◌≡◌, ℕ, Bool, true, false, cond, Option, None, Some, List, [], ◌∷◌, refl, sym, ap, ◌∙◌, ◌&&◌, is_some, unwrap_or, if◌then◌else◌, option_map, eq_by_cmp, int_eq, list_any, get, remove, entries, get-insert, get-remove, get-entries, entries_sorted, both_ways, ObjNo, ObjRow, PropId, PropRow, SlotRow, VerbId, VerbRow, object_exact, Maps, Held, wrote, object_cmp, verb_cmp, object_total, prop_total, nothing, same_object, is_among, same_object-Decides, same_object-eq, is_object, chain, IsGood, LookUps, look_ups, world_of, prop_id, verb_id, object_key, is_object_seen, links_to, released_row, ids_for, ids_among, verbs_among, linked_among, slots_dropped, props_removed, verbs_removed, with_released, row_released, rows_released, owners_under, props_of, without_on, listed, or_parts, or-false}, proofs.Shared.{all_change, but_slots, cond_again, cond_alike, cond_same, cond_under, has_id, is_id, own_among, own_under, same_base, same_maps, under_is, walk}, proofs.Folding.{slot_at-without}, proofs.Lessened.{is_own, less_object}, proofs.Moved.{keeps-without, has}, proofs.Folds.{but_objects, but_props, but_verbs}, proofs.NewSlots.{has_all}}
 use Rattle.moo_rows.{specs.Exact.{verb_exact}, specs.Maps.{without_prop, without_verb}, proofs.Orders.{verb_total}}
 
 -- ---- what the steps leave as it was

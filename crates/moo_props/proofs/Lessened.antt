@@ -1,5 +1,5 @@
 -- Rows without an object show the world without it, and are sound.
-use Rattle.moo_props.{proofs.Words.{◌≡◌, ℕ, Bool, true, false, ◌||◌, Option, None, Some, [], ◌∷◌, refl, sym, ap, ◌∙◌, is_some, unwrap_or, if◌then◌else◌, option_map, option_and_then, filter_map, false≢true, both_ways, none-some, ObjNo, ObjRow, PropRow, unless_defined_by, Name, nothing, same_object, same_object-Decides, recycled, World, WorldObject, Slot, IsWellFormed, is_object, parent_of, slot_of, with_slots, without_slots, LookUps, AreSound, numbers_below, name_on, slot_seen, object_shown, world_shown, SameButSlots-rebuilt, same_world, no_slot, objects_same, slot_shown, is_object_seen, object_seen, released_row, some_of, SlotHere, slot_from, is_among, or_parts}, proofs.Shared.{kept_slots, left_some, left_value, some_map}}
+use Rattle.moo_props.{proofs.Words.{◌≡◌, ℕ, Bool, true, false, ◌||◌, Option, None, Some, [], ◌∷◌, refl, sym, ap, ◌∙◌, is_some, unwrap_or, if◌then◌else◌, option_map, option_and_then, filter_map, ObjNo, ObjRow, PropRow, unless_defined_by, Name, nothing, same_object, same_object-Decides, recycled, World, WorldObject, IsWellFormed, is_object, parent_of, slot_of, with_slots, without_slots, LookUps, AreSound, numbers_below, name_on, slot_seen, object_shown, world_shown, SameButSlots-rebuilt, same_world, no_slot, objects_same, is_object_seen, object_seen, released_row, SlotHere, is_among, or_parts}, proofs.Shared.{kept_slots, left_some, left_value, some_map}}
 use Rattle.moo_world.{proofs.Shown.ObjectEntries.{same_object-symm}, specs.Recycling.{released, object_removed}, proofs.Inheritance.Recycling.{IsWellFormed-recycled, recycle_law}}
 
 -- x defines the property under a number

@@ -1,7 +1,6 @@
 -- Clashes of names, by what each object defines itself.
-use Rattle.moo_props.{proofs.Words.{◌≡◌, Bool, true, false, cond, ◌||◌, Some, List, [], ◌∷◌, Less, refl, sym, ap, ◌∙◌, is_some, nat_cmp_is, is_lt, int_eq, filter, list_any, AllByRecursion, get, entries, ObjNo, PropId, PropRow, defined_left, Maps, prop_cmp, is_past, clashes, subtree_of, Name, Property, same_object, same_text, folded, defines_name, World, IsWellFormed, chain, property_names_of, defined_by, defined_by_any, property_named, slot_of, IsSound, world_of, prop_id, any-append, any_map, meets_on}, proofs.Shared.{has_owed}, proofs.DefinedNames.{names_listed}, proofs.Walked.{found_any}, proofs.WholeWalks.{props_all}}
-use Rattle.std.specs.List.{find}
-use Rattle.moo_world.{specs.ObjectLists.{shares_property_name}, proofs.Shown.EntriesInOrder.{all_weaker}}
+use Rattle.moo_props.{proofs.Words.{◌≡◌, Bool, ◌||◌, List, [], ◌∷◌, refl, sym, ap, ◌∙◌, is_some, int_eq, filter, list_any, entries, ObjNo, defined_left, Maps, clashes, subtree_of, Name, Property, same_object, same_text, folded, defines_name, World, IsWellFormed, chain, property_names_of, defined_by, defined_by_any, property_named, slot_of, IsSound, world_of, prop_id, any-append, any_map, meets_on}, proofs.Shared.{has_owed}, proofs.DefinedNames.{names_listed}, proofs.Walked.{found_any}, proofs.WholeWalks.{props_all}}
+use Rattle.moo_world.specs.ObjectLists.{shares_property_name}
 
 -- ---- what the objects of a list define
 

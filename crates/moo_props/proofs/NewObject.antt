@@ -1,5 +1,5 @@
 -- Rows with a new object show the world with that object, and are good ones.
-use Rattle.moo_props.{proofs.Words.{◌≡◌, ℕ, Bool, true, false, ◌||◌, Option, None, Some, List, [], ◌∷◌, map, refl, sym, ap, ◌∙◌, subst, ◌⊎◌, inl, inr, pos, arith, is_some, unwrap_or, slice_get, ◌+ℤ◌, int_lt, if◌then◌else◌, option_map, option_and_then, filter_map, cons_option, list_any, false≢true, or_cases, ints, none-some, same_Some, ObjNo, ObjRow, PropRow, SlotRow, created, Name, Property, nothing, same_object, same_text, same_property, folded, same_object-Decides, World, WorldObject, Slot, IsWellFormed, Chain, is_object, chain, defined_by_any, owner_of, property_named, slot_of, fresh, with_slots, without_slots, numbers_to, read_in, read_along, read_of, LookUps, AreSound, numbers_below, name_on, slot_on, slot_seen, object_shown, world_shown, named_owed, SameButSlots-rebuilt, same_world, no_slot, objects_same, is_object_seen, Chain-chain, chain_of_none, new_row, fresh_row, slots_shown, false_from_ne_true, slice_get-map}, proofs.Shared.{changed, none_of, put_some, some_map}, proofs.Cases.{none_map}, proofs.Numbers.{no_names, nothing_below}, proofs.NewSlots.{with_new}}
+use Rattle.moo_props.{proofs.Words.{◌≡◌, ℕ, Bool, true, false, ◌||◌, Option, None, Some, List, [], ◌∷◌, refl, sym, ap, ◌∙◌, subst, ◌⊎◌, inl, inr, pos, arith, is_some, unwrap_or, slice_get, ◌+ℤ◌, int_lt, if◌then◌else◌, option_map, option_and_then, filter_map, list_any, false≢true, or_cases, ints, none-some, same_Some, ObjNo, ObjRow, PropRow, SlotRow, created, Name, Property, nothing, same_object, same_text, same_property, folded, same_object-Decides, World, WorldObject, Slot, IsWellFormed, Chain, is_object, chain, defined_by_any, owner_of, property_named, slot_of, fresh, with_slots, without_slots, numbers_to, read_in, read_along, read_of, LookUps, AreSound, numbers_below, name_on, slot_on, slot_seen, object_shown, world_shown, named_owed, SameButSlots-rebuilt, same_world, no_slot, objects_same, is_object_seen, Chain-chain, chain_of_none, new_row, fresh_row, slots_shown, false_from_ne_true, slice_get-map}, proofs.Shared.{changed, none_of, put_some, some_map}, proofs.Cases.{none_map}, proofs.Numbers.{no_names, nothing_below}, proofs.NewSlots.{with_new}}
 use Rattle.std.specs.Prelude.{◌<ℤ◌}
 use Rattle.moo_world.{specs.Creation.{plain_object, object_added, next_object}, specs.Arguments.{is_number}, specs.World.{has_property, slot_for, SameButSlots, climb}, proofs.Inheritance.Creating.{IsWellFormed-created, chain_x, chain_other, owed_still, owed_x}, proofs.Inheritance.Rebuilding.{slot_of-rebuilt, parents_same}, proofs.Ancestry.Trees.{linked}, proofs.Shown.Slots.{here-slot_on}}
 

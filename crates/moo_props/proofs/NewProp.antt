@@ -1,5 +1,5 @@
 -- Rows with a new property show the world with it, and are sound.
-use Rattle.moo_props.{proofs.Words.{◌≡◌, ℕ, zero, suc, ◌+◌, ◌<◌, Bool, true, false, eqb, Option, None, Some, List, [], ◌∷◌, ◌++◌, refl, sym, ap, ◌∙◌, subst, arith, ◌&&◌, is_some, unwrap_or, slice_get, if◌then◌else◌, option_map, option_and_then, option_or, filter_map, cons_option, false≢true, eqb-true, eq-eqb, filter_map-append, none-some, same_Some, ObjNo, Value, ObjRow, PropRow, SlotRow, Set, clashes, property_added, Name, nothing, same_object, same_text, folded, is_among, same_object-Decides, same_text-Decides, World, WorldObject, Slot, IsWellFormed, is_object, is_property_name, chain, owner_of, slot_of, property_names_of, fresh, slot_fits, LookUps, AreSound, numbers_below, name_on, slot_on, slot_seen, object_shown, world_shown, names_shown, slot_shown, is_object_seen, object_seen, Chain-chain, chain_of_none, fresh_of, some_of, slots_shown, ne_eqb, false_from_ne_true}, proofs.Shared.{has_owed, no_value, none_of, object_of_chain, put_some, same_below, seen_at}}
+use Rattle.moo_props.{proofs.Words.{◌≡◌, ℕ, ◌+◌, ◌<◌, Bool, true, false, eqb, Option, None, Some, List, [], ◌∷◌, ◌++◌, refl, sym, ap, ◌∙◌, subst, arith, ◌&&◌, is_some, unwrap_or, slice_get, if◌then◌else◌, option_map, option_and_then, option_or, filter_map, cons_option, false≢true, eqb-true, eq-eqb, filter_map-append, none-some, same_Some, ObjNo, Value, ObjRow, PropRow, SlotRow, Set, clashes, property_added, Name, nothing, same_object, same_text, folded, is_among, same_object-Decides, same_text-Decides, World, WorldObject, Slot, IsWellFormed, is_object, is_property_name, chain, owner_of, property_names_of, fresh, slot_fits, LookUps, AreSound, numbers_below, name_on, slot_on, slot_seen, object_shown, world_shown, names_shown, is_object_seen, object_seen, Chain-chain, fresh_of, some_of, slots_shown, ne_eqb, false_from_ne_true}, proofs.Shared.{has_owed, no_value, none_of, object_of_chain, put_some, same_below, seen_at}}
 use Rattle.std.proofs.Common.{add-one}
 use Rattle.moo_rows.specs.declared.row.Bits.{Bits}
 use Rattle.moo_world.{proofs.Shown.RowLaws.{with_prop, names_with_prop, other_names_with_prop}, proofs.Inheritance.Insertion.{IsWellFormed-property_added, none_owed}}

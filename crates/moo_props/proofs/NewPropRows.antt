@@ -1,5 +1,5 @@
 -- The rows once a property is defined, by their look-ups.
-use Rattle.moo_props.{proofs.Words.{◌≡◌, ℕ, ◌+◌, Bool, true, false, cond, eqb, ◌||◌, Option, Some, List, [], ◌∷◌, refl, sym, ap, ◌∙◌, ◌&&◌, if◌then◌else◌, unsigned_tied, list_any, AllByRecursion, get, insert, get-insert, false≢true, ObjNo, PropId, SlotRow, Maps, Held, wrote, prop_total, slot_total, Name, same_object, is_among, same_object-Decides, IsTree, is_object, chain, owner_of, LookUps, look_ups, world_of, prop_id, is_object_seen, chain_of_row, Origin, fresh_over, with_definition, owners_under, fresh_of, slot_put, some_of}, proofs.Shared.{but_slots, cond_again, cond_alike, cond_under, is_id, key_parts, own_among, same_maps, under_is}, proofs.Moved.{owners_are}, proofs.Folds.{all_of_change}, proofs.NewProp.{with_property}}
+use Rattle.moo_props.{proofs.Words.{◌≡◌, ℕ, ◌+◌, Bool, true, false, cond, eqb, Option, Some, List, [], ◌∷◌, refl, sym, ap, ◌∙◌, ◌&&◌, if◌then◌else◌, unsigned_tied, list_any, AllByRecursion, get, insert, get-insert, false≢true, ObjNo, PropId, SlotRow, Maps, Held, wrote, prop_total, slot_total, Name, same_object, is_among, same_object-Decides, IsTree, is_object, chain, owner_of, LookUps, look_ups, world_of, prop_id, Origin, fresh_over, with_definition, owners_under, fresh_of, slot_put}, proofs.Shared.{but_slots, cond_again, cond_alike, cond_under, is_id, key_parts, own_among, same_maps, under_is}, proofs.Moved.{owners_are}, proofs.Folds.{all_of_change}, proofs.NewProp.{with_property}}
 
 -- ---- fresh slots on many objects
 

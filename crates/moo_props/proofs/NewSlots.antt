@@ -1,5 +1,5 @@
 -- The rows once a new object has its slots.
-use Rattle.moo_props.{proofs.Words.{◌≡◌, Bool, true, false, cond, Option, None, Some, List, [], ◌∷◌, map, refl, sym, ap, ◌∙◌, ◌&&◌, is_some, if◌then◌else◌, option_map, int_eq, cons_option, AllByRecursion, get, insert, get-insert, false≢true, Decides-int_eq, ObjNo, PropId, SlotRow, Maps, Held, object_total, same_object, same_object-Decides, LookUps, IsSound, look_ups, prop_id, object_key, Origin, new_row, with_new_row, origins_among, origin_of, origins, fresh_of, slot_put, with_fresh, fresh_row, any_map}, proofs.Shared.{Entry, has_id, is_id, is_id-Decides, keeps-fresh, no_value, same_maps, walk, walk_held, walk_meets}, proofs.Folding.{slot_at-fresh, fresh_in, fresh_in-origins}}
+use Rattle.moo_props.{proofs.Words.{◌≡◌, Bool, true, false, cond, Option, None, Some, List, [], ◌∷◌, map, refl, sym, ap, ◌∙◌, ◌&&◌, is_some, if◌then◌else◌, option_map, int_eq, cons_option, AllByRecursion, get, insert, get-insert, false≢true, Decides-int_eq, ObjNo, PropId, SlotRow, Maps, Held, object_total, same_object, same_object-Decides, LookUps, IsSound, look_ups, prop_id, object_key, new_row, with_new_row, origins_among, origin_of, origins, with_fresh, fresh_row, any_map}, proofs.Shared.{Entry, has_id, is_id, is_id-Decides, keeps-fresh, no_value, same_maps, walk, walk_held, walk_meets}, proofs.Folding.{slot_at-fresh, fresh_in, fresh_in-origins}}
 
 -- ---- the origins that the walk gives are those of the properties of q
 

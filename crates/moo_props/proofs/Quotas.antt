@@ -1,5 +1,5 @@
 -- What an object reads as its quota.
-use Rattle.moo_props.{proofs.Words.{◌≡◌, true, false, [], FitsSigned, w64, pos, negsuc, arith, Option, Some, None, refl, sym, ap, ◌∙◌, is_some, unwrap_or, ◌+ℤ◌, int_lt, option_map, get, false≢true, ints, ObjNo, Value, Int, PropId, PropRow, Set, Maps, with_slot_of, Name, folded, quota_in, quota_of, World, WorldObject, IsTree, object_changed, read_in, read_along, read_of, slot_of, chain-step, chain_of_none, name_of, spelling_of}, specs.Quotas.{HasRoom}}
+use Rattle.moo_props.{proofs.Words.{◌≡◌, true, [], FitsSigned, w64, pos, negsuc, arith, Option, Some, None, refl, sym, ap, ◌∙◌, is_some, unwrap_or, ◌+ℤ◌, int_lt, option_map, get, ints, ObjNo, Value, Int, PropId, PropRow, Set, Maps, with_slot_of, Name, folded, quota_in, quota_of, World, WorldObject, IsTree, object_changed, read_in, read_along, read_of, slot_of, chain-step, chain_of_none, name_of, spelling_of}, specs.Quotas.{HasRoom}}
 use Rattle.std.proofs.Common.{ℤ}
 use Rattle.moo_world.specs.Quota.{quota_name, quota_changed, set_slot}
 

@@ -1,5 +1,5 @@
 -- Rows whose property has another name show the world with that name, and are sound.
-use Rattle.moo_props.{proofs.Words.{◌≡◌, ℕ, Bool, true, false, cond, eqb, Option, None, Some, List, [], ◌∷◌, map, refl, sym, ap, ◌∙◌, is_some, unwrap_or, slice_get, if◌then◌else◌, unsigned_tied, option_map, option_and_then, filter_map, cons_option, list_any, get, insert, get-insert, false≢true, both_ways, eqb-true, eq-eqb, none-some, same_Some, ObjNo, ObjRow, PropRow, SlotRow, Maps, prop_total, clashes, property_renamed, Name, same_object, same_text, same_property, folded, is_among, same_object-Decides, same_text-Decides, World, WorldObject, Slot, IsWellFormed, is_object, is_property_name, chain, defined_by, slot_of, LookUps, AreSound, IsGood, look_ups, world_of, world_shown, numbers_below, name_on, slot_on, slot_seen, object_shown, prop_id, slot_shown, is_object_seen, Chain-chain, some_of, SlotHere, slots_shown, slot_from, false_from_ne_true}, proofs.Shared.{changed, cond_same, has_owed, no_value, none_of, one_prop, own_under, put_some, same_below, seen_at, slot_on_heir}, proofs.Gains.{defines_pair}}
+use Rattle.moo_props.{proofs.Words.{◌≡◌, ℕ, Bool, true, false, cond, eqb, Option, None, Some, map, refl, sym, ap, ◌∙◌, is_some, unwrap_or, slice_get, if◌then◌else◌, unsigned_tied, option_map, option_and_then, filter_map, list_any, get, insert, get-insert, both_ways, eqb-true, eq-eqb, none-some, same_Some, ObjNo, ObjRow, PropRow, Maps, prop_total, clashes, property_renamed, Name, same_object, same_text, same_property, folded, is_among, same_object-Decides, same_text-Decides, World, WorldObject, Slot, IsWellFormed, is_object, is_property_name, chain, defined_by, slot_of, LookUps, AreSound, IsGood, look_ups, world_of, world_shown, numbers_below, name_on, slot_on, slot_seen, object_shown, prop_id, is_object_seen, Chain-chain, some_of, SlotHere, slots_shown, slot_from, false_from_ne_true}, proofs.Shared.{changed, cond_same, has_owed, no_value, none_of, one_prop, own_under, put_some, same_below, seen_at, slot_on_heir}, proofs.Gains.{defines_pair}}
 use Rattle.moo_world.proofs.Inheritance.Replacement.{renames, none_of_name, IsWellFormed-property_renamed}
 
 -- the look-ups with a property of x under another name

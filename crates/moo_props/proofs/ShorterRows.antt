@@ -1,5 +1,5 @@
 -- Rows without a property show the world without it, and are sound.
-use Rattle.moo_props.{proofs.Words.{◌≡◌, ℕ, Bool, true, false, cond, eqb, ◌||◌, Option, None, Some, List, [], ◌∷◌, refl, sym, ap, ◌∙◌, subst, ◌&&◌, not, is_some, unwrap_or, if◌then◌else◌, unsigned_tied, option_map, option_and_then, filter, filter_map, cons_option, list_any, get, remove, get-remove, false≢true, both_ways, and_parts, eqb-true, eq-eqb, none-some, same_Some, ObjNo, ObjRow, PropId, PropRow, SlotRow, Maps, Held, wrote, prop_total, slot_total, property_removed, Name, nothing, same_object, same_text, folded, is_among, same_object-Decides, same_text-Decides, World, WorldObject, Slot, IsWellFormed, is_object, chain, slot_of, with_slots, without_slots, LookUps, AreSound, IsGood, look_ups, world_of, world_shown, numbers_below, name_on, slot_seen, object_shown, prop_id, SameButSlots-rebuilt, same_world, no_slot, objects_same, slot_shown, is_object_seen, defines, spelling_of, owners_under, less_over, slot_removed, some_of, SlotHere, slot_from, false_from_ne_true}, proofs.Shared.{all_change, but_slots, cond_again, cond_under, is_id, kept_slots, key_parts, left_some, left_value, one_prop, own_under, passing, same_maps, under_is}, proofs.Numbers.{fewer, kept}, proofs.Lessened.{is_own}}
+use Rattle.moo_props.{proofs.Words.{◌≡◌, ℕ, Bool, true, false, cond, eqb, Option, None, Some, List, [], ◌∷◌, refl, sym, ap, ◌∙◌, subst, ◌&&◌, not, is_some, unwrap_or, if◌then◌else◌, unsigned_tied, option_map, option_and_then, filter, filter_map, list_any, get, remove, get-remove, both_ways, and_parts, eqb-true, eq-eqb, same_Some, ObjNo, ObjRow, PropId, PropRow, SlotRow, Maps, Held, wrote, prop_total, slot_total, property_removed, Name, nothing, same_object, same_text, folded, is_among, same_object-Decides, same_text-Decides, World, WorldObject, Slot, IsWellFormed, is_object, chain, slot_of, with_slots, without_slots, LookUps, AreSound, IsGood, look_ups, world_of, world_shown, numbers_below, name_on, slot_seen, object_shown, prop_id, SameButSlots-rebuilt, same_world, no_slot, objects_same, is_object_seen, defines, spelling_of, owners_under, less_over, slot_removed, SlotHere, false_from_ne_true}, proofs.Shared.{all_change, but_slots, cond_again, cond_under, is_id, kept_slots, key_parts, left_some, left_value, one_prop, own_under, passing, same_maps, under_is}, proofs.Numbers.{fewer, kept}, proofs.Lessened.{is_own}}
 use Rattle.moo_world.proofs.Inheritance.Shorter.{s, kept_slot, objects, undefined_law, IsWellFormed-property_removed}
 
 -- the look-ups without a property and its slots

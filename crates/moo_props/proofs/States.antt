@@ -1,5 +1,5 @@
 -- What another row of one slot does to the World.
-use Rattle.moo_props.{proofs.Words.{◌≡◌, ℕ, Bool, true, false, eqb, Option, None, Some, [], refl, sym, ap, subst, ◌∙◌, ◌&&◌, is_some, unwrap_or, if◌then◌else◌, option_map, option_and_then, get, insert, and_parts, both_ways, eqb-true, same_Some, ObjNo, ObjRow, PropId, PropRow, SlotRow, Clear, Maps, with_slot_of, Name, same_object, same_text, folded, same_object-Decides, same_text-Decides, World, WorldObject, IsWellFormed, Slot, slot_of, object_changed, slot_fits, LookUps, IsSound, IsGood, look_ups, world_of, world_shown, slot_seen, prop_id, slot_shown, name_of, spelling_of, defines, some_of, false_from_ne_true}, proofs.Shared.{passing, seen_at, slot_here}}
+use Rattle.moo_props.{proofs.Words.{◌≡◌, ℕ, Bool, true, false, eqb, Option, None, Some, [], refl, sym, ap, subst, ◌∙◌, ◌&&◌, is_some, unwrap_or, if◌then◌else◌, option_map, option_and_then, get, insert, and_parts, both_ways, eqb-true, same_Some, ObjNo, PropId, PropRow, SlotRow, Clear, Maps, with_slot_of, Name, same_object, same_text, folded, same_object-Decides, same_text-Decides, World, WorldObject, IsWellFormed, Slot, slot_of, object_changed, slot_fits, LookUps, IsSound, IsGood, look_ups, world_of, world_shown, slot_seen, prop_id, name_of, spelling_of, defines, some_of, false_from_ne_true}, proofs.Shared.{passing, seen_at, slot_here}}
 use Rattle.moo_world.{specs.Petitions.{PetitionsStand}, proofs.Shown.RowLaws.{world_shown-with_slot_row}, proofs.Shown.MapLaws.{look_ups-put_slot}, proofs.Form.Slots.{IsWellFormed-with_slot_of}}
 
 module _ (t : Maps) (sound : IsSound t) (x : ObjNo) (id : PropId) (k : SlotRow) (held : get t.slots (x, id) ≡ Some k) (next : SlotRow) (change : Slot → Slot) (agrees : (d : ObjNo) → change (slot_seen d k) ≡ slot_seen d next) where

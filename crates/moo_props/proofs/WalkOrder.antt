@@ -1,5 +1,5 @@
 -- The walk over an object's slots gives its properties in order.
-use Rattle.moo_props.{proofs.Words.{◌≡◌, Bool, true, false, cond, Some, List, [], ◌∷◌, map, Ordering, Less, sym, ap, ◌∙◌, refl, subst, tied_itself, int_eq, ordering_then, filter, AllByRecursion, get, entries, entries_sorted, Decides-int_eq, ObjNo, Maps, object_cmp, prop_cmp, slot_cmp, object_total, ids_among, cond_both}, proofs.Ascending.{Rises, rises_made}, proofs.Walked.{Entry, all_filter, walk, walk_held}}
+use Rattle.moo_props.{proofs.Words.{◌≡◌, Bool, true, Some, List, [], ◌∷◌, map, Ordering, Less, sym, ap, ◌∙◌, refl, subst, tied_itself, int_eq, ordering_then, filter, AllByRecursion, get, entries, entries_sorted, Decides-int_eq, ObjNo, Maps, object_cmp, prop_cmp, slot_cmp, object_total, ids_among, cond_both}, proofs.Ascending.{Rises, rises_made}, proofs.Walked.{Entry, all_filter, walk, walk_held}}
 
 rises_fewer : {K A : Type 0} (cmp : K → K → Ordering) (key : A → K) (test : A → Bool) (l : List A) → Rises cmp key l → Rises cmp key (filter test l)
 rises_fewer cmp key test [] r = tt

@@ -1,5 +1,5 @@
 -- The walk over an object's slots finds the property of a name.
-use Rattle.moo_props.{proofs.Words.{◌≡◌, ℕ, Bool, true, false, cond, Option, None, Some, List, [], ◌∷◌, Ordering, Less, refl, sym, ap, ◌∙◌, subst, ◌&&◌, ◌||◌, is_some, unwrap_or, option_map, option_and_then, IsTotalOrder, tied_itself, nat_cmp_is, eq_by_cmp, is_lt, int_eq, ordering_then, filter, list_any, AllByRecursion, get, entries, get-entries, entries_sorted, false≢true, both_ways, or_right, Decides-int_eq, CmpEqualImpliesEq, none-some, same_Some, ObjNo, PropId, PropRow, SlotRow, Maps, prop_cmp, slot_cmp, slots_of_left, is_past, slot_exact, object_total, slot_total, Name, same_text, folded, same_text-Decides, WorldObject, Slot, slot_of, IsSound, look_ups, world_of, slot_seen, key-Decides, slot_shown, is_object_seen, name_of, some_of, own_entries, SlotHere, slot_from, LookUps, AreSound, world_shown, or_left, cond_both, FinMap}, proofs.Cases.{no_value, passing}, specs.Names.{is_called}}
+use Rattle.moo_props.{proofs.Words.{◌≡◌, ℕ, Bool, true, false, cond, Option, None, Some, List, [], ◌∷◌, Ordering, Less, refl, sym, ap, ◌∙◌, subst, ◌&&◌, ◌||◌, is_some, unwrap_or, option_map, option_and_then, IsTotalOrder, tied_itself, nat_cmp_is, eq_by_cmp, is_lt, int_eq, ordering_then, filter, list_any, AllByRecursion, get, entries, get-entries, entries_sorted, both_ways, or_right, Decides-int_eq, CmpEqualImpliesEq, none-some, same_Some, ObjNo, PropId, PropRow, SlotRow, Maps, prop_cmp, slot_cmp, slots_of_left, is_past, slot_exact, object_total, slot_total, Name, same_text, folded, same_text-Decides, WorldObject, Slot, slot_of, IsSound, look_ups, world_of, slot_seen, key-Decides, slot_shown, is_object_seen, name_of, some_of, own_entries, SlotHere, slot_from, LookUps, AreSound, world_shown, or_left, cond_both, FinMap}, proofs.Cases.{no_value, passing}, specs.Names.{is_called}}
 use Rattle.std.specs.List.{find}
 use Rattle.std.specs.FinMap as map
 use Rattle.moo_world.proofs.Inheritance.Owed.{find_passes}

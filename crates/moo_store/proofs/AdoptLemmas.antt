@@ -24,17 +24,6 @@ pub both_err : {A E : Type 0} (r : Result A E) (C : E → Type 0) (K : State →
 both_err (Ok a) C K P Q known each f = tt
 both_err (Err e) C K P Q known each f = f e known each
 
--- what is known of the cells that were read is known of the tables that rest
-pub one_each : {A E : Type 0} (maps_of : A → Maps) (cells : Tables) (Known : Tables → Type 0) (r : Result A E) → ((m : Maps) → ShowsRows cells m → IsGood m → IfOk r (λ rows. maps_of rows ≡ m)) → ((t : Tables) → Known t → cells ≡ t)
-    → IfOk r (λ rows. (t : Tables) (m : Maps) → Known t → ShowsRows t m → IsGood m → maps_of rows ≡ m)
-one_each maps_of cells Known (Ok rows) one is = λ t m known shows good. one m (subst (λ x. ShowsRows x m) (sym (is t known)) shows) good
-one_each maps_of cells Known (Err e) one is = tt
-
-pub whole_each : {A E : Type 0} (cells : Tables) (Known : Tables → Type 0) (Is : E → Type 0) (r : Result A E) → ((m : Maps) → ShowsRows cells m → IsGood m → IfErr r Is) → ((t : Tables) → Known t → cells ≡ t)
-    → IfErr r (λ e. (t : Tables) (m : Maps) → Known t → ShowsRows t m → IsGood m → Is e)
-whole_each cells Known Is (Ok rows) whole is = tt
-whole_each cells Known Is (Err e) whole is = λ t m known shows good. whole m (subst (λ x. ShowsRows x m) (sym (is t known)) shows) good
-
 -- a refusal leaves the database as it was
 pub at_rest : (old new : Database) → (IsTrue old.is_open → old.now ≡ old.committed) → new.in_transaction ≡ false → IsUnchanged old new ⊎ IsRolledBack old new → IsTrue new.is_open → RestsAt new old.now
 at_rest old new settled outside (inl same) opened = record { outside = outside; now_is = same.0.now_is; committed_is = same.0.committed_is ∙ sym (settled same.0.was_open) }

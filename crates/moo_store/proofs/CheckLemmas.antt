@@ -1,28 +1,7 @@
 -- From what a check read to the World that it leaves.
-use Rattle.moo_store.{proofs.Words.{◌≡◌, inl, ◌≤◌, ◌≤ℤ◌, ℕ, ℤ, pos, negsuc, suc, zero, [], ◌∷◌, length, map, Bool, true, false, Result, Ok, Err, refl, sym, ap, subst, ◌∙◌, arith, length-append, length-map, IfErr, MatchResult, entries, HasCleanDisk, Ghosts, Held, state, Maps, IsGood, world_of, numbers_below, State, Tables, Rests, ShowsRows, KeepsRows, World, store_of, StandsFor, Says, IsOfStore, StoreFault, Store, Damaged, NewerVersion, OutOfMemory, Closed}, specs.Checked.{FailsWorld, SaysInCheck}}
+use Rattle.moo_store.{proofs.Words.{◌≡◌, ◌≤◌, ◌≤ℤ◌, ℕ, ℤ, pos, negsuc, suc, zero, [], ◌∷◌, length, map, Bool, true, false, Result, Ok, Err, refl, sym, ap, subst, ◌∙◌, arith, length-append, length-map, IfErr, MatchResult, entries, HasCleanDisk, Ghosts, Held, state, Maps, IsGood, world_of, numbers_below, State, Tables, Rests, ShowsRows, KeepsRows, World, store_of, StandsFor, IsOfStore, StoreFault, Store, Damaged, NewerVersion, OutOfMemory, Closed}, specs.Checked.{FailsWorld}}
 use Rattle.std.{proofs.lemmas.List.Sums.{count_by-le-length, length-filter}, proofs.lemmas.Int.{ints}}
 use Rattle.moo_world.{specs.Objects.{object_at}, specs.ObjectLists.{objects_of}, specs.World.{is_object, numbers_to}, proofs.Shown.ObjectEntries.{objects_listed}}
-use Rattle.moo_damage.{specs.declared.kind.Key.{Key}, specs.declared.kind.Key.TheVariants.{Head, Object, Prop, Slot, Verb, Petition}, specs.Differences.{AgreeAt}}
-
-pub agrees_itself : (m : Maps) (key : Key) → AgreeAt m m key
-agrees_itself m Head = refl
-agrees_itself m (Object n) = refl
-agrees_itself m (Prop (pos id)) = refl
-agrees_itself m (Prop (negsuc i)) = tt
-agrees_itself m (Slot n (pos id)) = refl
-agrees_itself m (Slot n (negsuc i)) = tt
-agrees_itself m (Verb n (pos id)) = refl
-agrees_itself m (Verb n (negsuc i)) = tt
-agrees_itself m (Petition (pos id)) = refl
-agrees_itself m (Petition (negsuc i)) = tt
-
--- what opening says of the tables, a check says too
-pub says_in_check : (own : Maps) (tables : Tables) (fault : StoreFault) → Says tables fault → SaysInCheck own tables fault
-says_in_check own tables (Store error) it = tt
-says_in_check own tables (Damaged kind key) it = inl it
-says_in_check own tables NewerVersion it = it
-says_in_check own tables OutOfMemory it = tt
-says_in_check own tables Closed it = tt
 
 -- what the rows of the cells that were read say is said of the tables that rest
 pub whole_here : {A : Type 0} (cells : Tables) (Known : Tables → Type 0) (own : Maps) (r : Result A StoreFault) → (ShowsRows cells own → IfErr r IsOfStore) → ((t : Tables) → Known t → cells ≡ t)

@@ -1,4 +1,4 @@
-use Rattle.moo_props.{proofs.Words.{FitsSigned, w32, rules, ◌≡◌, refl, sym, ap, ◌∙◌, subst, Maps, Held, created, LookUps, AreSound, look_ups, world_of, world_shown, World, IsWellFormed, read_of, number_within, with_new_row, origins_among, with_fresh, numbers_same, beside_world, petitions_stay}, proofs.Shared.{good_by, keeps-fresh, same_base, same_maps, walk}, proofs.NewSlots.{with_new, look_ups-new}, proofs.NewObject.{world_new, formed_new, sound_new, reads_new, no_row}}
+use Rattle.moo_props.{proofs.Words.{FitsSigned, w32, rules, ◌≡◌, refl, ap, ◌∙◌, Maps, Held, created, look_ups, world_of, world_shown, World, read_of, number_within, with_new_row, origins_among, with_fresh, numbers_same, beside_world}, proofs.Shared.{good_by, keeps-fresh, same_base, same_maps, walk}, proofs.NewSlots.{with_new, look_ups-new}, proofs.NewObject.{world_new, formed_new, sound_new, reads_new, no_row}}
 use Rattle.moo_props.proofs.birth.make.Goals as goal
 
 abbrev t : (g : _) → goal.After-drop-inherited-2 g → Maps

@@ -1,4 +1,4 @@
-use Rattle.moo_props.{proofs.Words.{IfOk, ◌≡◌, refl, sym, ap, ◌∙◌, subst, [], ◌∷◌, length, arith, Some, is_some, get, entries, false≢true, Held, without_object, object_cmp, prop_cmp, slot_cmp, verb_cmp, recycled, AreSound, look_ups, world_of, world_shown, IsWellFormed, is_object_seen, dropped_keys, linked_among, dropped_over, slots_dropped, ids_among, owners_under, props_removed, verbs_removed, rows_released, ArePresent, AreAbsent, AreAscending, props_of, as_high, beside_world, petitions_stay}, proofs.Kept.{good_by}, proofs.Walked.{walk}, proofs.Lessened.{world_less, sound_less, formed_less, less_object}, proofs.LessRows.{look_ups-less, held1, held5, only5, base5}, proofs.Ascending.{ascend, props_rise, verbs_ascend, linked_ascend}, proofs.DroppedKeys.{dropped_list, dropped_ascend, dropped_had}, proofs.LeftRows.{writes5, slots_left, props_left, verbs_left, objects_left, head5, left_is, dropped_gone, relinked_there}, specs.declared.dropping.Dropped.{Dropped}}
+use Rattle.moo_props.{proofs.Words.{IfOk, ◌≡◌, refl, sym, ap, ◌∙◌, subst, [], ◌∷◌, length, arith, Some, is_some, get, entries, false≢true, Held, without_object, object_cmp, prop_cmp, slot_cmp, verb_cmp, recycled, look_ups, world_of, world_shown, is_object_seen, dropped_keys, linked_among, dropped_over, slots_dropped, ids_among, owners_under, props_removed, verbs_removed, rows_released, ArePresent, AreAbsent, AreAscending, props_of, as_high, beside_world}, proofs.Kept.{good_by}, proofs.Walked.{walk}, proofs.Lessened.{world_less, sound_less, formed_less, less_object}, proofs.LessRows.{look_ups-less, held1, held5, only5, base5}, proofs.Ascending.{ascend, props_rise, verbs_ascend, linked_ascend}, proofs.DroppedKeys.{dropped_list, dropped_ascend, dropped_had}, proofs.LeftRows.{writes5, slots_left, props_left, verbs_left, objects_left, head5, left_is, dropped_gone, relinked_there}, specs.declared.dropping.Dropped.{Dropped}}
 use Rattle.moo_props.proofs.dropping.drop_object.Goals as goal
 use Rattle.moo_rows.specs.declared.row.Head.{Head}
 use Rattle.moo_world.specs.Numbers.{props_dropped, verbs_dropped}

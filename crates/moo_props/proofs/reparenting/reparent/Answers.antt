@@ -1,4 +1,4 @@
-use Rattle.moo_props.{proofs.Words.{IfOk, ◌≡◌, map, length, Some, sym, ap, subst, ◌∙◌, arith, is_some, unwrap_or, [], option_map, get, entries, false≢true, or_right, ObjNo, ObjRow, PropId, Maps, Held, slot_cmp, lost, gained, same_object, is_among, IsGood, IsWellFormed, MayReparent, chain, look_ups, world_of, IsSound, chain_of_row, is_object_seen, owners_under, slots_moved, relinked, relinked_list, props_of, removed_keys, added_keys, slot_after, IsSameButSlotsAndObjects, AreAscending, id_of, origins, keys_over, numbers_same, beside_world, petitions_stay}, proofs.Shared.{new_is, no_clash}, proofs.Moved.{lost_list, gained_list, all_on_new, held2, slots2, objects2, rest2, world2, sound2, base2, writes2}, proofs.Ascending.{removed_ascend, added_ascend}, proofs.Presence.{removed_had, added_had, removed_gone, added_there}, specs.declared.reparenting.Touched.{Touched}}
+use Rattle.moo_props.{proofs.Words.{IfOk, ◌≡◌, map, length, Some, sym, ap, subst, ◌∙◌, arith, is_some, unwrap_or, [], option_map, get, false≢true, or_right, ObjNo, ObjRow, PropId, Maps, Held, slot_cmp, lost, gained, same_object, is_among, IsGood, IsWellFormed, MayReparent, chain, look_ups, world_of, IsSound, chain_of_row, is_object_seen, owners_under, slots_moved, relinked, relinked_list, props_of, removed_keys, added_keys, slot_after, IsSameButSlotsAndObjects, AreAscending, id_of, origins, keys_over, numbers_same, beside_world, petitions_stay}, proofs.Shared.{new_is, no_clash}, proofs.Moved.{lost_list, gained_list, all_on_new, held2, slots2, objects2, rest2, world2, sound2, base2, writes2}, proofs.Ascending.{removed_ascend, added_ascend}, proofs.Presence.{removed_had, added_had, removed_gone, added_there}, specs.declared.reparenting.Touched.{Touched}}
 use Rattle.moo_props.proofs.reparenting.reparent.Goals as goal
 use Rattle.moo_world.{specs.Keeps.{Keeps}, specs.World.{reparented}, proofs.Inheritance.Reparenting.{IsWellFormed-reparented}}
 use Rattle.std.proofs.lemmas.Result.{IfOk-from_err}

@@ -1,4 +1,4 @@
-use Rattle.moo_props.proofs.Words.{sym, ap, ◌∙◌, entries, is_among, Maps, props_only_of, origins}
+use Rattle.moo_props.proofs.Words.{sym, ap, ◌∙◌, entries, is_among, props_only_of, origins}
 use Rattle.moo_props.proofs.reparenting.turnover.Goals as goal
 
 pub props_among-requires-clause-within : goal.props_among-requires-clause-within

@@ -1,4 +1,4 @@
-use Rattle.moo_props.{proofs.Words.{◌≡◌, Some, refl, sym, ap, ◌∙◌, subst, get, remove, ObjRow, PropRow, Maps, Held, wrote, property_removed, AreSound, look_ups, world_of, world_shown, IsWellFormed, less_over, some_of, owners_under, verbs_stay, as_high, beside_world, petitions_stay}, proofs.Shared.{good_by, same_base}, proofs.ShorterRows.{own_row, spelled, world_shorter, sound_shorter, formed_shorter, less_property, look_ups-shorter, only2, held1, held2, keeps-over}}
+use Rattle.moo_props.{proofs.Words.{◌≡◌, Some, refl, sym, ap, ◌∙◌, get, remove, ObjRow, PropRow, Maps, Held, wrote, property_removed, look_ups, world_of, world_shown, less_over, some_of, owners_under, verbs_stay, as_high, beside_world}, proofs.Shared.{good_by, same_base}, proofs.ShorterRows.{own_row, spelled, world_shorter, sound_shorter, formed_shorter, less_property, look_ups-shorter, only2, held1, held2, keeps-over}}
 use Rattle.moo_props.proofs.undefining.undefine.Goals as goal
 use Rattle.moo_world.specs.Numbers.{prop_removed}
 
