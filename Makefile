@@ -16,14 +16,19 @@ prove:
 build:
 	@.ci/build
 
+# a village to look at in a browser, until Ctrl-C
+demo: all
+	@web/moo-demo $(if $(MOO),--moo "$(MOO)")
+
 PREFIX ?= /usr/local
 
-# the program, its manual, its tools and units, under PREFIX; DESTDIR is put before it. MOO is another program than that of these sources
+# the program, the front, their manuals, tools and units, under PREFIX; DESTDIR is put before it. MOO is another program than that of these sources
 install:
 	@MOO="$(MOO)" packaging/install "$(PREFIX)" "$(DESTDIR)"
+	@packaging/install-web "$(PREFIX)" "$(DESTDIR)"
 
-# a Debian package, in out/
+# the Debian packages, in out/
 deb:
 	@MOO="$(MOO)" packaging/deb
 
-.PHONY: all test prove build install deb
+.PHONY: all test prove build demo install deb

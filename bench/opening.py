@@ -20,7 +20,7 @@ import sys
 import tempfile
 import time
 
-from sqlite_baseline import FIRST_TABLES, PRAGMAS, TABLES  # which also leads to tests
+from tables import FIRST_TABLES, PRAGMAS, TABLES  # which also leads to tests
 
 from tests.support.columns import OPENING_OBJECTS, first_objects, thing
 

@@ -19,7 +19,8 @@ import threading
 import time
 import unittest
 
-from tests.support.operating import PROGRAM, SECONDS, TOOLS, Service, checked, make_world, said, tool, use_tools
+from tests.support.operating import KeptService, SECONDS, TOOLS, checked, make_world, said, tool, use_tools
+from tests.support.program import MOO
 
 use_tools()
 
@@ -75,7 +76,7 @@ class Copies(unittest.TestCase):
 
     def backup(self, *words):
         """The status of moo-backup, and what it printed and complained of."""
-        command = [sys.executable, str(TOOLS / "moo-backup"), "--moo", PROGRAM, *words, str(self.file), str(self.folder)]
+        command = [sys.executable, str(TOOLS / "moo-backup"), "--moo", MOO, *words, str(self.file), str(self.folder)]
         ran = subprocess.run(command, stdout=subprocess.PIPE, stderr=subprocess.PIPE, text=True, timeout=SECONDS)
         return ran.returncode, ran.stdout, ran.stderr
 
@@ -119,7 +120,7 @@ class AtRest(Copies):
         self.assertTrue(copy.name.endswith("-seq1"), copy.name)
 
     def test_a_log_that_a_kill_left(self):
-        service = Service(self.file)
+        service = KeptService(self.file)
         self.addCleanup(service.stop)
         made = Moo(service.port).run([("create", Obj(4))] * 20, as_=3)
         service.stop()
@@ -138,7 +139,7 @@ class AtRest(Copies):
             return copy(source, target)
 
         module.copy = copy_and_try
-        module.backup(module.read_words(["--moo", PROGRAM, str(self.file), str(self.folder)]))
+        module.backup(module.read_words(["--moo", MOO, str(self.file), str(self.folder)]))
         self.assertEqual(refusals, [(1, "moo: store fault\n")] * 2)
         self.assertEqual(checked(self.file), 1)
 
@@ -149,6 +150,60 @@ class AtRest(Copies):
         made = [self.copied("--keep", "2").name for _ in range(4)]
         left = sorted(path.name for path in self.folder.iterdir())
         self.assertEqual(left, sorted([*made[2:], "other", "world.db", "other.db-20200101T000000.000000Z-seq1"]))
+
+    def test_strays_are_no_copies(self):
+        """A file, a link and a link's target that are named like a copy stay, and what a killed backup seems to have left goes."""
+        elsewhere = self.room / "elsewhere"
+        elsewhere.mkdir()
+        (elsewhere / "precious").touch()
+        self.folder.mkdir()
+        link, file = (self.folder / f"world.db-2020010{day}T000000.000000Z-seq1" for day in (1, 2))
+        link.symlink_to(elsewhere)
+        file.touch()
+        (self.folder / ".unfinished-x").touch()
+        (self.folder / ".unfinished-y").symlink_to(elsewhere)
+        made = [self.copied("--keep", "1") for _ in range(2)]
+        self.assertEqual(sorted(self.folder.iterdir()), [link, file, made[1]])
+        self.assertEqual(list(elsewhere.iterdir()), [elsewhere / "precious"])
+
+    def test_a_neighbour_of_the_same_name(self):
+        """Another world of this file name may not use the folder, so that neither deletes the copies of the other."""
+        self.copied("--keep", "1")
+        ours, self.file = self.file, self.room / "neighbour/world.db"
+        self.file.parent.mkdir()
+        make_world(self.file, FIRST)
+        self.assert_not_copied(f"is a copy of {ours}: give {self.file} a folder of its own", "--keep", "1")
+        self.folder = self.room / "copies of the neighbour"
+        self.copied("--keep", "1")
+
+    def test_weeks_and_months(self):
+        """The newest copies stay, and the last one of each of the newest weeks and months. Weeks begin on Mondays."""
+        self.folder.mkdir()
+        moments = ("20200115", "20200131", "20200210", "20200228", "20200302", "20200308", "20200309", "20200315", "20200316", "20200317")
+        for moment in moments:
+            (self.folder / f"world.db-{moment}T120000.000000Z-seq1").mkdir()
+        copy = self.copied("--keep", "2", "--weekly", "4", "--monthly", "3")
+        left = [path.name[9:17] for path in sorted(self.folder.iterdir())]
+        # the two newest are 0317 and the one made now; the weeks are that of now and those of 0317, 0315, 0308; the months now's, March, February
+        self.assertEqual(left, ["20200228", "20200308", "20200315", "20200317", copy.name[9:17]])
+
+    def test_the_command_after_a_copy(self):
+        away = self.room / "away"
+        away.mkdir()
+        copy = self.copied("--after", f"cp -r -t {away}")
+        self.assertEqual([path.name for path in away.iterdir()], [copy.name])
+        status, printed, complaint = self.backup("--after", "false")
+        self.assertEqual((status, len(list(self.folder.iterdir()))), (1, 2))
+        self.assertTrue(pathlib.Path(printed.rstrip("\n")).is_dir())
+        self.assertIn("is made, but the command after it failed with status 1: false", complaint)
+
+    def test_nobody_else_may_read_a_copy(self):
+        before = os.umask(0)
+        self.addCleanup(os.umask, before)
+        copy = self.copied()
+        self.assertEqual({path.name: path.stat().st_mode & 0o777 for path in (self.folder, copy)}, {"copies": 0o700, copy.name: 0o700})
+        self.assertEqual({path.stat().st_mode & 0o777 for path in copy.iterdir()}, {0o600})
+        self.assertEqual((copy / "SOURCE").read_text(), f"{self.file.resolve()}\n")
 
     def test_a_failed_backup_leaves_the_good_ones(self):
         self.copied("--keep", "1")
@@ -195,7 +250,7 @@ class AtRest(Copies):
     def test_backups_of_one_folder_wait_for_each_other(self):
         other = self.room / "other.db"
         make_world(other, FIRST)
-        command = [sys.executable, str(TOOLS / "moo-backup"), "--moo", PROGRAM]
+        command = [sys.executable, str(TOOLS / "moo-backup"), "--moo", MOO]
         runs = [subprocess.Popen([*command, str(world), str(self.folder)], stdout=subprocess.PIPE) for world in (self.file, other) * 3]
         for run in runs:
             run.communicate(timeout=SECONDS)
@@ -222,7 +277,7 @@ class AtRest(Copies):
         self.assertEqual([path for path in self.folder.iterdir() if path.name.startswith(".")], [])
 
     def test_wrong_words(self):
-        for words in (["--keep", "0"], ["--wait", "x"], ["--nothing"]):
+        for words in (["--keep", "0"], ["--weekly", "-1"], ["--monthly", "-1"], ["--wait", "x"], ["--nothing"]):
             with self.subTest(words):
                 self.assertEqual(self.backup(*words)[0], 2)
 
@@ -231,7 +286,7 @@ class UnderLoad(Copies):
     """A world that a service has open, and a client writes to."""
 
     def load(self, count=1_000_000):
-        self.service = Service(self.file, count, rest=0.1)
+        self.service = KeptService(self.file, count, rest=0.1)
         self.addCleanup(self.service.stop)
         self.writer = Writer(self.service.port)
         self.addCleanup(self.writer.end)
@@ -289,7 +344,7 @@ class UnderLoad(Copies):
 
     def test_one_file_without_its_log(self):
         """What may not be done: the file alone lacks what its log holds."""
-        service = Service(self.file)
+        service = KeptService(self.file)
         self.addCleanup(service.stop)
         made = Moo(service.port).run([("create", Obj(4))], as_=3)
         alone = self.room / "alone.db"

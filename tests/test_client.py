@@ -12,7 +12,7 @@ import threading
 import time
 import unittest
 
-from tests.support.operating import SECONDS, Service, checked, make_world, said, use_tools
+from tests.support.operating import KeptService, SECONDS, checked, make_world, said, use_tools
 
 use_tools()
 
@@ -80,7 +80,7 @@ class WithService(unittest.TestCase):
         self.addCleanup(room.cleanup)
         self.file = pathlib.Path(room.name) / "world.db"
         make_world(self.file, first_batches())
-        self.service = Service(self.file)
+        self.service = KeptService(self.file)
         self.addCleanup(self.service.stop)
         self.port = self.service.port
 
@@ -100,15 +100,16 @@ class Answers(WithService):
     def test_errors_have_their_names(self):
         world = Moo(self.port)
         cases = (
-            (["create(#1)", "recycle(#99)"], 3, moo_client.E_INVARG, 2),
-            (['get(#1, "nothing")'], 3, moo_client.E_PROPNF, 1),
-            (["recycle(#2)"], 4, moo_client.E_PERM, 1),
-            (["create(#1)", "sing()"], 3, moo_client.Malformed, 2),
+            (["create(#1)", "recycle(#99)"], 3, moo_client.E_INVARG, 2, "recycle(#99): E_INVARG, #99 isn't an object"),
+            (['get(#1, "nothing")'], 3, moo_client.E_PROPNF, 1, 'get(#1, "nothing"): E_PROPNF, #1 has no property "nothing"'),
+            (["recycle(#2)"], 4, moo_client.E_PERM, 1, "recycle(#2): E_PERM, #4 neither owns #2 nor is a wizard"),
+            (["create(#1)", "sing()"], 3, moo_client.Malformed, 2, "'sing' names no call"),
         )
-        for calls, who, kind, call in cases:
+        for calls, who, kind, call, why in cases:
             with self.subTest(calls), self.assertRaises(kind) as raised:
                 world.run(calls, as_=who)
-            self.assertEqual(raised.exception.call, call)
+            self.assertEqual((raised.exception.call, raised.exception.why), (call, why))
+            self.assertEqual(str(raised.exception), f"call {call}: {kind.__name__}: {why}")
         self.assertEqual(world.seq(), 1)
 
     def test_ask_changes_nothing(self):
@@ -123,6 +124,20 @@ class Answers(WithService):
         self.assertEqual((shown["name"], shown["parent"], shown["children"], shown["f"]), ("#3", Obj(1), [], 1))
         with self.assertRaises(moo_client.E_INVARG):
             world.object(99)
+
+    def test_all_objects(self):
+        world = Moo(self.port)
+        for _ in range(2):
+            world.run([("create", Obj(4))] * 999, as_=3)
+        listed = list(world.objects())
+        self.assertEqual([one["number"] for one in listed], [Obj(number) for number in range(4 + CLIENTS + 1998)])
+        self.assertEqual((listed[4]["parent"], listed[4]["f"], listed[3]["location"], listed[3]["name"]), (Obj(1), 1, Obj(2), "Wizard"))
+        self.assertEqual([one["number"] for one in world.objects(Obj(2000))], [Obj(number) for number in range(2000, 4 + CLIENTS + 1998)])
+
+    def test_a_body_of_another_shape(self):
+        with self.assertRaises(moo_client.BadRequest) as raised:
+            Moo(self.port).ask(["max_object()"] * 1001, as_=3)
+        self.assertEqual(raised.exception.why, "calls has over 1,000 calls")
 
     def test_at_another_number(self):
         world = Moo(self.port)
@@ -294,10 +309,15 @@ class Kills(WithService):
         writers = [Writer(self.port, Obj(number), is_over) for number in range(4, 4 + CLIENTS)]
         for writer in writers:
             writer.start()
-        for _ in range(KILLS):
+        kills = 0
+        # On a busy machine few batches come between two kills: then there are more kills.
+        while kills < KILLS or sum(len(writer.made) for writer in writers) <= KILLS:
             self.assertTrue(self.service.is_listening.wait(SECONDS))
             time.sleep(chance.uniform(0, 0.05))
             self.service.kill()
+            kills += 1
+            self.assertFalse(any(writer.wrong for writer in writers), f"seed {seed}")
+            self.assertLess(kills, 50 * KILLS, f"seed {seed}: too few batches to show anything")
         is_over.set()
         for writer in writers:
             writer.join(SECONDS)
@@ -310,7 +330,6 @@ class Kills(WithService):
         self.service.stop()
         self.assertGreaterEqual(self.service.starts, KILLS, f"seed {seed}")
         batches = sum(len(writer.made) for writer in writers)
-        self.assertGreater(batches, KILLS, f"seed {seed}: too few to show anything")
         self.assertEqual(checked(self.file), 1 + batches, f"seed {seed}")
         for writer in writers:
             calls = f'children({writer.own})\nget({writer.own}, "name")\n'

@@ -20,26 +20,59 @@ import unittest.mock
 import urllib.error
 import urllib.request
 
-from tests.support.operating import PROGRAM, SECONDS, TOOLS, TOP, free_port, tool
+from tests.support.operating import SECONDS, TOOLS, tool
+from tests.support.program import MOO, TOP
+from tests.support.service import free_port
+from tests.support.web import DEBIANS_PYTHON, lacking
 
 INSTALLED = {
     "bin/moo": 0o755,
     "bin/moo-backup": 0o755,
+    "bin/moo-shell": 0o755,
     "bin/moo-watch": 0o755,
     "lib/moo/moo-end": 0o755,
+    "lib/moo/moo-tell": 0o755,
     "lib/systemd/system/moo@.service": 0o644,
     "lib/systemd/system/moo-backup@.service": 0o644,
     "lib/systemd/system/moo-backup@.timer": 0o644,
+    "lib/systemd/system/moo-offsite@.service": 0o644,
+    "lib/systemd/system/moo-tell@.service": 0o644,
     "lib/systemd/system/moo-watch@.service": 0o644,
     "lib/systemd/system/moo-watch@.timer": 0o644,
     "lib/sysusers.d/moo.conf": 0o644,
     "lib/tmpfiles.d/moo.conf": 0o644,
     "share/bash-completion/completions/moo": 0o644,
+    "share/bash-completion/completions/moo-shell": 0o644,
+    "share/doc/moo/examples/builders.moo": 0o644,
+    "share/doc/moo/examples/classes.moo": 0o644,
+    "share/doc/moo/examples/village.moo": 0o644,
     "share/man/man1/moo.1.gz": 0o644,
     "share/man/man1/moo-backup.1.gz": 0o644,
+    "share/man/man1/moo-shell.1.gz": 0o644,
     "share/man/man1/moo-watch.1.gz": 0o644,
     "share/moo/moo_client.py": 0o644,
+    "share/zsh/site-functions/_moo-shell": 0o644,
+    **{f"share/moo/moo_shell/{path.name}": 0o644 for path in (TOOLS / "moo_shell").glob("*.py")},
 }
+MODULES = TOP / "web/moo_web"
+INSTALLED_WEB = {
+    **{f"{folder}/{name}": 0o755 for folder in ("bin", "lib/moo-web") for name in ("moo-people", "moo-replay", "moo-send", "moo-web")},
+    **{f"share/man/man1/{name}.1.gz": 0o644 for name in ("moo-people", "moo-replay", "moo-send", "moo-web")},
+    "lib/moo-web/alone/moo.conf": 0o644,
+    "lib/moo-web/alone/moo-watch.conf": 0o644,
+    "lib/systemd/system/moo-follow@.service": 0o644,
+    "lib/systemd/system/moo-keep@.service": 0o644,
+    "lib/systemd/system/moo-keep@.timer": 0o644,
+    "lib/systemd/system/moo-web@.service": 0o644,
+    "lib/systemd/system/moo-web@.socket": 0o644,
+    "lib/sysusers.d/moo-web.conf": 0o644,
+    "lib/tmpfiles.d/moo-web.conf": 0o644,
+    "share/doc/moo-web/examples/Caddyfile": 0o644,
+    "share/doc/moo-web/examples/nginx.conf": 0o644,
+    **{f"lib/moo-web/moo_web/{path.relative_to(MODULES)}": 0o644 for path in MODULES.rglob("*") if path.is_file() and "__pycache__" not in path.parts},
+}
+# A link to the client that packaging/install puts there.
+CLIENT_LINK = {"lib/moo-web/moo_client.py": 0o644}
 CLIENT = "import moo_client; print(moo_client.Moo({port}).run([('create', moo_client.Obj(1))], as_=3))"
 
 
@@ -70,7 +103,7 @@ class InFolder(unittest.TestCase):
         self.room = pathlib.Path(room.name).resolve()
 
     def make(self, *words):
-        return ran("make", "--no-print-directory", "-C", TOP, f"MOO={PROGRAM}", *words)
+        return ran("make", "--no-print-directory", "-C", TOP, f"MOO={MOO}", *words)
 
 
 class Install(InFolder):
@@ -83,24 +116,27 @@ class Install(InFolder):
         return prefix
 
     def test_files_and_modes(self):
-        self.assertEqual(modes(self.install()), INSTALLED)
+        self.assertEqual(modes(self.install()), INSTALLED | INSTALLED_WEB | CLIENT_LINK)
 
     def test_a_folder_before_the_prefix(self):
         self.make("install", "PREFIX=/opt/moo", f"DESTDIR={self.room}/stage")
         top = self.room / "stage/opt/moo"
-        self.assertEqual(modes(top), INSTALLED)
+        self.assertEqual(modes(top), INSTALLED | INSTALLED_WEB | CLIENT_LINK)
         for path in top.rglob("*@.*"):
             self.assertNotIn(str(self.room), path.read_text())
             self.assertNotIn("/usr/", path.read_text())
+        self.assertIn("ExecStart=/opt/moo/bin/moo-web /var/lib/moo-web/%i ", (top / "lib/systemd/system/moo-web@.service").read_text())
+        for path in (path for path in top.rglob("*") if path.is_symlink()):
+            self.assertTrue(path.resolve().is_relative_to(top), path)
         self.assertIn("ExecStart=/opt/moo/bin/moo serve", (top / "lib/systemd/system/moo@.service").read_text())
         self.assertIn(" /opt/moo/lib/moo/moo-end ", (top / "lib/systemd/system/moo-watch@.service").read_text())
 
     def test_the_program_as_it_is(self):
-        self.assertEqual((self.install() / "bin/moo").read_bytes(), pathlib.Path(PROGRAM).read_bytes())
+        self.assertEqual((self.install() / "bin/moo").read_bytes(), pathlib.Path(MOO).read_bytes())
 
     def test_manuals_are_whole(self):
         prefix = self.install()
-        for name, folder in (("moo.1", "docs"), ("moo-backup.1", "packaging"), ("moo-watch.1", "packaging")):
+        for name, folder in (("moo.1", "docs"), *((f"moo-{tool}.1", "packaging") for tool in ("backup", "shell", "watch"))):
             self.assertEqual(gzip.decompress((prefix / f"share/man/man1/{name}.gz").read_bytes()), (TOP / folder / name).read_bytes())
 
     def test_a_relative_prefix(self):
@@ -121,6 +157,34 @@ class Install(InFolder):
             shutil.copy(copy / name, self.room / name)
         self.assertEqual(ran(prefix / "bin/moo", "check", world), "ok seq 1 objects 5\n")
         self.assertEqual(self.served(prefix, world, port), "[Obj(number=5)]\n")
+
+    @unittest.skipUnless(pathlib.Path(DEBIANS_PYTHON).exists(), "Debian's Python is missing")
+    def test_the_front_runs(self):
+        """An account is made, and each program finds its modules."""
+        prefix = self.install()
+        ran(prefix / "bin/moo-people", self.room / "front", "add", "ada", "4", input="a password\n")
+        self.assertEqual(ran(prefix / "bin/moo-people", self.room / "front", "list"), "ada #4 0 sessions, 0 tokens\n")
+        ran(prefix / "bin/moo-send", self.room / "front", self.room / "copy")
+        self.assertTrue((self.room / "copy/people.db").is_file())
+        for name in ("moo-replay", "moo-web"):
+            self.assertIn(f"usage: {name} FOLDER ", ran(prefix / "bin" / name, "--help"))
+
+    @unittest.skipIf(lacking(), "Debian's Python or waitress is missing")
+    def test_each_module_of_the_front_finds_what_it_needs(self):
+        """In what is installed, and nowhere else. What Debian's packages lack here is left out."""
+        folder = self.install() / "lib/moo-web"
+        for path in sorted((folder / "moo_web").glob("[a-z]*.py")):
+            with self.subTest(path.name):
+                script = f"import sys; sys.path.insert(0, {str(folder)!r}); sys.dont_write_bytecode = True; import moo_web.{path.stem}"
+                done = subprocess.run([DEBIANS_PYTHON, "-I", "-c", script], stderr=subprocess.PIPE, text=True, timeout=SECONDS)
+                if done.returncode and "No module named 'jinja2'" not in done.stderr:
+                    self.fail(done.stderr)
+
+    def test_the_shell_runs(self):
+        """With the program that is installed beside it."""
+        prefix = self.install()
+        told = ran(sys.executable, "-B", prefix / "bin/moo-shell", ":memory:", input="$a = create(#1)\n\\help e_args\n", env={"PATH": "/nowhere"})
+        self.assertEqual(told, "$a = #4\n  E_ARGS  too many values, or too few\n")
 
     def served(self, prefix, world, port):
         """What the installed client prints of a batch that the installed service runs."""
@@ -149,16 +213,55 @@ class Units(InFolder):
 
     @wants("systemd-analyze")
     def test_they_are_confined(self):
-        """What they are exposed to is at most 2.0 of 10, as systemd reckons."""
+        """What they are exposed to is at most 2.0 of 10, as systemd reckons, and 1.1 of a world and its front."""
         for unit in sorted(self.units.glob("*.service")):
+            most = 11 if unit.name in ("moo@.service", "moo-web@.service") else 20
             with self.subTest(unit.name):
-                ran("systemd-analyze", "security", "--offline=yes", "--threshold=20", unit)
+                ran("systemd-analyze", "security", "--offline=yes", f"--threshold={most}", unit)
 
     def test_nothing_in_them_runs_as_root(self):
         for unit in sorted(self.units.glob("*.service")):
             with self.subTest(unit.name):
-                self.assertRegex(unit.read_text(), r"(?m)^User=moo$")
+                self.assertRegex(unit.read_text(), r"(?m)^User=moo(-web)?$")
                 self.assertNotRegex(unit.read_text(), r"(?m)^Exec\w*=[^/]")
+
+    def test_a_failure_is_told(self):
+        """The line goes to the log, and to the command that the settings name."""
+        for command, told in (("", ""), (f"cat >{self.room}/told", "the unit moo-backup@world.service of ")):
+            done = subprocess.run(
+                [self.prefix / "lib/moo/moo-tell", "moo-backup@world.service"], env={**os.environ, "TELL": command}, stdout=subprocess.PIPE, text=True
+            )
+            self.assertEqual(done.returncode, 0)
+            self.assertRegex(done.stdout, r"^<3>the unit moo-backup@world\.service of \S+ failed: ")
+            self.assertIn(told, (self.room / "told").read_text() if command else "")
+        done = subprocess.run([self.prefix / "lib/moo/moo-tell"], stderr=subprocess.PIPE, text=True)
+        self.assertEqual((done.returncode, done.stderr), (2, "usage: moo-tell UNIT\n"))
+
+    def test_each_failure_has_its_teller(self):
+        for unit in ("moo-backup@", "moo-watch@", "moo-offsite@", "moo-web@", "moo-follow@", "moo-keep@"):
+            with self.subTest(unit):
+                self.assertIn("\nOnFailure=moo-tell@%n.service\n", (self.units / f"{unit}.service").read_text())
+
+    def test_a_world_with_a_front_is_alone_with_it(self):
+        """The world, its front and its watch name each other, so that whichever starts first, all are in one network."""
+        texts = {"moo-web": (self.units / "moo-web@.service").read_text()}
+        texts |= {name: (self.prefix / f"lib/moo-web/alone/{name}.conf").read_text() for name in ("moo", "moo-watch")}
+        for name, text in texts.items():
+            with self.subTest(name):
+                joined = re.search(r"(?m)^JoinsNamespaceOf=(.*)$", text)[1].split()
+                self.assertEqual(sorted(joined), sorted(f"{other}@%i.service" for other in texts if other != name))
+                self.assertRegex(text, r"(?m)^PrivateNetwork=yes$")
+        for name in ("moo", "moo-watch"):
+            self.assertNotIn("PrivateNetwork", (self.units / f"{name}@.service").read_text(), "a world without a front stays as it is")
+
+    def test_the_port_of_the_front_is_held_by_systemd(self):
+        self.assertIn("\nListenStream=127.0.0.1:8088\n", (self.units / "moo-web@.socket").read_text())
+        self.assertIn("\nRequires=moo-web@%i.socket\n", (self.units / "moo-web@.service").read_text())
+
+    def test_what_a_run_may_take(self):
+        text = (self.units / "moo@.service").read_text()
+        self.assertRegex(text, r"(?m)^LimitAS=4G$")
+        self.assertRegex(text, r"(?m)^LimitCORE=0$")
 
     def command(self, unit, key, **values):
         """The words of a command in a unit, for the world `world` in this folder."""
@@ -173,8 +276,12 @@ class Units(InFolder):
         ran(self.prefix / "bin/moo", "init", self.room / "world.db")
         self.assertEqual(ran("sh", "-c", self.command("moo@.service", "ExecStartPre")), "ok seq 0 objects 4\n")
         port = free_port()
-        served = ran("sh", "-c", self.command("moo@.service", "ExecStart", PORT=port, COUNT=0))
-        self.assertEqual(served, f"listening 127.0.0.1:{port}\nserved 0 failed 0\n")
+        line = self.command("moo@.service", "ExecStart", PORT=port)
+        self.assertNotIn("$", line)
+        with subprocess.Popen(["sh", "-c", f"exec {line}"], stdout=subprocess.PIPE, text=True) as service:
+            self.addCleanup(service.kill)
+            self.assertEqual(service.stdout.readline(), f"listening 127.0.0.1:{port}\n")
+            service.kill()
 
     def test_the_command_of_the_backup(self):
         ran(self.prefix / "bin/moo", "init", self.room / "world.db")
@@ -187,7 +294,7 @@ class Units(InFolder):
         """The service of a world, and its port. `before` is what the shell does first."""
         port = port or free_port()
         words = f'{before} exec "$0" serve "$1" {port} 1000'
-        service = subprocess.Popen(["sh", "-c", words, PROGRAM, world], stdout=subprocess.PIPE, stderr=subprocess.DEVNULL, text=True)
+        service = subprocess.Popen(["sh", "-c", words, MOO, world], stdout=subprocess.PIPE, stderr=subprocess.DEVNULL, text=True)
         self.addCleanup(service.communicate, timeout=SECONDS)
         self.addCleanup(service.kill)
         self.assertEqual(service.stdout.readline(), f"listening 127.0.0.1:{port}\n")
@@ -246,7 +353,7 @@ class Units(InFolder):
         raised.exception.close()
         status, printed = self.with_stand_in(self.command("moo-watch@.service", "ExecStart", PORT=port), service)
         self.assertEqual((status, printed, self.asked()), (1, "", "moo@world.service\n"))
-        self.assertEqual(ran(PROGRAM, "check", world), "ok seq 0 objects 4\n")
+        self.assertEqual(ran(MOO, "check", world), "ok seq 0 objects 4\n")
 
 
 class Rehearsal(unittest.TestCase):
@@ -292,12 +399,23 @@ class End(InFolder):
             self.process("0::/system.slice/system-moo.slice/moo@world2.service\n"),
             self.process("0::/system.slice/system-moo.slice/moo@world.service/below\n"),
             self.process("0::/user.slice/user-0.slice/session-1.scope\n"),
+            self.process("0::/user.slice/user-1000.slice/user@1000.service/app.slice/moo@world.service\n"),
             self.process(""),
         ]
         self.end("moo@world.service")
         self.assertEqual([process.wait(SECONDS) for process in of_unit], [-signal.SIGTERM] * 2)
         time.sleep(0.2)
-        self.assertEqual([process.poll() for process in others], [None] * 4)
+        self.assertEqual([process.poll() for process in others], [None] * 5)
+
+    def test_processes_of_other_users(self):
+        """They are left alone, whatever their unit is called, and those of this user end all the same."""
+        stranger, ours = (self.process("0::/system.slice/moo@world.service\n") for _ in range(2))
+        os.chown(self.room / str(ours.pid), 54321, -1) if os.geteuid() == 0 else self.skipTest("only root gives a folder away")
+        with unittest.mock.patch.object(os, "geteuid", lambda: 54321):
+            self.end("moo@world.service")
+        self.assertEqual(ours.wait(SECONDS), -signal.SIGTERM)
+        time.sleep(0.2)
+        self.assertIsNone(stranger.poll())
 
     def test_processes_that_have_ended(self):
         for name, groups in (("4194305", "0::/moo@world.service\n"), ("4194306", None)):
@@ -318,11 +436,15 @@ class Completion(InFolder):
     """What bash offers."""
 
     def offered(self, *words):
-        """What is offered for the last of these words."""
+        """What is offered for the last of these words, of which the first is the command."""
         (self.room / "world.db").touch()
+        programs = pathlib.Path(tempfile.mkdtemp(dir=self.room.parent))
+        self.addCleanup(shutil.rmtree, programs)
+        (programs / "moo").symlink_to(MOO)
+        paths = {**os.environ, "PATH": f"{programs}:{os.environ['PATH']}"}
         given = " ".join(f"'{word}'" for word in words)
-        text = f"source {TOP}/packaging/moo.bash; COMP_WORDS=({given}); COMP_CWORD={len(words) - 1}; _moo; printf '%s\\n' \"${{COMPREPLY[@]}}\""
-        return ran("bash", "-c", text, cwd=self.room).split()
+        source = f"source {TOP}/packaging/{words[0]}.bash; COMP_WORDS=({given}); COMP_CWORD={len(words) - 1}"
+        return ran("bash", "-c", f"{source}; _{words[0].replace('-', '_')}; printf '%s\\n' \"${{COMPREPLY[@]}}\"", cwd=self.room, env=paths).split()
 
     def test_what_is_offered(self):
         cases = (
@@ -335,6 +457,10 @@ class Completion(InFolder):
             (["moo", "dump", "--"], ["--help"]),
             (["moo", "help", "d"], ["dump"]),
             (["moo", "nothing", ""], []),
+            (["moo-shell", "w"], ["world.db"]),
+            (["moo-shell", "--d"], ["--dry-run"]),
+            (["moo-shell", "-f", "w"], ["world.db"]),
+            (["moo-shell", "--as", "w"], []),
         )
         for words, offers in cases:
             with self.subTest(words):
@@ -349,16 +475,27 @@ class Package(InFolder):
     def setUpClass(cls):
         room = tempfile.TemporaryDirectory()
         cls.addClassCleanup(room.cleanup)
-        cls.package = cls.make_package(room.name)
+        cls.package, cls.web = cls.make_package(room.name)
 
     @staticmethod
     def make_package(folder):
         moment = {"SOURCE_DATE_EPOCH": "1700000000"}
-        (line,) = ran(TOP / "packaging/deb", folder, env={**os.environ, **moment, "MOO": PROGRAM}).splitlines()
-        return pathlib.Path(line)
+        return [pathlib.Path(line) for line in ran(TOP / "packaging/deb", folder, env={**os.environ, **moment, "MOO": MOO}).splitlines()]
+
+    def test_the_package_of_the_front(self):
+        """It has whole folders of the modules, and what it needs is said."""
+        self.assertEqual(self.web.name, f"moo-web_{ran(MOO, '--version').split()[1]}_all.deb")
+        said = ran("dpkg-deb", "--field", self.web, "Depends").strip().split(", ")
+        self.assertEqual(said[1:], [f"moo (>= {ran(MOO, '--version').split()[1]})", "python3 (>= 3.11)", "python3-jinja2", "python3-waitress"])
+        ran("dpkg-deb", "-x", self.web, self.room / "top")
+        held = modes(self.room / "top")
+        for name, mode in INSTALLED_WEB.items():
+            self.assertEqual(held.pop(f"usr/{name}"), mode, name)
+        self.assertEqual({name.rpartition("/")[0] for name in held}, {"usr/share/doc/moo-web"})
+        self.assertEqual(os.readlink(self.room / "top/usr/lib/moo-web/moo_client.py"), "../../share/moo/moo_client.py")
 
     def test_what_it_says(self):
-        version = ran(PROGRAM, "--version").split()[1]
+        version = ran(MOO, "--version").split()[1]
         self.assertEqual(self.package.name, f"moo_{version}_{ran('dpkg', '--print-architecture').strip()}.deb")
         said = ran("dpkg-deb", "--info", self.package)
         for line in ("Package: moo", f"Version: {version}", "Depends: libc6 (>= 2.34), adduser, python3 (>= 3.9)"):
@@ -369,22 +506,23 @@ class Package(InFolder):
         ran("dpkg-deb", "-x", self.package, self.room / "top")
         held = modes(self.room / "top")
         for name, mode in INSTALLED.items():
-            self.assertEqual(held.pop(f"usr/{name}"), mode)
+            self.assertEqual(held.pop(f"usr/{name.replace('site-functions', 'vendor-completions')}"), mode)
         self.assertEqual({name.rpartition("/")[0] for name in held}, {"usr/share/doc/moo", "usr/share/lintian/overrides"})
-        self.assertEqual((self.room / "top/usr/bin/moo").read_bytes(), pathlib.Path(PROGRAM).read_bytes())
+        self.assertEqual((self.room / "top/usr/bin/moo").read_bytes(), pathlib.Path(MOO).read_bytes())
         self.assertEqual(ran(self.room / "top/usr/bin/moo", "init", ":memory:"), "created\n")
 
     def test_its_checksums(self):
-        ran("dpkg-deb", "-R", self.package, self.room / "top")
-        ran("md5sum", "--quiet", "--strict", "-c", "DEBIAN/md5sums", cwd=self.room / "top")
+        for path in (self.package, self.web):
+            ran("dpkg-deb", "-R", path, self.room / path.name)
+            ran("md5sum", "--quiet", "--strict", "-c", "DEBIAN/md5sums", cwd=self.room / path.name)
 
     def test_the_same_sources_and_moment_make_the_same_package(self):
-        self.assertEqual(self.make_package(self.room).read_bytes(), self.package.read_bytes())
+        self.assertEqual([path.read_bytes() for path in self.make_package(self.room)], [self.package.read_bytes(), self.web.read_bytes()])
 
     @wants("lintian")
     def test_lintian_finds_no_error(self):
         done = subprocess.run(
-            ["lintian", "--fail-on", "error", self.package], stdout=subprocess.PIPE, stderr=subprocess.STDOUT, text=True, timeout=SECONDS
+            ["lintian", "--fail-on", "error", self.package, self.web], stdout=subprocess.PIPE, stderr=subprocess.STDOUT, text=True, timeout=10 * SECONDS
         )
         self.assertEqual(done.returncode, 0, done.stdout)
 

@@ -253,6 +253,43 @@ class Values(Temporary):
             self.assertIn("line 5:", to_database(value_dump(text))[2])
 
 
+class Restored(Temporary):
+    """What a dump can't hold comes back from the database that the world came from, if what stands for it is still there."""
+
+    def both_ways(self, text, edit=lambda dump: dump):
+        """The database that comes back from a database, whose dump is edited in between."""
+        dump = from_database(text, "--floats", "text", "--bytes", "escape")[1]
+        status, back, said = to_database(self.through_moo(edit(dump)), "--programs", self.file("core.db", text))
+        self.assertEqual(status, 0)
+        return back
+
+    def test_values(self):
+        for lines in (["9", "2.5"], ["9", "1e+50"], ["2", "caf\xe9 ~"], ["4", "3", "9", "-0.1", "2", "\x01", "4", "1", "9", "0.0"], ["2", "x" * 65536]):
+            with self.subTest(lines[-1][:9]):
+                self.assertEqual(self.both_ways(of_value(*lines)), of_value(*lines))
+        deep = of_value(*nested(40)[0])
+        self.assertEqual(self.both_ways(deep), deep)
+
+    def test_values_that_were_changed(self):
+        text = of_value("4", "2", "9", "2.5", "2", "caf\xe9")
+        back = self.both_ways(text, lambda dump: dump.replace('"2.5"', '"3.5"'))
+        self.assertEqual(back, of_value("4", "2", "2", "3.5", "2", "caf~E9"))
+
+    def test_names(self):
+        """Of an object, a property and a verb."""
+        verb = "caf\xe9 c\n0\n1\n-1"
+        text = of_value("9", "1.0").replace("#0\n\n\n0", "#0\nCaf\xe9\n\n0", 1).replace("-1\n0\n1\np\n", f"-1\n1\n{verb}\n1\np\xe9\n", 1)
+        self.assertIn(f"\n1\n{verb}\n1\np\xe9\n1\n9\n1.0\n", text)
+        self.assertEqual(self.both_ways(text), text)
+        back = self.both_ways(text, lambda dump: dump.replace("Caf~E9", "Cafe"))
+        self.assertEqual(back, text.replace("Caf\xe9", "Cafe"))
+
+    def test_it_is_asked_for(self):
+        """Without the database nothing can be restored."""
+        dump = from_database(of_value("9", "2.5"), "--floats", "text")[1]
+        self.assertEqual(to_database(dump)[1], of_value("2", "2.5"))
+
+
 class Objects(Temporary):
     """What an object has beside its values, through moo."""
 
@@ -351,6 +388,18 @@ class Programs(Temporary):
         found, said = self.given(["Get", "put", "drop"], database)
         self.assertEqual(found, [None, ["1"], None])
         self.assertIn("verbs without a program: 2, first at #0:0, line 4", said)
+
+    def test_a_renamed_verb(self):
+        """Its program is that of its place, if nothing else has taken that, and this is reported."""
+        database = self.world(["put", "get", "drop"], [["1"], ["2"], ["3"]])
+        found, said = self.given(["put", "fetch", "drop"], database)
+        self.assertEqual(found, [["1"], ["2"], ["3"]])
+        self.assertIn("programs given by their place to a verb of other names: 1, first at #0:1, line 5, which was 'get'\n", said)
+        found, said = self.given(["get", "put", "new"], database)
+        self.assertEqual(found, [["2"], ["1"], ["3"]])
+        found, said = self.given(["put", "drop", "new"], database)
+        self.assertEqual(found, [["1"], ["3"], None])
+        self.assertIn("programs without a verb in the dump, left out: 1, first at #0:'get'\n", said)
 
     def test_texts_of_programs(self):
         code = ["", " .", "..", "#0:0", "0 clocks", "caf\xe9 \x01", "  return 1;", "** LambdaMOO Database, Format Version 4 **"]

@@ -14,6 +14,8 @@ TAKEN = "moo: store fault: it has tables already"
 READ = (1, "moo: read fault\n")
 # What is said of a text that gives no world.
 REFUSALS = re.compile(r"moo: (not a dump, line [1-9][0-9]*|damaged [a-z_ ]+.*)\n")
+# What standard error says of it: a line and a cause.
+CAUSES = re.compile(r"moo: line ([1-9][0-9]*): not a dump: .+\n")
 VALUES = '; '.join(['add_property(#1, "v", {}, {#3, "r"})', *(f'set(#{n}, "v", {value})' for n, value in enumerate(['{1, {#2, "x"}, E_PERM}', '"a \\\\ \\" \t b"', "-9223372036854775808", "E_INVARG"]))])
 OTHER_LETTERS = {"seq": "sep", "top": "tip", "object": "objekt", "slot": "slit", "verb": "herb", "property": "Property", "petition": "partition", "end": "and"}
 
@@ -99,6 +101,20 @@ def random_edits(dump, seed):
     return text
 
 
+def dump_of_chain(numbers):
+    """The dump of a chain of objects, from the root down. The root and the middle one define a property each."""
+    first, middle = numbers[0], numbers[len(numbers) // 2]
+    parents = dict(zip(numbers, [-1, *numbers]))
+    under = set(numbers[len(numbers) // 2:])
+    lines = ["seq 0", f"top #{max(numbers)}"]
+    for number in sorted(numbers):
+        lines.append(f'object {{#{number}, "", #0, #{parents[number]}, #-1, 0, 0, 0, 0, 0, 0, 0}}')
+        lines += [f'property {{#{number}, "{name}"}}' for definer, name in ((middle, "b"), (first, "a")) if definer == number]
+        lines += [f'slot {{#{number}, #{middle}, "b", #0, "", {"1, 2" if number == middle else "0"}}}'] * (number in under)
+        lines.append(f'slot {{#{number}, #{first}, "a", #0, "r", {"1, 1" if number == first else "0"}}}')
+    return "\n".join([*lines, "end", ""])
+
+
 class Load(ProgramTest):
     limit = 3600
 
@@ -121,6 +137,11 @@ class Load(ProgramTest):
         self.case(f"{name}: loaded", run("load", copy, "-", text=dump), loaded(dump))
         self.case(f"{name}: checked", run("check", copy), (0, f"ok seq {seq_of(dump)} objects {objects_in(dump)}\n"))
         self.case(f"{name}: dumped", run("dump", copy), (0, dump))
+
+    def test_long_chains(self):
+        """Numbers that go up, down, and neither."""
+        for name, numbers in [("up", range(3000)), ("down", range(2999, -1, -1)), ("mixed", random.Random(1).sample(range(3000), 3000))]:
+            self.comes_back(f"a chain of 3,000, {name}", dump_of_chain(list(numbers)), f"{name}.db")
 
     def test_the_dump_of_the_repository(self):
         dump = (TOP / "examples/minimal.dump").read_text()
@@ -175,9 +196,9 @@ class Load(ProgramTest):
         self.case("the cause is said", complaint, "moo: read fault: no such file of batches or dump, or it can't be opened\n")
 
     def is_refused_or_loaded(self, name, text):
-        """A text is refused and makes no file, or it is the dump of what it makes."""
+        """A text is refused with its line and a cause, and makes no file, or it is the dump of what it makes."""
         remove("edited.db")
-        status, written = run("load", "edited.db", "-", text=text)
+        status, written, complaint = ended("load", "edited.db", "-", text=text)
         if status == 0:
             self.case(f"{name}: loaded as it is", run("dump", "edited.db"), (0, text))
             self.case(f"{name}: checked", run("check", "edited.db")[0], 0)
@@ -186,6 +207,8 @@ class Load(ProgramTest):
         self.case(f"{name}: no file is made", os.path.exists("edited.db"), False)
         line = re.search(r"line (\d+)", written)
         self.case(f"{name}: its line is one of the text's", not line or 1 <= int(line[1]) <= text.count("\n") + 1, True)
+        cause = CAUSES.fullmatch(complaint)
+        self.case(f"{name}: the line and the cause are said", cause and cause[1] if line else bool(cause), line[1] if line else True)
 
     def test_edited_dumps(self):
         make("world.db", PETITIONS)

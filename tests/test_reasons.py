@@ -1,10 +1,12 @@
 """What standard error says of batches that aren't accepted: the line of the text, and why."""
+import json
 import re
 from pathlib import Path
 
 from tests.support.cases import ProgramTest
-from tests.support.program import TOP, ended
-from tests.support.worlds import make, text_of
+from tests.support.program import MOO, TOP, ended
+from tests.support.service import Service, post
+from tests.support.worlds import make, run, text_of
 
 HEADER_FORM = "a batch begins with a line `batch as #N`, in small letters"
 # A line in place of a header, and what is said of it.
@@ -218,6 +220,15 @@ def shown(call):
     return f"{name}({', '.join(part if len(part) <= 60 else part[:60] + '..' for part in parts)})"
 
 
+def posted(path, programmer, calls):
+    return post(path, json.dumps({"as": programmer, "calls": calls}))
+
+
+def body_of(said):
+    """The JSON of an answer."""
+    return json.loads(said.split(b"\r\n\r\n", 1)[1])
+
+
 class Reasons(ProgramTest):
     def said(self, text, *words):
         """What standard error says of a text, a line each."""
@@ -252,6 +263,42 @@ class Reasons(ProgramTest):
         self.case("a long name is cut", self.said(text_of([long])), [f"moo: line 2: refused: {shown(long)}: E_PROPNF, #4 has no property \"{'x' * 59}.."])
         nobody = self.said(text_of(["max_object()"], "#99"))
         self.case("a programmer that isn't an object", nobody, ["moo: line 2: refused: max_object(): E_PERM, the programmer #99 isn't an object"])
+
+    def test_over_http(self):
+        """The same sentences, asked with `?why`."""
+        asked = [("#4", ["max_object()", call], f"{shown(call)}: {why}") for call, why in REFUSED]
+        asked += [("#3", calls, f"{calls[-1]}: {why}") for calls, why in REFUSED_TO_WIZARDS]
+        texts = [(line, why) for line, why in CALLS if len(line) <= 262144]
+        service = Service(MOO, "world.db", len(asked) + len(texts))
+        for programmer, calls, why in asked:
+            code = re.search(r": (E_\w+), ", why)[1]
+            wanted = {"call": len(calls), "error": code, "why": why}
+            self.case(f"refused {calls[-1][:60]}", body_of(service.ask(posted("/ask?why", programmer, calls))), wanted)
+        for line, why in texts:
+            wanted = {"call": 2, "error": "malformed", "why": why}
+            self.case(f"call {line[:40]}", body_of(service.ask(posted("/ask?why", "#3", ["max_object()", line]))), wanted)
+        self.case("all are served", service.end(), (0, f"served {len(asked) + len(texts)} failed 0\n"))
+
+    def test_names_that_may_not_be_listed(self):
+        """A reason names no property of an object whose properties the programmer may not list, but in a call of the programmer's own."""
+        run("apply", "world.db", "-", text=text_of([
+            "create(#4)",
+            'add_property(#8, "Secret", 1, {#3, ""})',
+            "create(#1)",
+            'set(#9, "f", 1)',
+            'add_property(#9, "secret", 1, {#3, ""})',
+        ]))
+        hidden = self.said(text_of(["chparent(#4, #9)"], "#4"))
+        self.case("hidden", hidden, ["moo: line 2: refused: chparent(#4, #9): E_INVARG, #8 defines a property already, which #9 has too"])
+        own = self.said(text_of(['add_property(#4, "SECRET", 1, {#4, ""})'], "#4"))
+        said = 'add_property(#4, "SECRET", 1, {#4, ""}): E_INVARG, #8 defines "SECRET" already'
+        self.case("their own word", own, [f"moo: line 2: refused: {said}"])
+        wizard = self.said(text_of(["chparent(#4, #9)"]))
+        shared = 'moo: line 2: refused: chparent(#4, #9): E_INVARG, #8 defines "Secret" already, which #9 has too'
+        self.case("a wizard may", wizard, [shared])
+        run("apply", "world.db", "-", text=text_of(['set(#8, "r", 1)']))
+        listed = self.said(text_of(["chparent(#4, #9)"], "#4"))
+        self.case("all may", listed, [shared])
 
     def test_every_call_is_refused(self):
         names = set(re.findall(r"^\| `(\w+)\(", (TOP / "docs/CALLS.md").read_text(), re.M))

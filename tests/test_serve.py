@@ -111,9 +111,16 @@ class Serve(ProgramTest):
         self.case("the same port again", run("serve", "world.db", port, "0"), (0, two_lines))
         for port_word, count in [("0", "1"), ("65536", "1"), ("-1", "1"), ("x", "1"), (port, "1000001"), (port, "-1"), (port, "x")]:
             self.case(f"a port {port_word} and a count {count} are none", run("serve", ":memory:", port_word, count)[0], 2)
-        self.case("no count", run("serve", ":memory:", port)[0], 2)
         with open("/dev/full", "wb") as full:
             self.case("a line that can't be written", ended("serve", ":memory:", port, "0", output=full).status, 1)
+
+    def test_no_count(self):
+        service = Service(MOO, ":memory:", None)
+        self.case("without a count it listens", service.is_listening(), True)
+        for number in range(3):
+            self.case(f"it answers connection {number}", service.ask(get("/seq")), answer("200 OK", '{"seq":0}'))
+        self.case("and goes on", service.process.poll(), None)
+        service.kill()
 
     def test_port_and_file(self):
         run("init", "world.db")

@@ -46,11 +46,11 @@ class Words(ProgramTest):
         self.says("apply wants its batches", 2, "BATCHES", "apply", "world.db")
         self.says("load wants its dump", 2, "DUMP", "load", "world.db")
         self.says("serve wants its port", 2, "PORT", "serve", "world.db")
-        self.says("serve wants its count", 2, "COUNT", "serve", "world.db", "8080")
+        self.says("serve needs no count, but a file", 1, "moo: store fault", "serve", "world.db", "8080")
         for port in ("0", "65536", "x"):
             self.says(f"{port} is no port", 2, f"'{port}' for '<PORT>'", "serve", "world.db", port, "1")
         for count in ("1000001", "x"):
-            self.says(f"{count} is no count", 2, f"'{count}' for '<COUNT>'", "serve", "world.db", "8080", count)
+            self.says(f"{count} is no count", 2, f"'{count}' for '[COUNT]'", "serve", "world.db", "8080", count)
         self.says("a word that isn't UTF-8", 2, "moo: usage", "check", b"\xff")
         self.says("a word that is none", 2, "sing", "sing")
         self.says("a word too many", 2, "more", "check", "world.db", "more")

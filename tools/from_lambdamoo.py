@@ -1,8 +1,11 @@
 #!/usr/bin/env python3
 """Writes the world of a LambdaMOO database as a dump of moo."""
 
+from __future__ import annotations
+
 import argparse
 import sys
+from collections.abc import Iterator
 
 from lambdamoo_files import (
     FLAGS,
@@ -15,6 +18,7 @@ from lambdamoo_files import (
     Broken,
     Database,
     Losses,
+    Thing,
     clash_in,
     escaped,
     finish,
@@ -50,7 +54,7 @@ line) or something is refused, 2 if the words are wrong.
 """
 
 
-def letters(rights, number):
+def letters(rights: dict[str, int], number: int) -> str:
     """The letters of the rights in a number."""
     return "".join(letter for letter, worth in rights.items() if number & worth)
 
@@ -58,7 +62,7 @@ def letters(rights, number):
 class Dump:
     """The dump of a database. Properties and verbs that moo can't hold are reported."""
 
-    def __init__(self, database, losses):
+    def __init__(self, database: Database, losses: Losses) -> None:
         self.things = database.things
         self.top = database.top
         self.losses = losses
@@ -70,9 +74,9 @@ class Dump:
         self.check_names()
         self.check_verbs()
 
-    def names(self, number, thing):
+    def names(self, number: int, thing: Thing) -> list[tuple[str, str] | None]:
         """For each property that an object defines the middle of the lines of its slots, and its name, or None if it is left out."""
-        named = []
+        named: list[tuple[str, str] | None] = []
         for place, spelled in enumerate(thing.defines):
             line = f"#{number}, line {thing.defined_at + place}"
             name = escaped(spelled)
@@ -85,7 +89,7 @@ class Dump:
                 named.append(None)
         return named
 
-    def check_values(self):
+    def check_values(self) -> None:
         """Each object has as many values as it and its ancestors define properties."""
         for number, thing in self.things.items():
             wanted = len(self.owed[number])
@@ -93,7 +97,7 @@ class Dump:
                 reason = f"#{number} and its ancestors define {wanted} properties, and here are {len(thing.values)} values"
                 raise Broken(thing.values_at, reason)
 
-    def check_names(self):
+    def check_names(self) -> None:
         """No object defines a name twice, or one that an ancestor defines."""
         folded = {number: [named and named[1] for named in own] for number, own in self.defines.items()}
         clash = clash_in(self.parents, folded)
@@ -101,14 +105,14 @@ class Dump:
             number, place = clash
             raise Broken(self.things[number].defined_at + place, f"#{number} or an ancestor already defines a property of this name")
 
-    def check_verbs(self):
+    def check_verbs(self) -> None:
         """Reports verbs without a name."""
         for number, thing in self.things.items():
             for verb in thing.verbs:
                 if not verb.names.strip(" "):
                     self.losses.note(STRANGE_VERBS, f"#{number}, line {verb.line}")
 
-    def pieces(self):
+    def pieces(self) -> Iterator[str]:
         """The texts of the dump, in their order."""
         yield f"seq 0\ntop #{self.top}\n"
         for number, thing in self.things.items():
@@ -120,13 +124,13 @@ class Dump:
             yield from self.verb_lines(number, thing)
         yield "end\n"
 
-    def object_line(self, number, thing):
+    def object_line(self, number: int, thing: Thing) -> str:
         """The line of an object."""
         flags = ", ".join("1" if thing.flags & worth else "0" for worth in FLAGS.values())
         links = f"#{thing.owner}, #{thing.parent}, #{thing.location}"
         return f"object {{#{number}, {quoted(thing.name)}, {links}, {flags}, 0}}\n"
 
-    def slot_lines(self, number, thing):
+    def slot_lines(self, number: int, thing: Thing) -> Iterator[str]:
         """The lines of an object's slots."""
         front = f"slot {{#{number}, "
         for named, (value, owner, rights) in zip(self.owed[number], thing.values):
@@ -134,7 +138,7 @@ class Dump:
                 state = "0" if value is None else f"1, {value}"
                 yield f'{front}{named[0]}, #{owner}, "{letters(PROPERTY_RIGHTS, rights)}", {state}}}\n'
 
-    def verb_lines(self, number, thing):
+    def verb_lines(self, number: int, thing: Thing) -> Iterator[str]:
         """The lines of an object's verbs."""
         for verb in thing.verbs:
             if verb.names.strip(" "):
@@ -144,7 +148,7 @@ class Dump:
                 yield f"verb {{#{number}, {quoted(verb.names)}, #{verb.owner}, {given}}}\n"
 
 
-def read_words(words):
+def read_words(words: list[str]) -> argparse.Namespace:
     """What the words of the command line ask for."""
     reader = argparse.ArgumentParser(
         prog=f"{TOOL}.py", description=ABOUT, epilog=ENDING, formatter_class=argparse.RawDescriptionHelpFormatter
@@ -161,7 +165,7 @@ def read_words(words):
     return reader.parse_args(words)
 
 
-def convert(asked):
+def convert(asked: argparse.Namespace) -> int:
     """Writes the dump, and answers the status."""
     losses = Losses()
     with opened(asked.database) as stream:
@@ -174,7 +178,7 @@ def convert(asked):
     return 0
 
 
-def main(words):
+def main(words: list[str]) -> int:
     """Does what the words ask for, and answers the status."""
     asked = read_words(words)
     return finish(TOOL, lambda: convert(asked))

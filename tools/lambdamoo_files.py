@@ -1,10 +1,18 @@
 """What from_lambdamoo.py and to_lambdamoo.py share: texts by lines, what is lost, links between objects, and LambdaMOO's files."""
 
+from __future__ import annotations
+
 import contextlib
 import io
 import os
 import re
 import sys
+from collections.abc import Callable, Iterable, Iterator
+from typing import BinaryIO, Optional, TextIO, Tuple, TypeVar
+
+T = TypeVar("T")
+# A value of a file as a literal, or None for a clear one, with its owner and rights.
+Value = Tuple[Optional[str], int, int]
 
 NOTHING = -1
 LEAST_OBJECT, GREATEST_OBJECT = -(2**31), 2**31 - 1
@@ -78,30 +86,30 @@ CONNECTED = re.compile(r"([0-9]{1,10}) active connections(?: with listeners)?")
 class Broken(Exception):
     """A text that isn't what it should be, with the number of the line that shows it, and the name of its file once that is known."""
 
-    def __init__(self, line, reason):
+    def __init__(self, line: int, reason: str) -> None:
         super().__init__(line, reason)
         self.line = line
         self.reason = reason
         self.file = "a file"
 
-    def __str__(self):
+    def __str__(self) -> str:
         return f"{self.file}, line {self.line}: {self.reason}"
 
 
 class Losses:
     """What is left out or changed: how many of each kind, and the place of the first."""
 
-    def __init__(self):
-        self.counts = {}
-        self.firsts = {}
+    def __init__(self) -> None:
+        self.counts: dict[str, int] = {}
+        self.firsts: dict[str, str] = {}
 
-    def note(self, kind, where, count=1):
+    def note(self, kind: str, where: str, count: int = 1) -> None:
         """Counts one more of a kind, or several."""
         if count:
             self.firsts.setdefault(kind, where)
             self.counts[kind] = self.counts.get(kind, 0) + count
 
-    def report(self, tool):
+    def report(self, tool: str) -> None:
         """Writes a line for each kind to standard error."""
         for kind, count in self.counts.items():
             sys.stderr.write(f"{tool}: {kind}: {count}, first at {self.firsts[kind]}\n")
@@ -110,15 +118,15 @@ class Losses:
 class Lines:
     """The lines of a text in their order, with the number of the one read last. What is asked of the next line is Broken if it isn't so."""
 
-    def __init__(self, stream):
+    def __init__(self, stream: Iterable[str]) -> None:
         self.stream = iter(stream)
         self.number = 0
 
-    def broken(self, reason):
+    def broken(self, reason: str) -> Broken:
         """The fault of the line read last."""
         return Broken(self.number, reason)
 
-    def more(self):
+    def more(self) -> str | None:
         """The next line without its end, or None after the last one."""
         line = next(self.stream, None)
         self.number += 1
@@ -128,14 +136,14 @@ class Lines:
             raise self.broken("the file ends within this line")
         return line[:-1]
 
-    def next(self):
+    def next(self) -> str:
         """The next line without its end. The file has to have one."""
         line = self.more()
         if line is None:
             raise self.broken("the file ends before this line")
         return line
 
-    def integer(self, least, greatest, what):
+    def integer(self, least: int, greatest: int, what: str) -> int:
         """The next line, a number within limits."""
         line = self.next()
         if NUMBER.fullmatch(line):
@@ -144,21 +152,21 @@ class Lines:
                 return number
         raise self.broken(f"{what} is wanted here, and not {shown(line)}")
 
-    def object(self, what):
+    def object(self, what: str) -> int:
         """The next line, the number of an object or a negative number."""
         return self.integer(LEAST_OBJECT, GREATEST_OBJECT, what)
 
-    def count(self, what):
+    def count(self, what: str) -> int:
         """The next line, how many of something follow."""
         return self.integer(0, GREATEST_OBJECT + 1, f"the number of {what}")
 
 
-def shown(text):
+def shown(text: str) -> str:
     """A text for a message, which may be long or hold any byte."""
     return ascii(text) if len(text) <= 40 else f"{ascii(text[:40])}.."
 
 
-def bytes_of(stream, name):
+def bytes_of(stream: TextIO | None, name: str) -> BinaryIO:
     """A standard stream as bytes, unless it is closed."""
     if stream is None:
         raise OSError(f"standard {name} is closed")
@@ -166,7 +174,7 @@ def bytes_of(stream, name):
 
 
 @contextlib.contextmanager
-def opened(path):
+def opened(path: str) -> Iterator[TextIO]:
     """The text of a file or, for '-', of standard input, a character for each byte. A line ends at byte 10 and nowhere else."""
     try:
         if path == "-":
@@ -179,10 +187,11 @@ def opened(path):
         raise
 
 
-def write_out(pieces):
+def write_out(pieces: Iterable[str]) -> None:
     """Writes texts to standard output, a byte for each character."""
     out = bytes_of(sys.stdout, "output")
-    held, size = [], 0
+    held: list[str] = []
+    size = 0
     try:
         for piece in pieces:
             held.append(piece)
@@ -198,7 +207,7 @@ def write_out(pieces):
         raise
 
 
-def finish(tool, work):
+def finish(tool: str, work: Callable[[], int]) -> int:
     """Runs a tool, which answers its status. A fault is a line on standard error, and status 1."""
     try:
         return work()
@@ -213,11 +222,11 @@ def finish(tool, work):
     return 1
 
 
-def loop_in(links):
+def loop_in(links: dict[int, int]) -> int | None:
     """An object whose links lead round in a loop, or None. Each link is a key too, or NOTHING."""
     ends = {NOTHING}
     for start in links:
-        path = {}
+        path: dict[int, bool] = {}
         number = start
         while number not in ends:
             if number in path:
@@ -228,9 +237,9 @@ def loop_in(links):
     return None
 
 
-def owed_to_each(parents, defines):
+def owed_to_each(parents: dict[int, int], defines: dict[int, list[T]]) -> dict[int, list[T]]:
     """What each object and its ancestors define, its own first, as a list. There are no loops. Objects share lists that are equal."""
-    owed = {NOTHING: []}
+    owed: dict[int, list[T]] = {NOTHING: []}
     for start in parents:
         path = []
         number = start
@@ -243,7 +252,7 @@ def owed_to_each(parents, defines):
     return owed
 
 
-def clash_in(parents, names):
+def clash_in(parents: dict[int, int], names: dict[int, list[str | None]]) -> tuple[int, int] | None:
     """An object and the place of a name among its names that it or an ancestor has already, or None. A name may be None for none."""
     owed = owed_to_each(parents, names)
     for number, own in names.items():
@@ -256,30 +265,31 @@ def clash_in(parents, names):
     return None
 
 
-def may_name_property(name):
+def may_name_property(name: str) -> bool:
     """Whether a property may have a name."""
     return 0 < len(name) <= LONGEST_NAME and name.lower() not in BUILT_IN_NAMES
 
 
-def escaped(text):
+def escaped(text: str) -> str:
     """A string with each byte that moo's strings can't hold as ~XX, as encode_binary does; then a tilde is ~7E too."""
     if not STRANGE_BYTE.search(text):
         return text
     return ESCAPED_BYTE.sub(lambda byte: f"~{ord(byte[0]):02X}", text)
 
 
-def quoted(text):
+def quoted(text: str) -> str:
     """The literal of a string."""
     return '"' + text.replace("\\", "\\\\").replace('"', '\\"') + '"'
 
 
 class Verb:
-    """A verb's header. Its rights, places and preposition are as in the file."""
+    """A verb's header. Its names are as a dump has them, and spelled as in the file. Its rights, places and preposition are as in the file."""
 
-    __slots__ = ("names", "owner", "rights", "preposition", "line")
+    __slots__ = ("names", "spelled", "owner", "rights", "preposition", "line")
 
-    def __init__(self, names, owner, rights, preposition, line):
+    def __init__(self, names: str, spelled: str, owner: int, rights: int, preposition: int, line: int) -> None:
         self.names = names
+        self.spelled = spelled
         self.owner = owner
         self.rights = rights
         self.preposition = preposition
@@ -287,28 +297,56 @@ class Verb:
 
 
 class Thing:
-    """An object of a database file. Names are as in the file; values are literals, or None for clear ones, with an owner and rights."""
+    """An object of a database file. Values are literals, or None for clear ones, with an owner and rights.
 
-    __slots__ = "line name flags owner location contents next parent child sibling verbs defines defined_at values values_at".split()
+    The names of properties are as in the file. The object's own is as a dump has it, and spelled as in the file. `changed` has the lines in
+    the file of each value, by its place, that a dump can't hold as it is; it is filled if the database keeps what a dump lacks.
+    """
+
+    line: int
+    name: str
+    spelled: str
+    flags: int
+    owner: int
+    location: int
+    contents: int
+    next: int
+    parent: int
+    child: int
+    sibling: int
+    verbs: list[Verb]
+    defines: list[str]
+    defined_at: int
+    values: list[Value]
+    values_at: int
+    changed: dict[int, list[str]]
+
+    __slots__ = tuple(__annotations__)
 
 
 class Database:
     """A database file of LambdaMOO, format versions 1 to 4. What moo can't hold is reported while it is read."""
 
-    def __init__(self, stream, losses, floats="text", odd_bytes="escape", keep_programs=False):
+    def __init__(
+        self, stream: Iterable[str], losses: Losses, floats: str = "text", odd_bytes: str = "escape", keep_lacking: bool = False
+    ) -> None:
         self.lines = Lines(stream)
         self.losses = losses
         self.floats = FLOATS if floats == "text" else REFUSED_FLOATS
         self.bytes = BYTES if odd_bytes == "escape" else REFUSED_BYTES
-        self.keep_programs = keep_programs
-        self.things = {}
-        self.programs = {}
+        # whether programs are kept, and the values that a dump can't hold
+        self.keep_lacking = keep_lacking
+        # the lines of the present value if they are kept, and whether a dump changes it
+        self.spelled: list[str] = []
+        self.is_changed = False
+        self.things: dict[int, Thing] = {}
+        self.programs: dict[tuple[int, int], list[str]] = {}
         self.here = ""
         self.read()
 
     # ---- the file
 
-    def read(self):
+    def read(self) -> None:
         """Reads the whole file."""
         lines = self.lines
         self.version = self.read_version()
@@ -325,7 +363,7 @@ class Database:
         self.check_players(players)
         self.check_links()
 
-    def read_version(self):
+    def read_version(self) -> int:
         """The version that the first line names."""
         named = VERSION.fullmatch(self.lines.next())
         if not named:
@@ -335,17 +373,17 @@ class Database:
             raise self.lines.broken(f"format version {version} can't be read, only 1 to 4 can (later ones are Stunt's and ToastStunt's)")
         return version
 
-    def where(self):
+    def where(self) -> str:
         """The place of the line read last."""
         return f"{self.here}, line {self.lines.number}"
 
-    def note(self, kind):
+    def note(self, kind: str) -> None:
         """Tells of the line read last."""
         self.losses.note(kind, self.where())
 
     # ---- objects
 
-    def read_object(self, number):
+    def read_object(self, number: int) -> None:
         """Reads an object, or that it was recycled."""
         lines = self.lines
         line = lines.next()
@@ -356,7 +394,7 @@ class Database:
         self.here = f"#{number}"
         thing = self.things[number] = Thing()
         thing.line = lines.number
-        thing.name = self.text()
+        thing.name, thing.spelled = self.name()
         if lines.next():
             self.note(HANDLES)
         thing.flags = lines.integer(0, 255, "a sum of flags")
@@ -375,24 +413,28 @@ class Database:
         thing.defines = [lines.next() for _ in range(defined)]
         count = lines.count("values")
         thing.values_at = lines.number
-        thing.values = [self.read_slot(place < defined) for place in range(count)]
+        thing.changed = {}
+        thing.values = [self.read_slot(thing, place, place < defined) for place in range(count)]
 
-    def read_verb(self):
+    def read_verb(self) -> Verb:
         """A verb's header."""
         lines = self.lines
-        names = self.text()
+        names, spelled = self.name()
         line = lines.number
         owner = lines.object("the owner of a verb")
         rights = lines.integer(0, 255, "the rights and places of a verb")
         if (rights >> 4 & 3) > 2 or (rights >> 6) > 2:
             raise lines.broken("a place of the verb isn't one of none, any and this")
         preposition = lines.integer(-2, len(PREPOSITIONS) - 1, "the preposition of a verb")
-        return Verb(names, owner, rights, preposition, line)
+        return Verb(names, spelled, owner, rights, preposition, line)
 
-    def read_slot(self, own):
+    def read_slot(self, thing: Thing, place: int, own: bool) -> Value:
         """A value's literal, or None for a clear one, with the owner and the rights. One on the definer itself can't be clear."""
-        kind = self.lines.next()
+        self.spelled, self.is_changed = [], False
+        kind = self.next_of_value()
         value = None if kind == CLEAR else self.value(kind)
+        if self.is_changed and self.keep_lacking:
+            thing.changed[place] = self.spelled
         if own and value is None:
             self.note(OWN_CLEAR)
             value = "0"
@@ -400,58 +442,78 @@ class Database:
 
     # ---- values
 
-    def value(self, kind, depth=0):
+    def next_of_value(self) -> str:
+        """The next line, which is a part of the present value."""
+        line = self.lines.next()
+        self.spelled.append(line)
+        return line
+
+    def number_of_value(self, least: int, greatest: int, what: str) -> int:
+        """The same of a line that is a number."""
+        number = self.lines.integer(least, greatest, what)
+        self.spelled.append(str(number))
+        return number
+
+    def value(self, kind: str, depth: int = 0) -> str:
         """The literal of a value of this type, in lists so deep. It isn't clear."""
         if kind != LIST:
             return self.plain(kind)
-        count = self.lines.count("values in a list")
+        count = self.number_of_value(0, GREATEST_OBJECT + 1, "the number of values in a list")
         if depth == DEEPEST_LIST:
             self.note(DEEP_LISTS)
+            self.is_changed = True
             self.skip(count)
             return "E_MAXREC"
-        return "{" + ", ".join(self.value(self.lines.next(), depth + 1) for _ in range(count)) + "}"
+        return "{" + ", ".join(self.value(self.next_of_value(), depth + 1) for _ in range(count)) + "}"
 
-    def skip(self, count):
+    def skip(self, count: int) -> None:
         """Passes over so many values, however deep their lists are."""
         while count:
             count -= 1
-            kind = self.lines.next()
+            kind = self.next_of_value()
             if kind == LIST:
-                count += self.lines.count("values in a list")
+                count += self.number_of_value(0, GREATEST_OBJECT + 1, "the number of values in a list")
             else:
                 self.plain(kind)
 
-    def plain(self, kind):
+    def plain(self, kind: str) -> str:
         """The literal of a value that isn't a list, and isn't clear."""
-        lines = self.lines
         if kind == INTEGER:
-            return str(lines.integer(LEAST_INTEGER, GREATEST_INTEGER, "an integer"))
+            return str(self.number_of_value(LEAST_INTEGER, GREATEST_INTEGER, "an integer"))
         if kind == STRING:
             return quoted(self.text())
         if kind == OBJECT:
-            return f"#{lines.object('an object')}"
+            return f"#{self.number_of_value(LEAST_OBJECT, GREATEST_OBJECT, 'an object')}"
         if kind == ERROR:
-            return ERRORS[lines.integer(0, len(ERRORS) - 1, "the number of an error")]
+            return ERRORS[self.number_of_value(0, len(ERRORS) - 1, "the number of an error")]
         if kind == FLOAT:
             text = self.text()
             self.note(self.floats)
+            self.is_changed = True
             return quoted(text)
-        raise lines.broken(f"the type of a value is wanted here (0 to 5, or 9), and not {shown(kind)}")
+        raise self.lines.broken(f"the type of a value is wanted here (0 to 5, or 9), and not {shown(kind)}")
 
-    def text(self):
+    def name(self) -> tuple[str, str]:
+        """The next line as a string that moo can hold, and as it is spelled."""
+        self.spelled = []
+        return self.text(), self.spelled[0]
+
+    def text(self) -> str:
         """The next line as a string that moo can hold."""
-        text = self.lines.next()
+        text = self.next_of_value()
         if STRANGE_BYTE.search(text):
             self.note(self.bytes)
+            self.is_changed = True
             text = escaped(text)
         if len(text) > LONGEST_STRING:
             self.note(LONG_STRINGS)
+            self.is_changed = True
             text = text[:LONGEST_STRING]
         return text
 
     # ---- programs
 
-    def read_program(self):
+    def read_program(self) -> None:
         """Reads the program of a verb."""
         lines = self.lines
         line = lines.next()
@@ -465,18 +527,18 @@ class Database:
         if key in self.programs:
             raise lines.broken(f"the verb {line} has a second program")
         self.losses.note(PROGRAMS, f"{line}, line {lines.number}")
-        code = []
+        code: list[str] = []
         while True:
             line = lines.next()
             if line == ".":
                 break
-            if self.keep_programs:
+            if self.keep_lacking:
                 code.append(line)
         self.programs[key] = code
 
     # ---- tasks and connections
 
-    def read_tasks(self):
+    def read_tasks(self) -> None:
         """Passes over clocks and tasks."""
         for _ in range(self.counted("clocks")):
             self.lines.next()
@@ -487,7 +549,7 @@ class Database:
         self.losses.note(TASKS, self.where(), suspended)
         self.suspended = suspended
 
-    def counted(self, what, among_others=False):
+    def counted(self, what: str, among_others: bool = False) -> int:
         """How many of something the next line tells, or the next one that tells it."""
         pattern = re.compile(f"([0-9]{{1,10}}) {what}")
         while True:
@@ -498,7 +560,7 @@ class Database:
             if not among_others:
                 raise self.lines.broken(f"the number of {what} is wanted here, and not {shown(line)}")
 
-    def read_connections(self):
+    def read_connections(self) -> None:
         """Passes over the connections, which older files don't have."""
         self.here = "the connections"
         while True:
@@ -519,13 +581,13 @@ class Database:
 
     # ---- the whole
 
-    def check_players(self, players):
+    def check_players(self, players: list[int]) -> None:
         """Tells of players by the list or by the flag alone."""
         flagged = {number for number, thing in self.things.items() if thing.flags & FLAGS["player"]}
         for number in sorted(flagged.symmetric_difference(players)):
             self.losses.note(PLAYERS, f"#{number}")
 
-    def check_links(self):
+    def check_links(self) -> None:
         """Parents and locations are objects or NOTHING, without loops; lists of children and contents that differ are reported."""
         for link, kind in (("parent", STRANGE_PARENTS), ("location", STRANGE_PLACES)):
             for number, thing in self.things.items():
@@ -538,14 +600,14 @@ class Database:
         self.check_lists("parent", "child", "sibling", CHILDREN)
         self.check_lists("location", "contents", "next", CONTENTS)
 
-    def check_lists(self, link, first, following, kind):
+    def check_lists(self, link: str, first: str, following: str, kind: str) -> None:
         """Tells of each object whose list holds others than those that link to it."""
-        linked = {}
+        linked: dict[int, set[int]] = {}
         for number, thing in self.things.items():
             linked.setdefault(getattr(thing, link), set()).add(number)
         for number, thing in self.things.items():
             wanted = linked.get(number, set())
-            listed = set()
+            listed: set[int] = set()
             member = getattr(thing, first)
             while member in wanted and member not in listed:
                 listed.add(member)

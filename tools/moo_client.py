@@ -8,7 +8,7 @@
     try:
         world.run([("recycle", Obj(2))], as_=lantern)
     except E_PERM as error:
-        print(error.call)
+        print(error.call, error.why)
 
 A call is a text, as on a line of a batch, or its name and what it is given. Values are integers, strings, lists, `Obj(4)` for #4 and
 `ErrorValue("E_PERM")` for an error. Each answer comes back as such a value.
@@ -24,6 +24,8 @@ either the batch has acted and its answer was lost, or somebody else's batch cam
 With neither, `run` raises `Unsure` then. Without a lost answer it can't happen.
 """
 
+from __future__ import annotations
+
 import dataclasses
 import http.client
 import json
@@ -31,11 +33,15 @@ import re
 import secrets
 import threading
 import time
+from typing import Any, Iterable, Iterator, NoReturn, Union
 
 __all__ = (
     "Moo Obj ErrorValue MooError Refused Full Stale Malformed BadRequest NoMemory Unreachable Unsure "
     "E_NONE E_TYPE E_DIV E_PERM E_PROPNF E_VERBNF E_VARNF E_INVIND E_RECMOVE E_MAXREC E_RANGE E_ARGS E_NACC E_INVARG E_QUOTA E_FLOAT"
 ).split()
+
+# A call: its text, or its name and what it is given.
+Call = Union[str, tuple[Any, ...], list[Any]]
 
 LONGEST_BODY = 1_048_576
 FIRST_PAUSE, LONGEST_PAUSE = 0.01, 0.25
@@ -47,10 +53,10 @@ class Obj:
 
     number: int
 
-    def __int__(self):
+    def __int__(self) -> int:
         return self.number
 
-    def __str__(self):
+    def __str__(self) -> str:
         return f"#{self.number}"
 
 
@@ -60,20 +66,24 @@ class ErrorValue:
 
     name: str
 
-    def __str__(self):
+    def __str__(self) -> str:
         return self.name
 
 
 class MooError(Exception):
-    """What any answer but a good one raises."""
+    """What any answer but a good one raises. `why` is a sentence of the service that says the cause, or None if it says none."""
+
+    why: str | None = None
 
 
 class Refused(MooError):
     """A call failed, and nothing changed. `call` is its number, from 1 on; None if an object was looked at."""
 
-    def __init__(self, call=None):
-        super().__init__(f"call {call}: {type(self).__name__}" if call else type(self).__name__)
+    def __init__(self, call: int | None = None, why: str | None = None) -> None:
+        place = f"call {call}: {type(self).__name__}" if call else type(self).__name__
+        super().__init__(f"{place}: {why}" if why else place)
         self.call = call
+        self.why = why
 
 
 class E_NONE(Refused):
@@ -151,6 +161,10 @@ class Malformed(Refused):
 class BadRequest(MooError):
     """The service doesn't take the request: this client is wrong, or it isn't `moo serve`."""
 
+    def __init__(self, said: str, why: str | None = None) -> None:
+        super().__init__(f"{said}: {why}" if why else said)
+        self.why = why
+
 
 class NoMemory(MooError):
     """The service's memory ran out; nothing changed."""
@@ -159,7 +173,7 @@ class NoMemory(MooError):
 class Stale(MooError):
     """The world has another number than the `at` that was given; the batch hasn't acted. `seq` is that number."""
 
-    def __init__(self, seq):
+    def __init__(self, seq: int) -> None:
         super().__init__(f"the world has the number {seq}")
         self.seq = seq
 
@@ -171,7 +185,7 @@ class Unreachable(MooError):
 class Unsure(MooError):
     """An answer was lost: the batch has acted or not, and nothing here tells which. Its number would be `at` + 1."""
 
-    def __init__(self, at):
+    def __init__(self, at: int) -> None:
         super().__init__(f"it isn't known whether the batch became number {at + 1}")
         self.at = at
 
@@ -188,7 +202,7 @@ class NoService(Exception):
     """Nothing was sent, or the service is closed: the request hasn't acted."""
 
 
-def written(value):
+def written(value: object) -> str:
     """The text of a value, as it is in a batch."""
     if isinstance(value, (Obj, ErrorValue)):
         return str(value)
@@ -203,7 +217,7 @@ def written(value):
     raise TypeError(f"{type(value).__name__} is no value of a world")
 
 
-def written_call(call):
+def written_call(call: Call) -> str:
     """The text of a call, which is a text already or a name with what it is given."""
     if isinstance(call, str):
         return call
@@ -214,7 +228,7 @@ def written_call(call):
 TOKEN = re.compile(r' *(?:(-?\d+)|#(-?\d+)|"((?:[^"\\]|\\.)*)"|(E_[A-Z]+)|([{},]))')
 
 
-def read(text):
+def read(text: str) -> Any:
     """The value that a text is."""
     value, place = read_at(text, 0)
     if text[place:].strip():
@@ -222,7 +236,7 @@ def read(text):
     return value
 
 
-def token_at(text, place):
+def token_at(text: str, place: int) -> tuple[re.Match[str], int]:
     """The token at this place of a text, and the place after it."""
     found = TOKEN.match(text, place)
     if not found:
@@ -230,7 +244,7 @@ def token_at(text, place):
     return found, found.end()
 
 
-def read_at(text, place):
+def read_at(text: str, place: int) -> tuple[Any, int]:
     """The value at this place of a text, and the place after it."""
     found, place = token_at(text, place)
     number, obj, string, error, sign = found.groups()
@@ -247,9 +261,9 @@ def read_at(text, place):
     return read_list(text, place)
 
 
-def read_list(text, place):
+def read_list(text: str, place: int) -> tuple[list[Any], int]:
     """The list whose brace was read, and the place after it."""
-    items = []
+    items: list[Any] = []
     found, after = token_at(text, place)
     if found[5] == "}":
         return items, after
@@ -263,29 +277,29 @@ def read_list(text, place):
             raise ValueError(f"no value: {text!r}")
 
 
-def raise_refusal(status, said):
+def raise_refusal(status: int, said: dict[str, Any]) -> NoReturn:
     """Raises what an answer other than a good one says, if it says how the batch ended."""
-    error = said.get("error")
+    error, why = said.get("error"), said.get("why")
     if error == "stale":
         raise Stale(said["seq"])
     if error in REFUSALS:
-        raise REFUSALS[error](said.get("call"))
+        raise REFUSALS[error](said.get("call"), why)
     if error == "nomemory":
         raise NoMemory("the service's memory ran out")
-    raise BadRequest(f"{status}: {error}")
+    raise BadRequest(f"{status}: {error}", why)
 
 
 class Deadline:
     """The end of one's patience, and the pauses up to it."""
 
-    def __init__(self, seconds):
+    def __init__(self, seconds: float) -> None:
         self.end = time.monotonic() + seconds
         self.pause = FIRST_PAUSE
 
-    def is_over(self):
+    def is_over(self) -> bool:
         return time.monotonic() >= self.end
 
-    def rest(self):
+    def rest(self) -> None:
         """Pauses, each time for longer."""
         time.sleep(max(0, min(self.pause, self.end - time.monotonic())))
         self.pause = min(2 * self.pause, LONGEST_PAUSE)
@@ -298,35 +312,47 @@ class Moo:
     more, its last. Threads may share a client: their batches wait for each other.
     """
 
-    def __init__(self, port, mark=None, alone=False, patience=60, wait=30, host="127.0.0.1"):
+    def __init__(
+        self, port: int, mark: tuple[Obj, str] | None = None, alone: bool = False, patience: float = 60, wait: float = 30, host: str = "127.0.0.1"
+    ) -> None:  # fmt: skip
         self.port, self.host = port, host
         self.mark, self.alone = mark, alone
         self.patience, self.wait = patience, wait
         self.lock = threading.Lock()
 
-    def run(self, calls, as_, at=None):
+    def run(self, calls: Iterable[Call], as_: int | Obj, at: int | None = None) -> list[Any]:
         """Runs a batch, once, and gives its answers. With `at` it acts only on the world of that number."""
-        calls = [written_call(call) for call in calls]
+        texts = [written_call(call) for call in calls]
         text = secrets.token_hex(16)
-        marked = calls + ([written_call(("set", *self.mark, text))] if self.mark else [])
+        marked = texts + ([written_call(("set", *self.mark, text))] if self.mark else [])
         with self.lock:
-            return [read(answer) for answer in self.answers(marked, as_, at, text)[: len(calls)]]
+            return [read(answer) for answer in self.answers(marked, as_, at, text)[: len(texts)]]
 
-    def ask(self, calls, as_, at=None):
+    def ask(self, calls: Iterable[Call], as_: int | Obj, at: int | None = None) -> list[Any]:
         """What a batch would be answered; nothing changes."""
         answers, _ = self.asked([written_call(call) for call in calls], as_, at, Deadline(self.patience))
         return [read(answer) for answer in answers]
 
-    def seq(self):
+    def seq(self) -> int:
         """The number of accepted batches."""
         return self.tried("GET", "/seq", None, Deadline(self.patience))["seq"]
 
-    def object(self, number):
+    def object(self, number: int | Obj) -> dict[str, Any]:
         """What is built in of an object, by names; `E_INVARG` if there is no such object."""
         said = self.tried("GET", f"/object/{int(number)}", None, Deadline(self.patience))
         return {name: read_shown(name, value) for name, value in said.items()}
 
-    def answers(self, calls, as_, at, text):
+    def objects(self, first: int | Obj = 0) -> Iterator[dict[str, Any]]:
+        """What is built in of each object from a number on, by names, ascending; its own is under `number`. They come in pages of 1,000,
+        and what is changed between two of them is seen in the later one."""
+        path: str | None = f"/objects/{int(first)}"
+        while path:
+            said = self.tried("GET", path, None, Deadline(self.patience))
+            for entry in said["objects"]:
+                yield {name: read_shown(name, value) for name, value in entry.items()}
+            path = f"/objects/{said['next'][1:]}" if said["next"] else None
+
+    def answers(self, calls: list[str], as_: int | Obj, at: int | None, text: str) -> list[str]:
         """The answers of a batch that acts once, as texts."""
         deadline = Deadline(self.patience)
         while True:
@@ -338,13 +364,13 @@ class Moo:
                 if at is not None or deadline.is_over():
                     raise
 
-    def settle(self, calls, as_, at, text, deadline):
+    def settle(self, calls: list[str], as_: int | Obj, at: int, text: str, deadline: Deadline) -> None:
         """Sends a batch for the world of this number until it has acted. It raises `Stale` if the batch hasn't, and never will."""
         body = body_of(calls, as_, at)
         is_lost = False
         while True:
             try:
-                self.sent("POST", "/batch", body)
+                self.sent("POST", "/batch?why", body)
                 return
             except Stale as stale:
                 if is_lost and self.is_mine(as_, at, text, stale.seq, deadline):
@@ -361,7 +387,7 @@ class Moo:
                 raise Unsure(at) if is_lost else Unreachable("the service can't be reached")
             deadline.rest()
 
-    def is_mine(self, as_, at, text, seq, deadline):
+    def is_mine(self, as_: int | Obj, at: int, text: str, seq: int, deadline: Deadline) -> bool:
         """Whether a batch whose answer was lost is the one that the world has moved on by."""
         if self.mark:
             try:
@@ -373,12 +399,12 @@ class Moo:
             return True
         raise Unsure(at)
 
-    def asked(self, calls, as_, at, deadline):
+    def asked(self, calls: list[str], as_: int | Obj, at: int | None, deadline: Deadline) -> tuple[list[str], int]:
         """What a batch would be answered, as texts, and the number of the world."""
-        said = self.tried("POST", "/ask", body_of(calls, as_, at), deadline)
+        said = self.tried("POST", "/ask?why", body_of(calls, as_, at), deadline)
         return said["answers"], said["seq"]
 
-    def tried(self, method, path, body, deadline):
+    def tried(self, method: str, path: str, body: bytes | None, deadline: Deadline) -> dict[str, Any]:
         """A request that changes nothing, sent until an answer comes."""
         while True:
             try:
@@ -388,7 +414,7 @@ class Moo:
                     raise Unreachable("the service can't be reached") from None
                 deadline.rest()
 
-    def sent(self, method, path, body):
+    def sent(self, method: str, path: str, body: bytes | None) -> dict[str, Any]:
         """The good answer to one request. Any other one is raised, and so is a missing one."""
         connection = http.client.HTTPConnection(self.host, self.port, timeout=self.wait)
         try:
@@ -413,9 +439,9 @@ class Moo:
         return raise_refusal(status, said)
 
 
-def body_of(calls, as_, at):
+def body_of(calls: list[str], as_: int | Obj, at: int | None) -> bytes:
     """The body of a request that runs a batch, or asks for it."""
-    said = {"as": f"#{int(as_)}", "calls": calls}
+    said: dict[str, Any] = {"as": f"#{int(as_)}", "calls": calls}
     if at is not None:
         said["at"] = at
     body = json.dumps(said).encode()
@@ -424,7 +450,7 @@ def body_of(calls, as_, at):
     return body
 
 
-def read_shown(name, value):
+def read_shown(name: str, value: Any) -> Any:
     """What an answer about an object holds under a name. Only the object's own name is a text; other texts are objects."""
     if isinstance(value, list):
         return [read(item) for item in value]

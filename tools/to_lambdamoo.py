@@ -1,9 +1,13 @@
 #!/usr/bin/env python3
 """Writes the world of a dump of moo as a LambdaMOO database."""
 
+from __future__ import annotations
+
 import argparse
 import re
 import sys
+from collections.abc import Iterable, Iterator
+from typing import Dict, List, Tuple
 
 from lambdamoo_files import (
     CLEAR,
@@ -32,7 +36,9 @@ from lambdamoo_files import (
     Database,
     Lines,
     Losses,
+    Thing,
     clash_in,
+    escaped,
     finish,
     loop_in,
     may_name_property,
@@ -53,12 +59,16 @@ WIDE = "integers over 32 bits, which a server with 32-bit integers can't read"
 NO_PROGRAM = "verbs without a program"
 NO_VERB = "programs without a verb in the dump, left out"
 OLD_PROGRAM = "programs from an older format version, written unchanged"
+BY_PLACE = "programs given by their place to a verb of other names"
 
 ABOUT = f"""\
 Reads a dump of moo and writes its world to standard output, as a database file
 of LambdaMOO, format version {VERSION}. A verb gets the program that DB has for a verb
 of the same names on the same object. If several verbs of an object have the
-same names, the second gets the second one's program, and so on.
+same names, the second gets the second one's program, and so on. A verb that was
+renamed gets the program of its place, which is reported. Floats, bytes that no
+string of moo holds, long strings and deep lists are those of DB again if the
+dump has what from_lambdamoo.py wrote for them.
 
 What a database can't hold is reported on standard error by kind, with the
 count and the place of the first. Nothing is written unless the whole dump was
@@ -95,16 +105,19 @@ PLACE_NUMBERS = {text: number for number, text in enumerate(PLACES)}
 ERROR_NUMBERS = {text: number for number, text in enumerate(ERRORS)}
 NARROW = range(-(2**31), 2**31)
 
+# Programs by their object, the names of their verb, and how many verbs of these names come up to it.
+Programs = Dict[Tuple[int, str, int], List[str]]
+
 # The lines about an object come in this order, and petitions come last.
 OBJECT_RANK, PROPERTY_RANK, SLOT_RANK, VERB_RANK, PETITION_RANK = range(5)
 
 
-def plain(text):
+def plain(text: str) -> str:
     """The string of a literal's bytes between its quotes."""
     return BACKSLASHED.sub(r"\1", text) if "\\" in text else text
 
 
-def rights_number(rights, letters):
+def rights_number(rights: dict[str, int], letters: str) -> int:
     """The number of the rights with these letters."""
     return sum(rights[letter] for letter in letters)
 
@@ -112,27 +125,39 @@ def rights_number(rights, letters):
 class Item:
     """An object of a dump: its row, what it defines, and its slots and verbs as they are written in a database."""
 
-    __slots__ = "line name owner parent location flags defines slots verbs verb_lines".split()
+    line: int
+    name: str
+    owner: int
+    parent: int
+    location: int
+    flags: int
+    defines: list[tuple[str, str]]
+    slots: list[tuple[str, str, str]]
+    verbs: list[tuple[str, str]]
+    verb_lines: list[int]
+
+    __slots__ = tuple(__annotations__)
 
 
 class Dump:
     """A dump, read line by line. What a database can't hold is reported while it is read."""
 
-    def __init__(self, stream, losses):
+    def __init__(self, stream: Iterable[str], losses: Losses) -> None:
         self.lines = Lines(stream)
         self.losses = losses
-        self.items = {}
+        self.items: dict[int, Item] = {}
         self.rank = OBJECT_RANK
-        self.item = None
-        self.number = NOTHING
+        self.item: Item | None = None
+        # the digits of the present object's number
+        self.number = str(NOTHING)
         # Texts that come often, so that each is kept once.
-        self.texts = {}
+        self.texts: dict[str, str] = {}
         self.read()
         self.check()
 
     # ---- lines
 
-    def read(self):
+    def read(self) -> None:
         """Reads the whole dump."""
         self.seq = self.heading("seq ([0-9]{1,19})")
         self.losses.note(BATCHES, "line 1", int(self.seq != 0))
@@ -159,7 +184,7 @@ class Dump:
         if self.lines.more() is not None:
             raise self.lines.broken("there is more after the end of the dump")
 
-    def heading(self, pattern):
+    def heading(self, pattern: str) -> int:
         """The number in a line of the heading."""
         line = self.lines.next()
         found = re.fullmatch(pattern, line)
@@ -167,26 +192,26 @@ class Dump:
             raise self.strange(line)
         return int(found[1])
 
-    def strange(self, line):
+    def strange(self, line: str) -> Broken:
         """The fault of a line that no dump has there."""
         return self.lines.broken(f"a dump doesn't have such a line here: {shown(line)}")
 
-    def parts(self, pattern, line, rank):
+    def parts(self, pattern: re.Pattern[str], line: str, rank: int) -> tuple[Item, re.Match[str]]:
         """The parts of a line about the present object. A line of a lower rank can't follow one of a higher rank."""
         found = pattern.fullmatch(line)
         if not found or rank < self.rank or self.item is None or found[1] != self.number:
             raise self.strange(line)
         self.rank = rank
-        return found
+        return self.item, found
 
-    def object_number(self, digits):
+    def object_number(self, digits: str) -> int:
         """The number of an object."""
         number = int(digits)
         if not LEAST_OBJECT <= number <= GREATEST_OBJECT:
             raise self.lines.broken(f"#{digits} isn't the number of an object")
         return number
 
-    def read_object(self, line):
+    def read_object(self, line: str) -> None:
         """Reads the line of an object."""
         found = OBJECT_LINE.fullmatch(line)
         if not found or self.rank == PETITION_RANK:
@@ -196,8 +221,7 @@ class Dump:
             raise self.lines.broken(f"#{number} is not above the object before it, or is above the greatest number")
         self.rank = OBJECT_RANK
         self.number = found[1]
-        self.item = self.items[number] = Item()
-        item = self.item
+        item = self.item = self.items[number] = Item()
         item.line = self.lines.number
         item.name = plain(found[2])
         item.owner, item.parent, item.location = (self.object_number(found[place]) for place in (3, 4, 5))
@@ -206,29 +230,29 @@ class Dump:
             self.losses.note(ACCEPT_LISTS, f"#{number}, line {item.line}")
         item.defines, item.slots, item.verbs, item.verb_lines = [], [], [], []
 
-    def read_property(self, line):
+    def read_property(self, line: str) -> None:
         """Reads the line of a property that the present object defines."""
-        found = self.parts(PROPERTY_LINE, line, PROPERTY_RANK)
+        item, found = self.parts(PROPERTY_LINE, line, PROPERTY_RANK)
         if not may_name_property(plain(found[2])):
             raise self.lines.broken("a property can't have such a name")
-        self.item.defines.append((self.number, found[2]))
+        item.defines.append((self.number, found[2]))
 
-    def read_slot(self, line):
+    def read_slot(self, line: str) -> None:
         """Reads the line of a slot of the present object."""
-        found = self.parts(SLOT_LINE, line, SLOT_RANK)
+        item, found = self.parts(SLOT_LINE, line, SLOT_RANK)
         _, definer, name, owner, letters, value = found.groups()
         name = self.texts.setdefault(name, name)
         definer = self.texts.setdefault(definer, definer)
         lines = [CLEAR] if value is None else self.value(value, self.losses)
-        lines += (str(self.object_number(owner)), str(rights_number(PROPERTY_RIGHTS, letters)), "")
+        lines += [str(self.object_number(owner)), str(rights_number(PROPERTY_RIGHTS, letters)), ""]
         text = "\n".join(lines)
         if value is None:
             text = self.texts.setdefault(text, text)
-        self.item.slots.append((definer, name, text))
+        item.slots.append((definer, name, text))
 
-    def read_verb(self, line):
+    def read_verb(self, line: str) -> None:
         """Reads the line of a verb of the present object."""
-        found = self.parts(VERB_LINE, line, VERB_RANK)
+        item, found = self.parts(VERB_LINE, line, VERB_RANK)
         _, names, owner, letters, direct, preposition, indirect = found.groups()
         if preposition not in PREPOSITION_NUMBERS:
             raise self.lines.broken(f"{shown(preposition)} isn't a preposition")
@@ -236,10 +260,10 @@ class Dump:
         names = plain(names)
         if not names.strip(" "):
             raise self.lines.broken("a verb needs a name")
-        self.item.verbs.append((names, f"{names}\n{self.object_number(owner)}\n{rights}\n{PREPOSITION_NUMBERS[preposition]}\n"))
-        self.item.verb_lines.append(self.lines.number)
+        item.verbs.append((names, f"\n{self.object_number(owner)}\n{rights}\n{PREPOSITION_NUMBERS[preposition]}\n"))
+        item.verb_lines.append(self.lines.number)
 
-    def read_petition(self, line):
+    def read_petition(self, line: str) -> None:
         """Reads the line of a petition, which is only reported."""
         found = PETITION_LINE.fullmatch(line)
         if not found:
@@ -250,24 +274,24 @@ class Dump:
 
     # ---- values
 
-    def value(self, text, losses):
+    def value(self, text: str, losses: Losses) -> list[str]:
         """The lines in a database of the value whose literal is this text."""
-        lines = []
+        lines: list[str] = []
         if self.add_value(text, 0, 0, lines, losses) < len(text):
             raise self.no_value(text)
         return lines
 
-    def no_value(self, text):
+    def no_value(self, text: str) -> Broken:
         """The fault of a text that isn't a literal."""
         return self.lines.broken(f"a dump doesn't have such a value: {shown(text)}")
 
-    def add_value(self, text, start, depth, lines, losses):
+    def add_value(self, text: str, start: int, depth: int, lines: list[str], losses: Losses) -> int:
         """Adds the lines of the value that starts at a place of the text, in lists so deep, and answers the place after it."""
         token = TOKEN.match(text, start)
         if not token:
             raise self.no_value(text)
         if token[0] != "{":
-            self.add_plain(lines, token.lastgroup, token[token.lastgroup], losses)
+            self.add_plain(lines, token.lastgroup, token[token.lastgroup or 0], losses)
             return token.end()
         if depth == DEEPEST_LIST:
             raise self.lines.broken(f"lists nest over {DEEPEST_LIST} deep")
@@ -287,7 +311,7 @@ class Dump:
         lines[counted_at] = str(count)
         return place + 1
 
-    def add_plain(self, lines, kind, text, losses):
+    def add_plain(self, lines: list[str], kind: str | None, text: str, losses: Losses) -> None:
         """Adds the lines of a value that isn't a list."""
         if kind == "integer":
             number = int(text)
@@ -295,20 +319,20 @@ class Dump:
                 raise self.lines.broken(f"{text} isn't an integer of 64 bits")
             if number not in NARROW:
                 losses.note(WIDE, f"#{self.number}, line {self.lines.number}")
-            lines += (INTEGER, text)
+            lines += [INTEGER, text]
         elif kind == "object":
             self.object_number(text)
-            lines += (OBJECT, text)
+            lines += [OBJECT, text]
         elif kind == "string":
-            lines += (STRING, plain(text))
+            lines += [STRING, plain(text)]
         elif text in ERROR_NUMBERS:
-            lines += (ERROR, str(ERROR_NUMBERS[text]))
+            lines += [ERROR, str(ERROR_NUMBERS[text])]
         else:
             raise self.lines.broken(f"{text} isn't an error")
 
     # ---- the whole
 
-    def check(self):
+    def check(self) -> None:
         """Parents and locations are objects or #-1, without loops, and each object has exactly the slots that its chain owes it."""
         for link in ("parent", "location"):
             links = {number: getattr(item, link) for number, item in self.items.items()}
@@ -327,7 +351,7 @@ class Dump:
         for number, item in self.items.items():
             self.check_slots(number, item)
 
-    def check_slots(self, number, item):
+    def check_slots(self, number: int, item: Item) -> None:
         """The slots of an object are those that are owed to it, in that order."""
         owed = self.owed[number]
         first_line = item.line + 1 + len(item.defines)
@@ -341,33 +365,103 @@ class Dump:
             raise Broken(first_line + min(len(item.slots), len(owed)), reason)
 
 
-class Writer:
-    """The database of a dump, with the programs of another database."""
+class Origin:
+    """The database that a world came from, and what a dump of it lacks."""
 
-    def __init__(self, dump, programs, losses):
+    def __init__(self, path: str | None, losses: Losses) -> None:
+        self.programs: Programs = {}
+        # by object and place, which program is there
+        self.renamed: dict[tuple[int, int], tuple[int, str, int]] = {}
+        # by object and what a dump has, how names are spelled
+        self.objects: dict[tuple[int, str], str] = {}
+        self.properties: dict[tuple[int, str], str] = {}
+        self.verbs: dict[tuple[int, str], str] = {}
+        # by object, definer and name in a dump, the literal there and the lines here
+        self.values: dict[tuple[int, int, str], tuple[str, str]] = {}
+        if path is None:
+            return
+        with opened(path) as stream:
+            database = Database(stream, Losses(), keep_lacking=True)
+        for kind in (TASKS, CONNECTIONS, NO_CONNECTIONS, MORE_LINES):
+            if kind in database.losses.counts:
+                losses.note(kind, f"{database.losses.firsts[kind]} of {path}", database.losses.counts[kind])
+        if database.version < VERSION:
+            losses.note(OLD_PROGRAM, f"{path}, line 1", len(database.programs))
+        parents = {number: thing.parent for number, thing in database.things.items()}
+        owed = owed_to_each(parents, {number: [(number, name) for name in thing.defines] for number, thing in database.things.items()})
+        for number, thing in database.things.items():
+            self.take_object(number, thing, owed[number])
+            self.take_verbs(number, thing, database.programs)
+
+    def take_object(self, number: int, thing: Thing, owed: list[tuple[int, str]]) -> None:
+        """Notes the names and the values of an object that a dump spells in another way."""
+        if thing.name != thing.spelled:
+            self.objects[number, thing.name] = thing.spelled
+        for name in thing.defines:
+            if escaped(name) != name:
+                self.properties[number, escaped(name)] = name
+        for place, spelled in thing.changed.items():
+            literal = thing.values[place][0]
+            if place < len(owed) and literal is not None:
+                definer, name = owed[place]
+                self.values[number, definer, escaped(name)] = literal, "\n".join(spelled)
+
+    def take_verbs(self, number: int, thing: Thing, programs: dict[tuple[int, int], list[str]]) -> None:
+        """Notes the programs of an object's verbs by their names, how many verbs of these names come up to each, and its place."""
+        times: dict[str, int] = {}
+        for place, verb in enumerate(thing.verbs):
+            times[verb.names] = nth = times.get(verb.names, 0) + 1
+            if verb.names != verb.spelled:
+                self.verbs[number, verb.names] = verb.spelled
+            if (number, place) in programs:
+                self.programs[number, verb.names, nth] = programs[number, place]
+                self.renamed[number, place] = number, verb.names, nth
+
+
+class Writer:
+    """The database of a dump, with what the dump lacks of the database that the world came from."""
+
+    def __init__(self, dump: Dump, origin: Origin, losses: Losses) -> None:
+        self.dump = dump
         self.items = dump.items
         self.top = dump.top
-        self.programs = self.placed(programs, losses)
+        self.origin = origin
+        self.losses = losses
+        self.programs = self.placed()
         self.first_child, self.next_child = linked(self.items, "parent")
         self.first_inside, self.next_inside = linked(self.items, "location")
 
-    def placed(self, programs, losses):
-        """The program of each verb that has one, by its object and number. Each program is taken once."""
-        placed = {}
+    def placed(self) -> dict[tuple[int, int], list[str]]:
+        """The program of each verb that has one, by its object and number. Each program is taken once, first by names and then by place."""
+        placed: dict[tuple[int, int], list[str]] = {}
+        left = dict(self.origin.programs)
         for number, item in self.items.items():
-            times = {}
+            times: dict[str, int] = {}
             for place, (names, _) in enumerate(item.verbs):
                 times[names] = nth = times.get(names, 0) + 1
-                if (number, names, nth) in programs:
-                    placed[number, place] = programs.pop((number, names, nth))
-                else:
-                    losses.note(NO_PROGRAM, f"#{number}:{place}, line {item.verb_lines[place]}")
-        if programs:
-            number, names, _ = next(iter(programs))
-            losses.note(NO_VERB, f"#{number}:{shown(names)}", len(programs))
+                if (number, names, nth) in left:
+                    placed[number, place] = left.pop((number, names, nth))
+        for number, item in self.items.items():
+            for place in range(len(item.verbs)):
+                if (number, place) not in placed:
+                    self.place_renamed(number, place, placed, left)
+        if left:
+            number, names, _ = next(iter(left))
+            self.losses.note(NO_VERB, f"#{number}:{shown(names)}", len(left))
         return placed
 
-    def pieces(self):
+    def place_renamed(self, number: int, place: int, placed: dict[tuple[int, int], list[str]], left: Programs) -> None:
+        """Gives a verb the program of its place if no verb of that one's names is there any more."""
+        item = self.items[number]
+        where = f"#{number}:{place}, line {item.verb_lines[place]}"
+        key = self.origin.renamed.get((number, place))
+        if key is not None and key in left:
+            placed[number, place] = left.pop(key)
+            self.losses.note(BY_PLACE, f"{where}, which was {shown(key[1])}")
+        else:
+            self.losses.note(NO_PROGRAM, where)
+
+    def pieces(self) -> Iterator[str]:
         """The texts of the database, in their order."""
         players = [number for number, item in self.items.items() if item.flags & FLAGS["player"]]
         yield f"** LambdaMOO Database, Format Version {VERSION} **\n{self.top + 1}\n{len(self.programs)}\n0\n{len(players)}\n"
@@ -378,29 +472,40 @@ class Writer:
                 yield from self.object_lines(number, self.items[number])
             else:
                 yield f"#{number} recycled\n"
-        for (number, place), code in self.programs.items():
+        for (number, place), code in sorted(self.programs.items()):
             yield f"#{number}:{place}\n" + "".join(f"{line}\n" for line in code) + ".\n"
         yield "0 clocks\n0 queued tasks\n0 suspended tasks\n0 active connections with listeners\n"
 
-    def object_lines(self, number, item):
+    def object_lines(self, number: int, item: Item) -> Iterator[str]:
         """The texts of an object."""
         inside = self.first_inside.get(number, NOTHING), self.next_inside.get(number, NOTHING)
         below = self.first_child.get(number, NOTHING), self.next_child.get(number, NOTHING)
-        yield f"#{number}\n{item.name}\n\n{item.flags}\n{item.owner}\n{item.location}\n{inside[0]}\n{inside[1]}\n"
+        yield f"#{number}\n{self.origin.objects.get((number, item.name), item.name)}\n\n{item.flags}\n{item.owner}\n{item.location}\n{inside[0]}\n{inside[1]}\n"
         yield f"{item.parent}\n{below[0]}\n{below[1]}\n{len(item.verbs)}\n"
-        for _, text in item.verbs:
-            yield text
+        for names, text in item.verbs:
+            yield self.origin.verbs.get((number, names), names) + text
         yield f"{len(item.defines)}\n"
         for _, name in item.defines:
-            yield f"{plain(name)}\n"
+            yield f"{self.origin.properties.get((number, plain(name)), plain(name))}\n"
         yield f"{len(item.slots)}\n"
-        for _, _, text in item.slots:
-            yield text
+        for definer, name, text in item.slots:
+            yield self.as_it_was(number, definer, name, text)
+
+    def as_it_was(self, number: int, definer: str, name: str, text: str) -> str:
+        """The text of a slot, with the value as the database had it if the dump has what stands for that."""
+        found = self.origin.values.get((number, int(definer), plain(name)))
+        if found is None:
+            return text
+        literal, spelled = found
+        value, owner, rights, _ = text.rsplit("\n", 3)
+        return f"{spelled}\n{owner}\n{rights}\n" if value == "\n".join(self.dump.value(literal, Losses())) else text
 
 
-def linked(items, link):
+def linked(items: dict[int, Item], link: str) -> tuple[dict[int, int], dict[int, int]]:
     """For each object the first of those that link to it, and for each of these the next, ascending. Nothing is linked to #-1."""
-    first, following, last = {}, {}, {}
+    first: dict[int, int] = {}
+    following: dict[int, int] = {}
+    last: dict[int, int] = {}
     for number, item in items.items():
         holder = getattr(item, link)
         if holder == NOTHING:
@@ -413,32 +518,13 @@ def linked(items, link):
     return first, following
 
 
-def programs_of(path, losses):
-    """The programs of a database by object, names of the verb, and how many verbs of these names come up to it."""
-    with opened(path) as stream:
-        database = Database(stream, Losses(), keep_programs=True)
-    for kind in (TASKS, CONNECTIONS, NO_CONNECTIONS, MORE_LINES):
-        if kind in database.losses.counts:
-            losses.note(kind, f"{database.losses.firsts[kind]} of {path}", database.losses.counts[kind])
-    if database.version < VERSION:
-        losses.note(OLD_PROGRAM, f"{path}, line 1", len(database.programs))
-    programs = {}
-    for number, thing in database.things.items():
-        times = {}
-        for place, verb in enumerate(thing.verbs):
-            times[verb.names] = nth = times.get(verb.names, 0) + 1
-            if (number, place) in database.programs:
-                programs[number, verb.names, nth] = database.programs[number, place]
-    return programs
-
-
-def read_words(words):
+def read_words(words: list[str]) -> argparse.Namespace:
     """What the words of the command line ask for."""
     reader = argparse.ArgumentParser(
         prog=f"{TOOL}.py", description=ABOUT, epilog=ENDING, formatter_class=argparse.RawDescriptionHelpFormatter
     )
     reader.add_argument("dump", metavar="DUMP", help="the dump; - is standard input")
-    reader.add_argument("--programs", metavar="DB", help="the database file whose programs the verbs get")
+    reader.add_argument("--programs", metavar="DB", help="the database file that the world came from")
     reader.add_argument("--strict", action="store_true", help="write nothing, with status 1, if anything is left out or changed")
     asked = reader.parse_args(words)
     if asked.dump == asked.programs == "-":
@@ -446,13 +532,12 @@ def read_words(words):
     return asked
 
 
-def convert(asked):
+def convert(asked: argparse.Namespace) -> int:
     """Writes the database, and answers the status."""
     losses = Losses()
     with opened(asked.dump) as stream:
         dump = Dump(stream, losses)
-    programs = programs_of(asked.programs, losses) if asked.programs else {}
-    writer = Writer(dump, programs, losses)
+    writer = Writer(dump, Origin(asked.programs, losses), losses)
     losses.report(TOOL)
     if asked.strict and losses.counts:
         sys.stderr.write(f"{TOOL}: no database was written\n")
@@ -461,7 +546,7 @@ def convert(asked):
     return 0
 
 
-def main(words):
+def main(words: list[str]) -> int:
     """Does what the words ask for, and answers the status."""
     asked = read_words(words)
     return finish(TOOL, lambda: convert(asked))

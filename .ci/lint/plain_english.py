@@ -134,7 +134,7 @@ def reader_of(file, text):
         return words_of_page
     if re.fullmatch(r"\.[1-9]", file.suffix):
         return words_of_manual
-    if file.suffix == ".py" or text.startswith("#!/usr/bin/env python3"):
+    if file.suffix == ".py" or re.match("#!/usr/bin/(?:env )?python3", text):
         return words_of_python
     if file.parent.name == "scenes":
         return words_of_scenes
@@ -175,7 +175,7 @@ def files_in(*folders):
 
 def pages():
     """All files but those of the crates."""
-    return sorted(TOP.glob("*.md")) + [TOP / "Makefile"] + files_in("docs", "tests", "tools", "bench", "packaging", "mutants", ".ci")
+    return sorted(TOP.glob("*.md")) + [TOP / "Makefile"] + files_in("docs", "tests", "tools", "web", "bench", "packaging", "mutants", ".ci")
 
 
 def sources():

@@ -1,52 +1,54 @@
 """Batches, and the rows that each has to change: for test_tables. The head of a changed world is given, and of each table the rows that go
 and the rows that come; a row that is replaced does both. Nothing else may be written."""
-from tests.support.columns import OPENING_OBJECTS, thing
-from tests.support.worlds import PETITIONS, TREE, VERBS
+from __future__ import annotations
+
+from tests.support.columns import OPENING_OBJECTS, Row, thing
+from tests.support.worlds import PETITIONS, TREE, VERBS, Tables
 
 # The table that is made, and neither read nor written after that; and those of petitions if nobody has asked yet.
-UNREAD = {"slot": []}
-NONE_ASKED = {"petition": [], "petition_head": [(1, 1)]}
-OPENING = UNREAD | NONE_ASKED | {
+UNREAD: Tables = {"slot": []}
+NONE_ASKED: Tables = {"petition": [], "petition_head": [(1, 1)]}
+OPENING: Tables = UNREAD | NONE_ASKED | {
     "head": [(1, 2, 0, 3, 1, 1)],
     "object": OPENING_OBJECTS,
     "prop": [],
     "slot2": [],
     "verb": [],
 }
-OF_TREE = UNREAD | NONE_ASKED | {
+OF_TREE: Tables = UNREAD | NONE_ASKED | {
     "head": [(1, 2, 1, 7, 4, 1)],
     "object": OPENING["object"] + [thing(4), thing(5, parent=4), thing(6, parent=5), thing(7)],
     "prop": [(1, 4, "a"), (2, 5, "b"), (3, 7, "c")],
     "slot2": [(4, 1, 3, 4, "10"), (5, 1, 3, 4, ""), (5, 2, 3, 4, "20"), (6, 1, 3, 4, ""), (6, 2, 3, 4, "21"), (7, 3, 3, 4, "30")],
     "verb": [],
 }
-GET_TAKE = (4, 1, "get take", 3, "rd", "any", "in/inside/into", "this")
-LOOK = (4, 2, "l*ook", 3, "rwx", "this", "none", "none")
-PUT = (5, 3, "put", 3, "", "any", "any", "any")
-OF_VERBS = OF_TREE | {"head": [(1, 2, 2, 7, 4, 4)], "verb": [GET_TAKE, LOOK, PUT]}
-TO_CREATE = (1, 4, '{{"create", #1, #4}, {"set_player_flag", #4, 1}}')
-TO_SET = (2, 4, '{{"set", #6, "b", {22, "x\\"y"}}}')
-OF_PETITIONS = OF_TREE | {"head": [(1, 2, 2, 7, 4, 1)], "petition": [TO_CREATE, TO_SET], "petition_head": [(1, 3)]}
+GET_TAKE: Row = (4, 1, "get take", 3, "rd", "any", "in/inside/into", "this")
+LOOK: Row = (4, 2, "l*ook", 3, "rwx", "this", "none", "none")
+PUT: Row = (5, 3, "put", 3, "", "any", "any", "any")
+OF_VERBS: Tables = OF_TREE | {"head": [(1, 2, 2, 7, 4, 4)], "verb": [GET_TAKE, LOOK, PUT]}
+TO_CREATE: Row = (1, 4, '{{"create", #1, #4}, {"set_player_flag", #4, 1}}')
+TO_SET: Row = (2, 4, '{{"set", #6, "b", {22, "x\\"y"}}}')
+OF_PETITIONS: Tables = OF_TREE | {"head": [(1, 2, 2, 7, 4, 1)], "petition": [TO_CREATE, TO_SET], "petition_head": [(1, 3)]}
 QUOTA = """batch as #3
 add_property(#3, "ownership_quota", 2, {#3, ""})
 move(#2, #0)
 end
 """
-OF_QUOTA = OPENING | {
+OF_QUOTA: Tables = OPENING | {
     "head": [(1, 2, 1, 3, 2, 1)],
     "object": [thing(2, "The First Room", location=0, accept="{#1}") if row[0] == 2 else row for row in OPENING["object"]],
     "prop": [(1, 3, "ownership_quota")],
     "slot2": [(3, 1, 3, 0, "2")],
 }
 # The worlds that batches begin with: the text that makes one, and its rows.
-WORLDS = {
+WORLDS: dict[str, tuple[str, Tables]] = {
     "new": ("", OPENING), "tree": (TREE, OF_TREE), "verbs": (VERBS, OF_VERBS), "quota": (QUOTA, OF_QUOTA), "petitions": (PETITIONS, OF_PETITIONS),
 }
 
 FOUR, FIVE, SIX, SEVEN = OF_TREE["object"][4:]
 A4, A5, B5, A6, B6, C7 = OF_TREE["slot2"]
 # What is shown, the world, the calls, their answers; the last three numbers of the next head, and the rows that go and that come.
-CHANGES = [
+CHANGES: list[tuple[str, str, list[str], str, tuple[int, int, int], Tables, Tables]] = [
     (
         "a batch that was accepted is in the tables",
         "new", ["create(#1)", 'set(#4, "name", "Lantern")'], "#4 0", (4, 1, 1),
@@ -99,11 +101,11 @@ CHANGES = [
     ("a place is changed", "tree", ["move(#4, #2)"], "0", (7, 4, 1), {"object": [FOUR]}, {"object": [thing(4, location=2)]}),
     ("a player is marked", "tree", ["set_player_flag(#4, 1)"], "0", (7, 4, 1), {"object": [FOUR]}, {"object": [thing(4, player=1)]}),
     *(
-        (f"the mark {flag} is set", "tree", [f'set(#4, "{flag}", 1)'], "0", (7, 4, 1), {"object": [FOUR]}, {"object": [thing(4, **{flag: 1})]})
+        (f"the mark {flag} is set", "tree", [f'set(#4, "{flag}", 1)'], "0", (7, 4, 1), {"object": [FOUR]}, {"object": [thing(4, "", **{flag: 1})]})
         for flag in ("programmer", "wizard", "r", "w", "f")
     ),
     ("an accept list is set", "tree", ["set_accept(#4, {#1,#5})"], "0", (7, 4, 1), {"object": [FOUR]}, {"object": [thing(4, accept="{#1, #5}")]}),
-    ("an empty one is none but a list", "tree", ["set_accept(#4, {})"], "0", (7, 4, 1), {"object": [FOUR]}, {"object": [thing(4, accept="{}")]}),
+    ("an empty one is a list too", "tree", ["set_accept(#4, {})"], "0", (7, 4, 1), {"object": [FOUR]}, {"object": [thing(4, accept="{}")]}),
     (
         "an accept list is taken away",
         "new", ["set_accept(#2, 0)"], "0", (3, 1, 1),
@@ -113,6 +115,17 @@ CHANGES = [
         "a value is set, as the literal that is printed",
         "tree", ['set(#6, "A", {1,{"x\\"y",#4} , e_perm,-7})'], "0", (7, 4, 1),
         {"slot2": [A6]}, {"slot2": [(6, 1, 3, 4, '{1, {"x\\"y", #4}, E_PERM, -7}')]},
+    ),
+    (
+        "slots that are there change between new ones and after them",
+        "tree", ['add_property(#4, "d", 1, {#3, "r"})', 'set(#6, "b", 22)', 'set(#7, "c", 31)'], "0 0 0", (7, 5, 1),
+        {"slot2": [B6, C7]},
+        {"prop": [(4, 4, "d")], "slot2": [(4, 4, 3, 4, "1"), (5, 4, 3, 4, ""), (6, 2, 3, 4, "22"), (6, 4, 3, 4, ""), (7, 3, 3, 4, "31")]},
+    ),
+    (
+        "a verb that is there changes after a new one",
+        "verbs", ['add_verb(#4, {#3, "", "drop"}, {"none", "none", "none"})', 'set_verb_args(#5, 1, {"this", "any", "any"})'], "0 0", (7, 4, 5),
+        {"verb": [PUT]}, {"verb": [(4, 4, "drop", 3, "", "none", "none", "none"), (5, 3, "put", 3, "", "this", "any", "any")]},
     ),
     ("a slot is cleared", "tree", ['clear_property(#6, "b")'], "0", (7, 4, 1), {"slot2": [B6]}, {"slot2": [(6, 2, 3, 4, "")]}),
     (
@@ -225,10 +238,10 @@ KEPT = [
         "a batch that is refused, on a new world",
         "new", "apply", 'batch as #3\ncreate(#1)\nset(#4, "name", "Lantern")\ncreate(#9)\nend\n', "refused 3 E_PERM\n",
     ),
-    ("a batch that is refused behind calls that changed all", "tree", "apply", "\n".join(["batch as #3", *FIVE_CALLS, "create(#99)", "end\n"]), "refused 5 E_PERM\n"),
+    ("a batch that is refused after calls that changed all", "tree", "apply", "\n".join(["batch as #3", *FIVE_CALLS, "create(#99)", "end\n"]), "refused 5 E_PERM\n"),
     ("a question of the same", "tree", "ask", "\n".join(["batch as #3", *FIVE_CALLS, "max_object()", "end\n"]), "accepted 1\n#8\n0\n0\n0\n#8\nend\n"),
     (
-        "a grant that is refused behind calls that changed all",
+        "a grant that is refused after calls that changed all",
         "petitions", "apply", 'batch as #3\npetition({{"create", #6}, {"chparent", #5, #7}, {"recycle", #6}, {"recycle", #6}})\ngrant(2)\ngrant(3)\nend\n',
         "refused 3 E_INVARG\n",
     ),

@@ -3,9 +3,16 @@ they are told in a dump. For the tests and the measurements in bench/.
 
 The slots are in slot2. The table slot is that of the first version, and empty.
 """
+from __future__ import annotations
+
+from typing import Iterable, Union
+
+# What a cell of a table holds, and a row of cells.
+Cell = Union[int, str]
+Row = tuple[Cell, ...]
 FLAGS = "player programmer wizard r w f".split()
 # A plain object's cells: one of #3's under #1, in no place.
-PLAIN = {"n": 0, "name": "", "owner": 3, "parent": 1, "location": -1} | dict.fromkeys(FLAGS, 0) | {"accept": ""}
+PLAIN: dict[str, Cell] = {"n": 0, "name": "", "owner": 3, "parent": 1, "location": -1, **dict.fromkeys(FLAGS, 0), "accept": ""}
 TABLES = {
     "head": "id version seq top next_prop next_verb".split(),
     "object": list(PLAIN),
@@ -20,7 +27,7 @@ TABLES = {
 FIRST_OBJECT = "n name owner parent location player programmer wizard r w f accept".split()
 
 
-def object_table(columns):
+def object_table(columns: Iterable[str]) -> str:
     """The statement that makes a table of objects with these columns."""
     key, *others = [f"{column} {'TEXT' if column in ('name', 'accept') else 'INTEGER'} NOT NULL" for column in columns]
     return f"CREATE TABLE object ({', '.join([f'{key} PRIMARY KEY', *others])}) STRICT"
@@ -39,9 +46,9 @@ FIRST_TABLES = [
 ]
 
 
-def thing(number, name="", **cells):
+def thing(number: int, name: str = "", **cells: Cell) -> Row:
     """The row of an object that is plain but for these cells."""
-    row = PLAIN | {"n": number, "name": name} | cells
+    row: dict[str, Cell] = {**PLAIN, "n": number, "name": name, **cells}
     if len(row) > len(PLAIN):
         raise ValueError(f"{cells} has no column of object")
     return tuple(row.values())
@@ -56,25 +63,25 @@ OPENING_OBJECTS = [
 ]
 
 
-def first_objects(rows):
+def first_objects(rows: Iterable[Row]) -> list[Row]:
     """The rows of objects in the first version."""
     return [tuple(dict(zip(PLAIN, row))[column] for column in FIRST_OBJECT) for row in rows]
 
 
-def inserted(table, row):
+def inserted(table: str, row: Row) -> tuple[str, Row]:
     """A statement that puts a row into a table, with its values."""
     return f"insert into {table} values ({', '.join('?' * len(row))})", row
 
 
-def told(column, cell):
+def told(column: str, cell: Cell) -> str:
     """A cell of an object as a dump tells it. The accept list is one that moo spelled."""
     if column in ("n", "owner", "parent", "location"):
         return f"#{cell}"
     if column == "name":
-        return '"' + cell.replace("\\", "\\\\").replace('"', '\\"') + '"'
+        return '"' + str(cell).replace("\\", "\\\\").replace('"', '\\"') + '"'
     return str(cell) or "0"
 
 
-def object_line(row):
+def object_line(row: Row) -> str:
     """The line of an object in a dump."""
     return "object {" + ", ".join(told(*pair) for pair in zip(PLAIN, row)) + "}"

@@ -1,14 +1,18 @@
 """Requests to the service of new worlds in memory, and answers to compare with what comes."""
+from __future__ import annotations
+
 import contextlib
 import json
 import socket
+from typing import Sequence
 
 from tests.support.cases import ProgramTest
 from tests.support.program import MOO
 from tests.support.service import Service, answer
 
 
-def error(word):
+def error(word: str) -> str:
+    """The body of an answer that is an error."""
     return f'{{"error":"{word}"}}'
 
 
@@ -24,32 +28,40 @@ BATCH = b'POST /batch HTTP/1.1\r\nhost: localhost\r\ncontent-length: 34\r\n\r\n{
 BATCH_ANSWER = answer("200 OK", '{"answers":["#4"],"seq":1}')
 
 
-def seq(number):
+def seq(number: int) -> bytes:
+    """The answer to a question for the number."""
     return answer("200 OK", f'{{"seq":{number}}}')
 
 
-def accepted(number, *literals):
+def accepted(number: int, *literals: str) -> bytes:
     """If `number` batches are accepted by now."""
     return answer("200 OK", json.dumps({"answers": literals, "seq": number}, separators=(",", ":")))
 
 
-def refused(call, code):
+def refused(call: int, code: str) -> bytes:
+    """The answer to a batch that is refused at a call."""
     return answer("409 Conflict", f'{{"call":{call},"error":"{code}"}}')
 
 
-def stale(number):
+def stale(number: int) -> bytes:
+    """The answer to a batch for another number."""
     return answer("409 Conflict", f'{{"error":"stale","seq":{number}}}')
 
 
-def malformed(call):
+def malformed(call: int) -> bytes:
+    """The answer to a batch with a call that can't be read."""
     return answer("400 Bad Request", f'{{"call":{call},"error":"malformed"}}')
 
 
-def allow(method, is_head=False):
+def allow(method: str, is_head: bool = False) -> bytes:
+    """The answer to another method than the route has."""
     return answer("405 Method Not Allowed", error("method not allowed"), f"allow: {method}\r\n", is_head)
 
 
-def object_body(name, parent="#1", location="#-1", children=(), contents=(), marks=0, fertile=0):
+def object_body(
+    name: str, parent: str = "#1", location: str = "#-1", children: Sequence[str] = (), contents: Sequence[str] = (), marks: int = 0,
+    fertile: int = 0,
+) -> str:  # fmt: skip
     """The JSON of an object of #3. The marks are those of a player, a programmer and a wizard."""
     parts = {
         "children": children, "contents": contents, "f": fertile, "location": location, "name": name, "owner": "#3", "parent": parent,
@@ -58,12 +70,12 @@ def object_body(name, parent="#1", location="#-1", children=(), contents=(), mar
     return json.dumps(parts, separators=(",", ":"))
 
 
-def posted(path, body):
+def posted(path: str, body: bytes) -> bytes:
     """A POST of bytes, with their length."""
     return b"POST %s HTTP/1.1\r\nhost: localhost\r\ncontent-length: %d\r\n\r\n%s" % (path.encode(), len(body), body)
 
 
-def heard_to_the_end(peer):
+def heard_to_the_end(peer: socket.socket) -> tuple[bytes, str]:
     """What comes until the service closes, and how it closes: 'closed', or 'reset' if bytes were left that it hasn't read."""
     parts = []
     try:
@@ -74,13 +86,14 @@ def heard_to_the_end(peer):
     return b"".join(parts), "closed"
 
 
-def send_in_pieces(peer, request, most):
+def send_in_pieces(peer: socket.socket, request: bytes, most: int) -> None:
+    """Sends a request in pieces of so many bytes."""
     peer.setsockopt(socket.IPPROTO_TCP, socket.TCP_NODELAY, 1)
     for start in range(0, len(request), most):
         peer.sendall(request[start : start + most])
 
 
-def said(service, request, most=1 << 20):
+def said(service: Service, request: bytes, most: int = 1 << 20) -> bytes:
     """What answers a request that comes in pieces of so many bytes, and after which the input ends."""
     with service.peer() as peer:
         # A service that refuses what has come by then doesn't read the rest, and may have closed.
@@ -93,7 +106,7 @@ def said(service, request, most=1 << 20):
 class RequestTest(ProgramTest):
     """Tests that send requests to the service."""
 
-    def in_turn(self, title, rows, before=()):
+    def in_turn(self, title: str, rows: Sequence[tuple[str, bytes, bytes]], before: Sequence[bytes] = ()) -> None:
         """Rows of a name, a request and its answer, one after another on a new world; after requests that aren't looked at."""
         service = Service(MOO, ":memory:", len(before) + len(rows))
         for request in before:

@@ -3,9 +3,13 @@
 Nothing here uses the converters.
 """
 
+from __future__ import annotations
+
 import dataclasses
 import re
 import typing
+from random import Random
+from typing import Any, Iterable, Optional
 
 ERRORS = ["E_NONE", "E_TYPE", "E_DIV", "E_PERM", "E_PROPNF", "E_VERBNF", "E_VARNF", "E_INVIND"] + [
     "E_RECMOVE", "E_MAXREC", "E_RANGE", "E_ARGS", "E_NACC", "E_INVARG", "E_QUOTA", "E_FLOAT"
@@ -17,6 +21,8 @@ FLAGS = ["player", "programmer", "wizard", "r", "w", "f"]
 FLAG_BITS = [1, 2, 4, 16, 32, 128]
 PLACES = ["none", "any", "this"]
 CLEAR = None
+# For each object the first of those that are in its list, and for each of those the next.
+Lists = tuple[dict[int, int], dict[int, int]]
 
 
 @dataclasses.dataclass(frozen=True)
@@ -74,7 +80,7 @@ class World:
     top: int
     things: typing.Dict[int, Thing]
 
-    def chain(self, number):
+    def chain(self, number: int) -> list[int]:
         """The object and its ancestors."""
         found = []
         while number != -1:
@@ -82,11 +88,11 @@ class World:
             number = self.things[number].parent
         return found
 
-    def owed(self, number):
+    def owed(self, number: int) -> list[tuple[int, str]]:
         """The definer and the name of each property that the object has."""
         return [(definer, name) for definer in self.chain(number) for name in self.things[definer].defines]
 
-    def without_programs(self):
+    def without_programs(self) -> World:
         """The world as a dump can tell it."""
         things = {}
         for number, thing in self.things.items():
@@ -103,7 +109,7 @@ VERB_NAMES = ["look", "l*ook", "g*et take", "get", "put", "put", 'say "', "tab\t
 CODE = ["return 1;", "", "  if (x)", "..", "#0:0", '"a string";', "0 clocks", " ."]
 
 
-def random_value(random, depth=0):
+def random_value(random: Random, depth: int = 0) -> object:
     """A value of any type. Lists nest at most 32 deep, as in moo."""
     kind = random.randrange(6 if depth < 32 else 4)
     if kind == 0:
@@ -117,7 +123,7 @@ def random_value(random, depth=0):
     return [random_value(random, depth + 1) for _ in range(random.choice([0, 0, 1, 1, 2]))]
 
 
-def random_links(random, numbers):
+def random_links(random: Random, numbers: Iterable[int]) -> dict[int, int]:
     """For each number another one or -1, without loops and in no order of the numbers."""
     order = list(numbers)
     random.shuffle(order)
@@ -127,19 +133,19 @@ def random_links(random, numbers):
     return links
 
 
-def random_letters(random, letters):
+def random_letters(random: Random, letters: str) -> str:
     """Some of the letters, in their order."""
     return "".join(letter for letter in letters if random.random() < 0.5)
 
 
-def random_verb(random):
+def random_verb(random: Random) -> Verb:
     """A verb, with a program or without."""
     places = random.choice(PLACES), random.choice(["none", "any", *SETS]), random.choice(PLACES)
     program = [random.choice(CODE) for _ in range(random.randrange(4))] if random.random() < 0.7 else None
     return Verb(random.choice(VERB_NAMES), random.randrange(-1, 9), random_letters(random, "rwxd"), places, program)
 
 
-def random_world(random, size):
+def random_world(random: Random, size: int) -> World:
     """A world of objects up to this number, some of which are gone."""
     numbers = [number for number in range(size) if random.random() < 0.85]
     parents, locations = random_links(random, numbers), random_links(random, numbers)
@@ -165,7 +171,7 @@ def random_world(random, size):
 # ---- as a database of LambdaMOO
 
 
-def value_lines(value):
+def value_lines(value: object) -> list[str]:
     """The lines of a value in a database."""
     if value is CLEAR:
         return ["5"]
@@ -180,9 +186,10 @@ def value_lines(value):
     return ["0", str(value)]
 
 
-def lists_of(world, link, random):
+def lists_of(world: World, link: str, random: Random) -> Lists:
     """For each object the first of those that link to it, and for each of those the next, in an order of no meaning."""
-    first, following = {}, {}
+    first: dict[int, int] = {}
+    following: dict[int, int] = {}
     members = list(world.things)
     random.shuffle(members)
     for number in members:
@@ -193,12 +200,12 @@ def lists_of(world, link, random):
     return first, following
 
 
-def bits(letters, order):
+def bits(letters: str, order: str) -> int:
     """The number of these rights. The first letter of the order counts 1, the next 2 and so on."""
     return sum(1 << place for place, letter in enumerate(order) if letter in letters)
 
 
-def verb_lines(verb):
+def verb_lines(verb: Verb) -> list[str]:
     """The lines of a verb's header in a database."""
     direct, preposition, indirect = verb.places
     rights = bits(verb.letters, "rwxd") + 16 * PLACES.index(direct) + 64 * PLACES.index(indirect)
@@ -206,7 +213,7 @@ def verb_lines(verb):
     return [verb.names, str(verb.owner), str(rights), str(number)]
 
 
-def thing_lines(number, thing, children, contents):
+def thing_lines(number: int, thing: Thing, children: Lists, contents: Lists) -> list[str]:
     """The lines of an object in a database, given its lists."""
     flags = sum(FLAG_BITS[FLAGS.index(flag)] for flag in thing.flags)
     lines = [f"#{number}", thing.name, "", str(flags), str(thing.owner), str(thing.location)]
@@ -220,7 +227,7 @@ def thing_lines(number, thing, children, contents):
     return lines
 
 
-def database_text(world, random, version=4):
+def database_text(world: World, random: Random, version: int = 4) -> str:
     """The world as a database of LambdaMOO, its lists of children, contents and players in an order of no meaning."""
     children, contents = lists_of(world, "parent", random), lists_of(world, "location", random)
     players = [number for number, thing in world.things.items() if "player" in thing.flags]
@@ -246,23 +253,23 @@ def database_text(world, random, version=4):
 class DatabaseReader:
     """Reads a database of LambdaMOO that is whole. Whatever isn't as it should be is an AssertionError."""
 
-    def __init__(self, text):
+    def __init__(self, text: str) -> None:
         assert text.endswith("\n"), "the last line ends"
         self.lines = text[:-1].split("\n")
         self.place = 0
 
-    def line(self):
+    def line(self) -> str:
         """The next line."""
         self.place += 1
         return self.lines[self.place - 1]
 
-    def number(self):
+    def number(self) -> int:
         """The next line, a number."""
         line = self.line()
         assert re.fullmatch("0|-?[1-9][0-9]*", line), f"line {self.place} is a number: {line!r}"
         return int(line)
 
-    def value(self):
+    def value(self) -> object:
         """The next value, or CLEAR."""
         kind = self.number()
         if kind == 5:
@@ -271,9 +278,11 @@ class DatabaseReader:
             return [self.value() for _ in range(self.number())]
         if kind == 2:
             return self.line()
-        return {0: int, 1: ObjectValue, 3: lambda place: ErrorValue(ERRORS[place])}[kind](self.number())
+        number = self.number()
+        assert kind in (0, 1, 3), f"line {self.place}: a kind of value"
+        return number if kind == 0 else ObjectValue(number) if kind == 1 else ErrorValue(ERRORS[number])
 
-    def verb(self):
+    def verb(self) -> Verb:
         """The header of a verb."""
         names, owner, rights, preposition = self.line(), self.number(), self.number(), self.number()
         assert rights < 256, "the rights of a verb have eight bits"
@@ -281,12 +290,12 @@ class DatabaseReader:
         spelled = {-1: "none", -2: "any"}.get(preposition) or SETS[preposition]
         return Verb(names, owner, letters, (PLACES[rights >> 4 & 3], spelled, PLACES[rights >> 6]))
 
-    def slot(self):
+    def slot(self) -> Slot:
         """A value with its owner and rights."""
         value, owner, rights = self.value(), self.number(), self.number()
         return Slot(value, owner, "".join(letter for place, letter in enumerate("rwc") if rights >> place & 1))
 
-    def thing(self):
+    def thing(self) -> tuple[Thing, tuple[int, int], tuple[int, int]]:
         """An object, with the four ends of its lists."""
         thing = Thing(self.line())
         assert self.line() == "", "the handles are an empty line"
@@ -302,7 +311,7 @@ class DatabaseReader:
         thing.slots = [self.slot() for _ in range(self.number())]
         return thing, children, contents
 
-    def world(self):
+    def world(self) -> World:
         """The world of the whole text."""
         assert self.line() == "** LambdaMOO Database, Format Version 4 **"
         world = World(self.number() - 1, {})
@@ -325,9 +334,11 @@ class DatabaseReader:
             assert len(thing.slots) == len(world.owed(number)), f"#{number} has the slots that it is owed"
         return world
 
-    def program(self, world):
+    def program(self, world: World) -> None:
         """Reads a program, and gives it to its verb."""
-        number, place = map(int, re.fullmatch("#([0-9]+):([0-9]+)", self.line()).groups())
+        found = re.fullmatch("#([0-9]+):([0-9]+)", self.line())
+        assert found, f"line {self.place} names a verb"
+        number, place = map(int, found.groups())
         verb = world.things[number].verbs[place]
         assert verb.program is None, "a verb has one program"
         verb.program = []
@@ -337,9 +348,9 @@ class DatabaseReader:
             line = self.line()
 
     @staticmethod
-    def check_lists(world, link, ends):
+    def check_lists(world: World, link: str, ends: dict[int, tuple[int, int]]) -> None:
         """Each object's list holds those that link to it, each once."""
-        linked = {number: set() for number in world.things}
+        linked: dict[int, set[int]] = {number: set() for number in world.things}
         for number, thing in world.things.items():
             if getattr(thing, link) != -1:
                 linked[getattr(thing, link)].add(number)
@@ -355,7 +366,7 @@ class DatabaseReader:
             assert found == wanted, f"the list of #{number} by {link}"
 
 
-def read_database(text):
+def read_database(text: str) -> World:
     """The world of a database."""
     return DatabaseReader(text).world()
 
@@ -363,7 +374,7 @@ def read_database(text):
 # ---- as a dump of moo
 
 
-def literal(value):
+def literal(value: object) -> str:
     """The literal of a value."""
     if isinstance(value, ObjectValue):
         return f"#{value.number}"
@@ -376,7 +387,7 @@ def literal(value):
     return str(value)
 
 
-def dump_text(world):
+def dump_text(world: World) -> str:
     """The world as a dump of moo, with seq 0, no accept lists and no petitions."""
     lines = ["seq 0", f"top #{world.top}"]
     for number, thing in sorted(world.things.items()):
@@ -385,7 +396,7 @@ def dump_text(world):
         lines.append("object " + literal([ObjectValue(number), thing.name, *links, *flags, 0]))
         lines += ["property " + literal([ObjectValue(number), name]) for name in thing.defines]
         for (definer, name), slot in zip(world.owed(number), thing.slots):
-            state = [0] if slot.value is CLEAR else [1, slot.value]
+            state: list[object] = [0] if slot.value is CLEAR else [1, slot.value]
             values = [ObjectValue(number), ObjectValue(definer), name, ObjectValue(slot.owner), slot.letters, *state]
             lines.append("slot " + literal(values))
         for verb in thing.verbs:
@@ -397,12 +408,13 @@ def dump_text(world):
 TOKENS = re.compile(r'#(-?[0-9]+)|(-?[0-9]+)|"((?:[^"\\]|\\.)*)"|(E_[A-Z]+)|(\{)|(\})|, ')
 
 
-def read_literal(text):
+def read_literal(text: str) -> Any:
     """The value of a literal that is right."""
-    stack = [[]]
+    stack: list[list[Any]] = [[]]
     place = 0
     while place < len(text):
         token = TOKENS.match(text, place)
+        assert token, f"no literal at {place}: {text!r}"
         place = token.end()
         if token[5]:
             stack.append([])
@@ -420,7 +432,7 @@ def read_literal(text):
     return stack[0][0]
 
 
-def read_dump(text):
+def read_dump(text: str) -> World:
     """The world of a dump that is right, without what no database can tell."""
     lines = text.splitlines()
     world = World(int(lines[1][len("top #") :]), {})
@@ -438,5 +450,5 @@ def read_dump(text):
             value = values[6] if values[5] else CLEAR
             world.things[number].slots.append(Slot(value, values[3].number, values[4]))
         elif word == "verb":
-            world.things[number].verbs.append(Verb(values[1], values[2].number, values[3], tuple(values[4:7])))
+            world.things[number].verbs.append(Verb(values[1], values[2].number, values[3], (values[4], values[5], values[6])))
     return world

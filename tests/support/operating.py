@@ -1,42 +1,38 @@
 """A service that is killed and started again, and what is in its world. For the tests of tools/."""
 
+from __future__ import annotations
+
 import importlib.machinery
 import importlib.util
-import os
 import pathlib
 import re
-import socket
 import subprocess
 import sys
 import threading
+from types import ModuleType
+from typing import Optional
 
-TOP = pathlib.Path(__file__).resolve().parent.parent.parent
+from tests.support.program import MOO, TOP
+from tests.support.service import free_port
+
 TOOLS = TOP / "tools"
-PROGRAM = os.path.abspath(os.environ.get("MOO", TOP / "crates/moo/out/moo"))
 SECONDS = 60
 
 
-def free_port():
-    """A port that nobody listens on now."""
-    with socket.socket() as probe:
-        probe.bind(("127.0.0.1", 0))
-        return probe.getsockname()[1]
-
-
-def said(*words, text=""):
+def said(*words: object, text: str = "") -> tuple[int, str]:
     """The status of the program with these words, and what it printed."""
-    ran = subprocess.run([PROGRAM, *map(str, words)], input=text, stdout=subprocess.PIPE, stderr=subprocess.DEVNULL, text=True, timeout=SECONDS)
+    ran = subprocess.run([MOO, *map(str, words)], input=text, stdout=subprocess.PIPE, stderr=subprocess.DEVNULL, text=True, timeout=SECONDS)
     return ran.returncode, ran.stdout
 
 
-def checked(file):
+def checked(file: object) -> Optional[int]:
     """The number of a whole world in a file; None if `check` finds no whole one."""
     status, line = said("check", file)
     found = re.fullmatch(r"ok seq (\d+) objects \d+\n", line)
     return int(found[1]) if status == 0 and found else None
 
 
-def make_world(file, text):
+def make_world(file: object, text: str) -> None:
     """A new world on which a text of batches has run."""
     if said("init", file) != (0, "created\n"):
         raise AssertionError("a world couldn't be made")
@@ -45,24 +41,26 @@ def make_world(file, text):
         raise AssertionError(f"the first batches were answered {replies!r}")
 
 
-class Service:
+class KeptService:
     """`serve FILE PORT COUNT`, which is started again whenever it ends, until `stop`."""
 
-    def __init__(self, file, count=1_000_000, rest=0.0):
+    def __init__(self, file: object, count: int = 1_000_000, rest: float = 0.0, port: Optional[int] = None) -> None:
         self.file, self.count, self.rest = file, count, rest
-        self.port = free_port()
-        self.starts, self.process = 0, None
+        self.port = port or free_port()
+        self.starts = 0
+        self.process: Optional[subprocess.Popen[bytes]] = None
         self.is_stopped, self.is_listening = threading.Event(), threading.Event()
         self.keeper = threading.Thread(target=self.keep, daemon=True)
         self.keeper.start()
         if not self.is_listening.wait(SECONDS):
             raise AssertionError("the service doesn't listen")
 
-    def keep(self):
+    def keep(self) -> None:
         """Runs the program again and again."""
         while not self.is_stopped.is_set():
-            words = [PROGRAM, "serve", str(self.file), str(self.port), str(self.count)]
+            words = [MOO, "serve", str(self.file), str(self.port), str(self.count)]
             with subprocess.Popen(words, stdout=subprocess.PIPE, stderr=subprocess.DEVNULL) as self.process:
+                assert self.process.stdout
                 if self.process.stdout.readline().startswith(b"listening"):
                     self.starts += 1
                     self.is_listening.set()
@@ -70,28 +68,31 @@ class Service:
             self.is_listening.clear()
             self.is_stopped.wait(self.rest)
 
-    def kill(self):
+    def kill(self) -> None:
         """Kills the program that runs. `is_listening` is set again by the next one."""
         self.is_listening.clear()
+        assert self.process
         self.process.kill()
 
-    def stop(self):
+    def stop(self) -> None:
         """Ends it for good."""
         self.is_stopped.set()
         self.kill()
         self.keeper.join(SECONDS)
 
 
-def use_tools():
+def use_tools() -> None:
     """Makes the modules of tools/ known."""
     sys.dont_write_bytecode = True
     sys.path.insert(0, str(TOOLS))
 
 
-def tool(name, folder=TOOLS):
+def tool(name: str, folder: pathlib.Path = TOOLS) -> ModuleType:
     """A program of tools/ or of another folder as a module."""
     sys.dont_write_bytecode = True
     loader = importlib.machinery.SourceFileLoader(name.replace("-", "_"), str(folder / name))
-    module = importlib.util.module_from_spec(importlib.util.spec_from_loader(loader.name, loader))
+    spec = importlib.util.spec_from_loader(loader.name, loader)
+    assert spec
+    module = importlib.util.module_from_spec(spec)
     loader.exec_module(module)
     return module

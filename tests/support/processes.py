@@ -1,22 +1,25 @@
 """The processes that a test starts, so that none of them outlives it."""
+from __future__ import annotations
+
 import atexit
 import contextlib
 import os
 import signal
 import subprocess
 import sys
+from typing import Any, Sequence
 
-started = []
+started: list[subprocess.Popen[bytes]] = []
 
 
-def start(words, **how):
+def start(words: Sequence[Any], **how: Any) -> subprocess.Popen[bytes]:
     """A process of these words, as subprocess.Popen starts it."""
     process = subprocess.Popen(words, **how)
     started.append(process)
     return process
 
 
-def run_script(words, seconds, **variables):
+def run_script(words: Sequence[Any], seconds: float, **variables: str) -> tuple[int, str]:
     """The status of a script, and all that it says. What it started itself ends with it, and all of it after so many seconds."""
     script = start(
         words, env=dict(os.environ, **variables), start_new_session=True, stdin=subprocess.DEVNULL, stdout=subprocess.PIPE, stderr=subprocess.STDOUT
@@ -29,12 +32,12 @@ def run_script(words, seconds, **variables):
     return script.returncode, said.decode(errors="replace")
 
 
-def run_python(script, *words, seconds=300):
+def run_python(script: object, *words: object, seconds: float = 300) -> tuple[int, str]:
     """The same of a script in Python."""
     return run_script([sys.executable, "-B", script, *words], seconds)
 
 
-def end_all():
+def end_all() -> None:
     """Kills those that still run, and closes the streams of all."""
     while started:
         process = started.pop()

@@ -1,4 +1,6 @@
 """Tasks of the program of which some calls fail, by refuse.c: those for memory, and those of a disk, a stream or a connection."""
+from __future__ import annotations
+
 import errno
 import itertools
 import os
@@ -7,6 +9,7 @@ import socket
 import subprocess
 import tempfile
 from pathlib import Path
+from typing import Callable, Iterable, Mapping, Optional
 
 from tests.support.program import MOO
 from tests.support.service import PATIENCE, Service, heard
@@ -17,13 +20,18 @@ REFUSER = "refuse.so"
 # Below those that the system gives to clients: services that start side by side, and their clients, don't meet.
 PORTS = itertools.count(20000)
 EVER = 10**9
+# What was written, and the status; and the worlds that the file may hold then.
+End = tuple[str, int]
+Worlds = Iterable[int]
+Env = Optional[dict[str, str]]
 
 
-def build_refuser():
+def build_refuser() -> None:
+    """Compiles refuse.c in the present folder."""
     subprocess.run(["cc", "-O1", "-shared", "-fPIC", "-o", REFUSER, SOURCE], check=True, timeout=PATIENCE)
 
 
-def run(words, room, text="", env=None):
+def run(words: list[str], room: str, text: str = "", env: Env = None) -> End:
     """What the program writes, and its status."""
     ran = subprocess.run(
         [MOO, *words], cwd=room, input=text.encode(), stdout=subprocess.PIPE, stderr=subprocess.DEVNULL, env=env, timeout=PATIENCE
@@ -31,7 +39,8 @@ def run(words, room, text="", env=None):
     return ran.stdout.decode(), ran.returncode
 
 
-def next_port():
+def next_port() -> int:
+    """The next port that nobody listens on."""
     while True:
         port = next(PORTS)
         with socket.socket() as probe:
@@ -46,10 +55,11 @@ def next_port():
 class Fault:
     """The calls of a kind fail from one on: that one, or each after it too; or the program is killed."""
 
-    def __init__(self, kind, error, goes_on=False, piece=None):
+    def __init__(self, kind: str, error: int, goes_on: bool = False, piece: Optional[int] = None) -> None:
         self.kind, self.error, self.goes_on, self.piece = kind, error, goes_on, piece
 
-    def env(self, number, told):
+    def env(self, number: int, told: str) -> dict[str, str]:
+        """The environment in which the call of that number fails."""
         last = EVER if self.goes_on else number
         found = dict(os.environ, LD_PRELOAD=os.path.abspath(REFUSER), REFUSE=f"{self.kind} {number} {last} {self.error}", REFUSED=told)
         if self.piece:
@@ -61,27 +71,33 @@ class Task:
     """A task on a file: the ends that may come of it, and for each the worlds that may be in the file then: 0 for the one before, 1 for
     the one after it. `is_end` says so of an end that the table hasn't."""
 
-    def __init__(self, world, words, text, ends, is_end=None):
+    def __init__(
+        self, world: Optional[str], words: list[str], text: str, ends: Mapping[End, Worlds],
+        is_end: Optional[Callable[[str, int], Optional[Worlds]]] = None,
+    ) -> None:  # fmt: skip
         self.world, self.words, self.text, self.ends = world, words, text, ends
         self.is_end = is_end or (lambda written, status: None)
-        self.dumps = []
+        self.dumps: list[End] = []
         with tempfile.TemporaryDirectory() as room:
             self.begin(room)
             self.dumps.append(run(["dump", "w.db"], room))
             self.done = self.do(room, None)
             self.dumps.append(run(["dump", "w.db"], room))
 
-    def begin(self, room):
+    def begin(self, room: str) -> None:
+        """Puts the world before the task there."""
+        assert self.world
         shutil.copy(self.world, f"{room}/w.db")
 
-    def do(self, room, env):
+    def do(self, room: str, env: Env) -> End:
+        """Does the task."""
         return run(self.words, room, self.text, env)
 
-    def holds(self, room, world):
+    def holds(self, room: str, world: int) -> bool:
         """Whether the file holds the world before the task, or the one after it."""
         return run(["dump", "w.db"], room) == self.dumps[world]
 
-    def wrong(self, room, end):
+    def wrong(self, room: str, end: End) -> str:
         """What is wrong with an end, and with the file after it; or nothing."""
         worlds = self.ends.get(end)
         if worlds is None:
@@ -92,7 +108,7 @@ class Task:
             return f"it wrote {end[0]!r}, status {end[1]}, and the file then holds {run(['dump', 'w.db'], room)!r}"
         return ""
 
-    def refuse(self, fault, number):
+    def refuse(self, fault: Fault, number: int) -> tuple[bool, str]:
         """Whether a call was refused at that number, and what was wrong."""
         with tempfile.TemporaryDirectory() as room:
             self.begin(room)
@@ -105,15 +121,17 @@ class Load(Task):
     """A task that is a load of a dump from the standard input into a file that isn't there. The file after it holds the whole world, or
     no tables: then the same load into it is done."""
 
-    def __init__(self, dump, ends, is_end=None):
+    def __init__(
+        self, dump: str, ends: Mapping[End, Worlds], is_end: Optional[Callable[[str, int], Optional[Worlds]]] = None
+    ) -> None:  # fmt: skip
         super().__init__(None, ["load", "w.db", "-"], dump, ends, is_end)
         if self.dumps[1] != (dump, 0):
             raise AssertionError(f"the dump isn't loaded: {self.done}")
 
-    def begin(self, room):
+    def begin(self, room: str) -> None:
         pass
 
-    def holds(self, room, world):
+    def holds(self, room: str, world: int) -> bool:
         if world == 0 and self.do(room, None) != self.done:
             return False
         return super().holds(room, 1) and run(["check", "w.db"], room)[1] == 0
@@ -122,7 +140,7 @@ class Load(Task):
 class Post(Task):
     """A task that is a POST to the service of a file; what is written is the answer, and after it the line of the service's end."""
 
-    def do(self, room, env):
+    def do(self, room: str, env: Env) -> End:
         service = Service(MOO, "w.db", 1, port=next_port(), folder=room, env=env)
         if not service.is_listening():
             output, status = service.end()[::-1]
@@ -137,7 +155,7 @@ class Post(Task):
         return came.decode() + output, status
 
 
-def growths(task):
+def growths(task: Task) -> int:
     """How many growths a task meets, by halving."""
     low, high = 1, 1 << 20
     while low < high:

@@ -1,10 +1,10 @@
 -- The calls of a petition, one after another.
-use Rattle.std.{proofs.Common.{◌≡◌, ℤ, Bool, true, false, OnOk, Some, None, List, [], ◌∷◌, Result, Ok, Err, refl, sym, ap, ◌∙◌, subst}, specs.List.{list_all}, proofs.lemmas.Bool.{and_parts, true≢false}}
+use Rattle.std.{proofs.Common.{◌≡◌, ℕ, ℤ, Bool, true, false, OnOk, Some, None, List, [], ◌∷◌, Result, Ok, Err, refl, sym, ap, ◌∙◌, subst}, specs.List.{list_all}, proofs.lemmas.Bool.{and_parts, true≢false}}
 use Rattle.moo_value.{specs.declared.value.ObjNo.{ObjNo}, specs.declared.value.Value.{Value}, specs.Value.{spread}}
 use Rattle.moo_rows.{specs.declared.row.PetitionId.{PetitionId}, specs.declared.row.PetitionRow.{PetitionRow}, specs.Maps.{Maps, Held, without_petition}}
 use Rattle.moo_world.{specs.declared.call.Call.{Call}, specs.Answers.{zero}, specs.Arguments.{fits}, specs.Between.{HeldCallsLead, GrantLeads, CallKeepsNumbers}, specs.Keeps.{Keeps, beside_world}, specs.Names.{grants, is_grant, petition_call}, specs.Numbers.{KeepsNumbers}, specs.Outcomes.{Outcome, Done, Failed, Full}, specs.Requests.{State, in_world, held_step, held_steps, one_integer, petition_at, batch_call}, specs.Rows.{IsGood}, specs.World.{World}, specs.Calls.{world_call}, proofs.Batches.Requested.{request_steps}}
-use Rattle.moo_call_parts.{specs.declared.fault.Fault.{Fault}, specs.declared.fault.Fault.TheVariants.{Moo, Full as none_left, OutOfMemory}, specs.Outcomes.{world_in, ComesTo}}
-use Rattle.moo_batch.specs.Outcomes.{state_in, ComesInTurn, KeepInTurn, KeepsGoodRows, Reaches}
+use Rattle.moo_call_parts.{specs.declared.fault.Fault.{Fault}, specs.declared.fault.Fault.TheVariants.{Moo, Held as of_held, Full as none_left, OutOfMemory}, specs.Reasons.{error_of}, specs.Outcomes.{world_in, ComesTo}}
+use Rattle.moo_batch.specs.Outcomes.{state_in, ComesInTurn, KeepInTurn, KeepsGoodRows, Reaches, held_at}
 
 -- all calls come to what those that are left come to
 pub record HaveStepped (before : Held) (p : ObjNo) (all : List Value) (now : Held) (left : List Value) : Type 0 where
@@ -16,7 +16,7 @@ pub record HaveStepped (before : Held) (p : ObjNo) (all : List Value) (now : Hel
   pub fit : list_all fits left ≡ true
 
 -- the state of rows that differ from others in their world alone
-with_world : (mid new : Held) → beside_world new.maps ≡ beside_world mid.maps → record (state_in mid) { world = world_in new } ≡ state_in new
+pub with_world : (mid new : Held) → beside_world new.maps ≡ beside_world mid.maps → record (state_in mid) { world = world_in new } ≡ state_in new
 with_world mid new same = ap (λ b. record { world = world_in new; petitions = b.1.1; next_petition = b.1.0; seq = b.0 }) (sym same)
 
 -- what the first of some calls makes of them
@@ -50,12 +50,13 @@ module _ {before : Held} {p : ObjNo} {all : List Value} {now : Held} where
   stepped-kept h = record { good = h.good; beside = h.beside; base = h.base; numbers = h.numbers now.maps refl }
 
   -- the first that isn't done stops them
-  pub stepped-stopped : (held : Value) (left : List Value) (fault : Fault) (new : Held) → HaveStepped before p all now (held ∷ left)
-      → ComesTo (held_step (world_in now) p held) now new (Err fault) → ComesInTurn (held_steps (world_in before) p all) new (Err fault)
+  pub stepped-stopped : (held : Value) (left : List Value) (place : ℕ) (fault : Fault) (new : Held) → HaveStepped before p all now (held ∷ left)
+      → ComesTo (held_step (world_in now) p held) now new (Err fault) → ComesInTurn (held_steps (world_in before) p all) new (Err (held_at place fault))
   unfolding first_of
-  stepped-stopped held left (Moo code) new h comes = h.steps ∙ first_is (world_in now) p held left (Failed code) comes.0
-  stepped-stopped held left none_left new h comes = h.steps ∙ first_is (world_in now) p held left Full comes.0
-  stepped-stopped held left OutOfMemory new h comes = tt
+  stepped-stopped held left place (Moo reason) new h comes = h.steps ∙ first_is (world_in now) p held left (Failed (error_of reason)) comes.0
+  stepped-stopped held left place (of_held other reason) new h comes = absurd comes
+  stepped-stopped held left place none_left new h comes = h.steps ∙ first_is (world_in now) p held left Full comes.0
+  stepped-stopped held left place OutOfMemory new h comes = tt
 
 -- ---- a petition that is granted
 
@@ -64,7 +65,8 @@ pub granted-reaches : (s : State) (p : ObjNo) (helds : List Value) (mid new : He
     → state_in mid ≡ s → ComesInTurn o new r → OnOk r (KeepInTurn p helds mid new) → Reaches (in_world s o) new r
 granted-reaches s p helds mid new o (Ok v) is comes kept =
     ap (in_world s) comes ∙ ap (λ (t : State). Done v (record t { world = world_in new })) (sym is) ∙ ap (Done v) (with_world mid new kept.beside)
-granted-reaches s p helds mid new o (Err (Moo code)) is comes kept = ap (in_world s) comes
+granted-reaches s p helds mid new o (Err (Moo reason)) is comes kept = absurd comes
+granted-reaches s p helds mid new o (Err (of_held place reason)) is comes kept = ap (in_world s) comes
 granted-reaches s p helds mid new o (Err none_left) is comes kept = ap (in_world s) comes
 granted-reaches s p helds mid new o (Err OutOfMemory) is comes kept = tt
 
@@ -88,7 +90,8 @@ on_ok (Err e) f h = tt
 pub stepped-reaches : (call : Call) (p : ObjNo) (old new : Held) (r : Result Value Fault) → petition_call call.name ≡ None
     → ComesTo (world_call (world_in old) p call) old new r → OnOk r (Keeps old new) → Reaches (batch_call (state_in old) p call) new r
 stepped-reaches call p old new (Ok v) on_world comes kept = request_steps (state_in old) p call on_world ∙ ap (in_world (state_in old)) comes ∙ ap (Done v) (with_world old new kept.beside)
-stepped-reaches call p old new (Err (Moo code)) on_world comes kept = request_steps (state_in old) p call on_world ∙ ap (in_world (state_in old)) comes.0
+stepped-reaches call p old new (Err (of_held place reason)) on_world comes kept = absurd comes
+stepped-reaches call p old new (Err (Moo reason)) on_world comes kept = request_steps (state_in old) p call on_world ∙ ap (in_world (state_in old)) comes.0
 stepped-reaches call p old new (Err none_left) on_world comes kept = request_steps (state_in old) p call on_world ∙ ap (in_world (state_in old)) comes.0
 stepped-reaches call p old new (Err OutOfMemory) on_world comes kept = tt
 

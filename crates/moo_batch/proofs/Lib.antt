@@ -3,4 +3,5 @@ pub mod Verdicts
 pub mod Beside
 pub mod HeldCalls
 pub mod InTurn
+pub mod TrueInTurn
 pub mod Chosen

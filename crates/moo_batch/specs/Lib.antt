@@ -1,3 +1,4 @@
 pub mod Judge
 pub mod Outcomes
 pub mod Checks
+pub mod Telling

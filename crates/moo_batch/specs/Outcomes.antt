@@ -1,5 +1,5 @@
 -- What the outcome of any call of a batch is on rows.
-use Rattle.std.specs.Prelude.{◌≡◌, List, Result, Ok, Err, ⊤}
+use Rattle.std.specs.Prelude.{◌≡◌, ℕ, List, Result, Ok, Err, ⊤}
 use Rattle.moo_value.specs.declared.value.ObjNo.{ObjNo}
 use Rattle.moo_value.specs.declared.value.Value.{Value}
 use Rattle.moo_rows.specs.Maps.{Maps, Held}
@@ -10,8 +10,9 @@ use Rattle.moo_world.specs.Requests.{State, state_of}
 use Rattle.moo_world.specs.Rows.{IsGood}
 use Rattle.moo_world.specs.World.{World}
 use Rattle.moo_call_parts.specs.Outcomes.{world_in}
+use Rattle.moo_call_parts.specs.Reasons.{error_of}
 use Rattle.moo_call_parts.specs.declared.fault.Fault.{Fault}
-use Rattle.moo_call_parts.specs.declared.fault.Fault.TheVariants.{Moo, Full, OutOfMemory}
+use Rattle.moo_call_parts.specs.declared.fault.Fault.TheVariants.{Moo, Held as of_held, Full, OutOfMemory}
 
 abbrev pub state_in : Held → State
 state_in held = state_of held.maps
@@ -20,21 +21,24 @@ state_in held = state_of held.maps
 -- anything
 abbrev pub Reaches : Outcome State → Held → Result Value Fault → Type 0
 Reaches outcome new (Ok v) = outcome ≡ Done v (state_in new)
-Reaches outcome new (Err (Moo code)) = outcome ≡ Failed code
+Reaches outcome new (Err (Moo reason)) = outcome ≡ Failed (error_of reason)
+Reaches outcome new (Err (of_held place reason)) = outcome ≡ Failed (error_of reason)
 Reaches outcome new (Err Full) = outcome ≡ none_left
 Reaches outcome new (Err OutOfMemory) = ⊤
 
 -- if a call isn't done, and not for lack of memory, the rows are as they were
 abbrev pub Stays : Held → Held → Result Value Fault → Type 0
 Stays old new (Ok v) = ⊤
-Stays old new (Err (Moo code)) = new ≡ old
+Stays old new (Err (Moo reason)) = new ≡ old
+Stays old new (Err (of_held place reason)) = new ≡ old
 Stays old new (Err Full) = new ≡ old
 Stays old new (Err OutOfMemory) = ⊤
 
 -- the same of calls on the world that are made one after another, of which some may have been done before one wasn't
 abbrev pub ComesInTurn : Outcome World → Held → Result Value Fault → Type 0
 ComesInTurn outcome new (Ok v) = outcome ≡ Done v (world_in new)
-ComesInTurn outcome new (Err (Moo code)) = outcome ≡ Failed code
+ComesInTurn outcome new (Err (Moo reason)) = ⊥
+ComesInTurn outcome new (Err (of_held place reason)) = outcome ≡ Failed (error_of reason)
 ComesInTurn outcome new (Err Full) = outcome ≡ none_left
 ComesInTurn outcome new (Err OutOfMemory) = ⊤
 
@@ -51,3 +55,8 @@ pub record KeepsGoodRows (keeps_numbers : Maps → Maps → Type 0) (old new : H
   pub seq : new.maps.head.seq ≡ old.maps.head.seq
   pub base : new.base ≡ old.base
   pub numbers : keeps_numbers old.maps new.maps
+
+-- why a granted petition fails, if the call at this place does
+abbrev pub held_at : ℕ → Fault → Fault
+held_at place (Moo reason) = of_held place reason
+held_at place other = other

@@ -1,8 +1,11 @@
 //! `petition`.
 
-ghost use Rattle.std.specs.Prelude.{◌≡◌, true, OnOk, IfErr};
+ghost use Rattle.std.specs.Prelude.{◌≡◌, true, List, OnOk, IfErr};
 ghost use Rattle.std.specs.List.{list_all};
+ghost use Rattle.moo_rows.specs.Maps.{Maps};
 ghost use Rattle.moo_value.specs.Value.{spread};
+ghost use Rattle.moo_value.specs.declared.value.ObjNo.{ObjNo};
+ghost use Rattle.moo_value.specs.declared.value.Value.{Value};
 ghost use Rattle.moo_value.specs.declared.value.Value.TheVariants.{List as a_list};
 ghost use Rattle.moo_world.specs.Arguments.{fits};
 ghost use Rattle.moo_world.specs.Numbers.{KeepsNumbers};
@@ -12,37 +15,42 @@ ghost use Rattle.moo_world.specs.Requests.{State, are_on_world, petition_filed, 
 ghost use Rattle.moo_world.specs.Rows.{IsGood};
 ghost use Rattle.moo_world.specs.World.{is_object};
 ghost use Rattle.moo_call_parts.specs.Outcomes.{world_in};
+ghost use Rattle.moo_call_parts.specs.Reasons.{error_of};
 ghost use Rattle.moo_batch.specs.Checks.{taking_calls};
 ghost use Rattle.moo_batch.specs.Outcomes.{state_in, KeepsGoodRows, Reaches, Stays};
+ghost use Rattle.moo_batch.specs.Telling.{IsTrueFault, about_calls};
+ghost use Rattle.moo_call_parts.specs.About.{About, about_given};
+ghost use Rattle.moo_call_parts.specs.Told.{IsTrueOf};
 
 use crate::args::one_list;
 use crate::held::are_calls;
-use moo_call_parts::Fault;
+use moo_call_parts::{Fault, Reason};
 use moo_rows::{PetitionId, PetitionRow, Rows};
-use moo_value::{Code, ObjNo, Value, ValueList};
+use moo_value::{ObjNo, Value, ValueList};
 use moo_world::{are_few, are_named, are_shallow};
 use std::alloc::Global;
 
 /// Whether a petition may ask for these calls: E_TYPE if it isn't a list of lists that each begin with a string, else E_INVARG.
-fn may_be_asked(calls: &ValueList) -> Result<(), Code>
+fn may_be_asked(calls: &ValueList) -> Result<(), Reason>
     requires { fits (a_list calls.now) ≡ true }
     ensures named { OnOk result (list_all is_named (spread calls.now) ≡ true) }
     ensures few { OnOk result (are_few calls.now ≡ true) }
     ensures on_world { OnOk result (are_on_world calls.now ≡ true) }
     ensures shallow { OnOk result (are_shallow calls.now ≡ true) }
-    ensures err { IfErr result (λ code. (then : Outcome State) → taking_calls calls.now then ≡ Failed code) }
+    ensures err { IfErr result (λ reason. (then : Outcome State) → taking_calls calls.now then ≡ Failed (error_of reason)) }
+    ensures told { IfErr result (λ reason. (maps : Maps) (programmer : ObjNo) → IsTrueOf maps programmer (about_calls calls.now) reason) }
 {
     if !are_named(calls.items()) {
-        return Err(Code::Type);
+        return Err(Reason::Unnamed);
     }
     if !are_few(calls) {
-        return Err(Code::InvalidArgument);
+        return Err(Reason::NotFew);
     }
     if !are_calls(calls.items()) {
-        return Err(Code::InvalidArgument);
+        return Err(Reason::Unasked);
     }
     if !are_shallow(calls) {
-        return Err(Code::InvalidArgument);
+        return Err(Reason::Deep);
     }
     Ok(())
 }
@@ -54,6 +62,7 @@ fn ask<R: Rows>(rows: &mut R, programmer: ObjNo, calls: ValueList) -> Result<Val
     ensures reaches { Reaches (petition_filed (state_in (R.held rows.old)) programmer calls) (R.held rows.new) result }
     ensures stays { Stays (R.held rows.old) (R.held rows.new) result }
     ensures kept { OnOk result (KeepsGoodRows KeepsNumbers (R.held rows.old) (R.held rows.new)) }
+    ensures told { (about : About) (args : List Value) → IfErr result (IsTrueFault (R.held rows.old).maps programmer about args) }
 {
     let mut head = rows.head();
     let number = head.next_petition;
@@ -86,6 +95,7 @@ pub(crate) fn petition<R: Rows>(
     ensures reaches { Reaches (given (one_list args.now) (petition (state_in (R.held rows.old)) programmer)) (R.held rows.new) result }
     ensures stays { Stays (R.held rows.old) (R.held rows.new) result }
     ensures kept { OnOk result (KeepsGoodRows KeepsNumbers (R.held rows.old) (R.held rows.new)) }
+    ensures told { IfErr result (IsTrueFault (R.held rows.old).maps programmer (about_given (one_list args.now) about_calls) args.now) }
 {
     let calls = one_list(args)?;
     may_be_asked(calls)?;

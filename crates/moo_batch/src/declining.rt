@@ -1,6 +1,6 @@
 //! `decline`.
 
-ghost use Rattle.std.specs.Prelude.{◌≡◌, ◌||◌, OnOk};
+ghost use Rattle.std.specs.Prelude.{◌≡◌, ◌||◌, OnOk, IfErr};
 ghost use Rattle.moo_world.specs.Numbers.{KeepsNumbers};
 ghost use Rattle.moo_world.specs.Objects.{same_object};
 ghost use Rattle.moo_world.specs.Outcomes.{given};
@@ -9,13 +9,15 @@ ghost use Rattle.moo_world.specs.Rights.{is_wizard};
 ghost use Rattle.moo_world.specs.Rows.{IsGood};
 ghost use Rattle.moo_call_parts.specs.Outcomes.{world_in};
 ghost use Rattle.moo_batch.specs.Outcomes.{state_in, KeepsGoodRows, Reaches, Stays};
+ghost use Rattle.moo_batch.specs.Telling.{IsTrueFault, about_number};
+ghost use Rattle.moo_call_parts.specs.About.{about_given};
 
 use crate::args::one_integer;
 use crate::looking::petition_at;
 use moo_call_parts::rights::is_wizard;
-use moo_call_parts::{Fault, ZERO};
+use moo_call_parts::{Fault, Reason, ZERO};
 use moo_rows::Rows;
-use moo_value::{Code, ObjNo, Value};
+use moo_value::{ObjNo, Value};
 
 /// Whether the programmer is who asks, or a wizard.
 fn may_decline<R: Rows>(rows: &R, programmer: ObjNo, who: ObjNo) -> bool
@@ -35,13 +37,14 @@ pub(crate) fn decline<R: Rows>(
     ensures reaches { Reaches (given (one_integer args.now) (decline (state_in (R.held rows.old)) programmer)) (R.held rows.new) result }
     ensures stays { Stays (R.held rows.old) (R.held rows.new) result }
     ensures kept { OnOk result (KeepsGoodRows KeepsNumbers (R.held rows.old) (R.held rows.new)) }
+    ensures told { IfErr result (IsTrueFault (R.held rows.old).maps programmer (about_given (one_integer args.now) about_number) args.now) }
 {
     let number = one_integer(args)?;
     let Some((id, row)) = petition_at(rows, number) else {
-        return Err(Fault::Moo(Code::InvalidArgument));
+        return Err(Fault::Moo(Reason::NoPetition));
     };
     if !may_decline(rows, programmer, row.who) {
-        return Err(Fault::Moo(Code::Permission));
+        return Err(Fault::Moo(Reason::NotAsker));
     }
     rows.remove_petition(id)?;
     Ok(ZERO)

@@ -1,6 +1,6 @@
 //! `grant`.
 
-ghost use Rattle.std.specs.Prelude.{◌≡◌, true, OnOk};
+ghost use Rattle.std.specs.Prelude.{◌≡◌, ◌≤◌, true, length, OnOk, IfErr};
 ghost use Rattle.std.specs.List.{list_all};
 ghost use Rattle.moo_world.specs.Arguments.{fits};
 ghost use Rattle.moo_world.specs.Between.{GrantLeads};
@@ -9,16 +9,19 @@ ghost use Rattle.moo_world.specs.Outcomes.{given};
 ghost use Rattle.moo_world.specs.Requests.{grant, held_step, held_steps, one_integer};
 ghost use Rattle.moo_world.specs.Rows.{IsGood};
 ghost use Rattle.moo_call_parts.specs.Outcomes.{world_in, ComesTo};
-ghost use Rattle.moo_batch.specs.Outcomes.{state_in, ComesInTurn, KeepInTurn, KeepsGoodRows, Reaches};
+ghost use Rattle.moo_batch.specs.Outcomes.{state_in, ComesInTurn, KeepInTurn, KeepsGoodRows, Reaches, held_at};
+ghost use Rattle.moo_batch.specs.Telling.{IsFaultInTurn, IsTrueFault, about_held, about_number};
+ghost use Rattle.moo_call_parts.specs.About.{about_given};
+ghost use Rattle.moo_call_parts.specs.Told.{IsTold};
 
 use crate::args::one_integer;
 use crate::held::held_call;
 use crate::looking::petition_at;
 use moo_call_parts::rights::is_wizard;
-use moo_call_parts::{Fault, ZERO};
+use moo_call_parts::{Fault, Reason, ZERO};
 use moo_calls::step_named;
 use moo_rows::{Row, Rows};
-use moo_value::{Code, ObjNo, Value};
+use moo_value::{ObjNo, Value};
 use std::alloc::Global;
 
 /// One call that a petition holds, by the wizard who grants it. E_INVARG if it names no call on the world.
@@ -32,10 +35,21 @@ fn held_step<R: Rows>(
     requires fit { fits held.now ≡ true }
     ensures comes { ComesTo (held_step (world_in (R.held rows.old)) wizard held.now) (R.held rows.old) (R.held rows.new) result }
     ensures kept { OnOk result (Keeps (R.held rows.old) (R.held rows.new)) }
+    ensures told { IsTold (R.held rows.old).maps wizard (about_held wizard held.now) result }
 {
     match held_call(held) {
         Some((name, args)) => step_named(rows, alloc, wizard, name, args),
-        None => Err(Fault::Moo(Code::InvalidArgument)),
+        None => Err(Fault::Moo(Reason::Unasked)),
+    }
+}
+
+/// Why a granted petition fails, if the call at this place does.
+fn held_at(place: u32, fault: Fault) -> Fault
+    ensures { result ≡ held_at place fault }
+{
+    match fault {
+        Fault::Moo(reason) => Fault::Held { place, reason },
+        _ => fault,
     }
 }
 
@@ -48,11 +62,18 @@ fn held_steps<R: Rows>(
 ) -> Result<Value, Fault>
     requires good { IsGood (R.held rows.old).maps }
     requires fit { list_all fits helds.now ≡ true }
+    requires few { length helds.now ≤ 64 }
     ensures comes { ComesInTurn (held_steps (world_in (R.held rows.old)) wizard helds.now) (R.held rows.new) result }
     ensures kept { OnOk result (KeepInTurn wizard helds.now (R.held rows.old) (R.held rows.new)) }
+    ensures told { IfErr result (IsFaultInTurn wizard helds.now (R.held rows.old).maps) }
 {
+    let mut place: u32 = 0;
     for held in helds {
-        held_step(rows, alloc, wizard, held)?;
+        match held_step(rows, alloc, wizard, held) {
+            Ok(_done) => {}
+            Err(fault) => return Err(held_at(place, fault)),
+        }
+        place += 1;
     }
     Ok(ZERO)
 }
@@ -71,13 +92,14 @@ pub(crate) fn grant<R: Rows>(
     requires good { IsGood (R.held rows.old).maps }
     ensures reaches { Reaches (given (one_integer args.now) (grant (state_in (R.held rows.old)) programmer)) (R.held rows.new) result }
     ensures kept { OnOk result (KeepsGoodRows (GrantLeads programmer args.now) (R.held rows.old) (R.held rows.new)) }
+    ensures told { IfErr result (IsTrueFault (R.held rows.old).maps programmer (about_given (one_integer args.now) about_number) args.now) }
 {
     let number = one_integer(args)?;
     if !is_wizard(rows, programmer) {
-        return Err(Fault::Moo(Code::Permission));
+        return Err(Fault::Moo(Reason::NoWizard));
     }
     let Some((id, row)) = petition_at(rows, number) else {
-        return Err(Fault::Moo(Code::InvalidArgument));
+        return Err(Fault::Moo(Reason::NoPetition));
     };
     let row = row.copy(alloc)?;
     rows.remove_petition(id)?;

@@ -64,7 +64,18 @@ fn run_calls<R: Rows>(
                     return Err(Stop::OutOfMemory);
                 }
             }
-            Err(Fault::Moo(code)) => return Err(Stop::Refused { call: number, code }),
+            Err(Fault::Moo(reason)) => {
+                return Err(Stop::Refused {
+                    call: number,
+                    code: reason.code(),
+                });
+            }
+            Err(Fault::Held { place: _, reason }) => {
+                return Err(Stop::Refused {
+                    call: number,
+                    code: reason.code(),
+                });
+            }
             Err(Fault::Full) => return Err(Stop::Full { call: number }),
             Err(Fault::OutOfMemory) => return Err(Stop::OutOfMemory),
         }

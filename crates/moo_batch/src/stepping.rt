@@ -1,6 +1,6 @@
 //! Any call of a batch.
 
-ghost use Rattle.std.specs.Prelude.{◌≡◌, true, false, OnOk};
+ghost use Rattle.std.specs.Prelude.{◌≡◌, true, false, OnOk, IfErr};
 ghost use Rattle.std.specs.List.{list_all};
 ghost use Rattle.moo_world.specs.Arguments.{fits};
 ghost use Rattle.moo_world.specs.Between.{CallKeepsNumbers};
@@ -10,15 +10,16 @@ ghost use Rattle.moo_world.specs.Rows.{IsGood};
 ghost use Rattle.moo_world.specs.World.{is_object};
 ghost use Rattle.moo_call_parts.specs.Outcomes.{world_in};
 ghost use Rattle.moo_batch.specs.Outcomes.{state_in, KeepsGoodRows, Reaches, Stays};
+ghost use Rattle.moo_batch.specs.Telling.{IsTrueFault, about_petitions, about_request};
 
 use crate::asking::petition;
 use crate::declining::decline;
 use crate::granting::grant;
 use crate::listing::petitions;
-use moo_call_parts::Fault;
+use moo_call_parts::{Fault, Reason};
 use moo_rows::Rows;
 use moo_tree::valid;
-use moo_value::{Code, ObjNo, Value};
+use moo_value::{ObjNo, Value};
 use moo_world::{Call, PetitionCall};
 use std::alloc::Global;
 
@@ -36,6 +37,7 @@ fn petition_call<R: Rows>(
     ensures reaches { Reaches (petition_call_by (state_in (R.held rows.old)) programmer call args.now) (R.held rows.new) result }
     ensures stays { grants call ≡ false → Stays (R.held rows.old) (R.held rows.new) result }
     ensures kept { OnOk result (KeepsGoodRows (CallKeepsNumbers (grants call) programmer args.now) (R.held rows.old) (R.held rows.new)) }
+    ensures told { IfErr result (IsTrueFault (R.held rows.old).maps programmer (about_petitions call args.now) args.now) }
 {
     match call {
         PetitionCall::Petition => petition(rows, programmer, args),
@@ -59,12 +61,13 @@ pub fn step<R: Rows>(
     ensures reaches { Reaches (batch_call (state_in (R.held rows.old)) programmer call.now) (R.held rows.new) result }
     ensures stays { is_grant call.now.name ≡ false → Stays (R.held rows.old) (R.held rows.new) result }
     ensures kept { OnOk result (KeepsGoodRows (CallKeepsNumbers (is_grant call.now.name) programmer call.now.args) (R.held rows.old) (R.held rows.new)) }
+    ensures told { IfErr result (IsTrueFault (R.held rows.old).maps programmer (about_request programmer call.now) call.now.args) }
 {
     let Some(of_petitions) = call.name.petition_call() else {
         return moo_calls::step(rows, alloc, programmer, call);
     };
     if !valid(rows, programmer) {
-        return Err(Fault::Moo(Code::Permission));
+        return Err(Fault::Moo(Reason::NoProgrammer));
     }
     petition_call(rows, alloc, programmer, of_petitions, call.args.items())
 }

@@ -1,1 +1,4 @@
+pub mod About
+pub mod Reasons
+pub mod Told
 pub mod Outcomes

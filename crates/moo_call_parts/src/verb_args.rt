@@ -1,37 +1,47 @@
 //! What a call on verbs is given: descriptors, and owners, rights, names and arguments in lists. A list of another length, or
 //! with something of another type in it, is E_TYPE, and so is a descriptor that is neither a number nor a word.
 
-ghost use Rattle.std.specs.Prelude.{◌≡◌, IfOk, IfErr, Ok, Err, ok_or, option_map};
+ghost use Rattle.std.specs.Prelude.{◌≡◌, IfOk, IfErr, Ok, Err, option_map};
 ghost use Rattle.std.specs.Result.{result_map_both};
+ghost use Rattle.moo_value.specs.declared.value.ObjNo.{ObjNo};
+ghost use Rattle.moo_rows.specs.Maps.{Maps};
+ghost use Rattle.moo_world.specs.Objects.{Name};
+ghost use Rattle.moo_world.specs.declared.descriptor.Desc.{Desc};
 ghost use Rattle.moo_world.specs.Arguments.{desc_of, verb_info_in, texts_in, object_and_desc, new_verb, new_verb_info, new_verb_args};
-ghost use Rattle.moo_world.specs.Codes.{E_TYPE};
 ghost use Rattle.moo_call_parts.specs.Outcomes.{GivenOrNot};
+ghost use Rattle.moo_call_parts.specs.About.{About, about_given};
+ghost use Rattle.moo_call_parts.specs.Told.{IsTold};
 
 use crate::fault::Fault;
 use crate::infos::Info;
+use crate::reason::Reason;
 use moo_value::{Code, MooStr, ObjNo, Value};
 use moo_world::Desc;
-use std::alloc::Global;
+use std::alloc::{AllocError, Global};
 
-/// The descriptor that a value is: a number or a word. E_TYPE for any other value.
-fn desc_of(alloc: Global, value: &Value) -> Result<Desc, Fault>
-    ensures { GivenOrNot (ok_or (desc_of value.now) E_TYPE) result }
+/// The descriptor that a value is: a number or a word. None for any other value. The only error is out of memory.
+fn desc_of(alloc: Global, value: &Value) -> Result<Option<Desc>, AllocError>
+    ensures { IfOk result (λ desc. desc ≡ desc_of value.now) }
 {
     match value {
-        Value::Int(number) => Ok(Desc::Index(*number)),
-        Value::Str(word) => Ok(Desc::Name(word.copy(alloc)?)),
-        _ => Err(Fault::Moo(Code::Type)),
+        Value::Int(number) => Ok(Some(Desc::Index(*number))),
+        Value::Str(word) => Ok(Some(Desc::Name(word.copy(alloc)?))),
+        _ => Ok(None),
     }
 }
 
 /// What `verb_info`, `verb_args` and `delete_verb` take: an object and a descriptor.
 pub fn object_and_desc(alloc: Global, args: &[Value]) -> Result<(ObjNo, Desc), Fault>
-    ensures { GivenOrNot (object_and_desc args.now) result }
+    ensures given { GivenOrNot (object_and_desc args.now) result }
+    ensures told { (maps : Maps) (programmer : ObjNo) (about : ObjNo × Desc → About) → IsTold maps programmer (about_given (object_and_desc args.now) about) result }
 {
     match args {
-        [Value::Obj(x), desc] => Ok((*x, desc_of(alloc, desc)?)),
-        [_, _] => Err(Fault::Moo(Code::Type)),
-        _ => Err(Fault::Moo(Code::Arguments)),
+        [Value::Obj(x), desc] => match desc_of(alloc, desc)? {
+            Some(desc) => Ok((*x, desc)),
+            None => Err(Fault::Moo(Reason::Given(Code::Type))),
+        },
+        [_, _] => Err(Fault::Moo(Reason::Given(Code::Type))),
+        _ => Err(Fault::Moo(Reason::Given(Code::Arguments))),
     }
 }
 
@@ -121,20 +131,27 @@ pub struct NewVerbInfo<'a> {
 
 /// What `set_verb_info` takes.
 pub fn new_verb_info(alloc: Global, args: &[Value]) -> Result<NewVerbInfo<'_>, Fault>
-    ensures { GivenOrNot (new_verb_info args.now)
+    ensures given { GivenOrNot (new_verb_info args.now)
         (result_map_both (λ p. (p.object, (p.desc, ((p.verb.info.owner, p.verb.info.perms.now), p.verb.names.now)))) (λ fault. fault) result) }
+    ensures told { (maps : Maps) (programmer : ObjNo) (about : ObjNo × (Desc × ((ObjNo × Name) × Name)) → About) → IsTold maps programmer (about_given (new_verb_info args.now) about) result }
 {
     match args {
-        [Value::Obj(object), desc, Value::List(info)] => match verb_info_in(info.items()) {
-            Some(verb) => Ok(NewVerbInfo {
-                object: *object,
-                desc: desc_of(alloc, desc)?,
-                verb,
-            }),
-            None => Err(Fault::Moo(Code::Type)),
-        },
-        [_, _, _] => Err(Fault::Moo(Code::Type)),
-        _ => Err(Fault::Moo(Code::Arguments)),
+        [Value::Obj(object), desc, Value::List(info)] => {
+            // The list is looked at first: E_TYPE comes before the word takes memory.
+            let Some(verb) = verb_info_in(info.items()) else {
+                return Err(Fault::Moo(Reason::Given(Code::Type)));
+            };
+            match desc_of(alloc, desc)? {
+                Some(desc) => Ok(NewVerbInfo {
+                    object: *object,
+                    desc,
+                    verb,
+                }),
+                None => Err(Fault::Moo(Reason::Given(Code::Type))),
+            }
+        }
+        [_, _, _] => Err(Fault::Moo(Reason::Given(Code::Type))),
+        _ => Err(Fault::Moo(Reason::Given(Code::Arguments))),
     }
 }
 
@@ -148,19 +165,25 @@ pub struct NewVerbArgs<'a> {
 
 /// What `set_verb_args` takes.
 pub fn new_verb_args(alloc: Global, args: &[Value]) -> Result<NewVerbArgs<'_>, Fault>
-    ensures { GivenOrNot (new_verb_args args.now)
+    ensures given { GivenOrNot (new_verb_args args.now)
         (result_map_both (λ p. (p.object, (p.desc, (p.args.dobj.now, p.args.prep.now, p.args.iobj.now)))) (λ fault. fault) result) }
+    ensures told { (maps : Maps) (programmer : ObjNo) (about : ObjNo × (Desc × (Name × Name × Name)) → About) → IsTold maps programmer (about_given (new_verb_args args.now) about) result }
 {
     match args {
-        [Value::Obj(object), desc, Value::List(texts)] => match texts_in(texts.items()) {
-            Some(args) => Ok(NewVerbArgs {
-                object: *object,
-                desc: desc_of(alloc, desc)?,
-                args,
-            }),
-            None => Err(Fault::Moo(Code::Type)),
-        },
-        [_, _, _] => Err(Fault::Moo(Code::Type)),
-        _ => Err(Fault::Moo(Code::Arguments)),
+        [Value::Obj(object), desc, Value::List(texts)] => {
+            let Some(args) = texts_in(texts.items()) else {
+                return Err(Fault::Moo(Reason::Given(Code::Type)));
+            };
+            match desc_of(alloc, desc)? {
+                Some(desc) => Ok(NewVerbArgs {
+                    object: *object,
+                    desc,
+                    args,
+                }),
+                None => Err(Fault::Moo(Reason::Given(Code::Type))),
+            }
+        }
+        [_, _, _] => Err(Fault::Moo(Reason::Given(Code::Type))),
+        _ => Err(Fault::Moo(Reason::Given(Code::Arguments))),
     }
 }

@@ -1,1 +1,2 @@
 mod Created
+mod Checked

@@ -8,11 +8,15 @@ ghost use Rattle.moo_world.specs.declared.name.CallName.TheVariants.{SetPlayerFl
 ghost use Rattle.moo_world.specs.Keeps.{Keeps};
 ghost use Rattle.moo_world.specs.Rows.{IsGood};
 ghost use Rattle.moo_call_parts.specs.Outcomes.{world_in, ComesTo};
+ghost use Rattle.moo_call_parts.specs.About.{about_accept, about_call, about_object};
+ghost use Rattle.moo_call_parts.specs.Told.{IsTold};
 
-use moo_call_parts::{Fault, ZERO, change_row, object_and_accept, object_and_value, rights};
+use moo_call_parts::{
+    Fault, Reason, ZERO, change_row, object_and_accept, object_and_value, rights,
+};
 use moo_rows::{ObjList, Rows};
 use moo_tree::valid;
-use moo_value::{Code, ObjNo, Value};
+use moo_value::{ObjNo, Value};
 use moo_world::Change;
 use std::alloc::Global;
 
@@ -30,12 +34,13 @@ pub fn set_player_flag<R: Rows>(
     requires { IsGood (R.held rows.old).maps }
     ensures comes { ComesTo (set_player_flag (world_in (R.held rows.old)) programmer x value.now) (R.held rows.old) (R.held rows.new) result }
     ensures kept { OnOk result (Keeps (R.held rows.old) (R.held rows.new)) }
+    ensures told { IsTold (R.held rows.old).maps programmer (about_object x) result }
 {
     if !valid(rows, x) {
-        return Err(Fault::Moo(Code::InvalidArgument));
+        return Err(Fault::Moo(Reason::NoObject(x)));
     }
     if !rights::is_wizard(rows, programmer) {
-        return Err(Fault::Moo(Code::Permission));
+        return Err(Fault::Moo(Reason::NoWizard));
     }
     change_row(rows, alloc, x, Change::Player(value.is_true()))?;
     Ok(ZERO)
@@ -67,15 +72,16 @@ pub fn set_accept<R: Rows>(
     requires numbers { list_all is_number (unwrap_or list []) ≡ true }
     ensures comes { ComesTo (set_accept (world_in (R.held rows.old)) programmer x list) (R.held rows.old) (R.held rows.new) result }
     ensures kept { OnOk result (Keeps (R.held rows.old) (R.held rows.new)) }
+    ensures told { IsTold (R.held rows.old).maps programmer (about_accept x list) result }
 {
     if !valid(rows, x) {
-        return Err(Fault::Moo(Code::InvalidArgument));
+        return Err(Fault::Moo(Reason::NoObject(x)));
     }
     if !rights::controls(rows, programmer, x) {
-        return Err(Fault::Moo(Code::Permission));
+        return Err(Fault::Moo(Reason::NotControlled(x)));
     }
     if !is_short(&list) {
-        return Err(Fault::Moo(Code::InvalidArgument));
+        return Err(Fault::Moo(Reason::LongList));
     }
     change_row(rows, alloc, x, Change::Accept(list))?;
     Ok(ZERO)
@@ -91,6 +97,7 @@ pub(crate) fn set_player_flag_given<R: Rows>(
     requires { IsGood (R.held rows.old).maps }
     ensures comes { ComesTo (named_call (world_in (R.held rows.old)) programmer SetPlayerFlag args.now) (R.held rows.old) (R.held rows.new) result }
     ensures kept { OnOk result (Keeps (R.held rows.old) (R.held rows.new)) }
+    ensures told { IsTold (R.held rows.old).maps programmer (about_call programmer SetPlayerFlag args.now) result }
 {
     let (x, value) = object_and_value(args)?;
     set_player_flag(rows, alloc, programmer, x, value)
@@ -107,6 +114,7 @@ pub(crate) fn set_accept_given<R: Rows>(
     requires fit { list_all fits args.now ≡ true }
     ensures comes { ComesTo (named_call (world_in (R.held rows.old)) programmer SetAccept args.now) (R.held rows.old) (R.held rows.new) result }
     ensures kept { OnOk result (Keeps (R.held rows.old) (R.held rows.new)) }
+    ensures told { IsTold (R.held rows.old).maps programmer (about_call programmer SetAccept args.now) result }
 {
     let (x, list) = object_and_accept(alloc, args)?;
     set_accept(rows, alloc, programmer, x, list)

@@ -1,21 +1,27 @@
 //! Making objects.
 
-ghost use Rattle.std.specs.Prelude.{◌≡◌, true, OnOk};
+ghost use Rattle.std.specs.Prelude.{◌≡◌, true, false, OnOk};
+ghost use Rattle.moo_value.specs.declared.value.ObjNo.{ObjNo};
+ghost use Rattle.moo_world.specs.Rights.{may_be_parent};
 ghost use Rattle.moo_world.specs.Rows.{IsGood};
 ghost use Rattle.moo_world.specs.Creation.{next_object, owner_or_self};
 ghost use Rattle.moo_world.specs.Quota.{may_afford, charged};
+ghost use Rattle.moo_world.specs.Codes.{E_PERM};
 ghost use Rattle.moo_world.specs.Calls.{create, named_call};
 ghost use Rattle.moo_world.specs.declared.name.CallName.TheVariants.{Create};
+ghost use Rattle.moo_call_parts.specs.Reasons.{error_of};
 ghost use Rattle.moo_call_parts.specs.Outcomes.{world_in, ComesTo};
 ghost use Rattle.moo_world.specs.Keeps.{Keeps};
 ghost use Rattle.moo_world.specs.Numbers.{IsSameButSlots};
 ghost use Rattle.moo_calls.specs.Quotas.{has_one_left, quota_given};
+ghost use Rattle.moo_call_parts.specs.About.{About, about_call, about_object};
+ghost use Rattle.moo_call_parts.specs.Told.{IsTold, IsTrueOf};
 
-use moo_call_parts::{Fault, parent_and_owner, rights};
+use moo_call_parts::{Fault, Reason, parent_and_owner, rights};
 use moo_props::{make, quota_of, take_quota};
 use moo_rows::Rows;
-use moo_tree::is_nothing;
-use moo_value::{Code, ObjNo, Value};
+use moo_tree::{is_nothing, valid};
+use moo_value::{ObjNo, Value};
 use std::alloc::{AllocError, Global};
 
 /// The number of the next object, if one is left.
@@ -75,6 +81,18 @@ fn charge<R: Rows>(rows: &mut R, owner: ObjNo, quota: Option<i64>) -> Result<(),
     Ok(())
 }
 
+/// Why an object may not be made under a parent.
+fn parent_fault<R: Rows>(rows: &R, parent: ObjNo) -> Reason
+    ensures error { error_of result ≡ E_PERM }
+    ensures told { (programmer : ObjNo) (about : About) → may_be_parent (world_in (R.held rows.now)) programmer parent ≡ false → IsTrueOf (R.held rows.now).maps programmer about result }
+{
+    if valid(rows, parent) {
+        Reason::NotFertile(parent)
+    } else {
+        Reason::NoParent(parent)
+    }
+}
+
 /// `create(parent, owner)`: makes an object under a parent, takes one from the owner's quota, and answers the new object.
 /// The owner is the programmer if none is given, and the object itself if it is `#-1`. E_PERM if the programmer
 /// may not use the parent, and then if it may not make an object for the owner; E_INVARG if the owner is neither an
@@ -90,20 +108,21 @@ pub fn create<R: Rows>(
     requires { IsGood (R.held rows.old).maps }
     ensures comes { ComesTo (create (world_in (R.held rows.old)) programmer parent owner) (R.held rows.old) (R.held rows.new) result }
     ensures kept { OnOk result (Keeps (R.held rows.old) (R.held rows.new)) }
+    ensures told { IsTold (R.held rows.old).maps programmer (about_object parent) result }
 {
     if !rights::may_be_parent(rows, programmer, parent) {
-        return Err(Fault::Moo(Code::Permission));
+        return Err(Fault::Moo(parent_fault(rows, parent)));
     }
     if !rights::may_make_owner(rows, programmer, owner) {
-        return Err(Fault::Moo(Code::Permission));
+        return Err(Fault::Moo(Reason::NoOwner(owner)));
     }
     if !rights::valid_or_nothing(rows, owner) {
-        return Err(Fault::Moo(Code::InvalidArgument));
+        return Err(Fault::Moo(Reason::NoPlace(owner)));
     }
     // The quota is looked up once: making an object leaves that of its owner as it is.
     let quota = quota_given(rows, owner);
     if !has_one_left(quota) {
-        return Err(Fault::Moo(Code::Quota));
+        return Err(Fault::Moo(Reason::NoQuota(owner)));
     }
     let Some(x) = next_object(rows) else {
         return Err(Fault::Full);
@@ -123,6 +142,7 @@ pub(crate) fn create_given<R: Rows>(
     requires { IsGood (R.held rows.old).maps }
     ensures comes { ComesTo (named_call (world_in (R.held rows.old)) programmer Create args.now) (R.held rows.old) (R.held rows.new) result }
     ensures kept { OnOk result (Keeps (R.held rows.old) (R.held rows.new)) }
+    ensures told { IsTold (R.held rows.old).maps programmer (about_call programmer Create args.now) result }
 {
     let (parent, owner) = parent_and_owner(args, programmer)?;
     create(rows, alloc, programmer, parent, owner)

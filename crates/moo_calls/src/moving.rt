@@ -6,11 +6,13 @@ ghost use Rattle.moo_world.specs.declared.name.CallName.TheVariants.{Move};
 ghost use Rattle.moo_world.specs.Keeps.{Keeps};
 ghost use Rattle.moo_world.specs.Rows.{IsGood};
 ghost use Rattle.moo_call_parts.specs.Outcomes.{world_in, ComesTo};
+ghost use Rattle.moo_call_parts.specs.About.{about_call, about_place};
+ghost use Rattle.moo_call_parts.specs.Told.{IsTold};
 
-use moo_call_parts::{Fault, ZERO, accepts, change_row, rights, two_objects};
+use moo_call_parts::{Fault, Reason, ZERO, accepts, change_row, rights, two_objects};
 use moo_rows::Rows;
 use moo_tree::{inside, valid};
-use moo_value::{Code, ObjNo, Value};
+use moo_value::{ObjNo, Value};
 use moo_world::Change;
 use std::alloc::Global;
 
@@ -30,21 +32,22 @@ pub fn move_into<R: Rows>(
     requires { IsGood (R.held rows.old).maps }
     ensures comes { ComesTo (move (world_in (R.held rows.old)) programmer x destination) (R.held rows.old) (R.held rows.new) result }
     ensures kept { OnOk result (Keeps (R.held rows.old) (R.held rows.new)) }
+    ensures told { IsTold (R.held rows.old).maps programmer (about_place x destination) result }
 {
     if !valid(rows, x) {
-        return Err(Fault::Moo(Code::InvalidArgument));
+        return Err(Fault::Moo(Reason::NoObject(x)));
     }
     if !rights::valid_or_nothing(rows, destination) {
-        return Err(Fault::Moo(Code::InvalidArgument));
+        return Err(Fault::Moo(Reason::NoPlace(destination)));
     }
     if !rights::controls(rows, programmer, x) {
-        return Err(Fault::Moo(Code::Permission));
+        return Err(Fault::Moo(Reason::NotControlled(x)));
     }
     if !rights::is_wizard(rows, programmer) && !accepts(rows, destination, x) {
-        return Err(Fault::Moo(Code::NotAccepted));
+        return Err(Fault::Moo(Reason::NotAccepted(destination)));
     }
     if inside(rows, destination, x) {
-        return Err(Fault::Moo(Code::RecursiveMove));
+        return Err(Fault::Moo(Reason::PlaceInside(destination)));
     }
     change_row(rows, alloc, x, Change::Location(destination))?;
     Ok(ZERO)
@@ -60,6 +63,7 @@ pub(crate) fn move_given<R: Rows>(
     requires { IsGood (R.held rows.old).maps }
     ensures comes { ComesTo (named_call (world_in (R.held rows.old)) programmer Move args.now) (R.held rows.old) (R.held rows.new) result }
     ensures kept { OnOk result (Keeps (R.held rows.old) (R.held rows.new)) }
+    ensures told { IsTold (R.held rows.old).maps programmer (about_call programmer Move args.now) result }
 {
     let (x, destination) = two_objects(args)?;
     move_into(rows, alloc, programmer, x, destination)

@@ -9,6 +9,8 @@ ghost use Rattle.moo_world.specs.Keeps.{Keeps};
 ghost use Rattle.moo_world.specs.Rows.{IsGood};
 ghost use Rattle.moo_world.specs.Calls.{named_call};
 ghost use Rattle.moo_world.specs.declared.name.CallName.TheVariants.{Get, Properties, PropertyInfo, IsClearProperty, Set, AddProperty, DeleteProperty, SetPropertyInfo, ClearProperty};
+ghost use Rattle.moo_call_parts.specs.About.{about_call};
+ghost use Rattle.moo_call_parts.specs.Told.{IsTold};
 
 use crate::values;
 use moo_call_parts::{
@@ -26,7 +28,8 @@ pub(crate) fn get<R: Rows>(
     args: &[Value],
 ) -> Result<Value, Fault>
     requires { IsGood (R.held rows.now).maps }
-    ensures { Answers (named_call (world_in (R.held rows.now)) programmer Get args.now) (R.held rows.now) result }
+    ensures comes { Answers (named_call (world_in (R.held rows.now)) programmer Get args.now) (R.held rows.now) result }
+    ensures told { IsTold (R.held rows.now).maps programmer (about_call programmer Get args.now) result }
 {
     let (x, property) = object_and_text(args)?;
     values::get(rows, alloc, programmer, x, property)
@@ -40,7 +43,8 @@ pub(crate) fn properties<R: Rows>(
     args: &[Value],
 ) -> Result<Value, Fault>
     requires { IsGood (R.held rows.now).maps }
-    ensures { Answers (named_call (world_in (R.held rows.now)) programmer Properties args.now) (R.held rows.now) result }
+    ensures comes { Answers (named_call (world_in (R.held rows.now)) programmer Properties args.now) (R.held rows.now) result }
+    ensures told { IsTold (R.held rows.now).maps programmer (about_call programmer Properties args.now) result }
 {
     moo_property_calls::properties(rows, alloc, programmer, one_object(args)?)
 }
@@ -53,7 +57,8 @@ pub(crate) fn property_info<R: Rows>(
     args: &[Value],
 ) -> Result<Value, Fault>
     requires { IsGood (R.held rows.now).maps }
-    ensures { Answers (named_call (world_in (R.held rows.now)) programmer PropertyInfo args.now) (R.held rows.now) result }
+    ensures comes { Answers (named_call (world_in (R.held rows.now)) programmer PropertyInfo args.now) (R.held rows.now) result }
+    ensures told { IsTold (R.held rows.now).maps programmer (about_call programmer PropertyInfo args.now) result }
 {
     let (x, property) = object_and_text(args)?;
     moo_property_calls::property_info(rows, alloc, programmer, x, property)
@@ -66,7 +71,8 @@ pub(crate) fn is_clear_property<R: Rows>(
     args: &[Value],
 ) -> Result<Value, Fault>
     requires { IsGood (R.held rows.now).maps }
-    ensures { Answers (named_call (world_in (R.held rows.now)) programmer IsClearProperty args.now) (R.held rows.now) result }
+    ensures comes { Answers (named_call (world_in (R.held rows.now)) programmer IsClearProperty args.now) (R.held rows.now) result }
+    ensures told { IsTold (R.held rows.now).maps programmer (about_call programmer IsClearProperty args.now) result }
 {
     let (x, property) = object_and_text(args)?;
     moo_property_calls::is_clear_property(rows, programmer, x, property)
@@ -83,6 +89,7 @@ pub(crate) fn set<R: Rows>(
     requires fit { list_all fits args.now ≡ true }
     ensures comes { ComesTo (named_call (world_in (R.held rows.old)) programmer Set args.now) (R.held rows.old) (R.held rows.new) result }
     ensures kept { OnOk result (Keeps (R.held rows.old) (R.held rows.new)) }
+    ensures told { IsTold (R.held rows.old).maps programmer (about_call programmer Set args.now) result }
 {
     let (x, property, value) = object_text_and_value(args)?;
     values::set(rows, alloc, programmer, x, property, value)
@@ -99,6 +106,7 @@ pub(crate) fn add_property<R: Rows>(
     requires fit { list_all fits args.now ≡ true }
     ensures comes { ComesTo (named_call (world_in (R.held rows.old)) programmer AddProperty args.now) (R.held rows.old) (R.held rows.new) result }
     ensures kept { OnOk result (Keeps (R.held rows.old) (R.held rows.new)) }
+    ensures told { IsTold (R.held rows.old).maps programmer (about_call programmer AddProperty args.now) result }
 {
     let new = new_property(args)?;
     moo_property_calls::add_property(
@@ -116,6 +124,7 @@ pub(crate) fn delete_property<R: Rows>(
     requires { IsGood (R.held rows.old).maps }
     ensures comes { ComesTo (named_call (world_in (R.held rows.old)) programmer DeleteProperty args.now) (R.held rows.old) (R.held rows.new) result }
     ensures kept { OnOk result (Keeps (R.held rows.old) (R.held rows.new)) }
+    ensures told { IsTold (R.held rows.old).maps programmer (about_call programmer DeleteProperty args.now) result }
 {
     let (x, property) = object_and_text(args)?;
     moo_property_calls::delete_property(rows, alloc, programmer, x, property)
@@ -131,6 +140,7 @@ pub(crate) fn set_property_info<R: Rows>(
     requires { IsGood (R.held rows.old).maps }
     ensures comes { ComesTo (named_call (world_in (R.held rows.old)) programmer SetPropertyInfo args.now) (R.held rows.old) (R.held rows.new) result }
     ensures kept { OnOk result (Keeps (R.held rows.old) (R.held rows.new)) }
+    ensures told { IsTold (R.held rows.old).maps programmer (about_call programmer SetPropertyInfo args.now) result }
 {
     let new = new_property_info(args)?;
     moo_property_calls::set_property_info(
@@ -153,6 +163,7 @@ pub(crate) fn clear_property<R: Rows>(
     requires { IsGood (R.held rows.old).maps }
     ensures comes { ComesTo (named_call (world_in (R.held rows.old)) programmer ClearProperty args.now) (R.held rows.old) (R.held rows.new) result }
     ensures kept { OnOk result (Keeps (R.held rows.old) (R.held rows.new)) }
+    ensures told { IsTold (R.held rows.old).maps programmer (about_call programmer ClearProperty args.now) result }
 {
     let (x, property) = object_and_text(args)?;
     moo_property_calls::clear_property(rows, programmer, x, property)

@@ -7,6 +7,8 @@ ghost use Rattle.moo_world.specs.Keeps.{Keeps};
 ghost use Rattle.moo_world.specs.Rows.{IsGood};
 ghost use Rattle.moo_world.specs.Calls.{named_call};
 ghost use Rattle.moo_world.specs.declared.name.CallName.TheVariants.{Verbs, VerbInfo, VerbArgs, AddVerb, DeleteVerb, SetVerbInfo, SetVerbArgs};
+ghost use Rattle.moo_call_parts.specs.About.{about_call};
+ghost use Rattle.moo_call_parts.specs.Told.{IsTold};
 
 use moo_call_parts::{Fault, new_verb, new_verb_args, new_verb_info, object_and_desc, one_object};
 use moo_rows::Rows;
@@ -21,7 +23,8 @@ pub(crate) fn verbs<R: Rows>(
     args: &[Value],
 ) -> Result<Value, Fault>
     requires { IsGood (R.held rows.now).maps }
-    ensures { Answers (named_call (world_in (R.held rows.now)) programmer Verbs args.now) (R.held rows.now) result }
+    ensures comes { Answers (named_call (world_in (R.held rows.now)) programmer Verbs args.now) (R.held rows.now) result }
+    ensures told { IsTold (R.held rows.now).maps programmer (about_call programmer Verbs args.now) result }
 {
     moo_verb_calls::verbs(rows, alloc, programmer, one_object(args)?)
 }
@@ -34,7 +37,8 @@ pub(crate) fn verb_info<R: Rows>(
     args: &[Value],
 ) -> Result<Value, Fault>
     requires { IsGood (R.held rows.now).maps }
-    ensures { Answers (named_call (world_in (R.held rows.now)) programmer VerbInfo args.now) (R.held rows.now) result }
+    ensures comes { Answers (named_call (world_in (R.held rows.now)) programmer VerbInfo args.now) (R.held rows.now) result }
+    ensures told { IsTold (R.held rows.now).maps programmer (about_call programmer VerbInfo args.now) result }
 {
     let (x, desc) = object_and_desc(alloc, args)?;
     moo_verb_calls::verb_info(rows, alloc, programmer, x, &desc)
@@ -48,7 +52,8 @@ pub(crate) fn verb_args<R: Rows>(
     args: &[Value],
 ) -> Result<Value, Fault>
     requires { IsGood (R.held rows.now).maps }
-    ensures { Answers (named_call (world_in (R.held rows.now)) programmer VerbArgs args.now) (R.held rows.now) result }
+    ensures comes { Answers (named_call (world_in (R.held rows.now)) programmer VerbArgs args.now) (R.held rows.now) result }
+    ensures told { IsTold (R.held rows.now).maps programmer (about_call programmer VerbArgs args.now) result }
 {
     let (x, desc) = object_and_desc(alloc, args)?;
     moo_verb_calls::verb_args(rows, alloc, programmer, x, &desc)
@@ -64,6 +69,7 @@ pub(crate) fn add_verb<R: Rows>(
     requires { IsGood (R.held rows.old).maps }
     ensures comes { ComesTo (named_call (world_in (R.held rows.old)) programmer AddVerb args.now) (R.held rows.old) (R.held rows.new) result }
     ensures kept { OnOk result (Keeps (R.held rows.old) (R.held rows.new)) }
+    ensures told { IsTold (R.held rows.old).maps programmer (about_call programmer AddVerb args.now) result }
 {
     let new = new_verb(args)?;
     moo_verb_calls::add_verb(rows, alloc, programmer, new.object, new.verb, new.args)
@@ -79,6 +85,7 @@ pub(crate) fn delete_verb<R: Rows>(
     requires { IsGood (R.held rows.old).maps }
     ensures comes { ComesTo (named_call (world_in (R.held rows.old)) programmer DeleteVerb args.now) (R.held rows.old) (R.held rows.new) result }
     ensures kept { OnOk result (Keeps (R.held rows.old) (R.held rows.new)) }
+    ensures told { IsTold (R.held rows.old).maps programmer (about_call programmer DeleteVerb args.now) result }
 {
     let (x, desc) = object_and_desc(alloc, args)?;
     moo_verb_calls::delete_verb(rows, programmer, x, &desc)
@@ -94,6 +101,7 @@ pub(crate) fn set_verb_info<R: Rows>(
     requires { IsGood (R.held rows.old).maps }
     ensures comes { ComesTo (named_call (world_in (R.held rows.old)) programmer SetVerbInfo args.now) (R.held rows.old) (R.held rows.new) result }
     ensures kept { OnOk result (Keeps (R.held rows.old) (R.held rows.new)) }
+    ensures told { IsTold (R.held rows.old).maps programmer (about_call programmer SetVerbInfo args.now) result }
 {
     let new = new_verb_info(alloc, args)?;
     moo_verb_calls::set_verb_info(rows, alloc, programmer, new.object, &new.desc, new.verb)
@@ -109,6 +117,7 @@ pub(crate) fn set_verb_args<R: Rows>(
     requires { IsGood (R.held rows.old).maps }
     ensures comes { ComesTo (named_call (world_in (R.held rows.old)) programmer SetVerbArgs args.now) (R.held rows.old) (R.held rows.new) result }
     ensures kept { OnOk result (Keeps (R.held rows.old) (R.held rows.new)) }
+    ensures told { IsTold (R.held rows.old).maps programmer (about_call programmer SetVerbArgs args.now) result }
 {
     let new = new_verb_args(alloc, args)?;
     moo_verb_calls::set_verb_args(rows, alloc, programmer, new.object, &new.desc, new.args)

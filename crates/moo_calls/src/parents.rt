@@ -6,12 +6,14 @@ ghost use Rattle.moo_world.specs.declared.name.CallName.TheVariants.{Chparent};
 ghost use Rattle.moo_world.specs.Keeps.{Keeps};
 ghost use Rattle.moo_world.specs.Rows.{IsGood};
 ghost use Rattle.moo_call_parts.specs.Outcomes.{world_in, ComesTo};
+ghost use Rattle.moo_call_parts.specs.About.{about_call, about_place};
+ghost use Rattle.moo_call_parts.specs.Told.{IsTold};
 
-use moo_call_parts::{Fault, ZERO, rights, two_objects};
+use moo_call_parts::{Fault, Reason, ZERO, rights, two_objects};
 use moo_props::{reparent, shares_property_name};
 use moo_rows::Rows;
 use moo_tree::{is_under, valid};
-use moo_value::{Code, ObjNo, Value};
+use moo_value::{ObjNo, Value};
 use std::alloc::Global;
 
 /// `chparent(object, new-parent)`: puts an object under another parent, `#-1` for none, and answers 0. The object and its
@@ -30,24 +32,25 @@ pub fn chparent<R: Rows>(
     requires { IsGood (R.held rows.old).maps }
     ensures comes { ComesTo (chparent (world_in (R.held rows.old)) programmer x new) (R.held rows.old) (R.held rows.new) result }
     ensures kept { OnOk result (Keeps (R.held rows.old) (R.held rows.new)) }
+    ensures told { IsTold (R.held rows.old).maps programmer (about_place x new) result }
 {
     if !valid(rows, x) {
-        return Err(Fault::Moo(Code::InvalidArgument));
+        return Err(Fault::Moo(Reason::NoObject(x)));
     }
     if !rights::valid_or_nothing(rows, new) {
-        return Err(Fault::Moo(Code::InvalidArgument));
+        return Err(Fault::Moo(Reason::NoPlace(new)));
     }
     if !rights::controls(rows, programmer, x) {
-        return Err(Fault::Moo(Code::Permission));
+        return Err(Fault::Moo(Reason::NotControlled(x)));
     }
     if !rights::may_be_parent(rows, programmer, new) {
-        return Err(Fault::Moo(Code::Permission));
+        return Err(Fault::Moo(Reason::NotFertile(new)));
     }
     if is_under(rows, new, x) {
-        return Err(Fault::Moo(Code::RecursiveMove));
+        return Err(Fault::Moo(Reason::ParentBelow(new)));
     }
-    if shares_property_name(rows, x, new) {
-        return Err(Fault::Moo(Code::InvalidArgument));
+    if let Some((definer, property)) = shares_property_name(rows, x, new) {
+        return Err(Fault::Moo(Reason::NameShared { definer, property }));
     }
     reparent(alloc, rows, x, new)?;
     Ok(ZERO)
@@ -63,6 +66,7 @@ pub(crate) fn chparent_given<R: Rows>(
     requires { IsGood (R.held rows.old).maps }
     ensures comes { ComesTo (named_call (world_in (R.held rows.old)) programmer Chparent args.now) (R.held rows.old) (R.held rows.new) result }
     ensures kept { OnOk result (Keeps (R.held rows.old) (R.held rows.new)) }
+    ensures told { IsTold (R.held rows.old).maps programmer (about_call programmer Chparent args.now) result }
 {
     let (x, new) = two_objects(args)?;
     chparent(rows, alloc, programmer, x, new)

@@ -1,8 +1,9 @@
 //! Calls that only read, and that anybody may make.
 //! LambdaMOO Programmer's Manual, 'Fundamental Operations on Objects' and 'Operations on Player Objects'.
 
+ghost use Rattle.moo_value.specs.declared.value.ObjNo.{ObjNo};
 ghost use Rattle.std.specs.Prelude.{◌≡◌, false, Some, IfOk, IfErr};
-ghost use Rattle.moo_value.specs.declared.code.Code.TheVariants.{InvalidArgument};
+ghost use Rattle.moo_call_parts.specs.declared.reason.Reason.TheVariants.{NoObject};
 ghost use Rattle.moo_call_parts.specs.declared.fault.Fault.TheVariants.{Moo};
 ghost use Rattle.moo_world.specs.Calls.{valid, parent, children, is_player, players, max_object, accept_list};
 ghost use Rattle.moo_world.specs.Rows.{IsGood};
@@ -10,28 +11,32 @@ ghost use Rattle.moo_world.specs.World.{is_object, row_of};
 ghost use Rattle.moo_world.specs.Arguments.{no_values, one_object};
 ghost use Rattle.moo_world.specs.Outcomes.{given};
 ghost use Rattle.moo_call_parts.specs.Outcomes.{world_in, Answers};
+ghost use Rattle.moo_call_parts.specs.About.{About, about_given, about_nothing, about_object};
+ghost use Rattle.moo_call_parts.specs.Told.{IsTold};
 
-use moo_call_parts::{Fault, accept_value, flag, no_values, object_list, one_object};
+use moo_call_parts::{Fault, Reason, accept_value, flag, no_values, object_list, one_object};
 use moo_rows::{ObjRow, Rows};
-use moo_value::{Code, ObjNo, Value};
+use moo_value::{ObjNo, Value};
 use std::alloc::Global;
 
 /// The row of an object, or E_INVARG.
 fn object<R: Rows>(rows: &R, x: ObjNo) -> Result<&ObjRow, Fault>
     ensures there { IfOk result (λ row. row_of (world_in (R.held rows.now)) x ≡ Some row.now) }
-    ensures error { IfErr result (λ fault. fault ≡ Moo InvalidArgument) }
+    ensures error { IfErr result (λ fault. fault ≡ Moo (NoObject x)) }
     ensures missing { IfErr result (λ fault. is_object (world_in (R.held rows.now)) x ≡ false) }
+    ensures told { (programmer : ObjNo) (about : About) → IsTold (R.held rows.now).maps programmer about result }
 {
     match rows.object(x) {
         Some(row) => Ok(row),
-        None => Err(Fault::Moo(Code::InvalidArgument)),
+        None => Err(Fault::Moo(Reason::NoObject(x))),
     }
 }
 
 /// `valid(object)`: 1 if the number is that of an object, and 0 if it isn't. It has no error.
 /// LambdaMOO Programmer's Manual, 'Fundamental Operations on Objects'.
 pub(crate) fn valid<R: Rows>(rows: &R, args: &[Value]) -> Result<Value, Fault>
-    ensures { Answers (given (one_object args.now) (valid (world_in (R.held rows.now)))) (R.held rows.now) result }
+    ensures comes { Answers (given (one_object args.now) (valid (world_in (R.held rows.now)))) (R.held rows.now) result }
+    ensures told { (programmer : ObjNo) → IsTold (R.held rows.now).maps programmer (about_given (one_object args.now) about_object) result }
 {
     let x = one_object(args)?;
     Ok(flag(moo_tree::valid(rows, x)))
@@ -40,7 +45,8 @@ pub(crate) fn valid<R: Rows>(rows: &R, args: &[Value]) -> Result<Value, Fault>
 /// `parent(object)`: the parent, `#-1` for none. E_INVARG if there is no such object.
 /// LambdaMOO Programmer's Manual, 'Fundamental Operations on Objects'.
 pub(crate) fn parent<R: Rows>(rows: &R, args: &[Value]) -> Result<Value, Fault>
-    ensures { Answers (given (one_object args.now) (parent (world_in (R.held rows.now)))) (R.held rows.now) result }
+    ensures comes { Answers (given (one_object args.now) (parent (world_in (R.held rows.now)))) (R.held rows.now) result }
+    ensures told { (programmer : ObjNo) → IsTold (R.held rows.now).maps programmer (about_given (one_object args.now) about_object) result }
 {
     Ok(Value::Obj(object(rows, one_object(args)?)?.parent))
 }
@@ -49,11 +55,12 @@ pub(crate) fn parent<R: Rows>(rows: &R, args: &[Value]) -> Result<Value, Fault>
 /// LambdaMOO Programmer's Manual, 'Fundamental Operations on Objects'.
 pub(crate) fn children<R: Rows>(rows: &R, alloc: Global, args: &[Value]) -> Result<Value, Fault>
     requires { IsGood (R.held rows.now).maps }
-    ensures { Answers (given (one_object args.now) (children (world_in (R.held rows.now)))) (R.held rows.now) result }
+    ensures comes { Answers (given (one_object args.now) (children (world_in (R.held rows.now)))) (R.held rows.now) result }
+    ensures told { (programmer : ObjNo) → IsTold (R.held rows.now).maps programmer (about_given (one_object args.now) about_object) result }
 {
     let x = one_object(args)?;
     if !moo_tree::valid(rows, x) {
-        return Err(Fault::Moo(Code::InvalidArgument));
+        return Err(Fault::Moo(Reason::NoObject(x)));
     }
     let found = moo_tree::children(alloc, rows, x)?;
     Ok(object_list(alloc, found.as_slice())?)
@@ -62,7 +69,8 @@ pub(crate) fn children<R: Rows>(rows: &R, alloc: Global, args: &[Value]) -> Resu
 /// `is_player(object)`: 1 if the object's player flag is set, else 0. E_INVARG if there is no such object.
 /// LambdaMOO Programmer's Manual, 'Operations on Player Objects'.
 pub(crate) fn is_player<R: Rows>(rows: &R, args: &[Value]) -> Result<Value, Fault>
-    ensures { Answers (given (one_object args.now) (is_player (world_in (R.held rows.now)))) (R.held rows.now) result }
+    ensures comes { Answers (given (one_object args.now) (is_player (world_in (R.held rows.now)))) (R.held rows.now) result }
+    ensures told { (programmer : ObjNo) → IsTold (R.held rows.now).maps programmer (about_given (one_object args.now) about_object) result }
 {
     Ok(flag(object(rows, one_object(args)?)?.player))
 }
@@ -71,7 +79,8 @@ pub(crate) fn is_player<R: Rows>(rows: &R, args: &[Value]) -> Result<Value, Faul
 /// LambdaMOO Programmer's Manual, 'Operations on Player Objects'.
 pub(crate) fn players<R: Rows>(rows: &R, alloc: Global, args: &[Value]) -> Result<Value, Fault>
     requires { IsGood (R.held rows.now).maps }
-    ensures { Answers (given (no_values args.now) (λ _. players (world_in (R.held rows.now)))) (R.held rows.now) result }
+    ensures comes { Answers (given (no_values args.now) (λ _. players (world_in (R.held rows.now)))) (R.held rows.now) result }
+    ensures told { (programmer : ObjNo) → IsTold (R.held rows.now).maps programmer (about_given (no_values args.now) (λ _. about_nothing)) result }
 {
     no_values(args)?;
     let found = moo_tree::players(alloc, rows)?;
@@ -82,7 +91,8 @@ pub(crate) fn players<R: Rows>(rows: &R, alloc: Global, args: &[Value]) -> Resul
 /// none was given. It has no error.
 /// LambdaMOO Programmer's Manual, 'Fundamental Operations on Objects'.
 pub(crate) fn max_object<R: Rows>(rows: &R, args: &[Value]) -> Result<Value, Fault>
-    ensures { Answers (given (no_values args.now) (λ _. max_object (world_in (R.held rows.now)))) (R.held rows.now) result }
+    ensures comes { Answers (given (no_values args.now) (λ _. max_object (world_in (R.held rows.now)))) (R.held rows.now) result }
+    ensures told { (programmer : ObjNo) → IsTold (R.held rows.now).maps programmer (about_given (no_values args.now) (λ _. about_nothing)) result }
 {
     no_values(args)?;
     Ok(Value::Obj(ObjNo(rows.head().top)))
@@ -91,7 +101,8 @@ pub(crate) fn max_object<R: Rows>(rows: &R, args: &[Value]) -> Result<Value, Fau
 /// `accept_list(object)`: the list of objects that the object itself accepts with their descendants, or 0 if it holds
 /// none. E_INVARG if there is no such object. This server's own.
 pub(crate) fn accept_list<R: Rows>(rows: &R, alloc: Global, args: &[Value]) -> Result<Value, Fault>
-    ensures { Answers (given (one_object args.now) (accept_list (world_in (R.held rows.now)))) (R.held rows.now) result }
+    ensures comes { Answers (given (one_object args.now) (accept_list (world_in (R.held rows.now)))) (R.held rows.now) result }
+    ensures told { (programmer : ObjNo) → IsTold (R.held rows.now).maps programmer (about_given (one_object args.now) about_object) result }
 {
     let x = one_object(args)?;
     let row = object(rows, x)?;

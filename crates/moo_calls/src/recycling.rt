@@ -6,11 +6,13 @@ ghost use Rattle.moo_world.specs.declared.name.CallName.TheVariants.{Recycle};
 ghost use Rattle.moo_world.specs.Keeps.{Keeps};
 ghost use Rattle.moo_world.specs.Rows.{IsGood};
 ghost use Rattle.moo_call_parts.specs.Outcomes.{world_in, ComesTo};
+ghost use Rattle.moo_call_parts.specs.About.{about_call, about_object};
+ghost use Rattle.moo_call_parts.specs.Told.{IsTold};
 
-use moo_call_parts::{Fault, ZERO, one_object, rights};
+use moo_call_parts::{Fault, Reason, ZERO, one_object, rights};
 use moo_props::{drop_object, return_quota};
 use moo_rows::Rows;
-use moo_value::{Code, ObjNo, Value};
+use moo_value::{ObjNo, Value};
 use std::alloc::Global;
 
 /// `recycle(object)`: removes an object with its properties and verbs, gives one back to the quota of its former owner, and
@@ -27,13 +29,14 @@ pub fn recycle<R: Rows>(
     requires { IsGood (R.held rows.old).maps }
     ensures comes { ComesTo (recycle (world_in (R.held rows.old)) programmer x) (R.held rows.old) (R.held rows.new) result }
     ensures kept { OnOk result (Keeps (R.held rows.old) (R.held rows.new)) }
+    ensures told { IsTold (R.held rows.old).maps programmer (about_object x) result }
 {
     let owner = match rows.object(x) {
-        None => return Err(Fault::Moo(Code::InvalidArgument)),
+        None => return Err(Fault::Moo(Reason::NoObject(x))),
         Some(row) => row.owner,
     };
     if !rights::controls(rows, programmer, x) {
-        return Err(Fault::Moo(Code::Permission));
+        return Err(Fault::Moo(Reason::NotControlled(x)));
     }
     let _dropped = drop_object(alloc, rows, x)?;
     return_quota(rows, owner)?;
@@ -50,6 +53,7 @@ pub(crate) fn recycle_given<R: Rows>(
     requires { IsGood (R.held rows.old).maps }
     ensures comes { ComesTo (named_call (world_in (R.held rows.old)) programmer Recycle args.now) (R.held rows.old) (R.held rows.new) result }
     ensures kept { OnOk result (Keeps (R.held rows.old) (R.held rows.new)) }
+    ensures told { IsTold (R.held rows.old).maps programmer (about_call programmer Recycle args.now) result }
 {
     recycle(rows, alloc, programmer, one_object(args)?)
 }

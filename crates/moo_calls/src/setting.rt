@@ -1,17 +1,26 @@
 //! Setting built-in properties.
 
-ghost use Rattle.std.specs.Prelude.{◌≡◌, true, OnOk};
+ghost use Rattle.std.specs.Prelude.{◌≡◌, true, false, Some, OnOk, IfSome, IfNone};
+ghost use Rattle.moo_value.specs.declared.value.ObjNo.{ObjNo};
+ghost use Rattle.moo_rows.specs.Maps.{Maps};
 ghost use Rattle.moo_world.specs.Arguments.{fits};
+ghost use Rattle.moo_world.specs.BuiltIns.{built_in};
+ghost use Rattle.moo_world.specs.Codes.{E_PERM};
 ghost use Rattle.moo_world.specs.Keeps.{Keeps};
+ghost use Rattle.moo_world.specs.Objects.{Name};
 ghost use Rattle.moo_world.specs.PropertyCalls.{change_of, may_set, owner_is_object, set_built_in};
+ghost use Rattle.moo_world.specs.Rights.{may_set_name};
 ghost use Rattle.moo_world.specs.Rows.{IsGood};
 ghost use Rattle.moo_world.specs.World.{is_object};
+ghost use Rattle.moo_call_parts.specs.Reasons.{error_of};
 ghost use Rattle.moo_call_parts.specs.Outcomes.{world_in, ComesTo, GivenOrNot};
+ghost use Rattle.moo_call_parts.specs.About.{About, about_property};
+ghost use Rattle.moo_call_parts.specs.Told.{IsTold, IsTrueOf};
 
-use moo_call_parts::{Fault, ZERO, change_row, rights};
+use moo_call_parts::{Fault, Reason, ZERO, change_row, rights};
 use moo_rows::Rows;
 use moo_tree::valid;
-use moo_value::{Code, ObjNo, Value};
+use moo_value::{ObjNo, Value};
 use moo_world::{BuiltIn, Change};
 use std::alloc::Global;
 
@@ -19,13 +28,14 @@ use std::alloc::Global;
 /// E_TYPE for a `name` that isn't a string and for an `owner` that isn't an object. Any value is one for the others, by its truth.
 /// OutOfMemory means out of memory and nothing else.
 fn change_of(alloc: Global, field: BuiltIn, value: &Value) -> Result<Change, Fault>
-    ensures { GivenOrNot (change_of field value.now) result }
+    ensures given { GivenOrNot (change_of field value.now) result }
+    ensures told { (maps : Maps) (programmer x : ObjNo) (name : Name) → built_in name ≡ Some field → IsTold maps programmer (about_property x name) result }
 {
     match (field, value) {
-        (BuiltIn::Location | BuiltIn::Contents, _) => Err(Fault::Moo(Code::Permission)),
+        (BuiltIn::Location | BuiltIn::Contents, _) => Err(Fault::Moo(Reason::NeverSet)),
         (BuiltIn::Name, Value::Str(name)) => Ok(Change::Name(name.copy(alloc)?)),
         (BuiltIn::Owner, Value::Obj(owner)) => Ok(Change::Owner(*owner)),
-        (BuiltIn::Name | BuiltIn::Owner, _) => Err(Fault::Moo(Code::Type)),
+        (BuiltIn::Name | BuiltIn::Owner, _) => Err(Fault::Moo(Reason::NotTaken)),
         (BuiltIn::Programmer, _) => Ok(Change::Programmer(value.is_true())),
         (BuiltIn::Wizard, _) => Ok(Change::Wizard(value.is_true())),
         (BuiltIn::R, _) => Ok(Change::Readable(value.is_true())),
@@ -46,13 +56,38 @@ fn may_set<R: Rows>(rows: &R, programmer: ObjNo, x: ObjNo, field: BuiltIn) -> bo
     }
 }
 
-/// Whether the owner that the change gives, if it gives one, is an object.
-fn owner_is_object<R: Rows>(rows: &R, change: &Change) -> bool
-    ensures { result ≡ owner_is_object (world_in (R.held rows.now)) change.now }
+/// Why the programmer may not name the object.
+fn namer_fault<R: Rows>(rows: &R, x: ObjNo) -> Reason
+    ensures error { error_of result ≡ E_PERM }
+    ensures told { (programmer : ObjNo) (about : About) → may_set_name (world_in (R.held rows.now)) programmer x ≡ false → IsTrueOf (R.held rows.now).maps programmer about result }
+{
+    match rows.object(x) {
+        Some(row) if row.player => Reason::NamesPlayer(x),
+        _ => Reason::NotControlled(x),
+    }
+}
+
+/// Why the programmer may not set a built-in property of the object.
+fn setter_fault<R: Rows>(rows: &R, x: ObjNo, field: BuiltIn) -> Reason
+    ensures error { error_of result ≡ E_PERM }
+    ensures told { (programmer : ObjNo) (about : About) → may_set (world_in (R.held rows.now)) programmer x field ≡ false → IsTrueOf (R.held rows.now).maps programmer about result }
+{
+    match field {
+        BuiltIn::Name => namer_fault(rows, x),
+        BuiltIn::R | BuiltIn::W | BuiltIn::F => Reason::NotControlled(x),
+        _ => Reason::NoWizard,
+    }
+}
+
+/// The owner that the change gives, if it gives one that isn't an object.
+fn missing_owner<R: Rows>(rows: &R, change: &Change) -> Option<ObjNo>
+    ensures some { IfSome result (λ _. owner_is_object (world_in (R.held rows.now)) change.now ≡ false) }
+    ensures none { IfNone result (owner_is_object (world_in (R.held rows.now)) change.now ≡ true) }
+    ensures missing { IfSome result (λ owner. is_object (world_in (R.held rows.now)) owner ≡ false) }
 {
     match change {
-        Change::Owner(owner) => valid(rows, *owner),
-        _ => true,
+        Change::Owner(owner) if !valid(rows, *owner) => Some(*owner),
+        _ => None,
     }
 }
 
@@ -74,13 +109,14 @@ pub fn set_built_in<R: Rows>(
     requires fit { fits value.now ≡ true }
     ensures comes { ComesTo (set_built_in (world_in (R.held rows.old)) programmer x field value.now) (R.held rows.old) (R.held rows.new) result }
     ensures kept { OnOk result (Keeps (R.held rows.old) (R.held rows.new)) }
+    ensures told { (name : Name) → built_in name ≡ Some field → IsTold (R.held rows.old).maps programmer (about_property x name) result }
 {
     let change = change_of(alloc, field, value)?;
     if !may_set(rows, programmer, x, field) {
-        return Err(Fault::Moo(Code::Permission));
+        return Err(Fault::Moo(setter_fault(rows, x, field)));
     }
-    if !owner_is_object(rows, &change) {
-        return Err(Fault::Moo(Code::InvalidArgument));
+    if let Some(owner) = missing_owner(rows, &change) {
+        return Err(Fault::Moo(Reason::NoObject(owner)));
     }
     change_row(rows, alloc, x, change)?;
     Ok(ZERO)

@@ -7,12 +7,14 @@ ghost use Rattle.moo_world.specs.Arguments.{fits};
 ghost use Rattle.moo_world.specs.Keeps.{Keeps};
 ghost use Rattle.moo_world.specs.Rows.{IsGood};
 ghost use Rattle.moo_world.specs.Calls.{world_call, named_call};
+ghost use Rattle.moo_call_parts.specs.About.{about_call};
+ghost use Rattle.moo_call_parts.specs.Told.{IsTold};
 
 use crate::{changing, creating, moving, on_properties, on_verbs, parents, reading, recycling};
-use moo_call_parts::Fault;
+use moo_call_parts::{Fault, Reason};
 use moo_rows::Rows;
 use moo_tree::valid;
-use moo_value::{Code, ObjNo, Value};
+use moo_value::{ObjNo, Value};
 use moo_world::{Call, CallName};
 use std::alloc::Global;
 
@@ -28,6 +30,7 @@ fn named_call<R: Rows>(
     requires fit { list_all fits args.now ≡ true }
     ensures comes { ComesTo (named_call (world_in (R.held rows.old)) programmer name args.now) (R.held rows.old) (R.held rows.new) result }
     ensures kept { OnOk result (Keeps (R.held rows.old) (R.held rows.new)) }
+    ensures told { IsTold (R.held rows.old).maps programmer (about_call programmer name args.now) result }
 {
     match name {
         CallName::Valid => reading::valid(rows, args),
@@ -62,7 +65,7 @@ fn named_call<R: Rows>(
         CallName::SetVerbArgs => on_verbs::set_verb_args(rows, alloc, programmer, args),
         CallName::SetAccept => changing::set_accept_given(rows, alloc, programmer, args),
         CallName::Petition | CallName::Petitions | CallName::Grant | CallName::Decline => {
-            Err(Fault::Moo(Code::InvalidArgument))
+            Err(Fault::Moo(Reason::Unasked))
         }
     }
 }
@@ -80,6 +83,7 @@ pub fn step<R: Rows>(
     requires good { IsGood (R.held rows.old).maps }
     ensures comes { ComesTo (world_call (world_in (R.held rows.old)) programmer call.now) (R.held rows.old) (R.held rows.new) result }
     ensures kept { OnOk result (Keeps (R.held rows.old) (R.held rows.new)) }
+    ensures told { IsTold (R.held rows.old).maps programmer (about_call programmer call.now.name call.now.args) result }
 {
     step_named(rows, alloc, programmer, call.name, call.args.items())
 }
@@ -97,9 +101,10 @@ pub fn step_named<R: Rows>(
     requires fit { list_all fits args.now ≡ true }
     ensures comes { ComesTo (world_call (world_in (R.held rows.old)) programmer (record { name = name; args = args.now })) (R.held rows.old) (R.held rows.new) result }
     ensures kept { OnOk result (Keeps (R.held rows.old) (R.held rows.new)) }
+    ensures told { IsTold (R.held rows.old).maps programmer (about_call programmer name args.now) result }
 {
     if !valid(rows, programmer) {
-        return Err(Fault::Moo(Code::Permission));
+        return Err(Fault::Moo(Reason::NoProgrammer));
     }
     named_call(rows, alloc, programmer, name, args)
 }

@@ -6,14 +6,16 @@ ghost use Rattle.moo_world.specs.Arguments.{fits};
 ghost use Rattle.moo_world.specs.Keeps.{Keeps};
 ghost use Rattle.moo_world.specs.PropertyCalls.{get, set};
 ghost use Rattle.moo_world.specs.Rows.{IsGood};
+ghost use Rattle.moo_call_parts.specs.About.{about_property};
+ghost use Rattle.moo_call_parts.specs.Told.{IsTold};
 
 use crate::fields::field_of;
 use crate::setting::set_built_in;
-use moo_call_parts::Fault;
+use moo_call_parts::{Fault, Reason};
 use moo_property_calls::{get_property, set_property};
 use moo_rows::Rows;
 use moo_tree::valid;
-use moo_value::{Code, MooStr, ObjNo, Value};
+use moo_value::{MooStr, ObjNo, Value};
 use moo_world::BuiltIn;
 use std::alloc::Global;
 
@@ -28,10 +30,11 @@ pub fn get<R: Rows>(
     name: &MooStr,
 ) -> Result<Value, Fault>
     requires { IsGood (R.held rows.now).maps }
-    ensures { Answers (get (world_in (R.held rows.now)) programmer x name.now) (R.held rows.now) result }
+    ensures comes { Answers (get (world_in (R.held rows.now)) programmer x name.now) (R.held rows.now) result }
+    ensures told { IsTold (R.held rows.now).maps programmer (about_property x name.now) result }
 {
     if !valid(rows, x) {
-        return Err(Fault::Moo(Code::InvalidIndirection));
+        return Err(Fault::Moo(Reason::NoTarget(x)));
     }
     match BuiltIn::of_name(name) {
         Some(field) => field_of(rows, alloc, x, field),
@@ -54,9 +57,10 @@ pub fn set<R: Rows>(
     requires fit { fits value.now ≡ true }
     ensures comes { ComesTo (set (world_in (R.held rows.old)) programmer x name.now value.now) (R.held rows.old) (R.held rows.new) result }
     ensures kept { OnOk result (Keeps (R.held rows.old) (R.held rows.new)) }
+    ensures told { IsTold (R.held rows.old).maps programmer (about_property x name.now) result }
 {
     if !valid(rows, x) {
-        return Err(Fault::Moo(Code::InvalidIndirection));
+        return Err(Fault::Moo(Reason::NoTarget(x)));
     }
     match BuiltIn::of_name(name) {
         Some(field) => set_built_in(rows, alloc, programmer, x, field, value),

@@ -1,5 +1,5 @@
 -- From what a crash left of a run to the next run.
-use Rattle.moo_commands.{proofs.Words.{◌≡◌, ◌≢◌, ◌⊎◌, inl, inr, ℕ, zero, suc, Bool, true, false, List, length, Option, codes, refl, sym, ap, subst, true≢false, false_from_ne_true, ◌||◌, bytes_eq, Ghosts, Image, HasCleanDisk, Held, file_state, Maps, Batch, IsGood, State, state_of, LeavesLed, LeavesRows, LeavesState, Task, Given, makes_world, begins_anew, HoldsRows, RunsRows, RunsFile, EndsWith, RunsOver, IsClosedEnd, RunsClosed}, specs.Again.{Started, StartedRows, LeadTo, RanFrom, TakesUp, TakesRows, IsLeftAfter, CrashesTo, LeadsOn, ClosesOn, IsFoundIn, ClosesTo}, proofs.Connections.{runs_when, unled}, specs.declared.ends.Ends.{Ends}}
+use Rattle.moo_commands.{proofs.Words.{◌≡◌, ◌≢◌, ◌⊎◌, inl, inr, ℕ, zero, suc, Bool, true, false, List, length, Option, codes, refl, sym, ap, subst, true≢false, false_from_ne_true, ◌||◌, bytes_eq, Ghosts, Image, HasCleanDisk, Held, file_state, Maps, Batch, IsGood, State, state_of, LeavesLed, LeavesRows, LeavesState, Task, Given, Run, makes_world, begins_anew, HoldsRows, RunsRows, RanOver, RefusedOver, EndsWith, RunsOver, IsClosedEnd, RunsClosed}, specs.Again.{Started, StartedRows, LeadTo, RanFrom, TakesUp, TakesRows, IsLeftAfter, CrashesTo, LeadsOn, ClosesOn, IsFoundIn, ClosesTo}, proofs.Connections.{runs_when, unled}, specs.declared.ends.Ends.{Ends}}
 use Rattle.moo_commands.specs.declared.ends.Ends.TheVariants as variant
 use Rattle.sqlite_store.specs.declared.store.FileStore.{FileStore}
 use Rattle.sqlite.{specs.State.{State as Database}, specs.Schema.{Schema}, specs.Tree.{Trees}, specs.declared.file.Leftover.{Leftover}}
@@ -7,6 +7,7 @@ use Rattle.sqlite.specs.declared.file.Leftover.TheVariants as left
 use Rattle.moo_tables.{specs.declared.version.Version.{Version}, specs.declared.version.Version.TheVariants.{First, Second}, specs.Tables.{Tables, schema_of, no_schema}, specs.Inside.{Leaves}, proofs.SchemaLemmas.{one_schema}}
 use Rattle.moo_cells.{proofs.CellsLemmas.{one_good}, proofs.GoodRows.{good_within}}
 use Rattle.moo_files.{specs.Contents.{HoldsSuch, HoldsState, HasAnyTable, IsKept, IsLeftBy}, specs.Remains.{IsCleanRemains, LeftoverKeeps, KeepsSuch, StillHolds}, specs.Closing.{IsLeftOf, IsClosedFrom}, specs.declared.remains.Remains.{Remains}, proofs.AgainLemmas.{held_after}, proofs.RemainsLemmas.{keeps_more}}
+use Rattle.moo_files.specs.Opened.{Database as a_database}
 use Rattle.moo_files.specs.declared.remains.Remains.TheVariants as remains
 
 later_false : (a b : Bool) → (a || b) ≡ false → b ≡ false
@@ -60,33 +61,42 @@ led_on store rows next Next goes batches others led left =
     let holds : HoldsRows next it.2 = (it.3, record { trees = left.trees; holds = left.holds; such = it.5 }) in
     (it.2, (it.0, it.1, it.4), holds, goes it.2 holds)
 
-module _ {T D : Type 0} {g : Ghosts D} where
-  -- a task that ran over a file is on a file, and this is its run
-  ran_file : (task : Task) (image : Image) (conn : Held (FileStore D g)) (given : Given) (old new : Option (List ℕ)) (status : ℕ)
-      → EndsWith {T = T} task image (variant.Ran conn) given old new status → RunsFile {T = T} task image (variant.Ran conn) given old new status
-  ran_file task image conn given old new status it = it.file (false_from_ne_true _ it.memory)
-
+module _ {D : Type 0} {g : Ghosts D} where
   -- it started from the state that the file held, or from one that it may begin with
-  ran_from : (task : Task) (image : Image) (conn : Held (FileStore D g)) (given : Given) (old new : Option (List ℕ)) (status : ℕ) (After : State → Type 0)
-      → HasCleanDisk (file_state conn) → RunsFile {T = T} task image (variant.Ran conn) given old new status → ((s : State) → RanFrom task s conn given old new status → After s) → Started task image given After
-  ran_from task image conn given old new status After clean it after = ((λ other s holds. after s (it.kept s other holds clean)), (λ anew. let begun = it.anew anew in (state_of begun.0, begun.1.world, after (state_of begun.0) (unled _ _ _ _ _ _ _ _ _ _ begun.2))))
+  ran_from : (task : Task) (image : Image) (conn : Held (FileStore D g)) (run : Run) (After : State → Type 0)
+      → HasCleanDisk (file_state conn) → RanOver task image conn run → ((s : State) → RanFrom task s conn run → After s) → Started task image run.given After
+  ran_from task image conn run After clean it after = ((λ other s holds. after s ((it.over other (a_database holds.trees) holds.holds clean).state s holds.such)), (λ anew. let begun = it.anew anew in (state_of begun.0, begun.1.world, after (state_of begun.0) (unled _ _ _ _ _ _ _ begun.2))))
 
   -- the same of rows
-  rows_from : (task : Task) (image : Image) (conn : Held (FileStore D g)) (given : Given) (old new : Option (List ℕ)) (status : ℕ) (After : Maps → Type 0)
-      → HasCleanDisk (file_state conn) → RunsFile {T = T} task image (variant.Ran conn) given old new status → ((rows : Maps) → RunsRows task rows conn given old new status → After rows) → StartedRows task image given After
-  rows_from task image conn given old new status After clean it after = ((λ other rows holds. after rows (it.led rows other holds clean)), (λ anew. let begun = it.anew anew in (begun.0, begun.1, after begun.0 begun.2)))
+  rows_from : (task : Task) (image : Image) (conn : Held (FileStore D g)) (run : Run) (After : Maps → Type 0)
+      → HasCleanDisk (file_state conn) → RanOver task image conn run → ((rows : Maps) → RunsRows task rows conn run → After rows) → StartedRows task image run.given After
+  rows_from task image conn run After clean it after = ((λ other rows holds. after rows ((it.over other (a_database holds.1.trees) holds.1.holds clean).rows rows holds.0 holds.1.such)), (λ anew. let begun = it.anew anew in (begun.0, begun.1, after begun.0 begun.2)))
+
+module _ {T D : Type 0} {g : Ghosts D} where
+  -- a task that ran over a file is on a file, and this is its run
+  ran_file : (task : Task) (image : Image) (conn : Held (FileStore D g)) (run : Run)
+      → EndsWith {T = T} task image (variant.Ran conn) run → RanOver task image conn run
+  ran_file task image conn run it = it.file (false_from_ne_true _ it.memory)
+
+  refused_file : (task : Task) (image : Image) (rest : Remains T D g) (run : Run)
+      → EndsWith task image (variant.Refused rest) run → RefusedOver task image rest run
+  refused_file task image rest run it = it.file (false_from_ne_true _ it.memory)
 
   -- words over a file whose tables show rows run from these
-  pub takes_rows : (words : List (List ℕ)) (image : Image) (ends : Ends T D g) (given : Given) (old new : Option (List ℕ)) (status : ℕ)
-      → RunsOver words image ends given old new status → (rows : Maps) → HoldsRows image rows → TakesRows words rows ends given old new status
-  takes_rows words image ends given old new status (inl (task, named, alone, runs, it)) rows holds = inl (task, named, λ other. (it.file (on_file task other)).led rows other holds)
-  takes_rows words image ends given old new status (inr (some, rests, usage, none)) rows holds = inr (some, none)
+  pub takes_rows : (words : List (List ℕ)) (image : Image) (ends : Ends T D g) (run : Run)
+      → RunsOver words image ends run → (rows : Maps) → HoldsRows image rows → TakesRows words rows ends run
+  takes_rows words image (variant.Ran conn) run (inl (task, named, alone, runs, it)) rows holds = inl (task, named, λ other clean. ((ran_file task image conn run it).over other (a_database holds.1.trees) holds.1.holds clean).rows rows holds.0 holds.1.such)
+  takes_rows words image (variant.Refused rest) run (inl (task, named, alone, runs, it)) rows holds = inl (task, named, λ other. tt)
+  takes_rows words image (variant.NoFile start) run (inl (task, named, alone, runs, it)) rows holds = inl (task, named, λ other. absurd (it.file (on_file task other)))
+  takes_rows words image ends run (inr (some, rests, usage, none)) rows holds = inr (some, none)
 
   -- words over a file that holds a state take it up
-  pub takes_up : (words : List (List ℕ)) (image : Image) (ends : Ends T D g) (given : Given) (old new : Option (List ℕ)) (status : ℕ)
-      → RunsOver words image ends given old new status → (s : State) → HoldsState image s → TakesUp words s ends given old new status
-  takes_up words image ends given old new status (inl (task, named, alone, runs, it)) s holds = inl (task, named, λ other. (it.file (on_file task other)).kept s other holds)
-  takes_up words image ends given old new status (inr (some, rests, usage, none)) s holds = inr (some, usage, none)
+  pub takes_up : (words : List (List ℕ)) (image : Image) (ends : Ends T D g) (run : Run)
+      → RunsOver words image ends run → (s : State) → HoldsState image s → TakesUp words s ends run
+  takes_up words image (variant.Ran conn) run (inl (task, named, alone, runs, it)) s holds = inl (task, named, λ other clean. ((ran_file task image conn run it).over other (a_database holds.trees) holds.holds clean).state s holds.such)
+  takes_up words image (variant.Refused rest) run (inl (task, named, alone, runs, it)) s holds = inl (task, named, λ other clean. ((refused_file task image rest run it).over other (a_database holds.trees) holds.holds clean).state s holds.such)
+  takes_up words image (variant.NoFile start) run (inl (task, named, alone, runs, it)) s holds = inl (task, named, λ other. absurd (it.file (on_file task other)))
+  takes_up words image ends run (inr (some, rests, usage, none)) s holds = inr (some, usage, none)
 
   -- what a crash left of files that kept such a database holds such a one
   still_such : (P : Trees → Type 0) (image : Image) (rest : Remains T D g) (next : Image) → KeepsSuch P image rest → HoldsSuch P image → IsLeftAfter image rest next → HoldsSuch P next
@@ -97,22 +107,18 @@ module _ {T D : Type 0} {g : Ghosts D} where
   still_such P image (remains.Leftover (left.Store now)) next keeps holds left = record { trees = left.trees; holds = left.holds; such = keeps left.trees left.such }
   still_such P image (remains.Connection conn) next keeps holds left = record { trees = left.trees; holds = left.holds; such = keeps left.trees left.such }
 
-  refused_file : (task : Task) (image : Image) (rest : Remains T D g) (given : Given) (old new : Option (List ℕ)) (status : ℕ)
-      → EndsWith task image (variant.Refused rest) given old new status → RunsFile task image (variant.Refused rest) given old new status
-  refused_file task image rest given old new status it = it.file (false_from_ne_true _ it.memory)
-
   -- files whose words were refused keep their state
-  refused_left : (words : List (List ℕ)) (image : Image) (rest : Remains T D g) (given : Given) (old new : Option (List ℕ)) (status : ℕ)
-      → RunsOver words image (variant.Refused rest) given old new status → (s : State) → HoldsState image s → IsCleanRemains rest → StillHolds image rest s
-  refused_left words image rest given old new status (inl (task, named, alone, runs, it)) s holds clean = (refused_file task image rest given old new status it).left s holds clean
-  refused_left words image rest given old new status (inr (some, rests, usage, none)) s holds clean = absurd none
+  refused_left : (words : List (List ℕ)) (image : Image) (rest : Remains T D g) (run : Run)
+      → RunsOver words image (variant.Refused rest) run → (s : State) → HoldsState image s → IsCleanRemains rest → StillHolds image rest s
+  refused_left words image rest run (inl (task, named, alone, runs, it)) s holds clean = (refused_file task image rest run it).left s holds clean
+  refused_left words image rest run (inr (some, rests, usage, none)) s holds clean = absurd none
 
-  pub crashes_to : (words : List (List ℕ)) (image : Image) (ends : Ends T D g) (given : Given) (old new : Option (List ℕ)) (status : ℕ) (next : Image) (Next : State → Type 0)
-      → RunsOver words image ends given old new status → ((t : State) → HoldsState next t → Next t) → CrashesTo words image ends given old new status next Next
-  crashes_to words image (variant.Ran conn) given old new status next Next (inl (task, named, alone, runs, it)) goes = λ clean. (
+  pub crashes_to : (words : List (List ℕ)) (image : Image) (ends : Ends T D g) (run : Run) (next : Image) (Next : State → Type 0)
+      → RunsOver words image ends run → ((t : State) → HoldsState next t → Next t) → CrashesTo words image ends run next Next
+  crashes_to words image (variant.Ran conn) run next Next (inl (task, named, alone, runs, it)) goes = λ clean. (
     task,
     named,
-    ran_from task image conn given old new status _ clean (ran_file task image conn given old new status it)
+    ran_from task image conn run _ clean (ran_file task image conn run it)
         (λ s run. (
           run,
           λ left.
@@ -120,24 +126,24 @@ module _ {T D : Type 0} {g : Ghosts D} where
               (lies.0, lies.1, lies.2, goes lies.0 lies.2),
         )),
   )
-  crashes_to words image (variant.Ran conn) given old new status next Next (inr (some, rests, usage, none)) goes = absurd none
-  crashes_to words image (variant.Refused rest) given old new status next Next over goes = λ clean s holds left.
-      let still = still_such (λ trees. LeavesState trees s) image rest next (refused_left words image rest given old new status over s holds clean) holds left in
+  crashes_to words image (variant.Ran conn) run next Next (inr (some, rests, usage, none)) goes = absurd none
+  crashes_to words image (variant.Refused rest) run next Next over goes = λ clean s holds left.
+      let still = still_such (λ trees. LeavesState trees s) image rest next (refused_left words image rest run over s holds clean) holds left in
       (still, goes s still)
-  crashes_to words image (variant.NoFile start) given old new status next Next over goes = λ clean s holds same.
+  crashes_to words image (variant.NoFile start) run next Next over goes = λ clean s holds same.
       let still = subst (λ it. HoldsState it s) (sym same) holds in
       (still, goes s still)
 
   -- files whose words were refused keep their rows
-  refused_rows : (words : List (List ℕ)) (image : Image) (rest : Remains T D g) (given : Given) (old new : Option (List ℕ)) (status : ℕ)
-      → RunsOver words image (variant.Refused rest) given old new status → (rows : Maps) (holds : HoldsRows image rows) → IsCleanRemains rest → KeepsSuch (IsKept holds.1.trees) image rest
-  refused_rows words image rest given old new status (inl (task, named, alone, runs, it)) rows holds clean = elim (begins_or_not (begins_anew task)) [
+  refused_rows : (words : List (List ℕ)) (image : Image) (rest : Remains T D g) (run : Run)
+      → RunsOver words image (variant.Refused rest) run → (rows : Maps) (holds : HoldsRows image rows) → IsCleanRemains rest → KeepsSuch (IsKept holds.1.trees) image rest
+  refused_rows words image rest run (inl (task, named, alone, runs, it)) rows holds clean = elim (begins_or_not (begins_anew task)) [
     | inl anew ↦
         keeps_more (λ found. found ≡ holds.1.trees) (IsKept holds.1.trees) (λ found same. inl same) image rest
-        ((refused_file task image rest given old new status it).spared holds.1.trees anew holds.1.holds (any_of_ours holds.1.trees holds.1.such.tables holds.1.such.leaves) clean)
-    | inr other ↦ (refused_file task image rest given old new status it).trees holds.1.trees other holds.1.holds clean
+        ((refused_file task image rest run it).spared holds.1.trees anew holds.1.holds (any_of_ours holds.1.trees holds.1.such.tables holds.1.such.leaves) clean)
+    | inr other ↦ ((refused_file task image rest run it).over other (a_database holds.1.trees) holds.1.holds clean).kept
   ]
-  refused_rows words image rest given old new status (inr (some, rests, usage, none)) rows holds clean = absurd none
+  refused_rows words image rest run (inr (some, rests, usage, none)) rows holds clean = absurd none
 
   -- what a crash left of files that kept their database holds the rows
   still_rows : (image : Image) (rest : Remains T D g) (next : Image) (rows : Maps) (holds : HoldsRows image rows) → KeepsSuch (IsKept holds.1.trees) image rest → IsLeftAfter image rest next → HoldsRows next rows
@@ -145,19 +151,19 @@ module _ {T D : Type 0} {g : Ghosts D} where
       let still = still_such (IsKept holds.1.trees) image rest next keeps (record { trees = holds.1.trees; holds = holds.1.holds; such = inl refl }) left in
       (holds.0, record { trees = still.trees; holds = still.holds; such = kept_rows rows holds.0 holds.1.trees still.trees holds.1.such still.such })
 
-  pub leads_on : (words : List (List ℕ)) (image : Image) (ends : Ends T D g) (given : Given) (old new : Option (List ℕ)) (status : ℕ) (next : Image) (Next : Maps → Type 0)
-      → RunsOver words image ends given old new status → ((rows : Maps) → HoldsRows next rows → Next rows) → LeadsOn words image ends given old new status next Next
-  leads_on words image (variant.Ran conn) given old new status next Next (inl (task, named, alone, runs, it)) goes = λ clean. (
+  pub leads_on : (words : List (List ℕ)) (image : Image) (ends : Ends T D g) (run : Run) (next : Image) (Next : Maps → Type 0)
+      → RunsOver words image ends run → ((rows : Maps) → HoldsRows next rows → Next rows) → LeadsOn words image ends run next Next
+  leads_on words image (variant.Ran conn) run next Next (inl (task, named, alone, runs, it)) goes = λ clean. (
     task,
     named,
-    rows_from task image conn given old new status _ clean (ran_file task image conn given old new status it)
-        (λ rows run. runs_when _ _ _ _ _ _ _ _ _ _ _ _ _ (λ clean. clean) (λ end clean crash. crash) (λ batches others clean led. led_on (file_state conn) rows next Next goes batches others led) run),
+    rows_from task image conn run _ clean (ran_file task image conn run it)
+        (λ rows run. runs_when _ _ _ _ _ _ _ _ _ _ (λ clean. clean) (λ end clean crash. crash) (λ batches others clean led. led_on (file_state conn) rows next Next goes batches others led) run),
   )
-  leads_on words image (variant.Ran conn) given old new status next Next (inr (some, rests, usage, none)) goes = absurd none
-  leads_on words image (variant.Refused rest) given old new status next Next over goes = λ clean rows holds left.
-      let still = still_rows image rest next rows holds (refused_rows words image rest given old new status over rows holds clean) left in
+  leads_on words image (variant.Ran conn) run next Next (inr (some, rests, usage, none)) goes = absurd none
+  leads_on words image (variant.Refused rest) run next Next over goes = λ clean rows holds left.
+      let still = still_rows image rest next rows holds (refused_rows words image rest run over rows holds clean) left in
       (still, goes rows still)
-  leads_on words image (variant.NoFile start) given old new status next Next over goes = λ clean rows holds same.
+  leads_on words image (variant.NoFile start) run next Next over goes = λ clean rows holds same.
       let still = subst (λ it. HoldsRows it rows) (sym same) holds in
       (still, goes rows still)
 
@@ -175,30 +181,30 @@ module _ {T D : Type 0} {g : Ghosts D} where
       kept_left (left.Unopened files) of all = absurd of
       kept_left (left.Store store) of all = λ trees recovers. all trees (of trees recovers)
 
-  closes_by : (words : List (List ℕ)) (image : Image) (ends : Ends T D g) (closed : Remains T D g) (given : Given) (old new : Option (List ℕ)) (status : ℕ) (next : Image) (Next : State → Type 0)
-      → RunsOver words image ends given old new status → IsClosedEnd ends closed → ((t : State) → HoldsState next t → Next t) → ClosesTo words image closed given old new status next Next
-  closes_by words image (variant.Ran conn) closed given old new status next Next over (rest, is, copied, closes) goes = (
+  closes_by : (words : List (List ℕ)) (image : Image) (ends : Ends T D g) (closed : Remains T D g) (run : Run) (next : Image) (Next : State → Type 0)
+      → RunsOver words image ends run → IsClosedEnd ends closed → ((t : State) → HoldsState next t → Next t) → ClosesTo words image closed run next Next
+  closes_by words image (variant.Ran conn) closed run next Next over (rest, is, copied, closes) goes = (
     variant.Ran conn,
     over,
     (rest, is, copied, closes),
     λ clean.
         let both = closes (subst IsCleanRemains is clean) in
-        let ran = crashes_to words image (variant.Ran conn) given old new status next Next over goes both.0 in (
+        let ran = crashes_to words image (variant.Ran conn) run next Next over goes both.0 in (
           ran.0,
           ran.1,
-          started_map ran.0 image given _ _ (λ s run. (run.0, λ found. run.1 (found_left T (file_state conn) rest next both.1 (subst (λ it. IsFoundIn it next) is found)))) ran.2,
+          started_map ran.0 image run.given _ _ (λ s run. (run.0, λ found. run.1 (found_left T (file_state conn) rest next both.1 (subst (λ it. IsFoundIn it next) is found)))) ran.2,
         ),
   )
-  closes_by words image (variant.Refused was) closed given old new status next Next over from goes = (
+  closes_by words image (variant.Refused was) closed run next Next over from goes = (
     variant.Refused was,
     over,
     from,
     λ clean s holds found.
-        let kept = kept_closed (λ trees. LeavesState trees s) image was closed from clean (λ early. refused_left words image was given old new status over s holds early) in
+        let kept = kept_closed (λ trees. LeavesState trees s) image was closed from clean (λ early. refused_left words image was run over s holds early) in
         let still = still_such (λ trees. LeavesState trees s) image closed next kept holds found in
         (still, goes s still),
   )
-  closes_by words image (variant.NoFile start) closed given old new status next Next over is goes = (
+  closes_by words image (variant.NoFile start) closed run next Next over is goes = (
     variant.NoFile start,
     over,
     is,
@@ -207,37 +213,37 @@ module _ {T D : Type 0} {g : Ghosts D} where
         (still, goes s still),
   )
 
-  pub closes_to : (words : List (List ℕ)) (image : Image) (closed : Remains T D g) (given : Given) (old new : Option (List ℕ)) (status : ℕ) (next : Image) (Next : State → Type 0)
-      → RunsClosed words image closed given old new status → ((t : State) → HoldsState next t → Next t) → ClosesTo words image closed given old new status next Next
-  closes_to words image closed given old new status next Next it goes = closes_by words image it.0 closed given old new status next Next it.1 it.2 goes
+  pub closes_to : (words : List (List ℕ)) (image : Image) (closed : Remains T D g) (run : Run) (next : Image) (Next : State → Type 0)
+      → RunsClosed words image closed run → ((t : State) → HoldsState next t → Next t) → ClosesTo words image closed run next Next
+  closes_to words image closed run next Next it goes = closes_by words image it.0 closed run next Next it.1 it.2 goes
 
-  closes_by_rows : (words : List (List ℕ)) (image : Image) (ends : Ends T D g) (closed : Remains T D g) (given : Given) (old new : Option (List ℕ)) (status : ℕ) (next : Image) (Next : Maps → Type 0)
-      → RunsOver words image ends given old new status → IsClosedEnd ends closed → ((rows : Maps) → HoldsRows next rows → Next rows) → ClosesOn words image closed given old new status next Next
-  closes_by_rows words image (variant.Ran conn) closed given old new status next Next over (rest, is, copied, closes) goes = (
+  closes_by_rows : (words : List (List ℕ)) (image : Image) (ends : Ends T D g) (closed : Remains T D g) (run : Run) (next : Image) (Next : Maps → Type 0)
+      → RunsOver words image ends run → IsClosedEnd ends closed → ((rows : Maps) → HoldsRows next rows → Next rows) → ClosesOn words image closed run next Next
+  closes_by_rows words image (variant.Ran conn) closed run next Next over (rest, is, copied, closes) goes = (
     variant.Ran conn,
     over,
     (rest, is, copied, closes),
     λ clean.
         let both = closes (subst IsCleanRemains is clean) in
-        let ran = leads_on words image (variant.Ran conn) given old new status next Next over goes both.0 in (
+        let ran = leads_on words image (variant.Ran conn) run next Next over goes both.0 in (
           ran.0,
           ran.1,
-          started_rows_map ran.0 image given _ _
-              (λ rows run. runs_when _ _ _ _ _ _ _ _ _ _ _ _ _ (λ clean. clean) (λ end clean crash. crash)
+          started_rows_map ran.0 image run.given _ _
+              (λ rows run. runs_when _ _ _ _ _ _ _ _ _ _ (λ clean. clean) (λ end clean crash. crash)
               (λ batches others clean led found. led (found_left T (file_state conn) rest next both.1 (subst (λ it. IsFoundIn it next) is found))) run)
               ran.2,
         ),
   )
-  closes_by_rows words image (variant.Refused was) closed given old new status next Next over from goes = (
+  closes_by_rows words image (variant.Refused was) closed run next Next over from goes = (
     variant.Refused was,
     over,
     from,
     λ clean rows holds found.
-        let kept = kept_closed (IsKept holds.1.trees) image was closed from clean (λ early. refused_rows words image was given old new status over rows holds early) in
+        let kept = kept_closed (IsKept holds.1.trees) image was closed from clean (λ early. refused_rows words image was run over rows holds early) in
         let still = still_rows image closed next rows holds kept found in
         (still, goes rows still),
   )
-  closes_by_rows words image (variant.NoFile start) closed given old new status next Next over is goes = (
+  closes_by_rows words image (variant.NoFile start) closed run next Next over is goes = (
     variant.NoFile start,
     over,
     is,
@@ -246,36 +252,32 @@ module _ {T D : Type 0} {g : Ghosts D} where
         (still, goes rows still),
   )
 
-  pub closes_on : (words : List (List ℕ)) (image : Image) (closed : Remains T D g) (given : Given) (old new : Option (List ℕ)) (status : ℕ) (next : Image) (Next : Maps → Type 0)
-      → RunsClosed words image closed given old new status → ((rows : Maps) → HoldsRows next rows → Next rows) → ClosesOn words image closed given old new status next Next
-  closes_on words image closed given old new status next Next it goes = closes_by_rows words image it.0 closed given old new status next Next it.1 it.2 goes
+  pub closes_on : (words : List (List ℕ)) (image : Image) (closed : Remains T D g) (run : Run) (next : Image) (Next : Maps → Type 0)
+      → RunsClosed words image closed run → ((rows : Maps) → HoldsRows next rows → Next rows) → ClosesOn words image closed run next Next
+  closes_on words image closed run next Next it goes = closes_by_rows words image it.0 closed run next Next it.1 it.2 goes
 
--- ---- two runs, by what each is given
+-- ---- two runs
 
-pub crash_run : {T D U E R H Q G : Type 0} {d : Ghosts D} {e : Ghosts E} (given : R → H → H → Given) (next_given : Q → G → G → Given)
-    (words next_words : List (List ℕ)) (input : R) (host after : H) (next_input : Q) (next_host next_after : G) (image next_image : Image) (ends : Ends T D d) (next_ends : Ends U E e)
-    (old new next_old next_new : Option (List ℕ)) (status next_status : ℕ) → RunsOver words image ends (given input host after) old new status → RunsOver next_words next_image next_ends (next_given next_input next_host next_after) next_old next_new next_status
-    → CrashesTo words image ends (given input host after) old new status next_image (λ t. TakesUp next_words t next_ends (next_given next_input next_host next_after) next_old next_new next_status)
-crash_run given next_given words next_words input host after next_input next_host next_after image next_image ends next_ends old new next_old next_new status next_status over next =
-    crashes_to words image ends (given input host after) old new status next_image _ over (takes_up next_words next_image next_ends (next_given next_input next_host next_after) next_old next_new next_status next)
+pub crash_run : {T D U E S N : Type 0} {d : Ghosts D} {e : Ghosts E} (run : S → S → Run) (next_run : N → N → Run) (words next_words : List (List ℕ)) (session after : S) (next next_after : N)
+    (image next_image : Image) (ends : Ends T D d) (next_ends : Ends U E e) → RunsOver words image ends (run session after) → RunsOver next_words next_image next_ends (next_run next next_after)
+    → CrashesTo words image ends (run session after) next_image (λ t. TakesUp next_words t next_ends (next_run next next_after))
+crash_run run next_run words next_words session after next next_after image next_image ends next_ends over then =
+    crashes_to words image ends (run session after) next_image _ over (takes_up next_words next_image next_ends (next_run next next_after) then)
 
-pub crash_rows : {T D U E R H Q G : Type 0} {d : Ghosts D} {e : Ghosts E} (given : R → H → H → Given) (next_given : Q → G → G → Given)
-    (words next_words : List (List ℕ)) (input : R) (host after : H) (next_input : Q) (next_host next_after : G) (image next_image : Image) (ends : Ends T D d) (next_ends : Ends U E e)
-    (old new next_old next_new : Option (List ℕ)) (status next_status : ℕ) → RunsOver words image ends (given input host after) old new status → RunsOver next_words next_image next_ends (next_given next_input next_host next_after) next_old next_new next_status
-    → LeadsOn words image ends (given input host after) old new status next_image (λ rows. TakesRows next_words rows next_ends (next_given next_input next_host next_after) next_old next_new next_status)
-crash_rows given next_given words next_words input host after next_input next_host next_after image next_image ends next_ends old new next_old next_new status next_status over next =
-    leads_on words image ends (given input host after) old new status next_image _ over (takes_rows next_words next_image next_ends (next_given next_input next_host next_after) next_old next_new next_status next)
+pub crash_rows : {T D U E S N : Type 0} {d : Ghosts D} {e : Ghosts E} (run : S → S → Run) (next_run : N → N → Run) (words next_words : List (List ℕ)) (session after : S) (next next_after : N)
+    (image next_image : Image) (ends : Ends T D d) (next_ends : Ends U E e) → RunsOver words image ends (run session after) → RunsOver next_words next_image next_ends (next_run next next_after)
+    → LeadsOn words image ends (run session after) next_image (λ rows. TakesRows next_words rows next_ends (next_run next next_after))
+crash_rows run next_run words next_words session after next next_after image next_image ends next_ends over then =
+    leads_on words image ends (run session after) next_image _ over (takes_rows next_words next_image next_ends (next_run next next_after) then)
 
-pub close_run : {T D U E R H Q G : Type 0} {d : Ghosts D} {e : Ghosts E} (given : R → H → H → Given) (next_given : Q → G → G → Given)
-    (words next_words : List (List ℕ)) (input : R) (host after : H) (next_input : Q) (next_host next_after : G) (image next_image : Image) (closed : Remains T D d) (next_ends : Ends U E e)
-    (old new next_old next_new : Option (List ℕ)) (status next_status : ℕ) → RunsClosed words image closed (given input host after) old new status → RunsOver next_words next_image next_ends (next_given next_input next_host next_after) next_old next_new next_status
-    → ClosesTo words image closed (given input host after) old new status next_image (λ t. TakesUp next_words t next_ends (next_given next_input next_host next_after) next_old next_new next_status)
-close_run given next_given words next_words input host after next_input next_host next_after image next_image closed next_ends old new next_old next_new status next_status over next =
-    closes_to words image closed (given input host after) old new status next_image _ over (takes_up next_words next_image next_ends (next_given next_input next_host next_after) next_old next_new next_status next)
+pub close_run : {T D U E S N : Type 0} {d : Ghosts D} {e : Ghosts E} (run : S → S → Run) (next_run : N → N → Run) (words next_words : List (List ℕ)) (session after : S) (next next_after : N)
+    (image next_image : Image) (closed : Remains T D d) (next_ends : Ends U E e) → RunsClosed words image closed (run session after) → RunsOver next_words next_image next_ends (next_run next next_after)
+    → ClosesTo words image closed (run session after) next_image (λ t. TakesUp next_words t next_ends (next_run next next_after))
+close_run run next_run words next_words session after next next_after image next_image closed next_ends over then =
+    closes_to words image closed (run session after) next_image _ over (takes_up next_words next_image next_ends (next_run next next_after) then)
 
-pub close_rows : {T D U E R H Q G : Type 0} {d : Ghosts D} {e : Ghosts E} (given : R → H → H → Given) (next_given : Q → G → G → Given)
-    (words next_words : List (List ℕ)) (input : R) (host after : H) (next_input : Q) (next_host next_after : G) (image next_image : Image) (closed : Remains T D d) (next_ends : Ends U E e)
-    (old new next_old next_new : Option (List ℕ)) (status next_status : ℕ) → RunsClosed words image closed (given input host after) old new status → RunsOver next_words next_image next_ends (next_given next_input next_host next_after) next_old next_new next_status
-    → ClosesOn words image closed (given input host after) old new status next_image (λ rows. TakesRows next_words rows next_ends (next_given next_input next_host next_after) next_old next_new next_status)
-close_rows given next_given words next_words input host after next_input next_host next_after image next_image closed next_ends old new next_old next_new status next_status over next =
-    closes_on words image closed (given input host after) old new status next_image _ over (takes_rows next_words next_image next_ends (next_given next_input next_host next_after) next_old next_new next_status next)
+pub close_rows : {T D U E S N : Type 0} {d : Ghosts D} {e : Ghosts E} (run : S → S → Run) (next_run : N → N → Run) (words next_words : List (List ℕ)) (session after : S) (next next_after : N)
+    (image next_image : Image) (closed : Remains T D d) (next_ends : Ends U E e) → RunsClosed words image closed (run session after) → RunsOver next_words next_image next_ends (next_run next next_after)
+    → ClosesOn words image closed (run session after) next_image (λ rows. TakesRows next_words rows next_ends (next_run next next_after))
+close_rows run next_run words next_words session after next next_after image next_image closed next_ends over then =
+    closes_on words image closed (run session after) next_image _ over (takes_rows next_words next_image next_ends (next_run next next_after) then)

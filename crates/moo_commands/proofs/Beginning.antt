@@ -1,5 +1,5 @@
 -- The world that a task begins with.
-use Rattle.moo_commands.{proofs.Words.{◌≡◌, ◌⊎◌, inl, inr, ℕ, List, Option, Some, Bor, codes, refl, sym, ap, subst, ◌∙◌, ◌<◌, ◌^◌, true, false, ◌||◌, bytes_eq, true≢false, Maps, opening_maps, IsGood, State, state_of, Ghosts, Image, IsHeld, Stand, LeavesState, Task, Given, Leads, makes_world, begins_anew, is_load, dump_word, is_input, reads_input, ReadsFile, IsDumpedAs, BeginsWith, BeginsNumbered, RunsFrom, FailsAtOnce, RefusesDump, FailsToBegin, RunsNew, Failure}, proofs.Connections.{unseen}}
+use Rattle.moo_commands.{proofs.Words.{◌≡◌, ◌⊎◌, inl, inr, ℕ, List, Option, Some, Bor, codes, refl, sym, ap, subst, ◌∙◌, ◌<◌, ◌^◌, true, false, ◌||◌, bytes_eq, true≢false, Maps, opening_maps, IsGood, State, state_of, Ghosts, Image, IsHeld, Stand, LeavesState, Task, Given, Run, Leads, makes_world, begins_anew, is_load, dump_word, is_input, reads_input, ReadsFile, IsDumpedAs, BeginsWith, BeginsNumbered, RunsFrom, FailsAtOnce, RefusesDump, FailsToBegin, RunsNew, Failure}, proofs.Connections.{unseen}}
 use Rattle.sqlite.specs.Tree.{Trees}
 use Rattle.moo_load.specs.RowsOf.{AreRowsOf}
 use Rattle.moo_files.{specs.Remains.{KeepsSuch, KeepsNothingBut}, specs.declared.remains.Remains.{Remains}, proofs.RemainsLemmas.{keeps_more, blank_more}}
@@ -49,23 +49,23 @@ pub keeps_input : (task : Task) (dump : List ℕ) → is_load task.action ≡ tr
 keeps_input task dump loads is other = subst (λ word. is_input word ≡ false) (load_reads task.action dump loads is) other
 
 -- what comes after a load reads no text
-of_others : (file : Bor (List ℕ)) (action : Action) → is_load action ≡ true → (s : State) (given others : Given) (old new : Option (List ℕ)) (status : ℕ) (Clean : Type 0) (Crash : Stand → Type 0) (Led : Leads) (Shown : Type 0)
-    → RunsFrom (record { file = file; action = action }) s given old new status Clean Crash Led Shown → (given.ports.rests → others.ports.rests) → RunsFrom (record { file = file; action = action }) s others old new status Clean Crash Led Shown
-of_others file (Load dump) loads s given others old new status Clean Crash Led Shown it on = record { end = it.end; crash = it.crash; still = it.still; rests = λ other. on (it.rests other); writes = it.writes }
-of_others file action loads s given others old new status Clean Crash Led Shown it on = absurd (true≢false (sym loads))
+of_others : (file : Bor (List ℕ)) (action : Action) → is_load action ≡ true → (s : State) (run : Run) (others : Given) (Clean : Type 0) (Crash : Stand → Type 0) (Led : Leads) (Shown : Type 0)
+    → RunsFrom (record { file = file; action = action }) s run Clean Crash Led Shown → (run.given.ports.rests → others.ports.rests) → RunsFrom (record { file = file; action = action }) s (record run { given = others }) Clean Crash Led Shown
+of_others file (Load dump) loads s run others Clean Crash Led Shown it on = record { end = it.end; crash = it.crash; still = it.still; rests = λ other. on (it.rests other); writes = it.writes }
+of_others file action loads s run others Clean Crash Led Shown it on = absurd (true≢false (sym loads))
 
-pub of_other_texts : (task : Task) → is_load task.action ≡ true → (s : State) (given others : Given) (old new : Option (List ℕ)) (status : ℕ) (Clean : Type 0) (Crash : Stand → Type 0) (Led : Leads) (Shown : Type 0)
-    → RunsFrom task s given old new status Clean Crash Led Shown → (given.ports.rests → others.ports.rests) → RunsFrom task s others old new status Clean Crash Led Shown
+pub of_other_texts : (task : Task) → is_load task.action ≡ true → (s : State) (run : Run) (others : Given) (Clean : Type 0) (Crash : Stand → Type 0) (Led : Leads) (Shown : Type 0)
+    → RunsFrom task s run Clean Crash Led Shown → (run.given.ports.rests → others.ports.rests) → RunsFrom task s (record run { given = others }) Clean Crash Led Shown
 of_other_texts task = of_others task.file task.action
 
-pub fails_to_begin : (task : Task) (given : Given) (old new : Option (List ℕ)) (status : ℕ) → FailsAtOnce old new status → FailsToBegin task given old new status
-fails_to_begin task given old new status (failure, opening, reports) = (failure, inl opening, reports)
+pub fails_to_begin : (task : Task) (run : Run) → FailsAtOnce run → FailsToBegin task run
+fails_to_begin task run (failure, opening, reports) = (failure, inl opening, reports)
 
 -- a run from the world that a task begins with, of which nothing more is said than what is written
-pub new_unseen : (task : Task) (given : Given) (old new : Option (List ℕ)) (status : ℕ) (Clean : Type 0) (Crash : Stand → Type 0) (Led : Leads) (Shown : Type 0)
-    → (given.ports.rests × FailsToBegin task given old new status) ⊎ ((s : State) × BeginsWith task.action given s × RunsFrom task s given old new status Clean Crash Led Shown) → RunsNew task given old new status
-new_unseen task given old new status Clean Crash Led Shown (inl fails) = inl fails
-new_unseen task given old new status Clean Crash Led Shown (inr (s, begins, it)) = inr (s, begins, unseen task s given old new status Clean Crash Led Shown it)
+pub new_unseen : (task : Task) (run : Run) (Clean : Type 0) (Crash : Stand → Type 0) (Led : Leads) (Shown : Type 0)
+    → (run.given.ports.rests × FailsToBegin task run) ⊎ ((s : State) × BeginsWith task.action run.given s × RunsFrom task s run Clean Crash Led Shown) → RunsNew task run
+new_unseen task run Clean Crash Led Shown (inl fails) = inl fails
+new_unseen task run Clean Crash Led Shown (inr (s, begins, it)) = inr (s, begins, unseen task s run Clean Crash Led Shown it)
 
 -- what a refused making of that world leaves
 pub unmade_begins : {T D : Type 0} {g : Ghosts D} (action : Action) (given : Given) (s : State) → BeginsWith action given s → (trees : Trees) (image : Image) (remains : Remains T D g)

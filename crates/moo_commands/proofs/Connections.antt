@@ -1,5 +1,5 @@
 -- A task over a connection.
-use Rattle.moo_commands.proofs.Words.{◌≡◌, ◌⊎◌, inl, inr, ℕ, List, [], Option, Result, Ok, Err, IfOk, IfErr, refl, sym, subst, subst₂, ap, ◌∙◌, Bool, true, false, IsTrue, MatchResult, ⊤, HasCleanDisk, Survives, Held, state, Task, Stand, Failure, Store, Damaged, NewerVersion, Reports, store_failure, Given, Leads, MayLead, Done, StopsTask, ShowsTables, EndsTask, RunsFrom, RunsUnseen, IsOpening, MayRefuse, LeavesAsBefore, LeavesNothingNew, only_reads, serves, Batch, State, LeavesLed, World, store_of, CrashLeaves, ShowsState}
+use Rattle.moo_commands.proofs.Words.{◌≡◌, ◌⊎◌, inl, inr, ℕ, List, [], Option, Result, Ok, Err, IfOk, IfErr, refl, sym, subst, subst₂, ap, ◌∙◌, Bool, true, false, IsTrue, MatchResult, ⊤, HasCleanDisk, Survives, Held, state, Task, Stand, Failure, Store, Damaged, NewerVersion, Reports, store_failure, Given, Run, Leads, MayLead, Done, StopsTask, ShowsTables, EndsTask, RunsFrom, RunsUnseen, IsOpening, MayRefuse, LeavesAsBefore, LeavesNothingNew, only_reads, serves, Batch, State, LeavesLed, World, store_of, CrashLeaves, ShowsState}
 use Rattle.sqlite.{specs.State.{State as Database}, specs.Store.{Ghosts}, specs.declared.error.Error.{Error}}
 use Rattle.moo_words.{specs.declared.task.Action.{Action}, specs.declared.task.Action.TheVariants.{Apply, Check, Serve}}
 use Rattle.moo_store.{specs.declared.fault.StoreFault.{StoreFault}, specs.Opening.{IsOfStore, Adopts}}
@@ -22,7 +22,7 @@ of_opening fault failure of it = subst IsOpening (sym of) (of_store fault it)
 
 module _ {S : Type 0} (g : Ghosts S) (known : Bool) (was world : World S) (conn : Held S) (is : conn ≡ world.connection) (task : Task) (s : State) (given : Given) (old : Option (List ℕ)) where
   abbrev pub RunsTo : Option (List ℕ) → ℕ → Type 0
-  RunsTo new status = RunsFrom task s given old new status (IsTrue known × HasCleanDisk (state g conn)) (CrashLeaves (state g conn)) (LeavesLed (state g conn) was.rows.maps) (ShowsTables g was (state g conn))
+  RunsTo new status = RunsFrom task s (record { given = given; before = old; after = new; status = status }) (IsTrue known × HasCleanDisk (state g conn)) (CrashLeaves (state g conn)) (LeavesLed (state g conn) was.rows.maps) (ShowsTables g was (state g conn))
 
   -- what a task that only reads leaves, and whether the ports rest
   pub record Keeps : Type 0 where
@@ -90,9 +90,9 @@ done_when (Serve service) s end Led Then lead Shown Less on given old new status
 done_when action s end Led Then lead Shown Less on given old new status it = it
 
 -- what is known if less is known of the disk, and nothing of what a check found
-pub runs_when : (task : Task) (s : State) (given : Given) (old new : Option (List ℕ)) (status : ℕ) (Clean More : Type 0) (Crash Then : Stand → Type 0) (Led Lead : Leads) (Shown : Type 0) → (More → Clean) → ((end : Stand) → More → Crash end → Then end)
-    → ((batches others : List Batch) → More → Led batches others → Lead batches others) → RunsFrom task s given old new status Clean Crash Led Shown → RunsFrom task s given old new status More Then Lead ⊤
-runs_when task s given old new status Clean More Crash Then Led Lead Shown on leaves leads it =
+pub runs_when : (task : Task) (s : State) (run : Run) (Clean More : Type 0) (Crash Then : Stand → Type 0) (Led Lead : Leads) (Shown : Type 0) → (More → Clean) → ((end : Stand) → More → Crash end → Then end)
+    → ((batches others : List Batch) → More → Led batches others → Lead batches others) → RunsFrom task s run Clean Crash Led Shown → RunsFrom task s run More Then Lead ⊤
+runs_when task s run Clean More Crash Then Led Lead Shown on leaves leads it =
     let lead : (batches others : List Batch) → (Clean → Led batches others) → More → Lead batches others = λ batches others led more. leads batches others more (led (on more)) in
     record {
       end = it.end;
@@ -100,24 +100,24 @@ runs_when task s given old new status Clean More Crash Then Led Lead Shown on le
       still = λ reads. lead [] [] (it.still reads);
       crash = λ more. leaves it.end more (it.crash (on more));
       writes = elim it.writes [
-        | inl done ↦ inl (done_when task.action s it.end (λ batches others. Clean → Led batches others) (λ batches others. More → Lead batches others) lead Shown ⊤ (λ _. tt) given old new status done)
+        | inl done ↦ inl (done_when task.action s it.end (λ batches others. Clean → Led batches others) (λ batches others. More → Lead batches others) lead Shown ⊤ (λ _. tt) run.given run.before run.after run.status done)
         | inr stops ↦ inr (
           stops.0,
           stops.1,
-          stops_when task.action s it.end stops.0 (λ batches others. Clean → Led batches others) (λ batches others. More → Lead batches others) lead Clean More on given old stops.1 stops.2,
+          stops_when task.action s it.end stops.0 (λ batches others. Clean → Led batches others) (λ batches others. More → Lead batches others) lead Clean More on run.given run.before stops.1 stops.2,
           stops.3,
         )
       ];
     }
 
-pub unseen : (task : Task) (s : State) (given : Given) (old new : Option (List ℕ)) (status : ℕ) (Clean : Type 0) (Crash : Stand → Type 0) (Led : Leads) (Shown : Type 0) → RunsFrom task s given old new status Clean Crash Led Shown → RunsUnseen task s given old new status
-unseen task s given old new status Clean Crash Led Shown it =
-    runs_when task s given old new status Clean ⊥ Crash (λ _. ⊥) Led (λ _ _. ⊥) Shown (λ none. absurd none) (λ end none crash. none) (λ batches others none led. none) it
+pub unseen : (task : Task) (s : State) (run : Run) (Clean : Type 0) (Crash : Stand → Type 0) (Led : Leads) (Shown : Type 0) → RunsFrom task s run Clean Crash Led Shown → RunsUnseen task s run
+unseen task s run Clean Crash Led Shown it =
+    runs_when task s run Clean ⊥ Crash (λ _. ⊥) Led (λ _ _. ⊥) Shown (λ none. absurd none) (λ end none crash. none) (λ batches others none led. none) it
 
 -- what is known of its end alone, and not of the rows
-pub unled : (task : Task) (s : State) (given : Given) (old new : Option (List ℕ)) (status : ℕ) (Clean : Type 0) (Crash : Stand → Type 0) (Led : Leads) (Shown : Type 0) → RunsFrom task s given old new status Clean Crash Led Shown → RunsFrom task s given old new status Clean Crash (λ _ _. ⊤) ⊤
-unled task s given old new status Clean Crash Led Shown it =
-    runs_when task s given old new status Clean Clean Crash Crash Led (λ _ _. ⊤) Shown (λ clean. clean) (λ end clean crash. crash) (λ batches others clean led. tt) it
+pub unled : (task : Task) (s : State) (run : Run) (Clean : Type 0) (Crash : Stand → Type 0) (Led : Leads) (Shown : Type 0) → RunsFrom task s run Clean Crash Led Shown → RunsFrom task s run Clean Crash (λ _ _. ⊤) ⊤
+unled task s run Clean Crash Led Shown it =
+    runs_when task s run Clean Clean Crash Crash Led (λ _ _. ⊤) Shown (λ clean. clean) (λ end clean crash. crash) (λ batches others clean led. tt) it
 
 pub as_before : (old new : Database) (s : State) → ShowsState old s → Survives old new (Adopts old) → HasCleanDisk new → LeavesAsBefore s old new
 as_before old new s shown it clean trees may = elim (it.crash clean trees may) [ inl before ↦ inl before | inr adopts ↦ inr (adopts.3 s shown) ]
@@ -134,12 +134,12 @@ pub of_refusal : (fault : StoreFault) (failure : Failure) → failure ≡ store_
 of_refusal fault failure of = subst MayRefuse (sym of) (each_refusal fault)
 
 -- what is known of one whose tables are known
-pub surely : (task : Task) (s : State) (given : Given) (old new : Option (List ℕ)) (status : ℕ) (Clean : Type 0) (Crash : Stand → Type 0) (Led : Leads) (Shown : Type 0)
-    → RunsFrom task s given old new status (IsTrue true × Clean) Crash Led Shown → RunsFrom task s given old new status Clean Crash Led ⊤
-surely task s given old new status Clean Crash Led Shown it =
-    runs_when task s given old new status (IsTrue true × Clean) Clean Crash Crash Led Led Shown (λ clean. (refl, clean)) (λ end clean crash. crash) (λ batches others clean led. led) it
+pub surely : (task : Task) (s : State) (run : Run) (Clean : Type 0) (Crash : Stand → Type 0) (Led : Leads) (Shown : Type 0)
+    → RunsFrom task s run (IsTrue true × Clean) Crash Led Shown → RunsFrom task s run Clean Crash Led ⊤
+surely task s run Clean Crash Led Shown it =
+    runs_when task s run (IsTrue true × Clean) Clean Crash Crash Led Led Shown (λ clean. (refl, clean)) (λ end clean crash. crash) (λ batches others clean led. led) it
 
 -- and of its end alone
-pub surely_ends : (task : Task) (s : State) (given : Given) (old new : Option (List ℕ)) (status : ℕ) (Clean : Type 0) (Crash : Stand → Type 0) (Led : Leads) (Shown : Type 0)
-    → RunsFrom task s given old new status (IsTrue true × Clean) Crash Led Shown → RunsFrom task s given old new status Clean Crash (λ _ _. ⊤) ⊤
-surely_ends task s given old new status Clean Crash Led Shown it = unled task s given old new status Clean Crash Led ⊤ (surely task s given old new status Clean Crash Led Shown it)
+pub surely_ends : (task : Task) (s : State) (run : Run) (Clean : Type 0) (Crash : Stand → Type 0) (Led : Leads) (Shown : Type 0)
+    → RunsFrom task s run (IsTrue true × Clean) Crash Led Shown → RunsFrom task s run Clean Crash (λ _ _. ⊤) ⊤
+surely_ends task s run Clean Crash Led Shown it = unled task s run Clean Crash Led ⊤ (surely task s run Clean Crash Led Shown it)

@@ -31,7 +31,7 @@ module _ (bytes : List ℕ) (limit : length bytes ≤ 1073741824) where
   pub no_dump : (text : Option (List ℕ)) (fault : LoadFault) (failure : Failure) → failure ≡ load_failure fault → IfSome text (λ all. bytes ≡ all)
       → (fault ≢ load_fault.OutOfMemory → length bytes < 4294967295 → (s : State) → IsHeld s → dump_of s ≢ bytes) → RefusesDump text failure
   no_dump text load_fault.OutOfMemory failure is whole complete = subst (RefusesDump text) (sym is) (tt, of_any text _ (λ all s held same short. tt))
-  no_dump None (load_fault.NotADump line) failure is whole complete = subst (RefusesDump None) (sym is) (tt, tt)
+  no_dump None (load_fault.NotADump line why) failure is whole complete = subst (RefusesDump None) (sym is) (tt, tt)
   no_dump None (load_fault.Damaged kind key) failure is whole complete = subst (RefusesDump None) (sym is) (tt, tt)
-  no_dump (Some all) (load_fault.NotADump line) failure is whole complete = subst (RefusesDump (Some all)) (sym is) (tt, λ s held same short. absurd (complete (λ e. cc) short_enough s held (same ∙ sym whole)))
+  no_dump (Some all) (load_fault.NotADump line why) failure is whole complete = subst (RefusesDump (Some all)) (sym is) (tt, λ s held same short. absurd (complete (λ e. cc) short_enough s held (same ∙ sym whole)))
   no_dump (Some all) (load_fault.Damaged kind key) failure is whole complete = subst (RefusesDump (Some all)) (sym is) (tt, λ s held same short. absurd (complete (λ e. cc) short_enough s held (same ∙ sym whole)))

@@ -1,5 +1,5 @@
 -- From what the disk left of a run that was stopped to the next run.
-use Rattle.moo_commands.{proofs.Words.{ℕ, List, Option, subst, Ghosts, Image, HasCleanDisk, Held, file_state, Maps, State, CrashLeaves, Stand, Given, HoldsRows, RunsOver, IsClosedEnd, RunsClosed}, specs.Again.{TakesUp, TakesRows, StopsTo, StopsOn}, proofs.Connections.{runs_when}, proofs.AgainLemmas.{started_map, started_rows_map, crashes_to, leads_on, takes_up, takes_rows}, specs.declared.ends.Ends.{Ends}}
+use Rattle.moo_commands.{proofs.Words.{ℕ, List, Option, subst, Ghosts, Image, HasCleanDisk, Held, file_state, Maps, State, CrashLeaves, Stand, Run, HoldsRows, RunsOver, IsClosedEnd, RunsClosed}, specs.Again.{TakesUp, TakesRows, StopsTo, StopsOn}, proofs.Connections.{runs_when}, proofs.AgainLemmas.{started_map, started_rows_map, crashes_to, leads_on, takes_up, takes_rows}, specs.declared.ends.Ends.{Ends}}
 use Rattle.moo_commands.specs.declared.ends.Ends.TheVariants as variant
 use Rattle.sqlite_store.specs.declared.store.FileStore.{FileStore}
 use Rattle.moo_files.{specs.Contents.{HoldsState, IsLeftBy}, specs.Remains.{IsCleanRemains}, specs.Stop.{DiskLeaves, HasNumberedTrees}, specs.Closing.{IsClosedFrom}, specs.declared.remains.Remains.{Remains}, proofs.StopLemmas.{left_by_disk, states_are_databases}}
@@ -18,75 +18,73 @@ module _ {T D : Type 0} {g : Ghosts D} where
   early_clean (remains.Leftover rest) now is clean = subst IsCleanRemains is clean
   early_clean (remains.Connection conn) now (rest, is, copied, closes) clean = (closes (subst IsCleanRemains is clean)).0
 
-  stops_by : (words : List (List ℕ)) (image : Image) (ends : Ends T D g) (closed : Remains T D g) (given : Given) (old new : Option (List ℕ)) (status : ℕ) (next : Image) (Next : State → Type 0)
-      → RunsOver words image ends given old new status → IsClosedEnd ends closed → ((t : State) → HoldsState next t → Next t) → StopsTo words image closed given old new status next Next
-  stops_by words image (variant.Ran conn) closed given old new status next Next over (rest, is, copied, closes) goes = (
+  stops_by : (words : List (List ℕ)) (image : Image) (ends : Ends T D g) (closed : Remains T D g) (run : Run) (next : Image) (Next : State → Type 0)
+      → RunsOver words image ends run → IsClosedEnd ends closed → ((t : State) → HoldsState next t → Next t) → StopsTo words image closed run next Next
+  stops_by words image (variant.Ran conn) closed run next Next over (rest, is, copied, closes) goes = (
     variant.Ran conn,
     over,
     (rest, is, copied, closes),
     λ clean.
         let both = closes (subst IsCleanRemains is clean) in
-        let ran = crashes_to words image (variant.Ran conn) given old new status next Next over goes both.0 in (
+        let ran = crashes_to words image (variant.Ran conn) run next Next over goes both.0 in (
           ran.0,
           ran.1,
-          started_map ran.0 image given _ _ (λ s run. (run.0, λ lies. run.1 (left_at_end conn run.0.end next both.0 both.2 (run.0.crash both.0) lies))) ran.2,
+          started_map ran.0 image run.given _ _ (λ s run. (run.0, λ lies. run.1 (left_at_end conn run.0.end next both.0 both.2 (run.0.crash both.0) lies))) ran.2,
         ),
   )
-  stops_by words image (variant.Refused was) closed given old new status next Next over from goes = (
+  stops_by words image (variant.Refused was) closed run next Next over from goes = (
     variant.Refused was,
     over,
     from,
-    λ clean s holds left. crashes_to words image (variant.Refused was) given old new status next Next over goes (early_clean was closed from clean) s holds left,
+    λ clean s holds left. crashes_to words image (variant.Refused was) run next Next over goes (early_clean was closed from clean) s holds left,
   )
-  stops_by words image (variant.NoFile start) closed given old new status next Next over is goes = (
+  stops_by words image (variant.NoFile start) closed run next Next over is goes = (
     variant.NoFile start,
     over,
     is,
-    λ clean s holds same. crashes_to words image (variant.NoFile start) given old new status next Next over goes tt s holds same,
+    λ clean s holds same. crashes_to words image (variant.NoFile start) run next Next over goes tt s holds same,
   )
 
-  stops_by_rows : (words : List (List ℕ)) (image : Image) (ends : Ends T D g) (closed : Remains T D g) (given : Given) (old new : Option (List ℕ)) (status : ℕ) (next : Image) (Next : Maps → Type 0)
-      → RunsOver words image ends given old new status → IsClosedEnd ends closed → ((rows : Maps) → HoldsRows next rows → Next rows) → StopsOn words image closed given old new status next Next
-  stops_by_rows words image (variant.Ran conn) closed given old new status next Next over (rest, is, copied, closes) goes = (
+  stops_by_rows : (words : List (List ℕ)) (image : Image) (ends : Ends T D g) (closed : Remains T D g) (run : Run) (next : Image) (Next : Maps → Type 0)
+      → RunsOver words image ends run → IsClosedEnd ends closed → ((rows : Maps) → HoldsRows next rows → Next rows) → StopsOn words image closed run next Next
+  stops_by_rows words image (variant.Ran conn) closed run next Next over (rest, is, copied, closes) goes = (
     variant.Ran conn,
     over,
     (rest, is, copied, closes),
     λ clean.
         let both = closes (subst IsCleanRemains is clean) in
-        let ran = leads_on words image (variant.Ran conn) given old new status next Next over goes both.0 in (
+        let ran = leads_on words image (variant.Ran conn) run next Next over goes both.0 in (
           ran.0,
           ran.1,
-          started_rows_map ran.0 image given _ _
-              (λ rows run. runs_when _ _ _ _ _ _ _ _ _ _ _ _ _ (λ clean. clean) (λ end clean crash. crash)
+          started_rows_map ran.0 image run.given _ _
+              (λ rows run. runs_when _ _ _ _ _ _ _ _ _ _ (λ clean. clean) (λ end clean crash. crash)
               (λ batches others clean led lies. led (left_at_end conn run.end next both.0 both.2 (run.crash both.0) lies)) run)
               ran.2,
         ),
   )
-  stops_by_rows words image (variant.Refused was) closed given old new status next Next over from goes = (
+  stops_by_rows words image (variant.Refused was) closed run next Next over from goes = (
     variant.Refused was,
     over,
     from,
-    λ clean rows holds left. leads_on words image (variant.Refused was) given old new status next Next over goes (early_clean was closed from clean) rows holds left,
+    λ clean rows holds left. leads_on words image (variant.Refused was) run next Next over goes (early_clean was closed from clean) rows holds left,
   )
-  stops_by_rows words image (variant.NoFile start) closed given old new status next Next over is goes = (
+  stops_by_rows words image (variant.NoFile start) closed run next Next over is goes = (
     variant.NoFile start,
     over,
     is,
-    λ clean rows holds same. leads_on words image (variant.NoFile start) given old new status next Next over goes tt rows holds same,
+    λ clean rows holds same. leads_on words image (variant.NoFile start) run next Next over goes tt rows holds same,
   )
 
 -- ---- two runs, by what each is given
 
-pub stop_run : {T D U E R H Q G : Type 0} {d : Ghosts D} {e : Ghosts E} (given : R → H → H → Given) (next_given : Q → G → G → Given)
-    (words next_words : List (List ℕ)) (input : R) (host after : H) (next_input : Q) (next_host next_after : G) (image next_image : Image) (closed : Remains T D d) (next_ends : Ends U E e)
-    (old new next_old next_new : Option (List ℕ)) (status next_status : ℕ) → RunsClosed words image closed (given input host after) old new status → RunsOver next_words next_image next_ends (next_given next_input next_host next_after) next_old next_new next_status
-    → StopsTo words image closed (given input host after) old new status next_image (λ t. TakesUp next_words t next_ends (next_given next_input next_host next_after) next_old next_new next_status)
-stop_run given next_given words next_words input host after next_input next_host next_after image next_image closed next_ends old new next_old next_new status next_status over next =
-    stops_by words image over.0 closed (given input host after) old new status next_image _ over.1 over.2 (takes_up next_words next_image next_ends (next_given next_input next_host next_after) next_old next_new next_status next)
+pub stop_run : {T D U E S N : Type 0} {d : Ghosts D} {e : Ghosts E} (run : S → S → Run) (next_run : N → N → Run) (words next_words : List (List ℕ)) (session after : S) (next next_after : N)
+    (image next_image : Image) (closed : Remains T D d) (next_ends : Ends U E e) → RunsClosed words image closed (run session after) → RunsOver next_words next_image next_ends (next_run next next_after)
+    → StopsTo words image closed (run session after) next_image (λ t. TakesUp next_words t next_ends (next_run next next_after))
+stop_run run next_run words next_words session after next next_after image next_image closed next_ends over then =
+    stops_by words image over.0 closed (run session after) next_image _ over.1 over.2 (takes_up next_words next_image next_ends (next_run next next_after) then)
 
-pub stop_rows : {T D U E R H Q G : Type 0} {d : Ghosts D} {e : Ghosts E} (given : R → H → H → Given) (next_given : Q → G → G → Given)
-    (words next_words : List (List ℕ)) (input : R) (host after : H) (next_input : Q) (next_host next_after : G) (image next_image : Image) (closed : Remains T D d) (next_ends : Ends U E e)
-    (old new next_old next_new : Option (List ℕ)) (status next_status : ℕ) → RunsClosed words image closed (given input host after) old new status → RunsOver next_words next_image next_ends (next_given next_input next_host next_after) next_old next_new next_status
-    → StopsOn words image closed (given input host after) old new status next_image (λ rows. TakesRows next_words rows next_ends (next_given next_input next_host next_after) next_old next_new next_status)
-stop_rows given next_given words next_words input host after next_input next_host next_after image next_image closed next_ends old new next_old next_new status next_status over next =
-    stops_by_rows words image over.0 closed (given input host after) old new status next_image _ over.1 over.2 (takes_rows next_words next_image next_ends (next_given next_input next_host next_after) next_old next_new next_status next)
+pub stop_rows : {T D U E S N : Type 0} {d : Ghosts D} {e : Ghosts E} (run : S → S → Run) (next_run : N → N → Run) (words next_words : List (List ℕ)) (session after : S) (next next_after : N)
+    (image next_image : Image) (closed : Remains T D d) (next_ends : Ends U E e) → RunsClosed words image closed (run session after) → RunsOver next_words next_image next_ends (next_run next next_after)
+    → StopsOn words image closed (run session after) next_image (λ rows. TakesRows next_words rows next_ends (next_run next next_after))
+stop_rows run next_run words next_words session after next next_after image next_image closed next_ends over then =
+    stops_by_rows words image over.0 closed (run session after) next_image _ over.1 over.2 (takes_rows next_words next_image next_ends (next_run next next_after) then)

@@ -23,7 +23,7 @@ use Rattle.moo_files.specs.declared.remains.Remains.{Remains}
 use Rattle.moo_files.specs.declared.remains.Remains.TheVariants as remains
 use Rattle.moo_words.specs.declared.task.Task.{Task}
 use Rattle.moo_words.specs.Tasks.{NamesTask, mistakes}
-use Rattle.moo_commands.specs.Given.{Given}
+use Rattle.moo_commands.specs.Given.{Given, Run}
 use Rattle.moo_commands.specs.Run.{begins_anew, BeginsWith, BeginsFrom, RunsFrom, FailsAtOnce, EndsUsage}
 use Rattle.moo_commands.specs.Ends.{MatchFile, HasNoFile, HoldsRows, RunsRows, RunsOver, IsClosedEnd}
 use Rattle.moo_commands.specs.declared.ends.Ends.{Ends}
@@ -47,24 +47,24 @@ LeadTo rows end batches others = (more : ℕ) × (more ≤ 1) × BatchesLead (ba
 
 module _ {D : Type 0} {g : Ghosts D} where
   -- the task ran over its file from s, with what a crash then leaves
-  abbrev pub RanFrom : Task → State → Held (FileStore D g) → Given → Option (List ℕ) → Option (List ℕ) → ℕ → Type 0
-  RanFrom task s conn given old new status = RunsFrom task s given old new status (HasCleanDisk (file_state conn)) (CrashLeaves (file_state conn)) (λ _ _. ⊤) ⊤
+  abbrev pub RanFrom : Task → State → Held (FileStore D g) → Run → Type 0
+  RanFrom task s conn run = RunsFrom task s run (HasCleanDisk (file_state conn)) (CrashLeaves (file_state conn)) (λ _ _. ⊤) ⊤
 
 module _ {T D : Type 0} {g : Ghosts D} where
   -- The words name a task, and if it takes up its file, it runs from s. Or the store fails or memory runs out, and no damage is told.
   -- Or the words have a mistake.
-  abbrev pub TakesUp : List (List ℕ) → State → Ends T D g → Given → Option (List ℕ) → Option (List ℕ) → ℕ → Type 0
-  TakesUp words s ends given old new status =
+  abbrev pub TakesUp : List (List ℕ) → State → Ends T D g → Run → Type 0
+  TakesUp words s ends run =
       ((task : Task) × NamesTask words task × (begins_anew task ≡ false → MatchFile ends
-      (λ conn. HasCleanDisk (file_state conn) → RanFrom task s conn given old new status)
-      (λ remains. IsCleanRemains remains → FailsAtOnce old new status)))
-      ⊎ ((1 < length words) × EndsUsage (mistakes words) old new status × HasNoFile ends)
+      (λ conn. HasCleanDisk (file_state conn) → RanFrom task s conn run)
+      (λ remains. IsCleanRemains remains → FailsAtOnce run)))
+      ⊎ ((1 < length words) × EndsUsage (mistakes words) run.before run.after run.status × HasNoFile ends)
 
   -- As `TakesUp`: the words name a task, and if it takes up its file and runs, it runs from these rows. Or they have a mistake.
-  abbrev pub TakesRows : List (List ℕ) → Maps → Ends T D g → Given → Option (List ℕ) → Option (List ℕ) → ℕ → Type 0
-  TakesRows words rows ends given old new status =
+  abbrev pub TakesRows : List (List ℕ) → Maps → Ends T D g → Run → Type 0
+  TakesRows words rows ends run =
       ((task : Task) × NamesTask words task × (begins_anew task ≡ false → MatchFile ends
-      (λ conn. HasCleanDisk (file_state conn) → RunsRows task rows conn given old new status)
+      (λ conn. HasCleanDisk (file_state conn) → RunsRows task rows conn run)
       (λ remains. ⊤)))
       ⊎ ((1 < length words) × HasNoFile ends)
 
@@ -89,19 +89,19 @@ module _ {T D : Type 0} {g : Ghosts D} where
   -- The words were run beside the file that held this image. If the disk is clean and the next image is what a crash left, that holds a
   -- state of which `Next` is true: if a task ran over it, from a state to an end, one that this end may leave; if none did, the state that
   -- the file held.
-  abbrev pub CrashesTo : List (List ℕ) → Image → Ends T D g → Given → Option (List ℕ) → Option (List ℕ) → ℕ → Image → (State → Type 0) → Type 0
-  CrashesTo words image ends given old new status next Next = IfRan ends
-      (λ conn. HasCleanDisk (file_state conn) → (task : Task) × NamesTask words task × Started task image given (λ s.
-      (run : RanFrom task s conn given old new status) × (IsLeftBy (file_state conn) next → (t : State) × MayLeave run.end t × HoldsState next t × Next t)))
+  abbrev pub CrashesTo : List (List ℕ) → Image → Ends T D g → Run → Image → (State → Type 0) → Type 0
+  CrashesTo words image ends run next Next = IfRan ends
+      (λ conn. HasCleanDisk (file_state conn) → (task : Task) × NamesTask words task × Started task image run.given (λ s.
+      (ran : RanFrom task s conn run) × (IsLeftBy (file_state conn) next → (t : State) × MayLeave ran.end t × HoldsState next t × Next t)))
       (λ remains. IsCleanRemains remains → (s : State) → HoldsState image s → IsLeftAfter image remains next → HoldsState next s × Next s)
 
   -- As `CrashesTo`, of rows. What a crash left holds rows of which `Next` is true: if a task ran over the file, rows to which its batches
   -- lead from those that it started from, or these and one in which the store failed. What stays keeps its number, and none is given again.
   -- If no task ran, they are the rows that the file held.
-  abbrev pub LeadsOn : List (List ℕ) → Image → Ends T D g → Given → Option (List ℕ) → Option (List ℕ) → ℕ → Image → (Maps → Type 0) → Type 0
-  LeadsOn words image ends given old new status next Next = IfRan ends
-      (λ conn. HasCleanDisk (file_state conn) → (task : Task) × NamesTask words task × StartedRows task image given (λ rows.
-      RunsFrom task (state_of rows) given old new status (HasCleanDisk (file_state conn)) (CrashLeaves (file_state conn))
+  abbrev pub LeadsOn : List (List ℕ) → Image → Ends T D g → Run → Image → (Maps → Type 0) → Type 0
+  LeadsOn words image ends run next Next = IfRan ends
+      (λ conn. HasCleanDisk (file_state conn) → (task : Task) × NamesTask words task × StartedRows task image run.given (λ rows.
+      RunsFrom task (state_of rows) run (HasCleanDisk (file_state conn)) (CrashLeaves (file_state conn))
       (λ batches others. IsLeftBy (file_state conn) next → (end : Maps) × LeadTo rows end batches others × HoldsRows next end × Next end) ⊤))
       (λ remains. IsCleanRemains remains → (rows : Maps) → HoldsRows image rows → IsLeftAfter image remains next → HoldsRows next rows × Next rows)
 
@@ -112,32 +112,32 @@ module _ {T D : Type 0} {g : Ghosts D} where
   IsFoundIn closed next = ⊥
 
   -- the same, if the file was closed before the next run, with a crash or without one
-  abbrev pub ClosesTo : List (List ℕ) → Image → Remains T D g → Given → Option (List ℕ) → Option (List ℕ) → ℕ → Image → (State → Type 0) → Type 0
-  ClosesTo words image closed given old new status next Next = (ends : Ends T D g) × RunsOver words image ends given old new status × IsClosedEnd ends closed × IfRan ends
-      (λ conn. IsCleanRemains closed → (task : Task) × NamesTask words task × Started task image given (λ s.
-      (run : RanFrom task s conn given old new status) × (IsFoundIn closed next → (t : State) × MayLeave run.end t × HoldsState next t × Next t)))
+  abbrev pub ClosesTo : List (List ℕ) → Image → Remains T D g → Run → Image → (State → Type 0) → Type 0
+  ClosesTo words image closed run next Next = (ends : Ends T D g) × RunsOver words image ends run × IsClosedEnd ends closed × IfRan ends
+      (λ conn. IsCleanRemains closed → (task : Task) × NamesTask words task × Started task image run.given (λ s.
+      (ran : RanFrom task s conn run) × (IsFoundIn closed next → (t : State) × MayLeave ran.end t × HoldsState next t × Next t)))
       (λ remains. IsCleanRemains closed → (s : State) → HoldsState image s → IsLeftAfter image closed next → HoldsState next s × Next s)
 
   -- As `LeadsOn`, if the file was closed before the next run.
-  abbrev pub ClosesOn : List (List ℕ) → Image → Remains T D g → Given → Option (List ℕ) → Option (List ℕ) → ℕ → Image → (Maps → Type 0) → Type 0
-  ClosesOn words image closed given old new status next Next = (ends : Ends T D g) × RunsOver words image ends given old new status × IsClosedEnd ends closed × IfRan ends
-      (λ conn. IsCleanRemains closed → (task : Task) × NamesTask words task × StartedRows task image given (λ rows.
-      RunsFrom task (state_of rows) given old new status (HasCleanDisk (file_state conn)) (CrashLeaves (file_state conn))
+  abbrev pub ClosesOn : List (List ℕ) → Image → Remains T D g → Run → Image → (Maps → Type 0) → Type 0
+  ClosesOn words image closed run next Next = (ends : Ends T D g) × RunsOver words image ends run × IsClosedEnd ends closed × IfRan ends
+      (λ conn. IsCleanRemains closed → (task : Task) × NamesTask words task × StartedRows task image run.given (λ rows.
+      RunsFrom task (state_of rows) run (HasCleanDisk (file_state conn)) (CrashLeaves (file_state conn))
       (λ batches others. IsFoundIn closed next → (end : Maps) × LeadTo rows end batches others × HoldsRows next end × Next end) ⊤))
       (λ remains. IsCleanRemains closed → (rows : Maps) → HoldsRows image rows → IsLeftAfter image closed next → HoldsRows next rows × Next rows)
 
   -- As `CrashesTo`, from the bytes on the disk: if a task ran over the file, the process stopped before it was closed, and the next image
   -- is any that the disk may then leave of the bytes of the two files.
-  abbrev pub StopsTo : List (List ℕ) → Image → Remains T D g → Given → Option (List ℕ) → Option (List ℕ) → ℕ → Image → (State → Type 0) → Type 0
-  StopsTo words image closed given old new status next Next = (ends : Ends T D g) × RunsOver words image ends given old new status × IsClosedEnd ends closed × IfRan ends
-      (λ conn. IsCleanRemains closed → (task : Task) × NamesTask words task × Started task image given (λ s.
-      (run : RanFrom task s conn given old new status) × (DiskLeaves conn next → (t : State) × MayLeave run.end t × HoldsState next t × Next t)))
+  abbrev pub StopsTo : List (List ℕ) → Image → Remains T D g → Run → Image → (State → Type 0) → Type 0
+  StopsTo words image closed run next Next = (ends : Ends T D g) × RunsOver words image ends run × IsClosedEnd ends closed × IfRan ends
+      (λ conn. IsCleanRemains closed → (task : Task) × NamesTask words task × Started task image run.given (λ s.
+      (ran : RanFrom task s conn run) × (DiskLeaves conn next → (t : State) × MayLeave ran.end t × HoldsState next t × Next t)))
       (λ remains. IsCleanRemains closed → (s : State) → HoldsState image s → IsLeftAfter image remains next → HoldsState next s × Next s)
 
   -- As `LeadsOn`, from the bytes on the disk.
-  abbrev pub StopsOn : List (List ℕ) → Image → Remains T D g → Given → Option (List ℕ) → Option (List ℕ) → ℕ → Image → (Maps → Type 0) → Type 0
-  StopsOn words image closed given old new status next Next = (ends : Ends T D g) × RunsOver words image ends given old new status × IsClosedEnd ends closed × IfRan ends
-      (λ conn. IsCleanRemains closed → (task : Task) × NamesTask words task × StartedRows task image given (λ rows.
-      RunsFrom task (state_of rows) given old new status (HasCleanDisk (file_state conn)) (CrashLeaves (file_state conn))
+  abbrev pub StopsOn : List (List ℕ) → Image → Remains T D g → Run → Image → (Maps → Type 0) → Type 0
+  StopsOn words image closed run next Next = (ends : Ends T D g) × RunsOver words image ends run × IsClosedEnd ends closed × IfRan ends
+      (λ conn. IsCleanRemains closed → (task : Task) × NamesTask words task × StartedRows task image run.given (λ rows.
+      RunsFrom task (state_of rows) run (HasCleanDisk (file_state conn)) (CrashLeaves (file_state conn))
       (λ batches others. DiskLeaves conn next → (end : Maps) × LeadTo rows end batches others × HoldsRows next end × Next end) ⊤))
       (λ remains. IsCleanRemains closed → (rows : Maps) → HoldsRows image rows → IsLeftAfter image remains next → HoldsRows next rows × Next rows)

@@ -21,6 +21,13 @@ pub record Given : Type 1 where
   pub text : Texts
   pub ports : Attendance
 
+-- A run: what it is given, what was written before it and after it, and its status.
+pub record Run : Type 1 where
+  pub given : Given
+  pub before : Option (List ℕ)
+  pub after : Option (List ℕ)
+  pub status : ℕ
+
 -- by the input, the files of batches and the ports
 abbrev pub given_by : Option (List ℕ) → Texts → Attendance → Given
 given_by input files ports = record { text = texts_by input files; ports = ports }

@@ -94,7 +94,7 @@ read_failure read_fault.TooLong = TooLong
 read_failure read_fault.OutOfMemory = NoMemory
 
 abbrev pub load_failure : LoadFault → Failure
-load_failure (load_fault.NotADump line) = NotADump line
+load_failure (load_fault.NotADump line why) = NotADump line
 load_failure (load_fault.Damaged kind key) = Damaged kind key
 load_failure load_fault.OutOfMemory = NoMemory
 

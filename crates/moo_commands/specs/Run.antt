@@ -36,7 +36,7 @@ use Rattle.moo_words.specs.declared.task.Action.{Action}
 use Rattle.moo_words.specs.declared.task.Action.TheVariants.{Init, Apply, Ask, Dump, Load, Check, Serve}
 use Rattle.moo_http.specs.Lines.{listening_line}
 use Rattle.moo_http.specs.Turns.{Attendance, SaysAttended}
-use Rattle.moo_commands.specs.Given.{Given}
+use Rattle.moo_commands.specs.Given.{Given, Run}
 use Rattle.moo_words.specs.Tasks.{NamesTask, NamesAlone, text_word, mistakes}
 use Rattle.moo_commands.specs.Lines.{Reports, WritesLine, text_failure, store_failure, created_line, loaded_line, checked_line}
 use Rattle.moo_commands.specs.declared.failure.Failure.{Failure}
@@ -215,19 +215,19 @@ ShowsTables g world after = HasCleanDisk after → (tables : Tables) → Rests (
 -- leaves what its end tells: the state after the last acknowledged batch, or if the store failed in a batch, that or the one after it.
 -- And `Led` is true of the batches that it ran: a task that only reads runs none. If it is a check that is done, it found the tables as
 -- `Shown` says.
-pub record RunsFrom (task : Task) (s : State) (given : Given) (old new : Option (List ℕ)) (status : ℕ) (Clean : Type 0) (Crash : Stand → Type 0) (Led : Leads) (Shown : Type 0) : Type 0 where
+pub record RunsFrom (task : Task) (s : State) (run : Run) (Clean : Type 0) (Crash : Stand → Type 0) (Led : Leads) (Shown : Type 0) : Type 0 where
   pub end : Stand
   pub crash : Clean → Crash end
   pub still : only_reads task.action ≡ true → Clean → Led [] []
   -- only a task that serves asks anything of the ports
-  pub rests : serves task.action ≡ false → given.ports.rests
+  pub rests : serves task.action ≡ false → run.given.ports.rests
   pub writes :
-      Done task.action s end (λ batches others. Clean → Led batches others) Shown given old new status
-      ⊎ ((failure : Failure) × (between : Option (List ℕ)) × StopsTask task.action s end failure (λ batches others. Clean → Led batches others) Clean given old between × Reports failure between new status)
+      Done task.action s end (λ batches others. Clean → Led batches others) Shown run.given run.before run.after run.status
+      ⊎ ((failure : Failure) × (between : Option (List ℕ)) × StopsTask task.action s end failure (λ batches others. Clean → Led batches others) Clean run.given run.before between × Reports failure between run.after run.status)
 
 -- the same, if nothing is known of the disk and the tables
-abbrev pub RunsUnseen : Task → State → Given → Option (List ℕ) → Option (List ℕ) → ℕ → Type 0
-RunsUnseen task s given old new status = RunsFrom task s given old new status ⊥ (λ _. ⊥) (λ _ _. ⊥) ⊤
+abbrev pub RunsUnseen : Task → State → Run → Type 0
+RunsUnseen task s run = RunsFrom task s run ⊥ (λ _. ⊥) (λ _ _. ⊥) ⊤
 
 -- a failure of the store, or memory ran out
 abbrev pub IsOpening : Failure → Type 0
@@ -242,12 +242,12 @@ MayRefuse (Damaged kind key) = ⊤
 MayRefuse NewerVersion = ⊤
 MayRefuse failure = IsOpening failure
 
-abbrev pub RefusesFile : Option (List ℕ) → Option (List ℕ) → ℕ → Type 0
-RefusesFile old new status = (failure : Failure) × MayRefuse failure × Reports failure old new status
+abbrev pub RefusesFile : Run → Type 0
+RefusesFile run = (failure : Failure) × MayRefuse failure × Reports failure run.before run.after run.status
 
 -- no world is opened or made, and that alone is reported
-abbrev pub FailsAtOnce : Option (List ℕ) → Option (List ℕ) → ℕ → Type 0
-FailsAtOnce old new status = (failure : Failure) × IsOpening failure × Reports failure old new status
+abbrev pub FailsAtOnce : Run → Type 0
+FailsAtOnce run = (failure : Failure) × IsOpening failure × Reports failure run.before run.after run.status
 
 -- why a dump gives no world: it is missing, can't be read, is too long, isn't a dump, or shows no world; or memory ran out
 abbrev pub IsOfDump : Failure → Type 0
@@ -275,12 +275,12 @@ RefusesDump text failure = IsOfDump failure × IfSome text (λ bytes. (s : State
 abbrev pub MayNotBegin : Task → Given → Failure → Type 0
 MayNotBegin task given failure = IsOpening failure ⊎ (IsTrue (is_load task.action) × RefusesDump (given.text (dump_word task.action)) failure)
 
-abbrev pub FailsToBegin : Task → Given → Option (List ℕ) → Option (List ℕ) → ℕ → Type 0
-FailsToBegin task given old new status = (failure : Failure) × MayNotBegin task given failure × Reports failure old new status
+abbrev pub FailsToBegin : Task → Run → Type 0
+FailsToBegin task run = (failure : Failure) × MayNotBegin task run.given failure × Reports failure run.before run.after run.status
 
 -- a new world can't be made, and nothing is asked of the ports; or the task runs from the one that it begins with
-abbrev pub RunsNew : Task → Given → Option (List ℕ) → Option (List ℕ) → ℕ → Type 0
-RunsNew task given old new status = (given.ports.rests × FailsToBegin task given old new status) ⊎ ((s : State) × BeginsWith task.action given s × RunsUnseen task s given old new status)
+abbrev pub RunsNew : Task → Run → Type 0
+RunsNew task run = (run.given.ports.rests × FailsToBegin task run) ⊎ ((s : State) × BeginsWith task.action run.given s × RunsUnseen task s run)
 
 -- a crash leaves nothing that it couldn't leave before, but tables that show this state
 abbrev pub LeavesAsBefore : State → Database → Database → Type 0
@@ -301,24 +301,24 @@ EndsUsage found old new status =
     ⊎ ((found ≡ []) × Reports Usage old new status)
 
 -- a file is refused, and nothing is asked of the ports; or the task runs from a well formed world
-abbrev pub RunsOpened : Task → Given → Option (List ℕ) → Option (List ℕ) → ℕ → Type 0
-RunsOpened task given old new status = (given.ports.rests × RefusesFile old new status) ⊎ ((rows : Maps) × IsGood rows × RunsUnseen task (state_of rows) given old new status)
+abbrev pub RunsOpened : Task → Run → Type 0
+RunsOpened task run = (run.given.ports.rests × RefusesFile run) ⊎ ((rows : Maps) × IsGood rows × RunsUnseen task (state_of rows) run)
 
 -- the task runs from the world that these tables show; or the line tells a fault of theirs, and nothing is asked of the ports
-abbrev pub RunsShown : Task → Tables → Given → Option (List ℕ) → Option (List ℕ) → ℕ → Type 0
-RunsShown task tables given old new status =
-    (given.ports.rests × (fault : StoreFault) × Says tables fault × Reports (store_failure fault) old new status)
-    ⊎ ((rows : Maps) × IsGood rows × ShowsRows tables rows × RunsUnseen task (state_of rows) given old new status)
+abbrev pub RunsShown : Task → Tables → Run → Type 0
+RunsShown task tables run =
+    (run.given.ports.rests × (fault : StoreFault) × Says tables fault × Reports (store_failure fault) run.before run.after run.status)
+    ⊎ ((rows : Maps) × IsGood rows × ShowsRows tables rows × RunsUnseen task (state_of rows) run)
 
 -- The outcome of a task, whatever its file holds. If it begins with a new world, it runs from that, or it can't be made. Any
 -- other runs from the world that was found in its file, or the file is refused. (That it is the world which the file's tables
 -- show, `RunsFile` says.)
-pub record RunsTask (task : Task) (given : Given) (old new : Option (List ℕ)) (status : ℕ) : Type 0 where
-  pub anew : begins_anew task ≡ true → RunsNew task given old new status
-  pub opened : begins_anew task ≡ false → RunsOpened task given old new status
+pub record RunsTask (task : Task) (run : Run) : Type 0 where
+  pub anew : begins_anew task ≡ true → RunsNew task run
+  pub opened : begins_anew task ≡ false → RunsOpened task run
 
 -- the same of the task that the words name; or they have a mistake, and nothing is asked of the ports
-abbrev pub RunsWords : List (List ℕ) → Given → Option (List ℕ) → Option (List ℕ) → ℕ → Type 0
-RunsWords words given old new status =
-    ((task : Task) × NamesTask words task × NamesAlone words task × RunsTask task given old new status)
-    ⊎ ((1 < length words) × given.ports.rests × EndsUsage (mistakes words) old new status)
+abbrev pub RunsWords : List (List ℕ) → Run → Type 0
+RunsWords words run =
+    ((task : Task) × NamesTask words task × NamesAlone words task × RunsTask task run)
+    ⊎ ((1 < length words) × run.given.ports.rests × EndsUsage (mistakes words) run.before run.after run.status)

@@ -146,7 +146,7 @@ impl From<LoadFault> for Failure {
 
     fn from(fault: LoadFault) -> Failure {
         match fault {
-            LoadFault::NotADump(line) => Failure::NotADump(line),
+            LoadFault::NotADump(line, _) => Failure::NotADump(line),
             LoadFault::Damaged(kind, key) => Failure::Damaged(kind, key),
             LoadFault::OutOfMemory => Failure::NoMemory,
         }

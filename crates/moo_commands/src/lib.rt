@@ -11,6 +11,7 @@ mod loading;
 mod output;
 mod over;
 mod run;
+mod session;
 mod standard;
 
 pub use again::{run_close_run, run_crash_run, run_stop_run};
@@ -21,4 +22,5 @@ pub use host::{BatchFiles, System};
 pub use output::report;
 pub use over::{run_in, run_over};
 pub use run::{run_to_end, run_words};
+pub use session::{Runs, Session, Streams};
 pub use standard::{run_command, run_given};

@@ -1,20 +1,24 @@
 //! The world of a dump.
 
-ghost use Rattle.std.specs.Prelude.{◌≡◌, ◌<◌, ◌^◌, true, false, codes, IfOk, IfErr, MatchOption};
+ghost use Rattle.std.specs.Prelude.{◌≡◌, ◌≢◌, ◌<◌, ◌^◌, true, false, length, codes, IfOk, IfErr, MatchOption};
 ghost use Rattle.std.specs.Str.{bytes_eq};
 ghost use Rattle.moo_world.specs.Rows.{IsGood};
-ghost use Rattle.moo_world.specs.Judge.{state_of};
+ghost use Rattle.moo_world.specs.Judge.{State, state_of};
+ghost use Rattle.moo_dump.specs.Dump.{dump as dump_of};
+ghost use Rattle.moo_load.specs.OneState.{IsHeld};
 ghost use Rattle.moo_load.specs.RowsOf.{AreRowsOf};
+ghost use Rattle.moo_load.specs.declared.fault.LoadFault.TheVariants.{OutOfMemory};
 ghost use Rattle.moo_commands.specs.Given.{texts_by};
 ghost use Rattle.moo_commands.specs.Run.{IsDumpedAs, RefusesDump, is_load, dump_word};
 
 use crate::failure::Failure;
 use crate::host::BatchFiles;
-use moo_load::{read_dump, read_text};
+use moo_load::{LoadFault, read_dump, read_text};
+use moo_load_reasons::told;
 use moo_memory::Flat;
 use moo_words::{Action, Task};
 use std::alloc::Global;
-use std::io::Read;
+use std::io::{Eprint, Read};
 
 /// The word for the dump of a task, if it begins with the world of one.
 pub(crate) fn dump_word<'a>(task: Task<'a>) -> Option<&'a str>
@@ -26,8 +30,54 @@ pub(crate) fn dump_word<'a>(task: Task<'a>) -> Option<&'a str>
     }
 }
 
-/// The rows of the world that a text is the dump of.
-fn rows_of<R: Read + Drop>(alloc: Global, mut text: R) -> Result<Flat, Failure>
+/// Says on standard error why a text gives no world, and in which line. The path is that of the text, if it isn't standard input.
+fn explain_dump<C: Eprint>(
+    alloc: Global,
+    console: &C,
+    path: Option<&str>,
+    text: &[u8],
+    fault: LoadFault,
+) {
+    let Ok(Some(why)) = told(alloc, text, fault) else {
+        return;
+    };
+    match path {
+        Some(path) => {
+            let _said = eprintln!(console; "moo: {path}: {why}");
+        }
+        None => {
+            let _said = eprintln!(console; "moo: {why}");
+        }
+    }
+}
+
+/// What `read_dump` says of a text. If it gives no world, standard error says why.
+fn read_told<C: Eprint>(
+    alloc: Global,
+    console: &C,
+    path: Option<&str>,
+    text: &[u8],
+) -> Result<Flat, LoadFault>
+    ensures loaded { IfOk result (λ rows. dump_of (state_of rows.maps) ≡ text.now) }
+    ensures good { IfOk result (λ rows. IsGood rows.maps) }
+    ensures limit { IfOk result (λ rows. rows.maps.head.seq < 2 ^ 63) }
+    ensures numbered { IfOk result (λ rows. AreRowsOf (state_of rows.maps) rows.maps) }
+    ensures complete { IfErr result (λ fault. fault ≢ OutOfMemory → length text.now < 4294967295 → (s : State) → IsHeld s → dump_of s ≢ text.now) }
+{
+    let read = read_dump(alloc, text);
+    if let Err(fault) = &read {
+        explain_dump(alloc, console, path, text, *fault);
+    }
+    read
+}
+
+/// The rows of the world that a text is the dump of. If it isn't one, standard error says why.
+fn rows_of<C: Eprint, R: Read + Drop>(
+    alloc: Global,
+    console: &C,
+    path: Option<&str>,
+    mut text: R,
+) -> Result<Flat, Failure>
     ensures good { IfOk result (λ rows. IsGood rows.maps) }
     ensures limit { IfOk result (λ rows. rows.maps.head.seq < 2 ^ 63) }
     ensures numbered { IfOk result (λ rows. AreRowsOf (state_of rows.maps) rows.maps) }
@@ -35,13 +85,14 @@ fn rows_of<R: Read + Drop>(alloc: Global, mut text: R) -> Result<Flat, Failure>
     ensures failure { IfErr result (RefusesDump (R.remaining text)) }
 {
     let bytes = read_text(alloc, &mut text)?;
-    let rows = read_dump(alloc, &bytes)?;
+    let rows = read_told(alloc, console, path, &bytes)?;
     Ok(rows)
 }
 
-/// The rows of the world that a file is the dump of, or the input for `-`.
-pub(crate) fn read_world<H: BatchFiles, R: Read + Drop>(
+/// The rows of the world that a file is the dump of, or the input for `-`. If it isn't a dump, standard error says why.
+pub(crate) fn read_world<C: Eprint, H: BatchFiles, R: Read + Drop>(
     alloc: Global,
+    console: &C,
     dump: &str,
     host: &H,
     input: &mut R,
@@ -55,10 +106,10 @@ pub(crate) fn read_world<H: BatchFiles, R: Read + Drop>(
     ensures input { bytes_eq dump.now (codes "-") ≡ false → input.new ≡ input.old }
 {
     if dump == "-" {
-        return rows_of(alloc, input);
+        return rows_of(alloc, console, None, input);
     }
     match host.open(dump) {
-        Ok(text) => rows_of(alloc, text),
+        Ok(text) => rows_of(alloc, console, Some(dump), text),
         Err(_) => Err(Failure::NoBatches),
     }
 }

@@ -11,22 +11,19 @@ ghost use Rattle.moo_tables.specs.Inside.{Rests};
 ghost use Rattle.moo_store.specs.Led.{LeavesLed};
 ghost use Rattle.moo_store.specs.States.{ShowsState};
 ghost use Rattle.moo_store.specs.World.{store_of, CrashLeaves, StandsFor};
-ghost use Rattle.moo_commands.specs.Given.{given_to};
 ghost use Rattle.moo_commands.specs.Lines.{Reports};
 ghost use Rattle.moo_commands.specs.Run.{begins_anew, is_load, dump_word, BeginsWith, FailsToBegin, ShowsTables, RunsFrom, RunsOpened, RunsShown, FailsAtOnce, LeavesAsBefore, LeavesNothingNew, only_reads, reads_input, ReadsFile};
 
 use crate::commands::do_task;
 use crate::failure::Failure;
-use crate::host::BatchFiles;
 use crate::loading::{dump_word, read_world};
 use crate::output::report;
-use moo_http::Ports;
+use crate::session::{Runs, Session, Streams};
 use moo_store::{World, adopt, create_in, load_in};
 use moo_words::{Action, Task};
 use sqlite::{Alter, Connection};
 use std::alloc::Global;
-use std::io::{Eprint, Read, Write};
-use std::time::Clock;
+use std::io::{Eprint, Write};
 
 /// Whether a task begins with a new world: `init` and `load` do, and each task on `:memory:`.
 pub(crate) fn begins_anew(task: Task<'_>) -> bool
@@ -54,120 +51,129 @@ fn ended<C: Eprint, W: Write>(
 /// `run_words`.
 ///
 /// The World may be any: one whose tables are known to show its rows, or one of which only the rows are known.
-pub fn run_in<H: BatchFiles + Ports, C: Clock + Eprint, R: Read + Drop, W: Write, S: Alter + Drop>(
-    alloc: Global,
-    console: &C,
-    mut world: World<S>,
+pub fn run_in<'s, S: Streams, B: Alter + Drop>(
+    session: &mut Session<'s, S>,
+    mut world: World<B>,
     task: Task<'_>,
-    host: &mut H,
-    input: &mut R,
-    output: &mut W,
-    status: &mut u8,
-) -> Connection<S>
-    requires read { (path : List ℕ) → ReadsFile task path → H.may_read host.old path }
+) -> Connection<B>
+    requires read { (path : List ℕ) → ReadsFile task path → S.Host.may_read session.old.host path }
     // The task runs from the state that the World stands for, and its batches lead on from the World's rows. A check that is done found that
     // the tables show the World's rows.
-    ensures runs { (known : Bool) (s : State) → StandsFor S.Store known world s → RunsFrom task.entry s (given_to R.Read H.BatchFiles H.Ports H.Source.Arrivals H.Source.Reader.Read H.Source.Writer.Write input.old host.old host.new) (W.contents output.old) (W.contents output.new) status.new (IsTrue known × HasCleanDisk (state S.Store result)) (CrashLeaves (state S.Store result)) (LeavesLed (state S.Store result) world.rows.maps) (ShowsTables S.Store world (state S.Store result)) }
-    ensures clean { (known : Bool) (s : State) → StandsFor S.Store known world s → HasCleanDisk (state S.Store result) → HasCleanDisk (store_of S.Store world) }
+    ensures runs { (known : Bool) (s : State) → StandsFor B.Store known world s → RunsFrom task.entry s (⟦<Session<'s, S> as Runs>⟧.run session.old session.new) (IsTrue known × HasCleanDisk (state B.Store result)) (CrashLeaves (state B.Store result)) (LeavesLed (state B.Store result) world.rows.maps) (ShowsTables B.Store world (state B.Store result)) }
+    ensures clean { (known : Bool) (s : State) → StandsFor B.Store known world s → HasCleanDisk (state B.Store result) → HasCleanDisk (store_of B.Store world) }
     // The rows of a World that works are good.
     ensures good { world.failed ≡ false → IsGood world.rows.maps }
     // A task that only reads commits nothing.
-    ensures still { only_reads task.entry.action ≡ true → LeavesNothingNew (store_of S.Store world) (state S.Store result) }
-    ensures input { reads_input task.entry ≡ false → input.new ≡ input.old }
+    ensures still { only_reads task.entry.action ≡ true → LeavesNothingNew (store_of B.Store world) (state B.Store result) }
+    ensures input { reads_input task.entry ≡ false → session.new.input ≡ session.old.input }
 {
     world.has_good_rows();
-    let done = do_task(alloc, console, &mut world, task, host, input, output);
-    *status = ended(alloc, console, done, output);
+    let done = do_task(
+        session.alloc,
+        session.console,
+        &mut world,
+        task,
+        &mut session.host,
+        &mut session.input,
+        &mut session.output,
+    );
+    session.status = ended(session.alloc, session.console, done, &mut session.output);
     world.into_connection()
 }
 
 /// Makes the opening world in a connection that has no tables, and does what a task says over it.
-fn run_anew<H: BatchFiles + Ports, C: Clock + Eprint, R: Read + Drop, W: Write, S: Alter + Drop>(
-    alloc: Global,
-    console: &C,
-    conn: Connection<S>,
+fn run_anew<'s, S: Streams, B: Alter + Drop>(
+    session: &mut Session<'s, S>,
+    conn: Connection<B>,
     task: Task<'_>,
-    host: &mut H,
-    input: &mut R,
-    output: &mut W,
-    status: &mut u8,
-) -> Connection<S>
-    requires read { (path : List ℕ) → ReadsFile task path → H.may_read host.old path }
+) -> Connection<B>
+    requires read { (path : List ℕ) → ReadsFile task path → S.Host.may_read session.old.host path }
     requires outside { conn.in_transaction ≡ false }
     requires load { is_load task.action ≡ false }
-    ensures runs { ((host.new ≡ host.old) × FailsToBegin task.entry (given_to R.Read H.BatchFiles H.Ports H.Source.Arrivals H.Source.Reader.Read H.Source.Writer.Write input.old host.old host.new) (W.contents output.old) (W.contents output.new) status.new)
-        ⊎ ((s : State) × BeginsWith task.entry.action (given_to R.Read H.BatchFiles H.Ports H.Source.Arrivals H.Source.Reader.Read H.Source.Writer.Write input.old host.old host.new) s × RunsFrom task.entry s (given_to R.Read H.BatchFiles H.Ports H.Source.Arrivals H.Source.Reader.Read H.Source.Writer.Write input.old host.old host.new) (W.contents output.old) (W.contents output.new) status.new (HasCleanDisk (state S.Store result)) (CrashLeaves (state S.Store result)) (λ _ _. ⊤) ⊤) }
-    ensures input { reads_input task.entry ≡ false → input.new ≡ input.old }
+    ensures runs { ((session.new.host ≡ session.old.host) × FailsToBegin task.entry (⟦<Session<'s, S> as Runs>⟧.run session.old session.new))
+        ⊎ ((s : State) × BeginsWith task.entry.action (⟦<Session<'s, S> as Runs>⟧.run session.old session.new).given s × RunsFrom task.entry s (⟦<Session<'s, S> as Runs>⟧.run session.old session.new) (HasCleanDisk (state B.Store result)) (CrashLeaves (state B.Store result)) (λ _ _. ⊤) ⊤) }
+    ensures input { reads_input task.entry ≡ false → session.new.input ≡ session.old.input }
 {
-    match create_in(alloc, conn) {
-        Ok(world) => run_in(alloc, console, world, task, host, input, output, status),
+    match create_in(session.alloc, conn) {
+        Ok(world) => run_in(session, world, task),
         Err((fault, conn)) => {
-            *status = report(alloc, console, Failure::from(fault), output);
+            session.status = report(
+                session.alloc,
+                session.console,
+                Failure::from(fault),
+                &mut session.output,
+            );
             conn
         }
     }
 }
 
 /// Makes the world of a dump in a connection that has no tables, and does what the task says over it.
-fn run_loaded<H: BatchFiles + Ports, C: Clock + Eprint, R: Read + Drop, W: Write, S: Alter + Drop>(
-    alloc: Global,
-    console: &C,
-    conn: Connection<S>,
+fn run_loaded<'s, S: Streams, B: Alter + Drop>(
+    session: &mut Session<'s, S>,
+    conn: Connection<B>,
     dump: &str,
     task: Task<'_>,
-    host: &mut H,
-    input: &mut R,
-    output: &mut W,
-    status: &mut u8,
-) -> Connection<S>
-    requires read { (path : List ℕ) → ReadsFile task path → H.may_read host.old path }
+) -> Connection<B>
+    requires read { (path : List ℕ) → ReadsFile task path → S.Host.may_read session.old.host path }
     requires outside { conn.in_transaction ≡ false }
     requires load { is_load task.action ≡ true }
     requires word { dump_word task.action ≡ dump.now }
-    ensures runs { ((host.new ≡ host.old) × FailsToBegin task.entry (given_to R.Read H.BatchFiles H.Ports H.Source.Arrivals H.Source.Reader.Read H.Source.Writer.Write input.old host.old host.new) (W.contents output.old) (W.contents output.new) status.new)
-        ⊎ ((s : State) × BeginsWith task.entry.action (given_to R.Read H.BatchFiles H.Ports H.Source.Arrivals H.Source.Reader.Read H.Source.Writer.Write input.old host.old host.new) s × RunsFrom task.entry s (given_to R.Read H.BatchFiles H.Ports H.Source.Arrivals H.Source.Reader.Read H.Source.Writer.Write input.old host.old host.new) (W.contents output.old) (W.contents output.new) status.new (HasCleanDisk (state S.Store result)) (CrashLeaves (state S.Store result)) (λ _ _. ⊤) ⊤) }
-    ensures input { reads_input task.entry ≡ false → input.new ≡ input.old }
+    ensures runs { ((session.new.host ≡ session.old.host) × FailsToBegin task.entry (⟦<Session<'s, S> as Runs>⟧.run session.old session.new))
+        ⊎ ((s : State) × BeginsWith task.entry.action (⟦<Session<'s, S> as Runs>⟧.run session.old session.new).given s × RunsFrom task.entry s (⟦<Session<'s, S> as Runs>⟧.run session.old session.new) (HasCleanDisk (state B.Store result)) (CrashLeaves (state B.Store result)) (λ _ _. ⊤) ⊤) }
+    ensures input { reads_input task.entry ≡ false → session.new.input ≡ session.old.input }
 {
-    let rows = match read_world(alloc, dump, host, input) {
+    let rows = match read_world(
+        session.alloc,
+        session.console,
+        dump,
+        &session.host,
+        &mut session.input,
+    ) {
         Ok(rows) => rows,
         Err(failure) => {
-            *status = report(alloc, console, failure, output);
+            session.status = report(session.alloc, session.console, failure, &mut session.output);
             return conn;
         }
     };
-    match load_in(alloc, conn, rows) {
-        Ok(world) => run_in(alloc, console, world, task, host, input, output, status),
+    match load_in(session.alloc, conn, rows) {
+        Ok(world) => run_in(session, world, task),
         Err((fault, conn)) => {
-            *status = report(alloc, console, Failure::from(fault), output);
+            session.status = report(
+                session.alloc,
+                session.console,
+                Failure::from(fault),
+                &mut session.output,
+            );
             conn
         }
     }
 }
 
 /// Opens the world that the tables of a connection show, and does what a task says over it.
-fn run_opened<H: BatchFiles + Ports, C: Clock + Eprint, R: Read + Drop, W: Write, S: Alter + Drop>(
-    alloc: Global,
-    console: &C,
-    conn: Connection<S>,
+fn run_opened<'s, S: Streams, B: Alter + Drop>(
+    session: &mut Session<'s, S>,
+    conn: Connection<B>,
     task: Task<'_>,
-    host: &mut H,
-    input: &mut R,
-    output: &mut W,
-    status: &mut u8,
-) -> Connection<S>
-    requires read { (path : List ℕ) → ReadsFile task path → H.may_read host.old path }
+) -> Connection<B>
+    requires read { (path : List ℕ) → ReadsFile task path → S.Host.may_read session.old.host path }
     requires outside { conn.in_transaction ≡ false }
-    ensures kept { (s : State) → ShowsState (state S.Store conn) s → HasCleanDisk (state S.Store result) →
-        ((host.new ≡ host.old) × FailsAtOnce (W.contents output.old) (W.contents output.new) status.new × LeavesAsBefore s (state S.Store conn) (state S.Store result))
-        ⊎ RunsFrom task.entry s (given_to R.Read H.BatchFiles H.Ports H.Source.Arrivals H.Source.Reader.Read H.Source.Writer.Write input.old host.old host.new) (W.contents output.old) (W.contents output.new) status.new (HasCleanDisk (state S.Store result)) (CrashLeaves (state S.Store result)) (λ _ _. ⊤) ⊤ }
-    ensures only { (tables : Tables) → Rests (state S.Store conn) tables → HasCleanDisk (state S.Store result) → RunsShown task.entry tables (given_to R.Read H.BatchFiles H.Ports H.Source.Arrivals H.Source.Reader.Read H.Source.Writer.Write input.old host.old host.new) (W.contents output.old) (W.contents output.new) status.new }
-    ensures opened { RunsOpened task.entry (given_to R.Read H.BatchFiles H.Ports H.Source.Arrivals H.Source.Reader.Read H.Source.Writer.Write input.old host.old host.new) (W.contents output.old) (W.contents output.new) status.new }
-    ensures input { reads_input task.entry ≡ false → input.new ≡ input.old }
+    ensures kept { (s : State) → ShowsState (state B.Store conn) s → HasCleanDisk (state B.Store result) →
+        ((session.new.host ≡ session.old.host) × FailsAtOnce (⟦<Session<'s, S> as Runs>⟧.run session.old session.new) × LeavesAsBefore s (state B.Store conn) (state B.Store result))
+        ⊎ RunsFrom task.entry s (⟦<Session<'s, S> as Runs>⟧.run session.old session.new) (HasCleanDisk (state B.Store result)) (CrashLeaves (state B.Store result)) (λ _ _. ⊤) ⊤ }
+    ensures only { (tables : Tables) → Rests (state B.Store conn) tables → HasCleanDisk (state B.Store result) → RunsShown task.entry tables (⟦<Session<'s, S> as Runs>⟧.run session.old session.new) }
+    ensures opened { RunsOpened task.entry (⟦<Session<'s, S> as Runs>⟧.run session.old session.new) }
+    ensures input { reads_input task.entry ≡ false → session.new.input ≡ session.old.input }
 {
-    match adopt(alloc, conn) {
-        Ok(world) => run_in(alloc, console, world, task, host, input, output, status),
+    match adopt(session.alloc, conn) {
+        Ok(world) => run_in(session, world, task),
         Err((fault, conn)) => {
-            *status = report(alloc, console, Failure::from(fault), output);
+            session.status = report(
+                session.alloc,
+                session.console,
+                Failure::from(fault),
+                &mut session.output,
+            );
             conn
         }
     }
@@ -178,47 +184,34 @@ fn run_opened<H: BatchFiles + Ports, C: Clock + Eprint, R: Read + Drop, W: Write
 ///
 /// If the task begins with a new world, that is made in the connection, which must have no tables. Otherwise the world that its tables
 /// show is opened.
-pub fn run_over<
-    H: BatchFiles + Ports,
-    C: Clock + Eprint,
-    R: Read + Drop,
-    W: Write,
-    S: Alter + Drop,
->(
-    alloc: Global,
-    console: &C,
-    conn: Connection<S>,
+pub fn run_over<'s, S: Streams, B: Alter + Drop>(
+    session: &mut Session<'s, S>,
+    conn: Connection<B>,
     task: Task<'_>,
-    host: &mut H,
-    input: &mut R,
-    output: &mut W,
-    status: &mut u8,
-) -> Connection<S>
-    requires read { (path : List ℕ) → ReadsFile task path → H.may_read host.old path }
+) -> Connection<B>
+    requires read { (path : List ℕ) → ReadsFile task path → S.Host.may_read session.old.host path }
     requires outside { conn.in_transaction ≡ false }
     // A task that begins with a new world runs from that.
-    ensures anew { begins_anew task.entry ≡ true → ((host.new ≡ host.old) × FailsToBegin task.entry (given_to R.Read H.BatchFiles H.Ports H.Source.Arrivals H.Source.Reader.Read H.Source.Writer.Write input.old host.old host.new) (W.contents output.old) (W.contents output.new) status.new)
-        ⊎ ((s : State) × BeginsWith task.entry.action (given_to R.Read H.BatchFiles H.Ports H.Source.Arrivals H.Source.Reader.Read H.Source.Writer.Write input.old host.old host.new) s × RunsFrom task.entry s (given_to R.Read H.BatchFiles H.Ports H.Source.Arrivals H.Source.Reader.Read H.Source.Writer.Write input.old host.old host.new) (W.contents output.old) (W.contents output.new) status.new (HasCleanDisk (state S.Store result)) (CrashLeaves (state S.Store result)) (λ _ _. ⊤) ⊤) }
+    ensures anew { begins_anew task.entry ≡ true → ((session.new.host ≡ session.old.host) × FailsToBegin task.entry (⟦<Session<'s, S> as Runs>⟧.run session.old session.new))
+        ⊎ ((s : State) × BeginsWith task.entry.action (⟦<Session<'s, S> as Runs>⟧.run session.old session.new).given s × RunsFrom task.entry s (⟦<Session<'s, S> as Runs>⟧.run session.old session.new) (HasCleanDisk (state B.Store result)) (CrashLeaves (state B.Store result)) (λ _ _. ⊤) ⊤) }
     // Any other runs from the state that the tables of the connection show, of any version, on a disk that returns what was written.
-    ensures kept { (s : State) → begins_anew task.entry ≡ false → ShowsState (state S.Store conn) s → HasCleanDisk (state S.Store result) →
-        ((host.new ≡ host.old) × FailsAtOnce (W.contents output.old) (W.contents output.new) status.new × LeavesAsBefore s (state S.Store conn) (state S.Store result))
-        ⊎ RunsFrom task.entry s (given_to R.Read H.BatchFiles H.Ports H.Source.Arrivals H.Source.Reader.Read H.Source.Writer.Write input.old host.old host.new) (W.contents output.old) (W.contents output.new) status.new (HasCleanDisk (state S.Store result)) (CrashLeaves (state S.Store result)) (λ _ _. ⊤) ⊤ }
+    ensures kept { (s : State) → begins_anew task.entry ≡ false → ShowsState (state B.Store conn) s → HasCleanDisk (state B.Store result) →
+        ((session.new.host ≡ session.old.host) × FailsAtOnce (⟦<Session<'s, S> as Runs>⟧.run session.old session.new) × LeavesAsBefore s (state B.Store conn) (state B.Store result))
+        ⊎ RunsFrom task.entry s (⟦<Session<'s, S> as Runs>⟧.run session.old session.new) (HasCleanDisk (state B.Store result)) (CrashLeaves (state B.Store result)) (λ _ _. ⊤) ⊤ }
     // If there are tables, it runs from the world that they show, or the line tells a fault of these tables.
-    ensures only { (tables : Tables) → begins_anew task.entry ≡ false → Rests (state S.Store conn) tables → HasCleanDisk (state S.Store result) →
-        RunsShown task.entry tables (given_to R.Read H.BatchFiles H.Ports H.Source.Arrivals H.Source.Reader.Read H.Source.Writer.Write input.old host.old host.new) (W.contents output.old) (W.contents output.new) status.new }
+    ensures only { (tables : Tables) → begins_anew task.entry ≡ false → Rests (state B.Store conn) tables → HasCleanDisk (state B.Store result) →
+        RunsShown task.entry tables (⟦<Session<'s, S> as Runs>⟧.run session.old session.new) }
     // Whatever they show, it is refused, or the task runs from a well formed world.
-    ensures opened { begins_anew task.entry ≡ false → RunsOpened task.entry (given_to R.Read H.BatchFiles H.Ports H.Source.Arrivals H.Source.Reader.Read H.Source.Writer.Write input.old host.old host.new) (W.contents output.old) (W.contents output.new) status.new }
-    ensures input { reads_input task.entry ≡ false → input.new ≡ input.old }
+    ensures opened { begins_anew task.entry ≡ false → RunsOpened task.entry (⟦<Session<'s, S> as Runs>⟧.run session.old session.new) }
+    ensures input { reads_input task.entry ≡ false → session.new.input ≡ session.old.input }
 {
     match dump_word(task) {
-        Some(dump) => run_loaded(
-            alloc, console, conn, dump, task, host, input, output, status,
-        ),
+        Some(dump) => run_loaded(session, conn, dump, task),
         None => {
             if begins_anew(task) {
-                run_anew(alloc, console, conn, task, host, input, output, status)
+                run_anew(session, conn, task)
             } else {
-                run_opened(alloc, console, conn, task, host, input, output, status)
+                run_opened(session, conn, task)
             }
         }
     }

@@ -5,23 +5,19 @@ ghost use Rattle.clap.specs.Kinds.{Kinds, HasKind};
 ghost use Rattle.moo_words.specs.declared.task.Task.{Task};
 ghost use Rattle.moo_words.specs.Tasks.{NamesTask, IsRefusal, mistakes};
 ghost use Rattle.sqlite.specs.WalFiles.{image_at};
-ghost use Rattle.moo_commands.specs.Given.{given_to};
 ghost use Rattle.moo_commands.specs.Run.{mistake_status, EndsUsage, ReadsFile, KeepsInput, RunsWords};
 ghost use Rattle.moo_commands.specs.Ends.{RunsOver, RunsClosed};
 
 use crate::ends::Ends;
 use crate::failure::Failure;
 use crate::files::run_task;
-use crate::host::BatchFiles;
 use crate::output::{put_line, report};
+use crate::session::{Runs, Session, Streams};
 use clap::error::ErrorKind;
 use moo_files::{Remains, WorldFiles};
-use moo_http::Ports;
 use moo_words::{Usage, read_words};
-use sqlite::Start;
 use std::alloc::Global;
-use std::io::{Eprint, Read, Write};
-use std::time::Clock;
+use std::io::{Eprint, Write};
 
 /// The status of what the reader of the words says: 0 for help and the version, 2 for a mistake.
 fn mistake_status(kind: ErrorKind) -> u8
@@ -81,35 +77,29 @@ fn report_usage<C: Eprint, W: Write>(
 /// no code looks at them. It looks at and opens no file of a world but that of the words, and reads no file of batches
 /// and no dump but theirs. What is left of the file is handed back, to be closed. If the
 /// words name no file, that is the unspent start.
-pub fn run_words<
-    T: Start,
-    H: WorldFiles<T> + BatchFiles + Ports,
-    C: Clock + Eprint,
-    R: Read + Drop,
-    W: Write,
->(
-    alloc: Global,
-    console: &C,
+pub fn run_words<'s, S: Streams>(
+    session: &mut Session<'s, S>,
     words: &[&str],
-    start: T,
-    host: &mut H,
-    input: &mut R,
-    output: &mut W,
-    status: &mut u8,
-) -> Ends<T, H::Disk>
-    requires may { (task : Task) → NamesTask (map (λ word. word.now) words.now) task → H.may_open host.old task.file.now }
-    requires read { (task : Task) (path : List ℕ) → NamesTask (map (λ word. word.now) words.now) task → ReadsFile task path → H.may_read host.old path }
+    start: S::File,
+) -> Ends<S::File, <S::Host as WorldFiles<S::File>>::Disk>
+    requires may { (task : Task) → NamesTask (map (λ word. word.now) words.now) task → S.Host.may_open session.old.host task.file.now }
+    requires read { (task : Task) (path : List ℕ) → NamesTask (map (λ word. word.now) words.now) task → ReadsFile task path → S.Host.may_read session.old.host path }
     // What is written, whatever the file holds.
-    ensures words { RunsWords (map (λ word. word.now) words.now) (given_to R.Read H.BatchFiles H.Ports H.Source.Arrivals H.Source.Reader.Read H.Source.Writer.Write input.old host.old host.new) (W.contents output.old) (W.contents output.new) status.new }
+    ensures words { RunsWords (map (λ word. word.now) words.now) (⟦<Session<'s, S> as Runs>⟧.run session.old session.new) }
     // And by what it holds: the run is one over the world that it shows.
-    ensures over { RunsOver (map (λ word. word.now) words.now) (image_at T.Start) result (given_to R.Read H.BatchFiles H.Ports H.Source.Arrivals H.Source.Reader.Read H.Source.Writer.Write input.old host.old host.new) (W.contents output.old) (W.contents output.new) status.new }
+    ensures over { RunsOver (map (λ word. word.now) words.now) (image_at S.File.Start) result (⟦<Session<'s, S> as Runs>⟧.run session.old session.new) }
     // Only words of a task that reads the input change it.
-    ensures input { KeepsInput (map (λ word. word.now) words.now) input.old input.new }
+    ensures input { KeepsInput (map (λ word. word.now) words.now) session.old.input session.new.input }
 {
-    match read_words(alloc, words) {
-        Ok(task) => run_task(alloc, console, task, start, host, input, output, status),
+    match read_words(session.alloc, words) {
+        Ok(task) => run_task(session, task, start),
         Err(usage) => {
-            *status = report_usage(alloc, console, &usage, output);
+            session.status = report_usage(
+                session.alloc,
+                session.console,
+                &usage,
+                &mut session.output,
+            );
             Ends::NoFile(start)
         }
     }
@@ -119,29 +109,18 @@ pub fn run_words<
 /// and after a kill, a part of what was committed is in the log alone; the next open reads it, and the status is the same.
 ///
 /// What is left of the file is handed back, to be dropped. If the words name no file, that is the unspent start.
-pub fn run_to_end<
-    T: Start,
-    H: WorldFiles<T> + BatchFiles + Ports,
-    C: Clock + Eprint,
-    R: Read + Drop,
-    W: Write,
->(
-    alloc: Global,
-    console: &C,
+pub fn run_to_end<'s, S: Streams>(
+    session: &mut Session<'s, S>,
     words: &[&str],
-    start: T,
-    host: &mut H,
-    input: &mut R,
-    output: &mut W,
-    status: &mut u8,
-) -> Remains<T, H::Disk>
-    requires may { (task : Task) → NamesTask (map (λ word. word.now) words.now) task → H.may_open host.old task.file.now }
-    requires read { (task : Task) (path : List ℕ) → NamesTask (map (λ word. word.now) words.now) task → ReadsFile task path → H.may_read host.old path }
-    ensures words { RunsWords (map (λ word. word.now) words.now) (given_to R.Read H.BatchFiles H.Ports H.Source.Arrivals H.Source.Reader.Read H.Source.Writer.Write input.old host.old host.new) (W.contents output.old) (W.contents output.new) status.new }
+    start: S::File,
+) -> Remains<S::File, <S::Host as WorldFiles<S::File>>::Disk>
+    requires may { (task : Task) → NamesTask (map (λ word. word.now) words.now) task → S.Host.may_open session.old.host task.file.now }
+    requires read { (task : Task) (path : List ℕ) → NamesTask (map (λ word. word.now) words.now) task → ReadsFile task path → S.Host.may_read session.old.host path }
+    ensures words { RunsWords (map (λ word. word.now) words.now) (⟦<Session<'s, S> as Runs>⟧.run session.old session.new) }
     // The file is closed after a run over what it held.
-    ensures closed { RunsClosed (map (λ word. word.now) words.now) (image_at T.Start) result (given_to R.Read H.BatchFiles H.Ports H.Source.Arrivals H.Source.Reader.Read H.Source.Writer.Write input.old host.old host.new) (W.contents output.old) (W.contents output.new) status.new }
+    ensures closed { RunsClosed (map (λ word. word.now) words.now) (image_at S.File.Start) result (⟦<Session<'s, S> as Runs>⟧.run session.old session.new) }
     // Only words of a task that reads the input change it.
-    ensures input { KeepsInput (map (λ word. word.now) words.now) input.old input.new }
+    ensures input { KeepsInput (map (λ word. word.now) words.now) session.old.input session.new.input }
 {
-    run_words(alloc, console, words, start, host, input, output, status).close()
+    run_words(session, words, start).close()
 }

@@ -2,7 +2,6 @@
 
 ghost use Rattle.std.specs.Prelude.{◌≡◌, ◌≢◌, ◌⊎◌, ◌∷◌, ℕ, List, codes, map, drop, string_bytes, IfOk, IfErr};
 ghost use Rattle.std.specs.IoError.{error_kind};
-ghost use Rattle.moo_commands.specs.Given.{given_to};
 ghost use Rattle.moo_commands.specs.Lines.{Reports};
 ghost use Rattle.sqlite.specs.WalFiles.{image_at};
 ghost use Rattle.moo_words.specs.declared.task.Task.{Task};
@@ -11,18 +10,18 @@ ghost use Rattle.moo_commands.specs.Run.{ReadsFile, KeepsInput};
 ghost use Rattle.moo_commands.specs.Ends.{IsUntouched, RunsClosed};
 
 use crate::failure::Failure;
-use crate::host::{BatchFiles, System};
+use crate::host::System;
 use crate::output::report;
 use crate::run::run_to_end;
+use crate::session::{Runs, Session, Streams};
 use moo_disk::DiskChanges;
 use moo_files::{Remains, WorldFiles};
-use moo_http::Ports;
-use sqlite::{Start, Unknown};
+use sqlite::Unknown;
 use std::alloc::{AllocError, Global};
 use std::env::args;
 use std::io;
-use std::io::{Eprint, ErrorKind, Read, Write};
-use std::time::Clock;
+use std::io::{Eprint, ErrorKind, Stdin, Stdout, Write};
+use std::marker::PhantomData;
 
 /// The words of a command line, with `moo` in place of the program's path.
 fn named_words(alloc: Global, mut words: Vec<String>) -> io::Result<Vec<String>>
@@ -59,57 +58,46 @@ fn words_failure(error: &io::Error) -> Failure
     }
 }
 
-/// Does what the words say and closes their file, or says why the words can't be read. The exit status is handed back, with what is left of
-/// the file, to be dropped. If no file was opened for them, that is the unspent start.
-pub fn run_given<
-    T: Start,
-    H: WorldFiles<T> + BatchFiles + Ports,
-    C: Clock + Eprint,
-    R: Read + Drop,
-    W: Write,
->(
-    alloc: Global,
-    console: &C,
+/// Does what the words say and closes their file, or says why the words can't be read. It sets the exit status, and what is left of
+/// the file is handed back, to be dropped. If no file was opened for them, that is the unspent start.
+pub fn run_given<'s, S: Streams>(
+    session: &mut Session<'s, S>,
     words: io::Result<Vec<String>>,
-    start: T,
-    host: &mut H,
-    input: &mut R,
-    output: &mut W,
-) -> (u8, Remains<T, H::Disk>)
-    requires may { IfOk words (λ words. (task : Task) → NamesTask (map string_bytes words.items) task → H.may_open host.old task.file.now) }
-    requires read { IfOk words (λ words. (task : Task) (path : List ℕ) → NamesTask (map string_bytes words.items) task → ReadsFile task path → H.may_read host.old path) }
+    start: S::File,
+) -> Remains<S::File, <S::Host as WorldFiles<S::File>>::Disk>
+    requires may { IfOk words (λ words. (task : Task) → NamesTask (map string_bytes words.items) task → S.Host.may_open session.old.host task.file.now) }
+    requires read { IfOk words (λ words. (task : Task) (path : List ℕ) → NamesTask (map string_bytes words.items) task → ReadsFile task path → S.Host.may_read session.old.host path) }
     // The outcome of the words is that of `run_to_end`; or memory runs out before that, and their file isn't opened.
-    ensures read { IfOk words (λ words. (Reports Failure.NoMemory (W.contents output.old) (W.contents output.new) result.0 × IsUntouched result.1 × (host.new ≡ host.old))
-        ⊎ RunsClosed (map string_bytes words.items) (image_at T.Start) result.1 (given_to R.Read H.BatchFiles H.Ports H.Source.Arrivals H.Source.Reader.Read H.Source.Writer.Write input.old host.old host.new) (W.contents output.old) (W.contents output.new) result.0) }
-    ensures input { IfOk words (λ words. KeepsInput (map string_bytes words.items) input.old input.new) }
+    ensures read { IfOk words (λ words. (Reports Failure.NoMemory (S.Output.contents session.old.output) (S.Output.contents session.new.output) session.new.status × IsUntouched result × (session.new.host ≡ session.old.host))
+        ⊎ RunsClosed (map string_bytes words.items) (image_at S.File.Start) result (⟦<Session<'s, S> as Runs>⟧.run session.old session.new)) }
+    ensures input { IfOk words (λ words. KeepsInput (map string_bytes words.items) session.old.input session.new.input) }
     // If they can't be read, the line says whether memory ran out, no file is opened, and nothing is asked of the ports or read.
-    ensures memory { IfErr words (λ error. error_kind error ≡ ErrorKind.OutOfMemory → Reports Failure.NoMemory (W.contents output.old) (W.contents output.new) result.0) }
-    ensures unread { IfErr words (λ error. error_kind error ≢ ErrorKind.OutOfMemory → Reports Failure.Usage (W.contents output.old) (W.contents output.new) result.0) }
-    ensures unopened { IfErr words (λ _. IsUntouched result.1 × (host.new ≡ host.old) × (input.new ≡ input.old)) }
+    ensures memory { IfErr words (λ error. error_kind error ≡ ErrorKind.OutOfMemory → Reports Failure.NoMemory (S.Output.contents session.old.output) (S.Output.contents session.new.output) session.new.status) }
+    ensures unread { IfErr words (λ error. error_kind error ≢ ErrorKind.OutOfMemory → Reports Failure.Usage (S.Output.contents session.old.output) (S.Output.contents session.new.output) session.new.status) }
+    ensures unopened { IfErr words (λ _. IsUntouched result × (session.new.host ≡ session.old.host) × (session.new.input ≡ session.old.input)) }
 {
     let words = match words {
         Ok(words) => words,
         Err(error) => {
-            let status = report(alloc, console, words_failure(&error), output);
-            return (status, Remains::Untouched(start));
+            session.status = report(
+                session.alloc,
+                session.console,
+                words_failure(&error),
+                &mut session.output,
+            );
+            return Remains::Untouched(start);
         }
     };
-    let Ok(words) = borrowed(alloc, &words) else {
-        let status = report(alloc, console, Failure::NoMemory, output);
-        return (status, Remains::Untouched(start));
+    let Ok(words) = borrowed(session.alloc, &words) else {
+        session.status = report(
+            session.alloc,
+            session.console,
+            Failure::NoMemory,
+            &mut session.output,
+        );
+        return Remains::Untouched(start);
     };
-    let mut status = 0;
-    let closed = run_to_end(
-        alloc,
-        console,
-        &words,
-        start,
-        host,
-        input,
-        output,
-        &mut status,
-    );
-    (status, closed)
+    run_to_end(session, &words, start)
 }
 
 /// The words of the command line.
@@ -117,19 +105,36 @@ fn command_words(rt: &HostRuntime) -> io::Result<Vec<String>> {
     named_words(rt.alloc(), args(rt)?.collect(rt.alloc())?)
 }
 
+/// What the program works with: the files and ports of the system, and the standard streams.
+pub struct Standard<'a> {
+    of: PhantomData<&'a HostRuntime>,
+}
+
+impl<'a> Streams for Standard<'a> {
+    type File = Unknown;
+
+    type Host = System<'a>;
+
+    type Console = HostRuntime;
+
+    type Input = Stdin;
+
+    type Output = Stdout;
+}
+
 /// The whole program: `run_given` over the words of the command line, the files and ports of the system and the standard streams. It has no type
 /// parameter, so that the check of `main` needn't know what streams are.
 pub fn run_command(rt: &HostRuntime) -> u8 {
     let changes = DiskChanges::new();
-    let (status, left) = run_given(
-        rt.alloc(),
-        rt,
-        command_words(rt),
-        Unknown,
-        &mut System::new(rt, &changes),
-        &mut rt.stdin(),
-        &mut rt.stdout(),
-    );
+    let mut session: Session<'_, Standard<'_>> = Session {
+        alloc: rt.alloc(),
+        console: rt,
+        host: System::new(rt, &changes),
+        input: rt.stdin(),
+        output: rt.stdout(),
+        status: 0,
+    };
+    let left = run_given(&mut session, command_words(rt), Unknown);
     left.shut();
-    status
+    session.status
 }

@@ -26,7 +26,7 @@ module _ {K X : Type 0} (right bad : K → X → Type 0) where
         by true h g rec = subst (λ v. right k v) (same_Some x.1 r g) (subst (λ j. right j x.1) (sym ((key-Decides cmp total exact k x.0).0 h)) f.0)
         by false h g rec = rec g
 
-    none_below : (k x : K) (es : List (K × X)) → cmp k x ≡ Less → T (below_all cmp x es) → find cmp k es ≡ None
+    pub none_below : (k x : K) (es : List (K × X)) → cmp k x ≡ Less → T (below_all cmp x es) → find cmp k es ≡ None
     none_below k x [] l h = refl
     none_below k x (e ∷ es) l h = elsewhere cmp k e es (ap is_eq (total.trans k x e.0 l (less_of _ (first_of _ _ h)))) ∙ none_below k x es l (second_of _ _ h)
 

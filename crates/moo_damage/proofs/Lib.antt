@@ -1,5 +1,6 @@
 pub mod Words
 pub mod Firsts
+pub mod Descending
 pub mod Found
 pub mod Ending
 pub mod Apart

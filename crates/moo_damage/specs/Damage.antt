@@ -3,6 +3,7 @@ use Rattle.std.specs.Prelude.{◌≡◌, pos, nat_lt, nat_le, int_lt, Bool, true
 use Rattle.std.specs.Option.{option_map}
 use Rattle.std.specs.List.{list_any}
 use Rattle.std.specs.FinMap.{get, entries}
+use Rattle.std.specs.declared.cmp.Ordering.TheVariants.{Less}
 use Rattle.moo_value.specs.declared.value.ObjNo.{ObjNo}
 use Rattle.moo_rows.specs.declared.row.Head.{Head}
 use Rattle.moo_rows.specs.declared.row.ObjRow.{ObjRow}
@@ -13,7 +14,7 @@ use Rattle.moo_rows.specs.declared.row.PropRow.{PropRow}
 use Rattle.moo_rows.specs.declared.row.SlotRow.{SlotRow}
 use Rattle.moo_rows.specs.declared.row.VerbId.{VerbId}
 use Rattle.moo_rows.specs.declared.row.VerbRow.{VerbRow}
-use Rattle.moo_rows.specs.Maps.{Maps}
+use Rattle.moo_rows.specs.Maps.{Maps, object_cmp}
 use Rattle.moo_world.specs.Objects.{nothing, same_object, same_text, folded, is_among}
 use Rattle.moo_world.specs.PropertyCalls.{is_clear}
 use Rattle.moo_world.specs.Rows.{world_of}
@@ -92,6 +93,10 @@ is_strange_verb m key = not (is_object (world_of m) key.0)
 pub record LinksHold (link : TreeLink) (m : Maps) : Type 0 where
   pub links : (x : ObjNo) (row : ObjRow) → get m.objects x ≡ Some row → (link_of link row ≡ nothing) ⊎ (is_some (get m.objects (link_of link row)) ≡ true)
   pub nothing : get m.objects nothing ≡ None
+
+-- each object is linked to a number that is less than its own
+abbrev pub LinksDescend : TreeLink → Maps → Type 0
+LinksDescend link m = (x : ObjNo) (row : ObjRow) → get m.objects x ≡ Some row → object_cmp (link_of link row) x ≡ Less
 
 -- ---- none of this is so
 

@@ -1,12 +1,12 @@
 //! Chains of links that don't end.
 
-ghost use Rattle.std.specs.Prelude.{◌≡◌, ◌≤◌, IfOk, IfSome, IfNone, OnOk, true, is_some, length};
+ghost use Rattle.std.specs.Prelude.{◌≡◌, ◌≤◌, IsTrue, IfOk, IfSome, IfNone, OnOk, true, is_some, length};
 ghost use Rattle.std.specs.List.{AllByRecursion};
 ghost use Rattle.std.specs.FinMap.{entries, get};
 ghost use Rattle.moo_rows.specs.Ordered.{contents};
 ghost use Rattle.moo_rows.specs.Maps.{Maps, object_cmp};
 ghost use Rattle.moo_damage.specs.First.{IsLeastBad};
-ghost use Rattle.moo_damage.specs.Damage.{link_of, HasEnd, Loops, LinksHold};
+ghost use Rattle.moo_damage.specs.Damage.{link_of, HasEnd, Loops, LinksHold, LinksDescend};
 ghost use Rattle.moo_damage.specs.Kinds.{lost_kind, loop_kind};
 ghost use Rattle.moo_damage.specs.Noted.{AreEnding};
 ghost use Rattle.moo_damage.specs.declared.trees.TreeLink.{TreeLink};
@@ -54,6 +54,18 @@ impl TreeLink {
             TreeLink::Location => Kind::PlaceLoop,
         }
     }
+}
+
+/// Whether each object is linked to one of a lesser number, or to none. Then each chain ends.
+fn links_descend<R: Rows>(rows: &R, link: TreeLink) -> bool
+    ensures { IsTrue result → LinksDescend link (R.held rows.now).maps }
+{
+    for (x, row) in each_object(rows) {
+        if link.of(row) >= x {
+            return false;
+        }
+    }
+    true
 }
 
 /// How many objects there are. An `Err` is a lack of memory.
@@ -114,7 +126,8 @@ fn note(known: &mut BTreeMap<ObjNo, ()>, path: &[ObjNo]) -> Result<(), AllocErro
 
 /// The least object whose chain of links doesn't end, or none. An `Err` is a lack of memory.
 ///
-/// Each object is climbed over once: what is known to end is noted, and the first chain that is longer than there are
+/// In most worlds each object is linked to one of a lesser number, and that is looked for first, without any memory. Else
+/// each object is climbed over once: what is known to end is noted, and the first chain that is longer than there are
 /// objects is the answer.
 pub fn first_loop<R: Rows>(
     alloc: Global,
@@ -124,6 +137,9 @@ pub fn first_loop<R: Rows>(
     requires { LinksHold link (R.held rows.now).maps }
     ensures { IfOk result (IsLeastBad (R.held rows.now).maps.objects (λ x _. HasEnd link (R.held rows.now).maps x) (λ x _. Loops link (R.held rows.now).maps x)) }
 {
+    if links_descend(rows, link) {
+        return Ok(None);
+    }
     let count = object_count(alloc, rows)?;
     let mut known = BTreeMap::new(alloc);
     for (x, _row) in each_object(rows) {

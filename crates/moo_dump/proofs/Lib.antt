@@ -4,3 +4,4 @@ pub mod Listing
 pub mod Writing
 pub mod ObjectLines
 pub mod Compared
+pub mod Skipping

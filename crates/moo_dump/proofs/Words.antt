@@ -22,6 +22,6 @@ pub use Rattle.moo_verbs.proofs.Found.{walk}
 pub use Rattle.moo_dump.specs.Difference.{PartAt, TellsDifference}
 pub use Rattle.moo_dump.specs.Dump.{heading, object_lines, petition_line, verb_line}
 unfoldable pub use Rattle.moo_dump.specs.Dump.{dump}
-pub use Rattle.moo_dump.specs.Lines.{ids_defined, ids_listed, objects_text, petitions_text, property_line_of, slot_line_of, slot_lines_over}
+pub use Rattle.moo_dump.specs.Lines.{LeadsUp, SkipUp, ids_defined, ids_listed, objects_text, petitions_text, property_line_of, slot_line_of, slot_lines_over}
 pub use Rattle.moo_dump.specs.Written.{AppendsFront}
 pub use Rattle.moo_dump.specs.declared.comparing.CompareFault.{CompareFault}

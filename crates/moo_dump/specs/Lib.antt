@@ -1,5 +1,6 @@
 pub mod Dump
 pub mod Lines
+pub mod Outlined
 pub mod Written
 pub mod Difference
 pub mod Look

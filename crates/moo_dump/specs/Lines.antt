@@ -1,5 +1,5 @@
 -- The lines of objects and of petitions, by the rows that they are printed from.
-use Rattle.std.specs.Prelude.{◌≡◌, ℕ, List, [], Option, Some, None, map, unwrap_or}
+use Rattle.std.specs.Prelude.{◌≡◌, ◌<◌, ℕ, length, List, [], Option, Some, None, map, unwrap_or}
 use Rattle.std.specs.BTreeMap.{BTreeMap, get as tree_get}
 use Rattle.std.specs.FinMap.{get, entries}
 use Rattle.std.specs.List.{filter, flat_map}
@@ -14,6 +14,7 @@ use Rattle.moo_dump.specs.Dump.{property_line, slot_line, object_lines, petition
 use Rattle.moo_world.specs.ObjectLists.{objects_of}
 use Rattle.moo_world.specs.Objects.{same_object}
 use Rattle.moo_world.specs.Rows.{slot_seen, world_of}
+use Rattle.moo_world.specs.World.{chain}
 
 -- the properties that d defines, of these
 abbrev pub ids_defined_by : ObjNo → List (PropId × PropRow) → List PropId
@@ -46,6 +47,15 @@ slot_lines_over t x l = flat_map (λ d. flat_map (slot_line_of t x) (ids_defined
 -- the map has what each object defines
 abbrev pub ListsDefinitions : Maps → BTreeMap ObjNo (Vec PropId) → Type 0
 ListsDefinitions t ids = (d : ObjNo) → ids_listed ids d ≡ ids_defined t d
+
+-- y is further up than x, and what objects define on the way from x to y, y not counted, has no lines of slots
+pub record LeadsUp (t : Maps) (x y : ObjNo) : Type 0 where
+  pub nearer : length (chain (world_of t) y) < length (chain (world_of t) x)
+  pub same : (z : ObjNo) → slot_lines_over t z (chain (world_of t) x) ≡ slot_lines_over t z (chain (world_of t) y)
+
+-- each entry leads up
+abbrev pub SkipUp : Maps → BTreeMap ObjNo ObjNo → Type 0
+SkipUp t skips = (x y : ObjNo) → tree_get object_cmp skips x ≡ Some y → LeadsUp t x y
 
 -- the lines of the objects, ascending
 abbrev pub objects_text : Maps → List ℕ

@@ -3,15 +3,16 @@
 ghost use Rattle.std.specs.Prelude.{◌≡◌, ◌≢◌, ◌≤◌, ◌<◌, ◌++◌, ℕ, List, length, take, slice_get, IfOk, IfErr, OnOk};
 ghost use Rattle.moo_dump.specs.Difference.{TellsDifference};
 ghost use Rattle.moo_dump.specs.Dump.{dump};
-ghost use Rattle.moo_dump.specs.Lines.{ListsDefinitions, objects_text, petitions_text};
+ghost use Rattle.moo_dump.specs.Lines.{objects_text, petitions_text};
 ghost use Rattle.moo_dump.specs.declared.comparing.CompareFault.TheVariants.{OutOfMemory};
+ghost use Rattle.moo_dump.specs.Outlined.{IsOutline};
 ghost use Rattle.moo_world.specs.Judge.{state_of};
 ghost use Rattle.moo_world.specs.Rows.{IsGood};
 
-use crate::definitions::{Definitions, all_definitions};
 use crate::dumping::heading_text;
 use crate::lines::petition_text;
 use crate::objects::object_text;
+use crate::outline::{Outline, outline_of};
 use moo_rows::{Rows, each_object, each_petition};
 use std::alloc::{AllocError, Global};
 
@@ -67,12 +68,12 @@ fn after_piece(text: &[u8], at: usize, piece: &[u8]) -> Result<usize, CompareFau
 fn after_objects<R: Rows>(
     alloc: Global,
     rows: &R,
-    definitions: &Definitions,
+    outline: &Outline,
     text: &[u8],
     start: usize,
 ) -> Result<usize, CompareFault>
     requires good { IsGood (R.held rows.now).maps }
-    requires listed { ListsDefinitions (R.held rows.now).maps definitions.now }
+    requires outline { IsOutline (R.held rows.now).maps outline.now }
     requires start { start ≤ length text.now }
     ensures within { IfOk result (λ next. next ≤ length text.now) }
     ensures ok { IfOk result (λ next. take next text.now ≡ take start text.now ++ objects_text (R.held rows.now).maps) }
@@ -81,7 +82,7 @@ fn after_objects<R: Rows>(
 {
     let mut at = start;
     for (x, _) in each_object(rows) {
-        let piece = object_text(alloc, rows, definitions, x)?;
+        let piece = object_text(alloc, rows, outline, x)?;
         at = after_piece(text, at, &piece)?;
     }
     Ok(at)
@@ -118,10 +119,10 @@ pub fn compare<R: Rows>(alloc: Global, rows: &R, text: &[u8]) -> Result<(), Comp
     ensures ok { OnOk result (dump (state_of (R.held rows.now).maps) ≡ text.now) }
     ensures err { IfErr result (TellsDifference (dump (state_of (R.held rows.now).maps)) text.now) }
 {
-    let definitions = all_definitions(alloc, rows)?;
+    let outline = outline_of(alloc, rows)?;
     let heading = heading_text(alloc, rows)?;
     let at = after_piece(text, 0, &heading)?;
-    let at = after_objects(alloc, rows, &definitions, text, at)?;
+    let at = after_objects(alloc, rows, &outline, text, at)?;
     let at = after_petitions(alloc, rows, text, at)?;
     let at = after_piece(text, at, b"end\n")?;
     if at < text.len() {

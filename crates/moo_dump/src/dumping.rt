@@ -3,15 +3,16 @@
 ghost use Rattle.std.specs.Prelude.{◌≡◌, ℕ, take, IfOk, OnOk, OnErr};
 ghost use Rattle.std.specs.Io.KnownBytes.{Appends};
 ghost use Rattle.moo_dump.specs.Dump.{heading, dump};
-ghost use Rattle.moo_dump.specs.Lines.{ListsDefinitions, objects_text, petitions_text};
+ghost use Rattle.moo_dump.specs.Lines.{objects_text, petitions_text};
 ghost use Rattle.moo_dump.specs.Written.{AppendsFront};
+ghost use Rattle.moo_dump.specs.Outlined.{IsOutline};
 ghost use Rattle.moo_world.specs.Judge.{state_of};
 ghost use Rattle.moo_world.specs.Rows.{IsGood};
 
-use crate::definitions::{Definitions, all_definitions};
 use crate::fault::RowsDumpFault;
 use crate::lines::petition_text;
 use crate::objects::object_text;
+use crate::outline::{Outline, outline_of};
 use crate::output::put_all;
 use moo_rows::{Rows, each_object, each_petition};
 use std::alloc::{AllocError, Global};
@@ -33,16 +34,16 @@ pub(crate) fn heading_text<R: Rows>(alloc: Global, rows: &R) -> Result<Vec<u8>, 
 fn put_objects<R: Rows, W: Write>(
     alloc: Global,
     rows: &R,
-    definitions: &Definitions,
+    outline: &Outline,
     output: &mut W,
 ) -> Result<(), RowsDumpFault>
     requires good { IsGood (R.held rows.now).maps }
-    requires listed { ListsDefinitions (R.held rows.now).maps definitions.now }
+    requires outline { IsOutline (R.held rows.now).maps outline.now }
     ensures ok { OnOk result (Appends (W.contents output.old) (W.contents output.new) (objects_text (R.held rows.now).maps)) }
     ensures err { OnErr result (AppendsFront (W.contents output.old) (W.contents output.new) (objects_text (R.held rows.now).maps)) }
 {
     for (x, _) in each_object(rows) {
-        let text = object_text(alloc, rows, definitions, x)?;
+        let text = object_text(alloc, rows, outline, x)?;
         put_all(output, &text)?;
     }
     Ok(())
@@ -72,17 +73,18 @@ fn put_petitions<R: Rows, W: Write>(
 ///
 /// Write if the writer fails or takes no bytes, OutOfMemory if memory runs out; a front of the text is written then.
 ///
-/// All properties are gone over once, and then each object takes as many look-ups as it has lines and as its chain is long.
+/// All properties and all objects are gone over once, and then each object takes as many look-ups as it has lines. How long its chain
+/// is doesn't count.
 pub fn dump<R: Rows, W: Write>(alloc: Global, rows: &R, output: &mut W) -> Result<(), RowsDumpFault>
     requires { IsGood (R.held rows.now).maps }
     ensures ok { OnOk result (Appends (W.contents output.old) (W.contents output.new) (dump (state_of (R.held rows.now).maps))) }
     ensures err { OnErr result ((count : ℕ)
         × Appends (W.contents output.old) (W.contents output.new) (take count (dump (state_of (R.held rows.now).maps)))) }
 {
-    let definitions = all_definitions(alloc, rows)?;
+    let outline = outline_of(alloc, rows)?;
     let heading = heading_text(alloc, rows)?;
     put_all(output, &heading)?;
-    put_objects(alloc, rows, &definitions, output)?;
+    put_objects(alloc, rows, &outline, output)?;
     put_petitions(alloc, rows, output)?;
     put_all(output, b"end\n")
 }

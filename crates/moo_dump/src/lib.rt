@@ -8,8 +8,10 @@ mod fault;
 mod lines;
 mod looking;
 mod objects;
+mod outline;
 mod output;
 mod seen;
+mod skips;
 
 pub use comparing::{CompareFault, compare};
 pub use dumping::dump;

@@ -3,14 +3,16 @@
 ghost use Rattle.std.specs.Prelude.{◌≡◌, ◌++◌, OnOk, IfOk};
 ghost use Rattle.std.specs.List.{flat_map};
 ghost use Rattle.moo_dump.specs.Dump.{verb_line, object_lines};
-ghost use Rattle.moo_dump.specs.Lines.{ListsDefinitions, property_line_of, slot_line_of, slot_lines_over};
+ghost use Rattle.moo_dump.specs.Lines.{property_line_of, slot_line_of, slot_lines_over};
+ghost use Rattle.moo_dump.specs.Outlined.{IsOutline};
 ghost use Rattle.moo_world.specs.Rows.{world_of, IsSound, IsGood};
 ghost use Rattle.moo_world.specs.World.{IsTree, chain, directory_of};
 
-use crate::definitions::{Definitions, defined_by};
+use crate::definitions::defined_by;
 use crate::lines::{put_object_line, put_property_line, put_slot_line, put_verb_line};
+use crate::outline::Outline;
+use crate::skips::past;
 use moo_rows::{PropId, Rows, VerbId, each_verb_of};
-use moo_tree::chain;
 use moo_value::ObjNo;
 use std::alloc::{AllocError, Global};
 
@@ -67,22 +69,24 @@ fn put_slots_of<R: Rows>(
     Ok(())
 }
 
-/// Appends the lines of the slots of x, by definers from x up its chain.
+/// Appends the lines of the slots of x, by definers from x up its chain. Of the objects above x only those are passed that define
+/// something, and so have lines here.
 fn put_slots<R: Rows>(
     alloc: Global,
     rows: &R,
-    definitions: &Definitions,
+    outline: &Outline,
     x: ObjNo,
     out: &mut Vec<u8>,
 ) -> Result<(), AllocError>
     requires tree { IsTree (world_of (R.held rows.now).maps) }
-    requires listed { ListsDefinitions (R.held rows.now).maps definitions.now }
+    requires outline { IsOutline (R.held rows.now).maps outline.now }
     ensures { OnOk result (out.new.items
         ≡ out.old.items ++ slot_lines_over (R.held rows.now).maps x (chain (world_of (R.held rows.now).maps) x)) }
 {
-    let definers = chain(alloc, rows, x)?;
-    for definer in &definers {
-        put_slots_of(alloc, rows, x, defined_by(definitions, *definer), out)?;
+    let mut at = x;
+    while let Some(row) = rows.object(at) {
+        put_slots_of(alloc, rows, x, defined_by(&outline.definitions, at), out)?;
+        at = past(&outline.skips, row.parent);
     }
     Ok(())
 }
@@ -108,18 +112,24 @@ fn put_verbs<R: Rows>(
 pub(crate) fn object_text<R: Rows>(
     alloc: Global,
     rows: &R,
-    definitions: &Definitions,
+    outline: &Outline,
     x: ObjNo,
 ) -> Result<Vec<u8>, AllocError>
     requires good { IsGood (R.held rows.now).maps }
-    requires listed { ListsDefinitions (R.held rows.now).maps definitions.now }
+    requires outline { IsOutline (R.held rows.now).maps outline.now }
     ensures { IfOk result (λ text. text.items ≡ object_lines (world_of (R.held rows.now).maps) x) }
 {
     let mut text = Vec::new(alloc);
     if let Some(row) = rows.object(x) {
         put_object_line(alloc, x, row, &mut text)?;
-        put_properties(alloc, rows, x, defined_by(definitions, x), &mut text)?;
-        put_slots(alloc, rows, definitions, x, &mut text)?;
+        put_properties(
+            alloc,
+            rows,
+            x,
+            defined_by(&outline.definitions, x),
+            &mut text,
+        )?;
+        put_slots(alloc, rows, outline, x, &mut text)?;
         put_verbs(alloc, rows, x, &mut text)?;
     }
     Ok(text)

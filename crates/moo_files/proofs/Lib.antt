@@ -4,6 +4,7 @@ mod BegunLemmas
 mod BlankLemmas
 mod ClosingLemmas
 mod ContentsLemmas
+pub mod OpenedLemmas
 mod RefusalLemmas
 pub mod RemainsLemmas
 pub mod StartLemmas

@@ -1,6 +1,7 @@
 -- What the fault of an open that failed says of the files.
-use Rattle.moo_files.proofs.Words.{◌≡◌, ◌≢◌, ◌⊎◌, inl, inr, ℕ, ◌<◌, arith, ap, sym, subst, ◌∙◌, ∥∥₁_elim, Ghosts, Files, Image, tally_of_files, Trees, store_error, FailsToOpenFiles, HoldsDatabase, faults_left, image_of, tally_left, Error, Leftover, not_ours, StoreFault, HoldsTrees, ExcusesMalformed, IsUnopened, TakesForOurs, cannot_open, malformed, Remains}
+use Rattle.moo_files.proofs.Words.{◌≡◌, ◌≢◌, ◌⊎◌, inl, inr, ℕ, ◌<◌, arith, ap, sym, subst, ◌∙◌, ∥∥₁_elim, Ghosts, Files, Image, tally_of_files, Trees, store_error, FailsToOpenFiles, HoldsDatabase, faults_left, image_of, tally_left, Error, Leftover, not_ours, IsOfStore, Tables, StoreFault, HoldsTrees, ExcusesMalformed, IsUnopened, TakesForOurs, cannot_open, malformed, Remains}
 use Rattle.moo_files.specs.declared.remains.Remains.TheVariants as remains
+use Rattle.moo_store.specs.Opening.{Says}
 use Rattle.sqlite_disk.specs.Disk.{MoreFaults}
 use Rattle.sqlite_trees.specs.declared.error.StoreError.{StoreError}
 use Rattle.sqlite_trees.specs.declared.error.StoreError.TheVariants as kinds
@@ -53,6 +54,18 @@ module _ (error : Error) (fault : StoreFault) (told : IsToldAs error fault) wher
 pub unfit_sound : (fault : StoreFault) → (fault ≡ cannot_open) ⊎ (fault ≡ not_ours) → fault ≢ malformed
 unfit_sound fault (inl is) both = let same : cannot_open ≡ malformed = sym is ∙ both in cc
 unfit_sound fault (inr is) both = let same : not_ours ≡ malformed = sym is ∙ both in cc
+
+pub unfit_of_store : (fault : StoreFault) → (fault ≡ cannot_open) ⊎ (fault ≡ not_ours) → IsOfStore fault
+unfit_of_store fault (inl is) = subst IsOfStore (sym is) tt
+unfit_of_store fault (inr is) = subst IsOfStore (sym is) tt
+
+-- a fault of the store says nothing of tables
+pub says_nothing : (tables : Tables) (fault : StoreFault) → IsOfStore fault → Says tables fault
+says_nothing tables (faults.Store error) it = tt
+says_nothing tables (faults.Damaged kind key) it = absurd it
+says_nothing tables faults.NewerVersion it = absurd it
+says_nothing tables faults.OutOfMemory it = tt
+says_nothing tables faults.Closed it = absurd it
 
 module _ {T D : Type 0} {g : Ghosts D} where
   pub unopened_malformed : (fault : StoreFault) (r : Remains T D g) → IsUnopened r → fault ≢ malformed → ExcusesMalformed fault r

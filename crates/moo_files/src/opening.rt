@@ -3,23 +3,21 @@
 ghost use Rattle.std.specs.Prelude.{◌≡◌, ◌≢◌, ◌⊎◌, IfOk, IfErr, IsErr, IsErrAnd, Some, None, IfSome, IsTrue, false, true};
 ghost use Rattle.std.specs.Fs.{file_type, metadata_len, IsFile};
 ghost use Rattle.sqlite.specs.State.{HasCleanDisk, Survives};
-ghost use Rattle.sqlite.specs.Files.{over_files, file_state, IsNothing};
+ghost use Rattle.sqlite.specs.Files.{over_files, file_state};
 ghost use Rattle.sqlite.specs.WalFiles.{image_at};
 ghost use Rattle.moo_world.specs.Rows.{IsGood};
 ghost use Rattle.moo_world.specs.Judge.{State, state_of};
 ghost use Rattle.moo_tables.specs.Tables.{Tables, schema_of};
 ghost use Rattle.moo_tables.specs.declared.version.Version.{Version};
-ghost use Rattle.sqlite.specs.Tree.{Trees};
 ghost use Rattle.moo_tables.specs.Inside.{Rests, RestsAt, HasTables};
 ghost use Rattle.moo_cells.specs.Shows.{ShowsRows};
 ghost use Rattle.moo_store.specs.States.{ShowsState};
 ghost use Rattle.moo_store.specs.Current.{RestsCurrent};
 ghost use Rattle.moo_store.specs.Opening.{Says, IsOfStore, Adopts, not_ours};
 ghost use Rattle.moo_store.specs.World.{store_of, StandsFor, Left};
-ghost use Rattle.moo_files.specs.Contents.{HoldsTrees, HoldsTables, HoldsState, HasOtherTables, ReadsAsOurs, IsKept};
-ghost use Rattle.moo_files.specs.Opened.{OpensHeld, RefusesHeld, OpensTables, OpensCurrent, OpensGood};
+ghost use Rattle.moo_files.specs.Opened.{Contents, Hold, IsOpenedOver, Opens, IsRefusedFrom, Refuses};
 ghost use Rattle.sqlite_std_file.specs.declared.pair.OpenError.{OpenError as Refusal};
-ghost use Rattle.moo_files.specs.Remains.{cannot_open, ExcusesMalformed, IfNotOpened, IsCleanRemains, MayStopAs, TakesForOurs, StillHolds, StillHoldsTrees, KeepsNothingBut, Spares};
+ghost use Rattle.moo_files.specs.Remains.{cannot_open, IfNotOpened, IsCleanRemains};
 
 use crate::paths::WorldFiles;
 use crate::remains::{Remains, open_connection};
@@ -90,44 +88,15 @@ pub fn open_from<T: Start, H: WorldFiles<T>>(
     start: T,
 ) -> Result<World<FileStore<H::Disk>>, (StoreFault, Remains<T, H::Disk>)>
     requires may { H.may_open host.now path.now }
-    // If they hold a state, a World that is opened stands for it, on a disk that returns what was written.
-    ensures kept { OpensHeld (image_at T.Start) result }
-    // If they hold tables that show no world, none is opened: the rows are those that the tables show.
-    ensures only { OpensTables (image_at T.Start) result }
-    // These tables are those of the World, each cell, if they were of the present version; else those that they were migrated to.
-    ensures rests { OpensCurrent (image_at T.Start) result }
-    // If they hold nothing, or other tables than ours, none is opened.
-    ensures nothing { IsNothing (image_at T.Start) → IfOk result (λ world. HasCleanDisk (store_of over_files world) → ⊥) }
-    ensures other { (trees : Trees) → HoldsTrees (image_at T.Start) trees → HasOtherTables trees → IfOk result (λ world. HasCleanDisk (store_of over_files world) → ⊥) }
-    // Nor is one opened over files that aren't a sound database: those of an opened World read as one with tables of ours.
-    ensures sound { IfOk result (λ world. HasCleanDisk (store_of over_files world) → ReadsAsOurs (image_at T.Start)) }
-    // Whatever they hold, its rows are good, and what is said of rows alone is said of them.
-    ensures rows { OpensGood result }
-    ensures works { IfOk result (λ world. world.failed ≡ false) }
-    // If they hold a state, no refusal tells of damage. If they hold tables, a damage that is told is theirs.
-    ensures whole { RefusesHeld (image_at T.Start) result }
-    ensures fault { (tables : Tables) → HoldsTables (image_at T.Start) tables → IfErr result (λ e. IsCleanRemains e.1 → Says tables e.0) }
-    // If they hold other tables than ours, nothing, or no sound database, no refusal tells of damage or of a newer version.
-    ensures foreign { (trees : Trees) → HoldsTrees (image_at T.Start) trees → HasOtherTables trees → IfErr result (λ e. IsCleanRemains e.1 → IsOfStore e.0) }
-    ensures unsound { ¬ ReadsAsOurs (image_at T.Start) → IfErr result (λ e. IsCleanRemains e.1 → IsOfStore e.0) }
-    // If they hold tables of ours, no refusal after they were opened says that they don't. `sqlite` calls a database malformed only if a
-    // call of the disk failed.
-    ensures own { (trees : Trees) → HoldsTrees (image_at T.Start) trees → (¬ HasOtherTables trees) → IfErr result (λ e. IsCleanRemains e.1 → TakesForOurs e.0 e.1) }
-    ensures malformed { (trees : Trees) → HoldsTrees (image_at T.Start) trees → IfErr result (λ e. IsCleanRemains e.1 → ExcusesMalformed e.0 e.1) }
-    // After a refusal they hold the database that they held, whatever its tables are, or what these were migrated to, and so does
-    // what a crash leaves. Files that held nothing hold nothing, or a database without rows.
-    ensures trees { (trees : Trees) → HoldsTrees (image_at T.Start) trees → IfErr result (λ e. IsCleanRemains e.1 → StillHoldsTrees (image_at T.Start) e.1 trees) }
-    ensures blank { IsNothing (image_at T.Start) → IfErr result (λ e. IsCleanRemains e.1 → KeepsNothingBut (λ _. ⊥) (image_at T.Start) e.1) }
-    // Files that held anything else, sound or not, are spared.
-    ensures spared { ¬ IsNothing (image_at T.Start) → IfErr result (λ e. IsCleanRemains e.1 → Spares (image_at T.Start) e.1) }
-    // While a World is open a crash leaves the database that they held, or what that was migrated to.
-    ensures held { (trees : Trees) → HoldsTrees (image_at T.Start) trees → IfOk result (λ world. HasCleanDisk (store_of over_files world) → (found : Trees) → (store_of over_files world).may_leave found → IsKept trees found) }
-    // A file that wasn't opened is refused for one of few reasons. That it couldn't be opened the host said.
-    ensures stopped { IfErr result (λ e. MayStopAs e.0 e.1) }
+    // A World that is opened works, its rows are good, and the files read as a sound database with tables of ours.
+    ensures opened { IfOk result (IsOpenedOver (image_at T.Start)) }
+    // It is what they hold: the state and the tables of their database, which a crash leaves, or what that was migrated to.
+    ensures opens { (held : Contents) → Hold (image_at T.Start) held → IfOk result (λ world. HasCleanDisk (store_of over_files world) → Opens held world) }
+    // Files that are refused are spared. If they weren't opened it is for one of few reasons, and that they couldn't be the host said.
+    ensures refused { IfErr result (λ e. IsRefusedFrom (image_at T.Start) e.0 e.1) }
+    // A damage that is told is that of their tables, and they hold what they held, or what that was migrated to.
+    ensures refuses { (held : Contents) → Hold (image_at T.Start) held → IfErr result (λ e. IsCleanRemains e.1 → Refuses held (image_at T.Start) e.0 e.1) }
     ensures refusing { IfErr result (λ e. IfNotOpened e.1 ((error : Refusal) × H.refuses host.now path.now error)) }
-    // So a state that they held is there after a refusal, and so it is after a crash, then and of a World that was opened.
-    ensures refused { (s : State) → HoldsState (image_at T.Start) s → IfErr result (λ e. IsCleanRemains e.1 → StillHolds (image_at T.Start) e.1 s) }
-    ensures crash { (s : State) → HoldsState (image_at T.Start) s → IfOk result (λ world. HasCleanDisk (store_of over_files world) → Left (store_of over_files world) s) }
 {
     if let Some(fault) = unfit(host.metadata(path)) {
         return Err((fault, Remains::Untouched(start)));

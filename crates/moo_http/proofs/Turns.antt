@@ -82,7 +82,7 @@ leads_on g was between world First Second Way both first second clean = record {
 
 moved : (old new : Stand) (left rest : Option (List ℕ)) (output : List ℕ) → Yields old new left rest output → Moves old new
 moved old new left rest output (Nothing, takes, gets) = inl gets.1
-moved old new left rest output (Request is_head asked, takes, (o, answers, wrote)) = inr (asked, o, answers)
+moved old new left rest output (Request is_head asks_why asked, takes, (o, why, wanted, answers, wrote)) = inr (asked, o, answers)
 
 exchange_moves : (r : Result (Unit {0}) ServeFault) (old new : Stand) (left rest before after : Option (List ℕ)) → Exchanged r old new left rest before after → Moves old new
 exchange_moves (Ok done) old new left rest before after (output, it, wrote) = moved old new left rest output it

@@ -7,7 +7,7 @@ pub use Rattle.moo_request.specs.declared.asked.Asked.{Asked}
 pub use Rattle.moo_request.specs.declared.asked.Asked.TheVariants.{Calls, Refused}
 pub use Rattle.moo_request.specs.declared.asked.Mode.TheVariants.{Ask, Run}
 pub use Rattle.moo_request.specs.declared.request.Received.TheVariants.{Nothing, Request}
-pub use Rattle.moo_responses.specs.Responses.{response_of, response_text}
+pub use Rattle.moo_responses.specs.Responses.{response_of, response_text, response_with}
 pub use Rattle.moo_responses.specs.declared.outcome.Outcome.{Outcome}
 pub use Rattle.moo_store.proofs.Untouched.{moved_then, written_none}
 pub use Rattle.moo_store.specs.Kept.{World}
@@ -22,7 +22,7 @@ pub use Rattle.moo_http.specs.Answers.{Comes, Consulted, MayAnswer, answer, fail
 pub use Rattle.moo_http.specs.Connections.{AfterConnections, Connected, Moves, SaysByResult, ServesPort, StandsAtEnd, WritesFront}
 pub use Rattle.moo_http.specs.Lines.{listening_line, served_line}
 pub use Rattle.moo_http.specs.Linger.{DrainsAtMost}
-pub use Rattle.moo_http.specs.Serves.{Served, Serves, StandsStill, Written}
+pub use Rattle.moo_http.specs.Serves.{IsWhyOf, Served, Serves, StandsStill, Written}
 pub use Rattle.moo_http.specs.Turns.{AfterTurns, Attended, Exchanged, ServesFrom, ServesOn, Visit, Visited, Yields, answered_in, attended_between, failed_in}
 pub use Rattle.moo_http.specs.declared.fault.ServeFault.{ServeFault}
 pub use Rattle.moo_http.specs.declared.fault.ServeFault.TheVariants.{OutOfMemory, Read, Write}

@@ -1,5 +1,5 @@
 -- What a request makes of its bytes, of the World and of what is written.
-use Rattle.std.specs.Prelude.{◌≡◌, ◌⊎◌, ℕ, Option, List, [], take, Result, Ok, Err, Bool, IsTrue}
+use Rattle.std.specs.Prelude.{◌≡◌, ◌⊎◌, ℕ, Option, None, List, [], take, Result, Ok, Err, Bool, false, IsTrue}
 use Rattle.std.specs.Io.KnownBytes.{Appends}
 use Rattle.sqlite.specs.State.{HasCleanDisk}
 use Rattle.sqlite.specs.Store.{Ghosts}
@@ -14,17 +14,22 @@ use Rattle.moo_http.specs.declared.fault.ServeFault.{ServeFault}
 use Rattle.moo_http.specs.declared.fault.ServeFault.TheVariants.{Read, Write, OutOfMemory}
 use Rattle.moo_responses.specs.declared.outcome.Outcome.{Outcome}
 use Rattle.moo_http.specs.Answers.{MayAnswer, taken_by, failed_by}
-use Rattle.moo_responses.specs.Responses.{response_of, response_text}
+use Rattle.moo_responses.specs.Responses.{response_with, response_text}
+
+-- it is said why what was asked is refused only if that was asked too
+abbrev pub IsWhyOf : Bool → Option (List ℕ) → Type 0
+IsWhyOf asks_why why = asks_why ≡ false → why ≡ None
 
 -- the answer to what is received: nothing if nothing came
 abbrev pub Gets : Stand → Received → List ℕ → Stand → Type 0
 Gets old Nothing output new = (output ≡ []) × (new ≡ old)
-Gets old (Request is_head asked) output new = (o : Outcome) × MayAnswer old asked o new × (output ≡ response_text is_head (response_of o))
+Gets old (Request is_head asks_why asked) output new =
+    (o : Outcome) × (why : Option (List ℕ)) × IsWhyOf asks_why why × MayAnswer old asked o new × (output ≡ response_text is_head (response_with why o))
 
 -- the World was moved by the batch that was asked to be run, if it is acknowledged, and by nothing else
 abbrev pub Moved : {S : Type 0} (g : Ghosts S) (was world : World S) (old : Stand) (received : Received) (output : List ℕ) (new : Stand) → Gets old received output new → Type 0
 Moved g was world old Nothing output new gets = world ≡ was
-Moved g was world old (Request is_head asked) output new gets = IsMovedBy g was world (taken_by asked gets.0) (failed_by asked gets.0)
+Moved g was world old (Request is_head asks_why asked) output new gets = IsMovedBy g was world (taken_by asked gets.0) (failed_by asked gets.0)
 
 -- The reader gave some bytes, and this is the whole answer to what they ask. The World stands where that leaves it, and so does
 -- whatever a crash leaves.

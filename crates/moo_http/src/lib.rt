@@ -14,6 +14,7 @@ mod rate;
 mod serve;
 mod service;
 mod sockets;
+mod why;
 mod write;
 
 pub use arrivals::{Arrivals, Closing, Connection};

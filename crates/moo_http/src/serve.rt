@@ -1,6 +1,6 @@
 //! One request, answered.
 
-ghost use Rattle.std.specs.Prelude.{◌≡◌, ◌≢◌, IfErr, Bool, List};
+ghost use Rattle.std.specs.Prelude.{◌≡◌, ◌≢◌, ℕ, IfErr, Bool, List, Option};
 ghost use Rattle.moo_world.specs.declared.call.Batch.{Batch};
 ghost use Rattle.moo_store.specs.Untouched.{IsMovedBy};
 ghost use Rattle.moo_store.specs.Stand.{Stand};
@@ -8,31 +8,33 @@ ghost use Rattle.sqlite.specs.State.{HasCleanDisk};
 ghost use Rattle.moo_store.specs.World.{store_of, StandsAt};
 ghost use Rattle.moo_responses.specs.declared.outcome.Outcome.{Outcome};
 ghost use Rattle.moo_http.specs.Answers.{Consulted, taken_by, failed_by};
-ghost use Rattle.moo_responses.specs.Responses.{response_of, response_text};
-ghost use Rattle.moo_http.specs.Serves.{Written, Served};
+ghost use Rattle.moo_responses.specs.Responses.{response_with, response_text};
+ghost use Rattle.moo_http.specs.Serves.{IsWhyOf, Written, Served};
 
 use crate::consult::consult;
 use crate::fault::ServeFault;
 use crate::note::Note;
+use crate::why::told_answer;
 use crate::write::write_out;
-use moo_request::{Asked, Received, Routes, read_request};
-use moo_responses::answer_text;
+use moo_request::{Asked, BodyFault, Received, Routes, read_request};
 use moo_store::World;
 use sqlite::Alter;
 use std::alloc::Global;
 use std::io::{Read, Write};
 
-/// Does what is asked, and writes the answer.
+/// Does what is asked, and writes the answer, which says why it is refused if that is asked too.
 fn serve_asked<S: Alter + Drop, W: Write>(
     alloc: Global,
     asked: &Asked,
     is_head: bool,
+    asks_why: bool,
+    wrong: Option<&BodyFault>,
     writer: &mut W,
     world: &mut World<S>,
     note: &mut Note,
 ) -> Result<(), ServeFault>
-    ensures answered { (known : Bool) (stand : Stand) → StandsAt S.Store known world.old stand → (o : Outcome) × Consulted S.Store known stand world.new asked.now o
-        × IsMovedBy S.Store world.old world.new (taken_by asked.now o) (failed_by asked.now o) × Written result (W.contents writer.old) (W.contents writer.new) (response_text is_head (response_of o)) }
+    ensures answered { (known : Bool) (stand : Stand) → StandsAt S.Store known world.old stand → (o : Outcome) × (why : Option (List ℕ)) × IsWhyOf asks_why why × Consulted S.Store known stand world.new asked.now o
+        × IsMovedBy S.Store world.old world.new (taken_by asked.now o) (failed_by asked.now o) × Written result (W.contents writer.old) (W.contents writer.new) (response_text is_head (response_with why o)) }
     ensures unwritten { IfErr result (λ fault. fault ≢ ServeFault.Write → writer.new ≡ writer.old) }
     ensures fault { IfErr result (λ fault. fault ≢ ServeFault.Read) }
     ensures moved { (batches lost : List Batch) × IsMovedBy S.Store world.old world.new batches lost }
@@ -41,7 +43,7 @@ fn serve_asked<S: Alter + Drop, W: Write>(
     note.asks(asked);
     let outcome = consult(alloc, world, asked);
     note.comes_to(&outcome);
-    let text = answer_text(alloc, &outcome, is_head)?;
+    let text = told_answer(alloc, world, asked, &outcome, wrong, is_head, asks_why)?;
     write_out(writer, text.as_bytes())
 }
 
@@ -70,10 +72,22 @@ pub fn serve_one<S: Alter + Drop, R: Read, W: Write>(
     ensures clean { HasCleanDisk (store_of S.Store world.new) → HasCleanDisk (store_of S.Store world.old) }
 {
     world.leaves();
-    match read_request(alloc, routes, reader)? {
+    let mut wrong = None;
+    match read_request(alloc, routes, reader, &mut wrong)? {
         Received::Nothing => Ok(()),
-        Received::Request { is_head, asked } => {
-            serve_asked(alloc, &asked, is_head, writer, world, note)
-        }
+        Received::Request {
+            is_head,
+            asks_why,
+            asked,
+        } => serve_asked(
+            alloc,
+            &asked,
+            is_head,
+            asks_why,
+            wrong.as_ref(),
+            writer,
+            world,
+            note,
+        ),
     }
 }

@@ -9,6 +9,6 @@ use Rattle.moo_load.specs.Lines.{IsLineOf}
 
 -- the text has a line of this number; or rows within the limits have this damage, and none before it
 abbrev pub SaysOfText : List ℕ → LoadFault → Type 0
-SaysOfText text (NotADump line) = IsLineOf text line
+SaysOfText text (NotADump line why) = IsLineOf text line
 SaysOfText text (Damaged kind key) = (m : Maps) × AreWithin m × IsFirstInRows m kind key
 SaysOfText text OutOfMemory = Unit {0}

@@ -3,10 +3,11 @@
 ghost use Rattle.std.specs.Prelude.{◌≡◌, ◌≢◌, ◌≤◌, length};
 ghost use Rattle.moo_value.specs.declared.fault.LiteralFault.TheVariants.{OutOfMemory as no_memory};
 ghost use Rattle.moo_load.specs.Loaded.{SaysOfText};
-ghost use Rattle.moo_load.specs.declared.fault.LineFault.TheVariants.{Unreadable, OutOfMemory as none_left};
+ghost use Rattle.moo_load.specs.declared.fault.LineFault.TheVariants.{OutOfMemory as none_left};
 ghost use Rattle.moo_load.specs.declared.fault.LoadFault.TheVariants.{OutOfMemory};
 
 use crate::place::line_at;
+use crate::reason::DumpReason;
 use moo_damage::{Key, Kind};
 use moo_value::LiteralFault;
 use std::alloc::AllocError;
@@ -14,8 +15,8 @@ use std::alloc::AllocError;
 /// Why a text gives no world.
 #[derive(Clone, Copy)]
 pub enum LoadFault {
-    /// The line of this number, from 1, isn't as a dump has it, or is missing.
-    NotADump(u64),
+    /// The line of this number, from 1, isn't as a dump has it, or is missing; and what is wrong with it.
+    NotADump(u64, DumpReason),
     /// Each line can be read, and the rows show no world: the first kind of damage, with the least key at which it is.
     /// Objects and petitions have the numbers that the text gives them. Properties and verbs are numbered from 1, in the order
     /// of the text.
@@ -35,8 +36,8 @@ impl From<AllocError> for LoadFault {
 /// Why a line can't be read.
 #[derive(Clone, Copy)]
 pub(crate) enum LineFault {
-    /// No dump has the line.
-    Unreadable,
+    /// No dump has the line, for this reason.
+    Unreadable(DumpReason),
     /// There is no memory for what it says.
     OutOfMemory,
 }
@@ -50,12 +51,12 @@ impl From<AllocError> for LineFault {
 }
 
 impl From<LiteralFault> for LineFault {
-    ghost from_gives = { λ fault e. e ≡ Unreadable → fault ≢ no_memory };
+    ghost from_gives = { λ fault e. e ≢ none_left → fault ≢ no_memory };
 
     fn from(fault: LiteralFault) -> LineFault {
         match fault {
             LiteralFault::OutOfMemory => LineFault::OutOfMemory,
-            _ => LineFault::Unreadable,
+            _ => LineFault::Unreadable(DumpReason::NoValue(fault)),
         }
     }
 }
@@ -65,10 +66,10 @@ impl LineFault {
     pub(crate) fn within(self, text: &[u8], at: usize) -> LoadFault
         requires { at ≤ length text.now }
         ensures says { SaysOfText text.now result }
-        ensures line { result ≢ OutOfMemory → self ≡ Unreadable }
+        ensures line { result ≢ OutOfMemory → self ≢ none_left }
     {
         match self {
-            LineFault::Unreadable => LoadFault::NotADump(line_at(text, at)),
+            LineFault::Unreadable(why) => LoadFault::NotADump(line_at(text, at), why),
             LineFault::OutOfMemory => LoadFault::OutOfMemory,
         }
     }

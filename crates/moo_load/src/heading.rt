@@ -16,6 +16,7 @@ ghost use Rattle.moo_load.specs.Rows.{AreRead, first_head};
 
 use crate::fault::{LineFault, LoadFault};
 use crate::line::{after, next_line};
+use crate::reason::DumpReason;
 use moo_rows::Head;
 use moo_value::{ObjNo, Value, read_whole_literal};
 use std::alloc::Global;
@@ -28,7 +29,7 @@ fn count_of(value: &Value) -> Result<u64, LineFault>
 {
     match value {
         Value::Int(n) if 0 <= *n => Ok(*n as u64),
-        _ => Err(LineFault::Unreadable),
+        _ => Err(LineFault::Unreadable(DumpReason::NoHeading)),
     }
 }
 
@@ -41,7 +42,7 @@ fn assigned_of(value: &Value) -> Result<i32, LineFault>
 {
     match value {
         Value::Obj(ObjNo(n)) if -1 <= *n => Ok(*n),
-        _ => Err(LineFault::Unreadable),
+        _ => Err(LineFault::Unreadable(DumpReason::NoHeading)),
     }
 }
 
@@ -49,9 +50,9 @@ fn assigned_of(value: &Value) -> Result<i32, LineFault>
 fn value_after(alloc: Global, prefix: &[u8], line: &[u8]) -> Result<Value, LineFault>
     ensures fits { IfOk result (λ value. Fits value) }
     ensures ok { IfOk result (λ value. (v : A) → Fits v → line.now ≡ prefix.now ++ print v → value ≡ v) }
-    ensures err { IfErr result (λ fault. fault ≡ LineFault.Unreadable → (v : A) → Fits v → line.now ≢ prefix.now ++ print v) }
+    ensures err { IfErr result (λ fault. fault ≢ LineFault.OutOfMemory → (v : A) → Fits v → line.now ≢ prefix.now ++ print v) }
 {
-    let literal = after(prefix, line)?;
+    let literal = after(prefix, line, DumpReason::NoHeading)?;
     let value = read_whole_literal(alloc, literal)?;
     Ok(value)
 }
@@ -60,7 +61,7 @@ fn value_after(alloc: Global, prefix: &[u8], line: &[u8]) -> Result<Value, LineF
 fn seq_of(alloc: Global, line: &[u8]) -> Result<u64, LineFault>
     ensures limit { IfOk result (λ seq. seq < 2 ^ 63) }
     ensures ok { IfOk result (λ seq. (n : ℕ) → n < 2 ^ 63 → line.now ≡ codes "seq " ++ decimal n → seq ≡ n) }
-    ensures err { IfErr result (λ fault. fault ≡ LineFault.Unreadable → (n : ℕ) → n < 2 ^ 63 → line.now ≢ codes "seq " ++ decimal n) }
+    ensures err { IfErr result (λ fault. fault ≢ LineFault.OutOfMemory → (n : ℕ) → n < 2 ^ 63 → line.now ≢ codes "seq " ++ decimal n) }
 {
     let value = value_after(alloc, b"seq ", line)?;
     count_of(&value)
@@ -72,7 +73,7 @@ fn top_of(alloc: Global, line: &[u8]) -> Result<i32, LineFault>
     ensures most { IfOk result (λ top. top ≤ℤ pos 2147483647) }
     ensures fits { IfOk result (λ top. FitsSigned w32 top) }
     ensures ok { IfOk result (λ top. (x : Object) → negsuc 0 ≤ℤ x.0 → x.0 ≤ℤ pos 2147483647 → line.now ≡ codes "top " ++ print (Obj x) → top ≡ x.0) }
-    ensures err { IfErr result (λ fault. fault ≡ LineFault.Unreadable → (x : Object) → negsuc 0 ≤ℤ x.0 → x.0 ≤ℤ pos 2147483647 → line.now ≢ codes "top " ++ print (Obj x)) }
+    ensures err { IfErr result (λ fault. fault ≢ LineFault.OutOfMemory → (x : Object) → negsuc 0 ≤ℤ x.0 → x.0 ≤ℤ pos 2147483647 → line.now ≢ codes "top " ++ print (Obj x)) }
 {
     let value = value_after(alloc, b"top ", line)?;
     assigned_of(&value)

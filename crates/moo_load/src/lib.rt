@@ -1,6 +1,7 @@
 //! A world from the text that it was dumped as.
 #![tactic(auto)]
 
+mod differing;
 mod fault;
 mod heading;
 mod input;
@@ -12,6 +13,7 @@ mod petition;
 mod place;
 mod property;
 mod reading;
+mod reason;
 mod slot;
 mod taking;
 mod value;
@@ -20,3 +22,4 @@ mod verb;
 pub use fault::LoadFault;
 pub use input::{InputFault, LONGEST_TEXT, read_text};
 pub use loading::read_dump;
+pub use reason::DumpReason;

@@ -8,6 +8,7 @@ ghost use Rattle.moo_load.specs.declared.line.Word.{Word as AWord};
 
 use crate::fault::{LineFault, LoadFault};
 use crate::place::line_from;
+use crate::reason::DumpReason;
 use moo_value::{Value, read_literal};
 use std::alloc::{AllocError, Global};
 
@@ -26,42 +27,46 @@ pub(crate) fn split_word(line: &[u8]) -> Result<(Word, &[u8]), LineFault>
     ensures ok { IfOk result (λ r. line.now ≡ word_text r.0 ++ 32 ∷ r.1.now) }
     ensures err { IfErr result (λ _. (word : AWord) (rest : List ℕ) → line.now ≢ word_text word ++ 32 ∷ rest) }
 {
-    if let Ok(literal) = after(b"object ", line) {
+    if let Ok(literal) = after(b"object ", line, DumpReason::NoRow) {
         return Ok((Word::Object, literal));
     }
-    if let Ok(literal) = after(b"property ", line) {
+    if let Ok(literal) = after(b"property ", line, DumpReason::NoRow) {
         return Ok((Word::Property, literal));
     }
-    if let Ok(literal) = after(b"slot ", line) {
+    if let Ok(literal) = after(b"slot ", line, DumpReason::NoRow) {
         return Ok((Word::Slot, literal));
     }
-    if let Ok(literal) = after(b"verb ", line) {
+    if let Ok(literal) = after(b"verb ", line, DumpReason::NoRow) {
         return Ok((Word::Verb, literal));
     }
-    if let Ok(literal) = after(b"petition ", line) {
+    if let Ok(literal) = after(b"petition ", line, DumpReason::NoRow) {
         return Ok((Word::Petition, literal));
     }
-    Err(LineFault::Unreadable)
+    Err(LineFault::Unreadable(DumpReason::NoRow))
 }
 
-/// What follows a prefix of the bytes.
-pub(crate) fn after<'a>(prefix: &[u8], bytes: &'a [u8]) -> Result<&'a [u8], LineFault>
+/// What follows a prefix of the bytes. Without it they are unreadable for this reason.
+pub(crate) fn after<'a>(
+    prefix: &[u8],
+    bytes: &'a [u8],
+    why: DumpReason,
+) -> Result<&'a [u8], LineFault>
     ensures ok { IfOk result (λ rest. bytes.now ≡ prefix.now ++ rest.now) }
     ensures err { IfErr result (λ _. (rest : List ℕ) → bytes.now ≢ prefix.now ++ rest) }
 {
     match bytes.strip_prefix(prefix) {
         Some(rest) => Ok(rest),
-        None => Err(LineFault::Unreadable),
+        None => Err(LineFault::Unreadable(why)),
     }
 }
 
 /// The values of a list that has one at least. Each may nest as deep as a value does: the list itself isn't counted.
 pub(crate) fn values_of(alloc: Global, literal: &[u8]) -> Result<Vec<Value>, LineFault>
     ensures ok { IfOk result (λ r. (v : A) (vs : List A) → ArePrinted (v ∷ vs) literal.now → r.items ≡ v ∷ vs) }
-    ensures err { IfErr result (λ fault. fault ≡ LineFault.Unreadable → (v : A) (vs : List A) → ¬ (ArePrinted (v ∷ vs) literal.now)) }
+    ensures err { IfErr result (λ fault. fault ≢ LineFault.OutOfMemory → (v : A) (vs : List A) → ¬ (ArePrinted (v ∷ vs) literal.now)) }
 {
     let mut values = Vec::new(alloc);
-    let mut rest = after(b"{", literal)?;
+    let mut rest = after(b"{", literal, DumpReason::NoList)?;
     loop {
         let (value, used) = read_literal(alloc, rest)?;
         values.push(value).map_err(AllocError::from)?;
@@ -69,7 +74,7 @@ pub(crate) fn values_of(alloc: Global, literal: &[u8]) -> Result<Vec<Value>, Lin
         if rest == b"}".as_slice() {
             return Ok(values);
         }
-        rest = after(b", ", rest)?;
+        rest = after(b", ", rest, DumpReason::NoSeparator)?;
     }
 }
 
@@ -89,6 +94,6 @@ pub(crate) fn next_line(text: &[u8], at: usize) -> Result<&[u8], LoadFault>
 {
     match line_from(text, at) {
         Some(line) => Ok(line),
-        None => Err(LineFault::Unreadable.within(text, at)),
+        None => Err(LineFault::Unreadable(DumpReason::NoEnd).within(text, at)),
     }
 }

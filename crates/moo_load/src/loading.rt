@@ -9,9 +9,11 @@ ghost use Rattle.moo_load.specs.Loaded.{SaysOfText};
 ghost use Rattle.moo_load.specs.OneState.{IsHeld};
 ghost use Rattle.moo_load.specs.RowsOf.{HasNumbers, AreRowsOf};
 
+use crate::differing::difference_at;
 use crate::fault::LoadFault;
 use crate::place::line_at;
 use crate::reading::read_rows;
+use crate::reason::DumpReason;
 use moo_damage::damage_of;
 use moo_dump::{CompareFault, compare};
 use moo_memory::Flat;
@@ -27,7 +29,10 @@ fn check_dump<R: Rows>(alloc: Global, rows: &R, text: &[u8]) -> Result<(), LoadF
 {
     match compare(alloc, rows, text) {
         Ok(()) => Ok(()),
-        Err(CompareFault::Differs(place)) => Err(LoadFault::NotADump(line_at(text, place))),
+        Err(CompareFault::Differs(place)) => {
+            let why = difference_at(alloc, rows, text, place).unwrap_or(DumpReason::Differs);
+            Err(LoadFault::NotADump(line_at(text, place), why))
+        }
         Err(CompareFault::OutOfMemory) => Err(LoadFault::OutOfMemory),
     }
 }
@@ -56,7 +61,8 @@ fn judge_rows<R: Rows>(alloc: Global, rows: &R, text: &[u8]) -> Result<(), LoadF
 /// The dump of a well formed state, if it has fewer than 4,294,967,295 bytes, is refused only if memory runs out.
 ///
 /// Errors: `NotADump` with the number of the first line that can't be read, or if each can, that differs from the dump of what
-/// was read; `Damaged` if each line can be read and the rows show no world; `OutOfMemory` if memory runs out.
+/// was read, and with what is wrong with it; `Damaged` if each line can be read and the rows show no world; `OutOfMemory` if
+/// memory runs out.
 ///
 /// Its time grows in step with the text, but for the look-ups in ordered maps. The rows are held in memory once, beside the text.
 pub fn read_dump(alloc: Global, text: &[u8]) -> Result<Flat, LoadFault>

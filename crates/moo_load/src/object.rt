@@ -7,6 +7,7 @@ ghost use Rattle.moo_dump.specs.Dump.{object_values};
 ghost use Rattle.moo_world.specs.World.{row_fits};
 
 use crate::fault::LineFault;
+use crate::reason::DumpReason;
 use crate::value::{accept_of, flag_of, object_of, text_of};
 use moo_rows::ObjRow;
 use moo_value::{ObjNo, Value};
@@ -16,7 +17,7 @@ use std::alloc::Global;
 pub(crate) fn read_object(alloc: Global, values: &[Value]) -> Result<(ObjNo, ObjRow), LineFault>
     ensures shown { IfOk result (λ r. values.now ≡ object_values r.0 r.1) }
     ensures fits { IfOk result (λ r. row_fits r.1 ≡ true) }
-    ensures err { IfErr result (λ fault. fault ≡ LineFault.Unreadable → (x : Object) (row : Row) → row_fits row ≡ true → values.now ≢ object_values x row) }
+    ensures err { IfErr result (λ fault. fault ≢ LineFault.OutOfMemory → (x : Object) (row : Row) → row_fits row ≡ true → values.now ≢ object_values x row) }
 {
     let [
         number,
@@ -33,19 +34,19 @@ pub(crate) fn read_object(alloc: Global, values: &[Value]) -> Result<(ObjNo, Obj
         accept,
     ] = values
     else {
-        return Err(LineFault::Unreadable);
+        return Err(LineFault::Unreadable(DumpReason::Count));
     };
-    let number = object_of(number)?;
-    let name = text_of(name)?;
-    let owner = object_of(owner)?;
-    let parent = object_of(parent)?;
-    let location = object_of(location)?;
-    let player = flag_of(player)?;
-    let programmer = flag_of(programmer)?;
-    let wizard = flag_of(wizard)?;
-    let r = flag_of(r)?;
-    let w = flag_of(w)?;
-    let f = flag_of(f)?;
+    let number = object_of(number, "number")?;
+    let name = text_of(name, "name")?;
+    let owner = object_of(owner, "owner")?;
+    let parent = object_of(parent, "parent")?;
+    let location = object_of(location, "location")?;
+    let player = flag_of(player, "player")?;
+    let programmer = flag_of(programmer, "programmer")?;
+    let wizard = flag_of(wizard, "wizard")?;
+    let r = flag_of(r, "r")?;
+    let w = flag_of(w, "w")?;
+    let f = flag_of(f, "f")?;
     let name = name.copy(alloc)?;
     let accept = accept_of(alloc, accept)?;
     let row = ObjRow {

@@ -12,6 +12,7 @@ ghost use Rattle.moo_world.specs.Arguments.{all_within_limits};
 ghost use Rattle.moo_world.specs.Petitions.{are_few, are_shallow, is_named, petition_fits};
 
 use crate::fault::LineFault;
+use crate::reason::DumpReason;
 use crate::value::object_of;
 use moo_rows::{PetitionId, PetitionRow};
 use moo_value::{Value, ValueList, fits};
@@ -26,11 +27,11 @@ fn number_of(value: &Value) -> Result<u32, LineFault>
     ensures err { IfErr result (λ _. (number : ℕ) → 0 < number → number < 4294967295 → value.now ≢ Int (pos number)) }
 {
     let Value::Int(number) = value else {
-        return Err(LineFault::Unreadable);
+        return Err(LineFault::Unreadable(DumpReason::NoPetition));
     };
     match u32::try_from(*number) {
         Ok(number) if 0 < number && number < u32::MAX => Ok(number),
-        _ => Err(LineFault::Unreadable),
+        _ => Err(LineFault::Unreadable(DumpReason::NoPetition)),
     }
 }
 
@@ -45,18 +46,18 @@ fn may_be_held(calls: &ValueList) -> bool
 fn calls_of(alloc: Global, value: &Value) -> Result<ValueList, LineFault>
     ensures shown { IfOk result (λ calls. value.now ≡ a_list calls) }
     ensures fits { IfOk result (λ calls. (list_all is_named (spread calls) && (are_few calls && (are_shallow calls && all_within_limits calls))) ≡ true) }
-    ensures err { IfErr result (λ fault. fault ≡ LineFault.Unreadable → (calls : Values)
+    ensures err { IfErr result (λ fault. fault ≢ LineFault.OutOfMemory → (calls : Values)
         → (list_all is_named (spread calls) && (are_few calls && (are_shallow calls && all_within_limits calls))) ≡ true → value.now ≢ a_list calls) }
 {
     if !fits(value) {
-        return Err(LineFault::Unreadable);
+        return Err(LineFault::Unreadable(DumpReason::NoCalls));
     }
     match value {
         Value::List(calls) if may_be_held(calls) => {
             let calls = calls.clone()?;
             Ok(calls)
         }
-        _ => Err(LineFault::Unreadable),
+        _ => Err(LineFault::Unreadable(DumpReason::NoCalls)),
     }
 }
 
@@ -69,14 +70,14 @@ pub(crate) fn read_petition(
     ensures fits { IfOk result (λ r. petition_fits r.1 ≡ true) }
     ensures some { IfOk result (λ r. 0 < r.0.0) }
     ensures below { IfOk result (λ r. r.0.0 < 4294967295) }
-    ensures err { IfErr result (λ fault. fault ≡ LineFault.Unreadable → (id : Id) (row : Row) → 0 < id.0 → id.0 < 4294967295 → petition_fits row ≡ true
+    ensures err { IfErr result (λ fault. fault ≢ LineFault.OutOfMemory → (id : Id) (row : Row) → 0 < id.0 → id.0 < 4294967295 → petition_fits row ≡ true
         → values.now ≢ petition_values id row) }
 {
     let [number, who, calls] = values else {
-        return Err(LineFault::Unreadable);
+        return Err(LineFault::Unreadable(DumpReason::Count));
     };
     let number = number_of(number)?;
-    let who = object_of(who)?;
+    let who = object_of(who, "asker")?;
     let calls = calls_of(alloc, calls)?;
     Ok((PetitionId(number), PetitionRow { who, calls }))
 }

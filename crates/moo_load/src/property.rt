@@ -6,6 +6,7 @@ ghost use Rattle.moo_rows.specs.declared.row.PropRow.{PropRow as Row};
 ghost use Rattle.moo_world.specs.World.{is_property_name};
 
 use crate::fault::LineFault;
+use crate::reason::DumpReason;
 use crate::value::{object_of, text_of};
 use moo_rows::PropRow;
 use moo_value::{MooStr, Value};
@@ -27,16 +28,16 @@ fn is_property_name(name: &MooStr) -> bool
 pub(crate) fn read_property(alloc: Global, values: &[Value]) -> Result<PropRow, LineFault>
     ensures shown { IfOk result (λ row. values.now ≡ Obj row.definer ∷ Str row.name ∷ []) }
     ensures fits { IfOk result (λ row. is_property_name row.name ≡ true) }
-    ensures err { IfErr result (λ fault. fault ≡ LineFault.Unreadable → (row : Row) → is_property_name row.name ≡ true
+    ensures err { IfErr result (λ fault. fault ≢ LineFault.OutOfMemory → (row : Row) → is_property_name row.name ≡ true
         → values.now ≢ Obj row.definer ∷ Str row.name ∷ []) }
 {
     let [definer, name] = values else {
-        return Err(LineFault::Unreadable);
+        return Err(LineFault::Unreadable(DumpReason::Count));
     };
-    let definer = object_of(definer)?;
-    let name = text_of(name)?;
+    let definer = object_of(definer, "definer")?;
+    let name = text_of(name, "name")?;
     if !is_property_name(name) {
-        return Err(LineFault::Unreadable);
+        return Err(LineFault::Unreadable(DumpReason::NoPropertyName));
     }
     let name = name.copy(alloc)?;
     Ok(PropRow { definer, name })

@@ -29,7 +29,7 @@ fn take_line(alloc: Global, line: &[u8], rows: &mut Flat) -> Result<(), LineFaul
     ensures read { OnOk result (AreRead rows.new.maps) }
     // The line of an entry is taken as the entry, unless there is no number or no memory left.
     ensures put { OnOk result ((e : Entry) → EntryFits e → line.now ++ 10 ∷ [] ≡ entry_text e → rows.new.maps ≡ entry_taken e rows.old.maps) }
-    ensures err { IfErr result (λ fault. fault ≡ LineFault.Unreadable → (e : Entry) → EntryFits e → NumberIsLeft e rows.old.maps → line.now ++ 10 ∷ [] ≢ entry_text e) }
+    ensures err { IfErr result (λ fault. fault ≢ LineFault.OutOfMemory → (e : Entry) → EntryFits e → NumberIsLeft e rows.old.maps → line.now ++ 10 ∷ [] ≢ entry_text e) }
 {
     let (word, literal) = split_word(line)?;
     if word == Word::Slot {
@@ -57,7 +57,7 @@ fn take_slot_line(
     // The line of an entry puts its slot, if the slot's property is the next one of its definer.
     ensures put { IfOk result (λ put. (number : Property → AProperty) (e : Entry) → EntryFits e → SlotIsNext number e (last, rows.old.maps) → line.now ++ 10 ∷ [] ≡ entry_text e
         → (put, rows.new.maps) ≡ slot_line_put number e (last, rows.old.maps)) }
-    ensures err { IfErr result (λ fault. fault ≡ LineFault.Unreadable → (number : Property → AProperty) (e : Entry) → EntryFits e → SlotIsNext number e (last, rows.old.maps)
+    ensures err { IfErr result (λ fault. fault ≢ LineFault.OutOfMemory → (number : Property → AProperty) (e : Entry) → EntryFits e → SlotIsNext number e (last, rows.old.maps)
         → line.now ++ 10 ∷ [] ≢ entry_text e) }
 {
     let (word, literal) = split_word(line)?;

@@ -14,6 +14,7 @@ ghost use Rattle.moo_world.specs.Objects.{Name};
 ghost use Rattle.moo_world.specs.World.{state_fits};
 
 use crate::fault::LineFault;
+use crate::reason::DumpReason;
 use crate::value::{object_of, text_of};
 use moo_rows::{Bits, SlotRow, SlotState};
 use moo_value::{MooStr, ObjNo, Value, fits};
@@ -33,10 +34,11 @@ fn bits_of(value: &Value) -> Result<Bits, LineFault>
     ensures ok { IfOk result (λ bits. value.now ≡ Str (letters_of bits)) }
     ensures err { IfErr result (λ _. (bits : Rights) → value.now ≢ Str (letters_of bits)) }
 {
-    let text = text_of(value)?;
+    let text = text_of(value, "letters")?;
     match Bits::read(text) {
         Some(bits) if bits.letters().as_bytes() == text.bytes() => Ok(bits),
-        _ => Err(LineFault::Unreadable),
+        Some(bits) => Err(LineFault::Unreadable(DumpReason::Letters(bits))),
+        None => Err(LineFault::Unreadable(DumpReason::NoLetters)),
     }
 }
 
@@ -44,18 +46,18 @@ fn bits_of(value: &Value) -> Result<Bits, LineFault>
 fn state_of(alloc: Global, values: &[Value]) -> Result<SlotState, LineFault>
     ensures shown { IfOk result (λ state. values.now ≡ state_values state) }
     ensures fits { IfOk result (λ state. state_fits state ≡ true) }
-    ensures err { IfErr result (λ fault. fault ≡ LineFault.Unreadable → (state : State) → state_fits state ≡ true → values.now ≢ state_values state) }
+    ensures err { IfErr result (λ fault. fault ≢ LineFault.OutOfMemory → (state : State) → state_fits state ≡ true → values.now ≢ state_values state) }
 {
     match values {
         [Value::Int(0)] => Ok(SlotState::Clear),
         [Value::Int(1), value] => {
             if !fits(value) {
-                return Err(LineFault::Unreadable);
+                return Err(LineFault::Unreadable(DumpReason::NoState));
             }
             let value = value.copy(alloc)?;
             Ok(SlotState::Set(value))
         }
-        _ => Err(LineFault::Unreadable),
+        _ => Err(LineFault::Unreadable(DumpReason::NoState)),
     }
 }
 
@@ -63,16 +65,16 @@ fn state_of(alloc: Global, values: &[Value]) -> Result<SlotState, LineFault>
 pub(crate) fn dumped_slot(alloc: Global, values: &[Value]) -> Result<SlotLine, LineFault>
     ensures shown { IfOk result (λ slot. values.now ≡ slot_values slot.object slot.definer slot.name slot.row) }
     ensures fits { IfOk result (λ slot. (is_number slot.row.owner && state_fits slot.row.state) ≡ true) }
-    ensures err { IfErr result (λ fault. fault ≡ LineFault.Unreadable → (x definer : Object) (name : Name) (row : Row) → state_fits row.state ≡ true
+    ensures err { IfErr result (λ fault. fault ≢ LineFault.OutOfMemory → (x definer : Object) (name : Name) (row : Row) → state_fits row.state ≡ true
         → values.now ≢ slot_values x definer name row) }
 {
     let [object, definer, name, owner, letters, state @ ..] = values else {
-        return Err(LineFault::Unreadable);
+        return Err(LineFault::Unreadable(DumpReason::Count));
     };
-    let object = object_of(object)?;
-    let definer = object_of(definer)?;
-    let name = text_of(name)?;
-    let owner = object_of(owner)?;
+    let object = object_of(object, "object")?;
+    let definer = object_of(definer, "definer")?;
+    let name = text_of(name, "name")?;
+    let owner = object_of(owner, "owner")?;
     let bits = bits_of(letters)?;
     let name = name.copy(alloc)?;
     let state = state_of(alloc, state)?;

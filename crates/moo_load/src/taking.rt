@@ -23,6 +23,7 @@ use crate::fault::LineFault;
 use crate::object::read_object;
 use crate::petition::read_petition;
 use crate::property::read_property;
+use crate::reason::DumpReason;
 use crate::slot::{SlotLine, dumped_slot};
 use crate::verb::read_verb;
 use moo_memory::Flat;
@@ -35,7 +36,7 @@ pub(crate) fn take_object(alloc: Global, values: &[Value], rows: &mut Flat) -> R
     requires { AreRead rows.old.maps }
     ensures read { OnOk result (AreRead rows.new.maps) }
     ensures put { OnOk result ((x : Object) (row : ObjectRow) → values.now ≡ object_values x row → rows.new ≡ with_object rows.old x row) }
-    ensures err { IfErr result (λ fault. fault ≡ LineFault.Unreadable → (x : Object) (row : ObjectRow) → row_fits row ≡ true → values.now ≢ object_values x row) }
+    ensures err { IfErr result (λ fault. fault ≢ LineFault.OutOfMemory → (x : Object) (row : ObjectRow) → row_fits row ≡ true → values.now ≢ object_values x row) }
 {
     let (number, row) = read_object(alloc, values)?;
     rows.put_object(number, row)?;
@@ -52,14 +53,14 @@ pub(crate) fn take_property(
     ensures read { OnOk result (AreRead rows.new.maps) }
     ensures put { OnOk result ((row : APropRow) → values.now ≡ Obj row.definer ∷ Str row.name ∷ [] → rows.new.maps ≡ property_taken rows.old.maps row) }
     // Unless there is no number left.
-    ensures err { IfErr result (λ fault. fault ≡ LineFault.Unreadable → rows.old.maps.head.next_prop < 4294967295 → (row : APropRow) → is_property_name row.name ≡ true
+    ensures err { IfErr result (λ fault. fault ≢ LineFault.OutOfMemory → rows.old.maps.head.next_prop < 4294967295 → (row : APropRow) → is_property_name row.name ≡ true
         → values.now ≢ Obj row.definer ∷ Str row.name ∷ []) }
 {
     let row = read_property(alloc, values)?;
     let mut head = rows.head();
     let id = head.next_prop;
     if id == u32::MAX {
-        return Err(LineFault::Unreadable);
+        return Err(LineFault::Unreadable(DumpReason::NoNumber));
     }
     rows.put_prop(PropId(id), row)?;
     head.next_prop = id + 1;
@@ -73,14 +74,14 @@ pub(crate) fn take_verb(alloc: Global, values: &[Value], rows: &mut Flat) -> Res
     ensures read { OnOk result (AreRead rows.new.maps) }
     ensures put { OnOk result ((x : Object) (row : Verb) → values.now ≡ verb_values x row → rows.new.maps ≡ verb_taken rows.old.maps x row) }
     // Unless there is no number left.
-    ensures err { IfErr result (λ fault. fault ≡ LineFault.Unreadable → rows.old.maps.head.next_verb < 4294967295 → (x : Object) (row : Verb) → verb_fits row ≡ true
+    ensures err { IfErr result (λ fault. fault ≢ LineFault.OutOfMemory → rows.old.maps.head.next_verb < 4294967295 → (x : Object) (row : Verb) → verb_fits row ≡ true
         → values.now ≢ verb_values x row) }
 {
     let (object, row) = read_verb(alloc, values)?;
     let mut head = rows.head();
     let id = head.next_verb;
     if id == u32::MAX {
-        return Err(LineFault::Unreadable);
+        return Err(LineFault::Unreadable(DumpReason::NoNumber));
     }
     rows.put_verb((object, VerbId(id)), row)?;
     head.next_verb = id + 1;
@@ -97,16 +98,17 @@ pub(crate) fn take_petition(
     requires { AreRead rows.old.maps }
     ensures read { OnOk result (AreRead rows.new.maps) }
     ensures put { OnOk result ((id : Id) (row : APetition) → values.now ≡ petition_values id row → rows.new.maps ≡ petition_taken rows.old.maps id row) }
-    ensures err { IfErr result (λ fault. fault ≡ LineFault.Unreadable → (id : Id) (row : APetition) → 0 < id.0 → id.0 < 4294967295 → petition_fits row ≡ true
+    ensures err { IfErr result (λ fault. fault ≢ LineFault.OutOfMemory → (id : Id) (row : APetition) → 0 < id.0 → id.0 < 4294967295 → petition_fits row ≡ true
         → values.now ≢ petition_values id row) }
 {
     let (id, row) = read_petition(alloc, values)?;
     rows.put_petition(id, row)?;
     let mut head = rows.head();
-    if head.next_petition <= id.0 {
-        head.next_petition = id.0 + 1;
-        rows.set_head(head);
+    if id.0 < head.next_petition {
+        return Ok(());
     }
+    head.next_petition = id.0 + 1;
+    rows.set_head(head);
     Ok(())
 }
 
@@ -144,6 +146,18 @@ fn property_of<R: Rows>(rows: &R, last: LastSlot, slot: &SlotLine) -> Option<Pro
     }
 }
 
+/// Why a slot isn't that of the next property of its definer.
+fn other_property<R: Rows>(rows: &R, last: LastSlot, slot: &SlotLine) -> DumpReason {
+    if rows.object(slot.definer).is_none() {
+        return DumpReason::NoDefiner(slot.definer);
+    }
+    let after = number_before(last, slot.object, slot.definer);
+    match rows.next_defined(slot.definer, after) {
+        Some(id) => DumpReason::SlotFirst(id),
+        None => DumpReason::NoProperty,
+    }
+}
+
 /// Puts a slot, the next one after the last.
 pub(crate) fn take_slot(
     alloc: Global,
@@ -156,12 +170,12 @@ pub(crate) fn take_slot(
     // The slot of the next property is put under its number.
     ensures put { IfOk result (λ put. (x : Object) (p : Property) (k : Slot) (id : AProperty) → values.now ≡ slot_values x p.0 p.1 (dumped_slot k)
         → IsNextProperty rows.old.maps last x p id → (put ≡ record { object = x; definer = p.0; id = id }) × (rows.new ≡ with_slot rows.old (x, id) (dumped_slot k))) }
-    ensures err { IfErr result (λ fault. fault ≡ LineFault.Unreadable → (x : Object) (p : Property) (k : Slot) (id : AProperty) → state_fits k.state ≡ true
+    ensures err { IfErr result (λ fault. fault ≢ LineFault.OutOfMemory → (x : Object) (p : Property) (k : Slot) (id : AProperty) → state_fits k.state ≡ true
         → IsNextProperty rows.old.maps last x p id → values.now ≢ slot_values x p.0 p.1 (dumped_slot k)) }
 {
     let slot = dumped_slot(alloc, values)?;
     let Some(id) = property_of(rows, last, &slot) else {
-        return Err(LineFault::Unreadable);
+        return Err(LineFault::Unreadable(other_property(rows, last, &slot)));
     };
     let last = LastSlot {
         object: slot.object,

@@ -9,6 +9,7 @@ ghost use Rattle.moo_world.specs.Calls.{accept_value};
 ghost use Rattle.moo_world.specs.World.{accept_fits};
 
 use crate::fault::LineFault;
+use crate::reason::DumpReason;
 use moo_rows::ObjList;
 use moo_value::{MooStr, ObjNo, Value};
 use std::alloc::{AllocError, Global};
@@ -16,20 +17,20 @@ use std::alloc::{AllocError, Global};
 /// The most objects in an accept list.
 const MAX_ACCEPTED: usize = 1000;
 
-/// The object that a value is.
-pub(crate) fn object_of(value: &Value) -> Result<ObjNo, LineFault>
+/// The object that a value is, which is named by this word in a reason.
+pub(crate) fn object_of(value: &Value, what: &'static str) -> Result<ObjNo, LineFault>
     ensures ok { IfOk result (λ x. value.now ≡ Obj x) }
     ensures fits { IfOk result (λ x. is_number x ≡ true) }
     ensures err { IfErr result (λ _. (x : ObjNo) → value.now ≢ Obj x) }
 {
     match value {
         Value::Obj(ObjNo(number)) => Ok(ObjNo(*number)),
-        _ => Err(LineFault::Unreadable),
+        _ => Err(LineFault::Unreadable(DumpReason::NoObject(what))),
     }
 }
 
-/// The string that a value is.
-pub(crate) fn text_of(value: &Value) -> Result<&MooStr, LineFault>
+/// The string that a value is, which is named by this word in a reason.
+pub(crate) fn text_of<'a>(value: &'a Value, what: &'static str) -> Result<&'a MooStr, LineFault>
     ensures ok { IfOk result (λ text. value.now ≡ Str text.now) }
     ensures fits { IfOk result (λ text. is_text text.now ≡ true) }
     ensures err { IfErr result (λ _. (text : List ℕ) → value.now ≢ Str text) }
@@ -40,19 +41,19 @@ pub(crate) fn text_of(value: &Value) -> Result<&MooStr, LineFault>
             let _bytes = text.bytes();
             Ok(text)
         }
-        _ => Err(LineFault::Unreadable),
+        _ => Err(LineFault::Unreadable(DumpReason::NoText(what))),
     }
 }
 
-/// The 0 or 1 that a value is.
-pub(crate) fn flag_of(value: &Value) -> Result<bool, LineFault>
+/// The 0 or 1 that a value is, which is named by this word in a reason.
+pub(crate) fn flag_of(value: &Value, what: &'static str) -> Result<bool, LineFault>
     ensures ok { IfOk result (λ holds. value.now ≡ flag holds) }
     ensures err { IfErr result (λ _. (holds : Bool) → value.now ≢ flag holds) }
 {
     match value {
         Value::Int(0) => Ok(false),
         Value::Int(1) => Ok(true),
-        _ => Err(LineFault::Unreadable),
+        _ => Err(LineFault::Unreadable(DumpReason::NoFlag(what))),
     }
 }
 
@@ -60,14 +61,14 @@ pub(crate) fn flag_of(value: &Value) -> Result<bool, LineFault>
 fn objects_of(alloc: Global, values: &[Value]) -> Result<ObjList, LineFault>
     ensures ok { IfOk result (λ objects. values.now ≡ map Obj objects) }
     ensures fits { IfOk result (λ objects. accept_fits (Some objects) ≡ true) }
-    ensures err { IfErr result (λ fault. fault ≡ LineFault.Unreadable → (objects : List ObjNo) → length objects ≤ 1000 → values.now ≢ map Obj objects) }
+    ensures err { IfErr result (λ fault. fault ≢ LineFault.OutOfMemory → (objects : List ObjNo) → length objects ≤ 1000 → values.now ≢ map Obj objects) }
 {
     if values.len() > MAX_ACCEPTED {
-        return Err(LineFault::Unreadable);
+        return Err(LineFault::Unreadable(DumpReason::NoAcceptList));
     }
     let mut objects = Vec::new(alloc);
     for value in values {
-        let object = object_of(value)?;
+        let object = object_of(value, "accepted object")?;
         objects.push(object).map_err(AllocError::from)?;
     }
     Ok(ObjList::from_vec(objects))
@@ -77,7 +78,7 @@ fn objects_of(alloc: Global, values: &[Value]) -> Result<ObjList, LineFault>
 pub(crate) fn accept_of(alloc: Global, value: &Value) -> Result<Option<ObjList>, LineFault>
     ensures ok { IfOk result (λ accept. value.now ≡ accept_value accept) }
     ensures fits { IfOk result (λ accept. accept_fits accept ≡ true) }
-    ensures err { IfErr result (λ fault. fault ≡ LineFault.Unreadable → (accept : Option (List ObjNo)) → accept_fits accept ≡ true → value.now ≢ accept_value accept) }
+    ensures err { IfErr result (λ fault. fault ≢ LineFault.OutOfMemory → (accept : Option (List ObjNo)) → accept_fits accept ≡ true → value.now ≢ accept_value accept) }
 {
     match value {
         Value::Int(0) => Ok(None),
@@ -85,6 +86,6 @@ pub(crate) fn accept_of(alloc: Global, value: &Value) -> Result<Option<ObjList>,
             let objects = objects_of(alloc, list.items())?;
             Ok(Some(objects))
         }
-        _ => Err(LineFault::Unreadable),
+        _ => Err(LineFault::Unreadable(DumpReason::NoAcceptList)),
     }
 }

@@ -13,20 +13,29 @@ ghost use Rattle.moo_world.specs.Prepositions.{prep_text, object_spec_text};
 ghost use Rattle.moo_world.specs.World.{verb_fits};
 
 use crate::fault::LineFault;
+use crate::reason::DumpReason;
 use crate::value::{object_of, text_of};
 use moo_rows::{ArgSpec, ObjectSpec, Preposition, VerbBits, VerbRow};
-use moo_value::{ObjNo, Value};
-use moo_verbs::{check_names, read_place_cell, read_prep_cell};
+use moo_value::{MooStr, ObjNo, Value};
+use moo_verbs::{check_names, read_place_cell, read_prep, read_prep_cell};
 use std::alloc::Global;
 
-/// The place that a value spells.
-fn object_spec_of(value: &Value) -> Result<ObjectSpec, LineFault>
+/// The place that a value spells, which is named by this word in a reason.
+fn object_spec_of(value: &Value, what: &'static str) -> Result<ObjectSpec, LineFault>
     ensures shown { IfOk result (λ place. value.now ≡ Str (object_spec_text place)) }
     ensures err { IfErr result (λ _. (place : AnObjectSpec) → value.now ≢ Str (object_spec_text place)) }
 {
-    match read_place_cell(text_of(value)?.bytes()) {
+    match read_place_cell(text_of(value, what)?.bytes()) {
         Some(place) => Ok(place),
-        None => Err(LineFault::Unreadable),
+        None => Err(LineFault::Unreadable(DumpReason::NoPlace(what))),
+    }
+}
+
+/// Why a text isn't a preposition as a dump writes it.
+fn other_preposition(text: &MooStr) -> DumpReason {
+    match read_prep(text) {
+        Ok(preposition) => DumpReason::Preposition(preposition),
+        Err(_) => DumpReason::NoPreposition,
     }
 }
 
@@ -35,9 +44,10 @@ fn prep_of(value: &Value) -> Result<Preposition, LineFault>
     ensures shown { IfOk result (λ prep. value.now ≡ Str (prep_text prep)) }
     ensures err { IfErr result (λ _. (prep : APreposition) → value.now ≢ Str (prep_text prep)) }
 {
-    match read_prep_cell(text_of(value)?.bytes()) {
+    let text = text_of(value, "preposition")?;
+    match read_prep_cell(text.bytes()) {
         Some(prep) => Ok(prep),
-        None => Err(LineFault::Unreadable),
+        None => Err(LineFault::Unreadable(other_preposition(text))),
     }
 }
 
@@ -46,10 +56,11 @@ fn bits_of(value: &Value) -> Result<VerbBits, LineFault>
     ensures shown { IfOk result (λ bits. value.now ≡ Str (verb_letters_of bits)) }
     ensures err { IfErr result (λ _. (bits : Rights) → value.now ≢ Str (verb_letters_of bits)) }
 {
-    let text = text_of(value)?;
+    let text = text_of(value, "letters")?;
     match VerbBits::read(text) {
         Some(bits) if bits.letters().as_bytes() == text.bytes() => Ok(bits),
-        _ => Err(LineFault::Unreadable),
+        Some(bits) => Err(LineFault::Unreadable(DumpReason::VerbLetters(bits))),
+        None => Err(LineFault::Unreadable(DumpReason::NoVerbLetters)),
     }
 }
 
@@ -57,21 +68,21 @@ fn bits_of(value: &Value) -> Result<VerbBits, LineFault>
 pub(crate) fn read_verb(alloc: Global, values: &[Value]) -> Result<(ObjNo, VerbRow), LineFault>
     ensures shown { IfOk result (λ r. values.now ≡ verb_values r.0 r.1) }
     ensures fits { IfOk result (λ r. verb_fits r.1 ≡ true) }
-    ensures err { IfErr result (λ fault. fault ≡ LineFault.Unreadable → (x : Object) (row : Row) → verb_fits row ≡ true → values.now ≢ verb_values x row) }
+    ensures err { IfErr result (λ fault. fault ≢ LineFault.OutOfMemory → (x : Object) (row : Row) → verb_fits row ≡ true → values.now ≢ verb_values x row) }
 {
     let [object, names, owner, letters, dobj, prep, iobj] = values else {
-        return Err(LineFault::Unreadable);
+        return Err(LineFault::Unreadable(DumpReason::Count));
     };
-    let object = object_of(object)?;
-    let names = text_of(names)?;
+    let object = object_of(object, "object")?;
+    let names = text_of(names, "names")?;
     if check_names(names).is_err() {
-        return Err(LineFault::Unreadable);
+        return Err(LineFault::Unreadable(DumpReason::NoVerbNames));
     }
-    let owner = object_of(owner)?;
+    let owner = object_of(owner, "owner")?;
     let bits = bits_of(letters)?;
-    let dobj = object_spec_of(dobj)?;
+    let dobj = object_spec_of(dobj, "direct object")?;
     let prep = prep_of(prep)?;
-    let iobj = object_spec_of(iobj)?;
+    let iobj = object_spec_of(iobj, "indirect object")?;
     let names = names.copy(alloc)?;
     let row = VerbRow {
         names,

@@ -1,5 +1,5 @@
 -- The links of a draft's objects, and the properties that its objects define.
-use Rattle.moo_memory.{proofs.Words.{◌≡◌, Bool, true, false, ◌||◌, ◌+◌, cond, Option, None, Some, Less, Equal, Greater, Ordering, unwrap_or, is_some, refl, sym, ap, ◌∙◌, subst, eq_by_cmp, is_eq, FinMap, get, insert, get-insert, ObjNo, PropId, Held, Maps, LinkSets, may_have, may-as-kept, kept-may, on_ok, has-insert, lacked-insert, slot_total, changed, object_exact, object_cmp, prop_cmp, slot_cmp, is_kept, is_candidate, is_to_nothing, has_link, ties_of, row_has, row_defined, AreOfDefiners, or_first, or_second, object_total, prop_total, overlaid, of_changes, is_that, may_have_own, is_candidate_of_either, EitherCovers}, specs.declared.own.OwnLinks.{OwnLinks}, proofs.Overlays.{get-overlaid, overlaid-insert}}
+use Rattle.moo_memory.{proofs.Words.{◌≡◌, ◌≢◌, List, Bool, true, false, ◌||◌, ◌+◌, cond, Option, None, Some, Less, Equal, Greater, Ordering, unwrap_or, is_some, refl, sym, ap, ◌∙◌, subst, eq_by_cmp, is_eq, FinMap, get, insert, get-insert, ObjNo, PropId, Held, Maps, LinkSets, may_have, may-as-kept, kept-may, on_ok, has-insert, lacked-insert, slot_total, changed, object_exact, object_cmp, prop_cmp, slot_cmp, is_kept, is_candidate, is_to_nothing, has_link, ties_of, row_has, row_defined, AreOfDefiners, AreByName, Tag, tag_of, named_cmp, named_total, row_named, name_hash, kept-insert, named-covers, named-more, named-put, named-remove, or_first, or_second, object_total, prop_total, overlaid, of_changes, is_that, may_have_own, is_candidate_of_either, EitherCovers}, specs.declared.own.OwnLinks.{OwnLinks}, proofs.Overlays.{get-overlaid, overlaid-insert}}
 use Rattle.std.{specs.Prelude.{⊤, ℕ, OnErr, OnOk}, proofs.Common.{Result, Ok, Err}, proofs.lemmas.Bool.{true≢false}, specs.Cmp.{IsTotalOrder}, proofs.lemmas.Map.Lookups.{CmpEqualImpliesEq}, proofs.lemmas.Result.{on_err_weaker, on_ok_weaker}}
 use Rattle.moo_rows.{specs.declared.row.ObjRow.{ObjRow}, specs.declared.row.PropRow.{PropRow}, specs.declared.row.Link.{Link}, proofs.Linking.{defined-put, defined-remove}}
 
@@ -25,6 +25,14 @@ module _ {K X T E : Type 0} {cmp : K → K → Ordering} (total : IsTotalOrder c
 
   pub seen-refused : OnErr r ((new ≡ old) × (count ≡ before.writes)) → OnErr r (record before { maps = put (overlaid below new) before.maps; writes = count } ≡ record now { maps = put (of now.maps) now.maps })
   seen-refused err = on_err_weaker r (λ (h : (new ≡ old) × (count ≡ before.writes)). seen-written of put (λ m. m) (λ n. n) same (ap (overlaid below) h.0 ∙ sym seen) h.1) err
+
+-- the same after a change that there was memory for
+pub seen-done : {K X : Type 0} {cmp : K → K → Ordering} (total : IsTotalOrder cmp) (exact : CmpEqualImpliesEq cmp) (of : Maps → FinMap cmp X) (put : FinMap cmp X → Maps → Maps)
+    {before now : Held} (same : before ≡ now) (below : FinMap cmp X) (old new : FinMap cmp (Option X)) (count : ℕ) (seen : of before.maps ≡ overlaid below old) (key : K) (o : Option X)
+    → (new ≡ insert old key o) × (count ≡ before.writes + 1)
+    → record before { maps = put (overlaid below new) before.maps; writes = count } ≡ record now { maps = put (changed (of now.maps) key o) now.maps; writes = now.writes + 1 }
+seen-done total exact of put same below old new count seen key o h =
+    seen-written of put (λ m. changed m key o) (λ n. n + 1) same (ap (overlaid below) h.0 ∙ overlaid-insert total exact below old key o ∙ sym (ap (λ m. changed m key o) seen)) h.1
 
 -- ---- links
 
@@ -106,6 +114,16 @@ draft-defines below changes definers covers x q h =
       | Some o ↦ λ k. k
     ] (covers x q (or_second (row_defined x (get below q)) (is_some (get definers (x, q))) h))
 
+-- nor does it define one under a name that it neither defines under it below nor may define
+pub draft-named : (below : FinMap prop_cmp PropRow) (changes : FinMap prop_cmp (Option PropRow)) (names : FinMap named_cmp ⊤) → AreByName (of_changes changes) names
+    → (x : ObjNo) (name : List ℕ) (q : PropId) → (row_named x name (get below q) || is_some (get names ((x, name_hash name), q))) ≡ false → row_named x name (get (overlaid below changes) q) ≡ false
+draft-named below changes names kept x name q h =
+    ap (row_named x name) (get-overlaid prop_total below changes q)
+    ∙ elim (get changes q) as (λ o. row_named x name (unwrap_or o None) ≡ false → row_named x name (unwrap_or o (get below q)) ≡ false) [
+      | None ↦ λ _. or_first (row_named x name (get below q)) (is_some (get names ((x, name_hash name), q))) h
+      | Some o ↦ λ k. k
+    ] (named-covers (of_changes changes) names kept x name q (or_second (row_named x name (get below q)) (is_some (get names ((x, name_hash name), q))) h))
+
 module _ (changes new : FinMap prop_cmp (Option PropRow)) (key : PropId) where
   read_change : (o : Option PropRow) → new ≡ insert changes key o → (q : PropId) → of_changes new q ≡ cond (eq_by_cmp prop_cmp q key) o (of_changes changes q)
   read_change o is q = ap (λ m. of_changes m q) is ∙ ap (λ p. unwrap_or p None) (get-insert prop_total changes key o q) ∙ by (eq_by_cmp prop_cmp q key)
@@ -121,8 +139,24 @@ module _ (changes new : FinMap prop_cmp (Option PropRow)) (key : PropId) where
       either_way r ok err (λ (h : (new ≡ insert changes key (Some row)) × V). defined-put (of_changes changes) (of_changes new) key old definers row covers put (read_change (Some row) h.0))
       (λ (h : (new ≡ changes) × W) x id e. ap (λ m. row_defined x (of_changes m id)) h.0 ∙ covers x id (lacked-insert slot_total old (row.definer, key) tt (x, id) (ap (λ m. is_some (get m (x, id))) (sym put) ∙ e)))
 
-  -- a property is removed, or there is no memory to
-  pub draft-remove : {T E : Type 0} (V W : Type 0) (r : Result T E) (definers : FinMap slot_cmp ⊤) → OnOk r ((new ≡ insert changes key None) × V) → OnErr r ((new ≡ changes) × W) → AreOfDefiners (of_changes changes) definers → AreOfDefiners (of_changes new) definers
-  draft-remove V W r definers ok err covers =
-      either_way r ok err (λ (h : (new ≡ insert changes key None) × V). defined-remove (of_changes changes) (of_changes new) key definers definers covers (λ x id _ e. e) (read_change None h.0))
-      (λ (h : (new ≡ changes) × W). subst (λ m. AreOfDefiners (of_changes m) definers) (sym h.0) covers)
+  -- and with it its tag
+  pub draft-tag : {T E : Type 0} (V W : Type 0) (r : Result T E) (old names : FinMap named_cmp ⊤) (row : PropRow) → OnOk r ((new ≡ insert changes key (Some row)) × V) → OnErr r ((new ≡ changes) × W)
+      → AreByName (of_changes changes) old → names ≡ insert old (tag_of row, key) tt → AreByName (of_changes new) names
+  draft-tag V W r old names row ok err kept put =
+      either_way r ok err
+      (λ (h : (new ≡ insert changes key (Some row)) × V). named-put (of_changes changes) (of_changes new) key old names kept row
+      (ap (λ m. is_some (get m (tag_of row, key))) put ∙ has-insert named_total old (tag_of row, key) tt) (λ p _ h. more p h) (read_change (Some row) h.0))
+      (λ (h : (new ≡ changes) × W). named-more (of_changes changes) (of_changes new) key old names kept more (λ q. ap (λ m. of_changes m q) h.0))
+    where
+      more : (p : Tag × PropId) → is_some (get old p) ≡ true → is_some (get names p) ≡ true
+      more p h = ap (λ m. is_some (get m p)) put ∙ kept-insert named_total old (tag_of row, key) tt p h
+
+  -- a property is removed
+  pub draft-remove : (old definers : FinMap slot_cmp ⊤) → new ≡ insert changes key None → AreOfDefiners (of_changes changes) old
+      → ((x : ObjNo) (id : PropId) → id ≢ key → is_some (get definers (x, id)) ≡ false → is_some (get old (x, id)) ≡ false) → AreOfDefiners (of_changes new) definers
+  draft-remove old definers is covers kept = defined-remove (of_changes changes) (of_changes new) key old definers covers kept (read_change None is)
+
+  -- and its tag
+  pub draft-untag : (old names : FinMap named_cmp ⊤) → new ≡ insert changes key None → AreByName (of_changes changes) old
+      → ((p : Tag × PropId) → (p.1 ≡ key → ⊥) → is_some (get old p) ≡ true → is_some (get names p) ≡ true) → AreByName (of_changes new) names
+  draft-untag old names is kept stay = named-remove (of_changes changes) (of_changes new) key old names kept stay (read_change None is)

@@ -6,8 +6,9 @@ ghost use Rattle.moo_rows.specs.Ordered.{IsNext};
 ghost use Rattle.moo_memory.specs.Changes.{AreChanges};
 
 use crate::changes::{Changes, changed_rows};
-use crate::either::{next_defined_of_either, next_linked_of_either};
-use crate::links::{row_defined, row_has};
+use crate::either::{next_defined_of_either, next_linked_of_either, next_named_of_either};
+use crate::links::{definer_of, forget_defined, row_defined, row_has};
+use crate::names::{forget_tagged, row_named, tag_if, tag_of};
 use crate::overlay;
 use crate::overlay::Base;
 use crate::own::OwnLinks;
@@ -22,7 +23,7 @@ use std::marker::Model;
 
 /// Changes over rows that stay as they are: for each changed key a new row, or `None` if it is removed.
 ///
-/// The links and definers are those of changed rows; those that a later change removed may still be among them.
+/// The links, definers and names are those of changed rows; those that a later change removed may still be among them.
 #[derive(Drop)]
 pub struct Draft<'a, R: Rows> {
     alloc: Global,
@@ -35,6 +36,7 @@ pub struct Draft<'a, R: Rows> {
     petitions: BTreeMap<PetitionId, Option<PetitionRow>>,
     links: OwnLinks,
     definers: BTreeMap<(ObjNo, PropId), ()>,
+    names: BTreeMap<((ObjNo, u64), PropId), ()>,
     writes: Writes,
 }
 
@@ -62,11 +64,13 @@ impl<'a, R: Rows> Model for Draft<'a, R> {
 
     ghost use Rattle.std.specs.FinMap as map;
     ghost use Rattle.moo_rows.specs.Links.{AreOfDefiners};
+    ghost use Rattle.moo_rows.specs.Named.{AreByName, named_cmp};
     ghost use Rattle.moo_memory.specs.Either.{EitherCovers, of_changes};
 
     ghost invariant = { λ d.
         EitherCovers (map.get (R.held d.base.now).maps.objects) (of_changes (contents object_cmp d.objects)) d.links
-        × AreOfDefiners (of_changes (contents prop_cmp d.props)) (contents slot_cmp d.definers) };
+        × AreOfDefiners (of_changes (contents prop_cmp d.props)) (contents slot_cmp d.definers)
+        × AreByName (of_changes (contents prop_cmp d.props)) (contents named_cmp d.names) };
 }
 
 impl<'a, R: Rows> Draft<'a, R> {
@@ -87,6 +91,7 @@ impl<'a, R: Rows> Draft<'a, R> {
             petitions: BTreeMap::new(alloc),
             links: OwnLinks::new(alloc),
             definers: BTreeMap::new(alloc),
+            names: BTreeMap::new(alloc),
             writes: Writes::new(),
         }
     }
@@ -256,13 +261,34 @@ impl<'a, R: Rows> Rows for Draft<'a, R> {
         }
     }
 
+    fn next_named(&self, x: ObjNo, name: &[u8], hash: u64, after: PropId) -> Option<PropId> {
+        let mut last = after;
+        loop {
+            let key = match next_named_of_either(self.base, &self.names, x, name, hash, last) {
+                None => return None,
+                Some(key) => key,
+            };
+            if row_named(overlay::get(self.base, &self.props, key), x, name) {
+                return Some(key);
+            }
+            last = key;
+        }
+    }
+
     fn put_prop(&mut self, key: PropId, row: PropRow) -> Result<(), AllocError> {
         ordered::put(&mut self.definers, (row.definer, key), ())?;
+        ordered::put(&mut self.names, (tag_of(&row), key), ())?;
         overlay::put(&mut self.props, &mut self.writes, key, Some(row))
     }
 
     fn remove_prop(&mut self, key: PropId) -> Result<(), AllocError> {
-        overlay::put(&mut self.props, &mut self.writes, key, None)
+        let row = overlay::own(&self.props, key);
+        let definer = definer_of(row);
+        let tag = tag_if(row);
+        overlay::put(&mut self.props, &mut self.writes, key, None)?;
+        forget_defined(&mut self.definers, definer, key);
+        forget_tagged(&mut self.names, tag, None, key);
+        Ok(())
     }
 
     fn slot(&self, key: (ObjNo, PropId)) -> Option<&SlotRow> {

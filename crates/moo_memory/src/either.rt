@@ -1,13 +1,15 @@
 //! What may have a link or a definer: rows of the base that have it, and changed ones.
 
-ghost use Rattle.std.specs.Prelude.{◌||◌, is_some};
+ghost use Rattle.std.specs.Prelude.{◌≡◌, ◌||◌, is_some};
 ghost use Rattle.std.specs.FinMap as map;
 ghost use Rattle.moo_rows.specs.Links.{IsFirst, is_definer};
 ghost use Rattle.moo_rows.specs.Maps.{object_cmp, prop_cmp, slot_cmp};
+ghost use Rattle.moo_rows.specs.Named.{is_named_by, name_hash, named_cmp};
 ghost use Rattle.moo_rows.specs.Ordered.{contents};
 ghost use Rattle.moo_memory.specs.Either.{is_candidate_of_either};
 
 use crate::links::next_defined;
+use crate::names::next_tagged;
 use crate::own::OwnLinks;
 use moo_rows::{Link, ObjRow, PropId, Rows, ordered};
 use moo_value::ObjNo;
@@ -41,5 +43,23 @@ pub(crate) fn next_defined_of_either<R: Rows>(
     ordered::least(
         base.next_defined(x, after),
         next_defined(definers, x, after),
+    )
+}
+
+/// The next property that x defines under the name in the base, or may define among the changes. Takes no memory.
+pub(crate) fn next_named_of_either<R: Rows>(
+    base: &R,
+    names: &BTreeMap<((ObjNo, u64), PropId), ()>,
+    x: ObjNo,
+    name: &[u8],
+    hash: u64,
+    after: PropId,
+) -> Option<PropId>
+    requires { hash ≡ name_hash name.now }
+    ensures { IsFirst prop_cmp (λ q. is_named_by (R.held base.now).maps x name.now q || is_some (map.get (contents named_cmp names.now) ((x, name_hash name.now), q))) after result }
+{
+    ordered::least(
+        base.next_named(x, name, hash, after),
+        next_tagged(names, (x, hash), after),
     )
 }

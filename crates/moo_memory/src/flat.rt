@@ -6,6 +6,7 @@ ghost use Rattle.moo_rows.specs.Maps.{no_maps, without_object, without_prop, wit
 use crate::links::{
     Links, are_same, definer_of, forget_defined, next_defined, row_defined, row_has, ties_of,
 };
+use crate::names::{forget_tagged, next_tagged, row_named, tag_if, tag_of};
 use moo_rows::{
     Head, Link, ObjRow, PetitionId, PetitionRow, PropId, PropRow, Rows, SlotRow, VerbId, VerbRow,
     Writes, ordered,
@@ -26,6 +27,7 @@ pub struct Flat {
     petitions: BTreeMap<PetitionId, PetitionRow>,
     links: Links,
     definers: BTreeMap<(ObjNo, PropId), ()>,
+    names: BTreeMap<((ObjNo, u64), PropId), ()>,
     writes: Writes,
 }
 
@@ -52,8 +54,12 @@ impl Model for Flat {
 
     ghost use Rattle.std.specs.FinMap as map;
     ghost use Rattle.moo_rows.specs.Links.{AreCovered, AreOfDefiners};
+    ghost use Rattle.moo_rows.specs.Named.{AreByName, named_cmp};
 
-    ghost invariant = { λ f. AreCovered (map.get (contents object_cmp f.objects)) f.links × AreOfDefiners (map.get (contents prop_cmp f.props)) (contents slot_cmp f.definers) };
+    ghost invariant = { λ f.
+        AreCovered (map.get (contents object_cmp f.objects)) f.links
+        × AreOfDefiners (map.get (contents prop_cmp f.props)) (contents slot_cmp f.definers)
+        × AreByName (map.get (contents prop_cmp f.props)) (contents named_cmp f.names) };
 }
 
 impl Flat {
@@ -77,6 +83,7 @@ impl Flat {
             petitions: BTreeMap::new(alloc),
             links: Links::new(alloc),
             definers: BTreeMap::new(alloc),
+            names: BTreeMap::new(alloc),
             writes: Writes::new(),
         }
     }
@@ -94,6 +101,7 @@ impl Flat {
             petitions: self.petitions.clone()?,
             links: self.links.copy()?,
             definers: self.definers.clone()?,
+            names: self.names.clone()?,
             writes: Writes::new(),
         })
     }
@@ -182,9 +190,26 @@ impl Rows for Flat {
         }
     }
 
+    fn next_named(&self, x: ObjNo, name: &[u8], hash: u64, after: PropId) -> Option<PropId> {
+        let mut last = after;
+        loop {
+            let key = match next_tagged(&self.names, (x, hash), last) {
+                None => return None,
+                Some(key) => key,
+            };
+            if row_named(ordered::get(&self.props, key), x, name) {
+                return Some(key);
+            }
+            last = key;
+        }
+    }
+
     fn put_prop(&mut self, key: PropId, row: PropRow) -> Result<(), AllocError> {
+        let tag = tag_of(&row);
         ordered::put(&mut self.definers, (row.definer, key), ())?;
-        ordered::put(&mut self.props, key, row)?;
+        ordered::put(&mut self.names, (tag, key), ())?;
+        let old = ordered::replace(&mut self.props, key, row)?;
+        forget_tagged(&mut self.names, tag_if(old.as_ref()), Some(tag), key);
         self.writes.rise();
         Ok(())
     }
@@ -193,9 +218,12 @@ impl Rows for Flat {
         ensures ok { self.new ≡ without_prop self.old key }
         ensures succeeds { IsOk result }
     {
-        let definer = definer_of(ordered::get(&self.props, key));
+        let row = ordered::get(&self.props, key);
+        let definer = definer_of(row);
+        let tag = tag_if(row);
         ordered::remove(&mut self.props, key);
         forget_defined(&mut self.definers, definer, key);
+        forget_tagged(&mut self.names, tag, None, key);
         self.writes.rise();
         Ok(())
     }

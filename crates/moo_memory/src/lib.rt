@@ -8,6 +8,7 @@ mod either;
 mod flat;
 pub mod laws;
 mod links;
+mod names;
 mod opening;
 mod overlay;
 mod own;

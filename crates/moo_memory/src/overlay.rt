@@ -85,6 +85,14 @@ fn is_removed<K: OrderedKey, V>(changes: &BTreeMap<K, Option<V>>, key: K) -> boo
     }
 }
 
+/// The new row of a key, if it is changed and not removed.
+pub fn own<K: OrderedKey, V>(changes: &BTreeMap<K, Option<V>>, key: K) -> Option<&V> {
+    match ordered::get(changes, key) {
+        Some(Some(row)) => Some(row),
+        _ => None,
+    }
+}
+
 /// Sets the new row of a key, or `None` if its row is removed, and counts it. After an `Err`, a lack of memory, nothing has changed.
 pub fn put<K: OrderedKey, V: Drop>(
     changes: &mut BTreeMap<K, Option<V>>,

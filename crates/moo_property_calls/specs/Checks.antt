@@ -1,6 +1,8 @@
 -- The checks that several calls share, and the outcome of such a call by them: the error of the first check that fails,
 -- else what the call goes on to with what the checks found.
+use Rattle.std.specs.Prelude.{Some}
 use Rattle.moo_value.specs.declared.value.ObjNo.{ObjNo}
+use Rattle.moo_rows.specs.Maps.{Maps}
 use Rattle.moo_rows.specs.Bits.{bits_of}
 use Rattle.moo_rows.specs.declared.row.Bits.{Bits}
 use Rattle.moo_world.specs.Objects.{Name, folded}
@@ -9,6 +11,9 @@ use Rattle.moo_world.specs.Arguments.{Info}
 use Rattle.moo_world.specs.Codes.{E_PERM, E_PROPNF, E_INVARG}
 use Rattle.moo_world.specs.Outcomes.{Outcome, require◌else◌, ◌>>◌, ◌or_else◌, ◌>>=◌}
 use Rattle.moo_world.specs.Rights.{may_read_slot, may_write_slot}
+use Rattle.moo_call_parts.specs.About.{About}
+use Rattle.moo_call_parts.specs.Told.{IsTrueOf}
+use Rattle.moo_call_parts.specs.declared.reason.Reason.{Reason}
 
 -- the object has a property of the name, and the programmer may read it by its slot on that object
 abbrev pub reading_slot : World → ObjNo → ObjNo → Name → (Slot → Outcome World) → Outcome World
@@ -30,3 +35,12 @@ taking_property_info world (owner, perms) then = do
   require is_object world owner else E_INVARG
   bits ← bits_of perms or_else E_INVARG
   then bits
+
+-- the reason is true of any call about letters of rights such as these
+abbrev pub IsTrueOfLetters : Maps → Name → Reason → Type 0
+IsTrueOfLetters maps letters reason = (programmer : ObjNo) (about : About) → IsTrueOf maps programmer (record about { letters = Some letters }) reason
+
+-- the reason is true of any call about a new name of a property of the object
+abbrev pub IsTrueOfName : Maps → ObjNo → Name → Reason → Type 0
+IsTrueOfName maps object name reason =
+    (programmer : ObjNo) (about : About) → IsTrueOf maps programmer (record about { object = Some object; new_name = Some name }) reason

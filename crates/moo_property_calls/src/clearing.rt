@@ -5,13 +5,15 @@ ghost use Rattle.moo_world.specs.Keeps.{Keeps};
 ghost use Rattle.moo_world.specs.PropertyCalls.{clear_property, is_clear, is_clear_property};
 ghost use Rattle.moo_world.specs.Rows.{IsGood};
 ghost use Rattle.moo_call_parts.specs.Outcomes.{world_in, Answers, ComesTo};
+ghost use Rattle.moo_call_parts.specs.About.{about_property};
+ghost use Rattle.moo_call_parts.specs.Told.{IsTold};
 
 use crate::slots::{readable_slot, writable_slot};
-use moo_call_parts::{Fault, ZERO, flag};
+use moo_call_parts::{Fault, Reason, ZERO, flag};
 use moo_props::clear;
 use moo_rows::{Rows, SlotState};
 use moo_tree::valid;
-use moo_value::{Code, MooStr, ObjNo, Value};
+use moo_value::{MooStr, ObjNo, Value};
 
 /// Whether a slot has no value of its own.
 fn is_clear(state: &SlotState) -> bool
@@ -34,10 +36,11 @@ pub fn is_clear_property<R: Rows>(
     name: &MooStr,
 ) -> Result<Value, Fault>
     requires { IsGood (R.held rows.now).maps }
-    ensures { Answers (is_clear_property (world_in (R.held rows.now)) programmer x name.now) (R.held rows.now) result }
+    ensures comes { Answers (is_clear_property (world_in (R.held rows.now)) programmer x name.now) (R.held rows.now) result }
+    ensures told { IsTold (R.held rows.now).maps programmer (about_property x name.now) result }
 {
     if !valid(rows, x) {
-        return Err(Fault::Moo(Code::InvalidArgument));
+        return Err(Fault::Moo(Reason::NoObject(x)));
     }
     let found = readable_slot(rows, programmer, x, name)?;
     Ok(flag(is_clear(&found.slot.state)))
@@ -56,13 +59,14 @@ pub fn clear_property<R: Rows>(
     requires { IsGood (R.held rows.old).maps }
     ensures comes { ComesTo (clear_property (world_in (R.held rows.old)) programmer x name.now) (R.held rows.old) (R.held rows.new) result }
     ensures kept { OnOk result (Keeps (R.held rows.old) (R.held rows.new)) }
+    ensures told { IsTold (R.held rows.old).maps programmer (about_property x name.now) result }
 {
     if !valid(rows, x) {
-        return Err(Fault::Moo(Code::InvalidArgument));
+        return Err(Fault::Moo(Reason::NoObject(x)));
     }
     let found = writable_slot(rows, programmer, x, name)?;
     if found.definer == x {
-        return Err(Fault::Moo(Code::InvalidArgument));
+        return Err(Fault::Moo(Reason::NotInherited(x)));
     }
     let id = found.id;
     clear(rows, x, id)?;

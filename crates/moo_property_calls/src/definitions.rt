@@ -1,6 +1,6 @@
 //! Defining properties.
 
-ghost use Rattle.std.specs.Prelude.{◌≡◌, true, is_some, nat_lt, Some, Err, IfSome, IfOk, IfErr, OnOk};
+ghost use Rattle.std.specs.Prelude.{◌≡◌, true, is_some, nat_lt, Some, Err, IfSome, IfOk, IfErr, OnOk, OnErr, false};
 ghost use Rattle.moo_rows.specs.Bits.{bits_of};
 ghost use Rattle.moo_rows.specs.declared.row.Bits.{Bits};
 ghost use Rattle.moo_rows.specs.declared.row.SlotState.TheVariants.{Set};
@@ -11,18 +11,22 @@ ghost use Rattle.moo_world.specs.PropertyCalls.{add_property, defines_name, may_
 ghost use Rattle.moo_world.specs.Rows.{IsGood};
 ghost use Rattle.moo_world.specs.Objects.{folded};
 ghost use Rattle.moo_world.specs.Answers.{zero};
+ghost use Rattle.moo_world.specs.Codes.{E_INVARG};
 ghost use Rattle.moo_world.specs.Outcomes.{Outcome, Done, Failed};
 ghost use Rattle.moo_world.specs.Changes.{property_added};
 ghost use Rattle.moo_world.specs.World.{World, is_object, is_property_name};
 ghost use Rattle.moo_props.specs.Names.{defines as defines_property, name_of};
+ghost use Rattle.moo_call_parts.specs.Reasons.{error_of};
 ghost use Rattle.moo_call_parts.specs.Outcomes.{world_in, ComesTo, Answers};
-ghost use Rattle.moo_property_calls.specs.Checks.{taking_property_info};
+ghost use Rattle.moo_property_calls.specs.Checks.{IsTrueOfLetters, IsTrueOfName, taking_property_info};
+ghost use Rattle.moo_call_parts.specs.About.{about_new_property};
+ghost use Rattle.moo_call_parts.specs.Told.{IsTold};
 
-use moo_call_parts::{Fault, Info, ZERO, rights};
+use moo_call_parts::{Fault, Info, Reason, ZERO, rights};
 use moo_props::{clashes, define, slot_of};
 use moo_rows::{Bits, PropId, Rows};
 use moo_tree::valid;
-use moo_value::{Code, MooStr, ObjNo, Value};
+use moo_value::{MooStr, ObjNo, Value};
 use moo_world::BuiltIn;
 use std::alloc::Global;
 
@@ -37,13 +41,22 @@ fn is_property_name(name: &MooStr) -> bool
     0 < length && length <= MAX_NAME && BuiltIn::of_name(name).is_none()
 }
 
-/// Whether a new property of x may have the name: a property may have it, and x, its ancestors and its descendants define
-/// none of that name.
-pub(crate) fn may_define<R: Rows>(rows: &R, x: ObjNo, name: &MooStr) -> bool
+/// Nothing if a new property of x may have the name, or E_INVARG: if no property may have it, then if x, an ancestor or a
+/// descendant defines one of that name.
+pub(crate) fn may_define<R: Rows>(rows: &R, x: ObjNo, name: &MooStr) -> Result<(), Reason>
     requires { IsGood (R.held rows.now).maps }
-    ensures { result ≡ may_define (world_in (R.held rows.now)) x name.now }
+    ensures ok { OnOk result (may_define (world_in (R.held rows.now)) x name.now ≡ true) }
+    ensures err { OnErr result (may_define (world_in (R.held rows.now)) x name.now ≡ false) }
+    ensures code { IfErr result (λ reason. error_of reason ≡ E_INVARG) }
+    ensures told { IfErr result (IsTrueOfName (R.held rows.now).maps x name.now) }
 {
-    is_property_name(name) && !clashes(rows, x, name)
+    if !is_property_name(name) {
+        return Err(Reason::NoPropertyName);
+    }
+    match clashes(rows, x, name) {
+        Some(definer) => Err(Reason::NameTaken { definer }),
+        None => Ok(()),
+    }
 }
 
 /// The property of a name that x itself defines.
@@ -73,15 +86,19 @@ pub(crate) fn defines<R: Rows>(rows: &R, x: ObjNo, name: &MooStr) -> bool
 
 /// The rights that a property takes with an owner, or E_INVARG: if the owner isn't an object, then if the rights have a
 /// letter other than `r`, `w` and `c`.
-pub(crate) fn bits_taken<R: Rows>(rows: &R, info: Info<'_>) -> Result<Bits, Code>
+pub(crate) fn bits_taken<R: Rows>(rows: &R, info: Info<'_>) -> Result<Bits, Reason>
     ensures owner { OnOk result (is_object (world_in (R.held rows.now)) info.entry.owner ≡ true) }
     ensures bits { IfOk result (λ bits. bits_of info.entry.perms.now ≡ Some bits) }
-    ensures err { IfErr result (λ code. (then : Bits → Outcome World) → taking_property_info (world_in (R.held rows.now)) (info.entry.owner, info.entry.perms.now) then ≡ Failed code) }
+    ensures err { IfErr result (λ reason. (then : Bits → Outcome World) → taking_property_info (world_in (R.held rows.now)) (info.entry.owner, info.entry.perms.now) then ≡ Failed (error_of reason)) }
+    ensures told { IfErr result (IsTrueOfLetters (R.held rows.now).maps info.entry.perms.now) }
 {
     if !valid(rows, info.owner) {
-        return Err(Code::InvalidArgument);
+        return Err(Reason::NoObject(info.owner));
     }
-    Bits::read(info.perms).ok_or(Code::InvalidArgument)
+    let Some(bits) = Bits::read(info.perms) else {
+        return Err(Reason::PropertyPerms);
+    };
+    Ok(bits)
 }
 
 /// Whether a number is left for one more property.
@@ -106,20 +123,19 @@ fn bits_to_define<R: Rows>(
     ensures there { OnOk result (is_object (world_in (R.held rows.now)) x ≡ true) }
     ensures free { OnOk result (may_define (world_in (R.held rows.now)) x name.now ≡ true) }
     ensures left { OnOk result (nat_lt (world_in (R.held rows.now)).next_prop 4294967295 ≡ true) }
+    ensures told { IsTold (R.held rows.now).maps programmer (about_new_property x name.now info.entry.perms.now) result }
 {
     if !valid(rows, x) {
-        return Err(Fault::Moo(Code::InvalidArgument));
+        return Err(Fault::Moo(Reason::NoObject(x)));
     }
     let bits = bits_taken(rows, info)?;
     if !rights::may_write_object(rows, programmer, x) {
-        return Err(Fault::Moo(Code::Permission));
+        return Err(Fault::Moo(Reason::NoObjectW(x)));
     }
     if !rights::may_make_owner(rows, programmer, info.owner) {
-        return Err(Fault::Moo(Code::Permission));
+        return Err(Fault::Moo(Reason::NoOwner(info.owner)));
     }
-    if !may_define(rows, x, name) {
-        return Err(Fault::Moo(Code::InvalidArgument));
-    }
+    may_define(rows, x, name)?;
     if !has_number_left(rows) {
         return Err(Fault::Full);
     }
@@ -145,6 +161,7 @@ pub fn add_property<R: Rows>(
     requires fit { fits value.now ≡ true }
     ensures comes { ComesTo (add_property (world_in (R.held rows.old)) programmer x name.now value.now (info.entry.owner, info.entry.perms.now)) (R.held rows.old) (R.held rows.new) result }
     ensures kept { OnOk result (Keeps (R.held rows.old) (R.held rows.new)) }
+    ensures told { IsTold (R.held rows.old).maps programmer (about_new_property x name.now info.entry.perms.now) result }
 {
     let bits = bits_to_define(rows, programmer, x, name, info)?;
     let name = name.copy(alloc)?;

@@ -5,13 +5,15 @@ ghost use Rattle.moo_world.specs.Keeps.{Keeps};
 ghost use Rattle.moo_world.specs.PropertyCalls.{delete_property};
 ghost use Rattle.moo_world.specs.Rows.{IsGood};
 ghost use Rattle.moo_call_parts.specs.Outcomes.{world_in, ComesTo};
+ghost use Rattle.moo_call_parts.specs.About.{about_property};
+ghost use Rattle.moo_call_parts.specs.Told.{IsTold};
 
 use crate::definitions::own_property;
-use moo_call_parts::{Fault, ZERO, rights};
+use moo_call_parts::{Fault, Reason, ZERO, rights};
 use moo_props::undefine;
 use moo_rows::Rows;
 use moo_tree::valid;
-use moo_value::{Code, MooStr, ObjNo, Value};
+use moo_value::{MooStr, ObjNo, Value};
 use std::alloc::Global;
 
 /// `delete_property(object, name)`: takes a property that the object itself defines from it and from all its descendants.
@@ -28,15 +30,16 @@ pub fn delete_property<R: Rows>(
     requires { IsGood (R.held rows.old).maps }
     ensures comes { ComesTo (delete_property (world_in (R.held rows.old)) programmer x name.now) (R.held rows.old) (R.held rows.new) result }
     ensures kept { OnOk result (Keeps (R.held rows.old) (R.held rows.new)) }
+    ensures told { IsTold (R.held rows.old).maps programmer (about_property x name.now) result }
 {
     if !valid(rows, x) {
-        return Err(Fault::Moo(Code::InvalidArgument));
+        return Err(Fault::Moo(Reason::NoObject(x)));
     }
     if !rights::may_write_object(rows, programmer, x) {
-        return Err(Fault::Moo(Code::Permission));
+        return Err(Fault::Moo(Reason::NoObjectW(x)));
     }
     let Some(id) = own_property(rows, x, name) else {
-        return Err(Fault::Moo(Code::PropertyNotFound));
+        return Err(Fault::Moo(Reason::NotDefined(x)));
     };
     undefine(alloc, rows, x, id)?;
     Ok(ZERO)

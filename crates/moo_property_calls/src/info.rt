@@ -1,25 +1,30 @@
 //! Changing the owner, the rights and the name of a property.
 
-ghost use Rattle.std.specs.Prelude.{◌≡◌, ◌||◌, true, is_some, option_map, Err, IfOk, IfErr, OnOk};
+ghost use Rattle.std.specs.Prelude.{◌≡◌, ◌||◌, true, is_some, option_map, Err, IfOk, IfErr, OnOk, OnErr, false};
 ghost use Rattle.std.specs.FinMap.{get};
 ghost use Rattle.moo_world.specs.Answers.{zero};
+ghost use Rattle.moo_world.specs.Codes.{E_INVARG};
 ghost use Rattle.moo_world.specs.Changes.{info_set};
 ghost use Rattle.moo_world.specs.Keeps.{Keeps};
-ghost use Rattle.moo_world.specs.Objects.{folded, same_object};
+ghost use Rattle.moo_value.specs.declared.value.ObjNo.{ObjNo};
+ghost use Rattle.moo_world.specs.Objects.{Name, folded, same_object};
 ghost use Rattle.moo_world.specs.Outcomes.{Done};
 ghost use Rattle.moo_world.specs.PropertyCalls.{may_rename, renamed_to, set_property_info};
 ghost use Rattle.moo_world.specs.Rights.{is_wizard};
 ghost use Rattle.moo_world.specs.Rows.{world_of, IsGood};
 ghost use Rattle.moo_props.specs.Names.{name_of, spelling_of};
+ghost use Rattle.moo_call_parts.specs.Reasons.{error_of};
 ghost use Rattle.moo_call_parts.specs.Outcomes.{world_in, ComesTo, Answers};
+ghost use Rattle.moo_call_parts.specs.About.{about_info};
+ghost use Rattle.moo_call_parts.specs.Told.{IsTold, IsTrueOf};
 
 use crate::definitions::{bits_taken, defines, may_define};
 use crate::slots::may_write;
-use moo_call_parts::{Fault, Info, ZERO, rights};
+use moo_call_parts::{Fault, Info, Reason, ZERO, rights};
 use moo_props::{rename, set_info, slot_of};
 use moo_rows::{Bits, PropId, Rows};
 use moo_tree::valid;
-use moo_value::{Code, MooStr, ObjNo, Value};
+use moo_value::{MooStr, ObjNo, Value};
 use std::alloc::{AllocError, Global};
 
 /// Whether the owner is the one that there is, or the programmer may give another one.
@@ -29,15 +34,27 @@ fn may_give<R: Rows>(rows: &R, programmer: ObjNo, owner: ObjNo, present: ObjNo) 
     owner == present || rights::is_wizard(rows, programmer)
 }
 
-/// Whether a property of x may have the new name, if there is one: x itself defines it, and a new property of x may have it.
-fn may_rename<R: Rows>(rows: &R, x: ObjNo, name: &MooStr, new: Option<&MooStr>) -> bool
+/// Nothing if a property of x may have the new name, or there is none; else E_INVARG: if x itself doesn't define it, then if no new
+/// property of x may have the name.
+fn may_rename<R: Rows>(
+    rows: &R,
+    x: ObjNo,
+    name: &MooStr,
+    new: Option<&MooStr>,
+) -> Result<(), Reason>
     requires { IsGood (R.held rows.now).maps }
-    ensures { result ≡ may_rename (world_in (R.held rows.now)) x name.now (option_map (λ n. n.now) new.entry) }
+    ensures ok { OnOk result (may_rename (world_in (R.held rows.now)) x name.now (option_map (λ n. n.now) new.entry) ≡ true) }
+    ensures err { OnErr result (may_rename (world_in (R.held rows.now)) x name.now (option_map (λ n. n.now) new.entry) ≡ false) }
+    ensures code { IfErr result (λ reason. error_of reason ≡ E_INVARG) }
+    ensures told { IfErr result (λ reason. (programmer : ObjNo) (letters : Name) → IsTrueOf (R.held rows.now).maps programmer (about_info x name.now letters (option_map (λ n. n.now) new.entry)) reason) }
 {
-    match new {
-        None => true,
-        Some(new) => defines(rows, x, name) && may_define(rows, x, new),
+    let Some(new) = new else {
+        return Ok(());
+    };
+    if !defines(rows, x, name) {
+        return Err(Reason::NotRenamed(x));
     }
+    may_define(rows, x, new)
 }
 
 /// A copy of a name, if there is one. The only error is out of memory.
@@ -91,23 +108,22 @@ fn property_to_change<R: Rows>(
     ensures held { IfOk result (λ found. is_some (get (R.held rows.now).maps.slots (x, found.0)) ≡ true) }
     ensures named { IfOk result (λ found. name_of (R.held rows.now).maps found.0 ≡ folded name.now) }
     ensures may { OnOk result (may_rename (world_in (R.held rows.now)) x name.now (option_map (λ n. n.now) new_name.entry) ≡ true) }
+    ensures told { IsTold (R.held rows.now).maps programmer (about_info x name.now info.entry.perms.now (option_map (λ n. n.now) new_name.entry)) result }
 {
     if !valid(rows, x) {
-        return Err(Fault::Moo(Code::InvalidArgument));
+        return Err(Fault::Moo(Reason::NoObject(x)));
     }
     let Some(found) = slot_of(rows, x, name) else {
-        return Err(Fault::Moo(Code::PropertyNotFound));
+        return Err(Fault::Moo(Reason::NoProperty(x)));
     };
     let bits = bits_taken(rows, info)?;
     if !may_write(rows, programmer, found) {
-        return Err(Fault::Moo(Code::Permission));
+        return Err(Fault::Moo(Reason::NoPropertyW(x)));
     }
     if !may_give(rows, programmer, info.owner, found.slot.owner) {
-        return Err(Fault::Moo(Code::Permission));
+        return Err(Fault::Moo(Reason::NotGiven(info.owner)));
     }
-    if !may_rename(rows, x, name, new_name) {
-        return Err(Fault::Moo(Code::InvalidArgument));
-    }
+    may_rename(rows, x, name, new_name)?;
     Ok((found.id, bits))
 }
 
@@ -131,6 +147,7 @@ pub fn set_property_info<R: Rows>(
     requires { IsGood (R.held rows.old).maps }
     ensures comes { ComesTo (set_property_info (world_in (R.held rows.old)) programmer x name.now (info.entry.owner, info.entry.perms.now) (option_map (λ n. n.now) new_name.entry)) (R.held rows.old) (R.held rows.new) result }
     ensures kept { OnOk result (Keeps (R.held rows.old) (R.held rows.new)) }
+    ensures told { IsTold (R.held rows.old).maps programmer (about_info x name.now info.entry.perms.now (option_map (λ n. n.now) new_name.entry)) result }
 {
     let (id, bits) = property_to_change(rows, programmer, x, name, info, new_name)?;
     let new = copy_of(alloc, new_name)?;

@@ -8,13 +8,15 @@ ghost use Rattle.moo_world.specs.PropertyCalls.{get_property, properties, proper
 ghost use Rattle.moo_world.specs.Rows.{IsGood};
 ghost use Rattle.moo_world.specs.World.{property_names_of};
 ghost use Rattle.moo_call_parts.specs.Outcomes.{world_in, Answers};
+ghost use Rattle.moo_call_parts.specs.About.{about_object, about_property};
+ghost use Rattle.moo_call_parts.specs.Told.{IsTold};
 
 use crate::slots::readable_slot;
-use moo_call_parts::{Fault, list_of, rights, text_list};
+use moo_call_parts::{Fault, Reason, list_of, rights, text_list};
 use moo_props::value_of;
 use moo_rows::{Bits, PropId, Rows, SlotRow, each_defined};
 use moo_tree::valid;
-use moo_value::{Code, MooStr, ObjNo, Value};
+use moo_value::{MooStr, ObjNo, Value};
 use std::alloc::{AllocError, Global};
 
 /// `get(object, name)` of a name that isn't built in: the value that the object reads for its property. E_PROPNF if it
@@ -28,7 +30,8 @@ pub fn get_property<R: Rows>(
     name: &MooStr,
 ) -> Result<Value, Fault>
     requires { IsGood (R.held rows.now).maps }
-    ensures { Answers (get_property (world_in (R.held rows.now)) programmer x name.now) (R.held rows.now) result }
+    ensures comes { Answers (get_property (world_in (R.held rows.now)) programmer x name.now) (R.held rows.now) result }
+    ensures told { IsTold (R.held rows.now).maps programmer (about_property x name.now) result }
 {
     let found = readable_slot(rows, programmer, x, name)?;
     Ok(value_of(rows, x, found.id).copy(alloc)?)
@@ -56,13 +59,14 @@ pub fn properties<R: Rows>(
     x: ObjNo,
 ) -> Result<Value, Fault>
     requires { IsGood (R.held rows.now).maps }
-    ensures { Answers (properties (world_in (R.held rows.now)) programmer x) (R.held rows.now) result }
+    ensures comes { Answers (properties (world_in (R.held rows.now)) programmer x) (R.held rows.now) result }
+    ensures told { IsTold (R.held rows.now).maps programmer (about_object x) result }
 {
     if !valid(rows, x) {
-        return Err(Fault::Moo(Code::InvalidArgument));
+        return Err(Fault::Moo(Reason::NoObject(x)));
     }
     if !rights::may_read_object(rows, programmer, x) {
-        return Err(Fault::Moo(Code::Permission));
+        return Err(Fault::Moo(Reason::NoObjectR(x)));
     }
     Ok(text_list(alloc, property_names_of(rows, alloc, x)?)?)
 }
@@ -96,10 +100,11 @@ pub fn property_info<R: Rows>(
     name: &MooStr,
 ) -> Result<Value, Fault>
     requires { IsGood (R.held rows.now).maps }
-    ensures { Answers (property_info (world_in (R.held rows.now)) programmer x name.now) (R.held rows.now) result }
+    ensures comes { Answers (property_info (world_in (R.held rows.now)) programmer x name.now) (R.held rows.now) result }
+    ensures told { IsTold (R.held rows.now).maps programmer (about_property x name.now) result }
 {
     if !valid(rows, x) {
-        return Err(Fault::Moo(Code::InvalidArgument));
+        return Err(Fault::Moo(Reason::NoObject(x)));
     }
     let found = readable_slot(rows, programmer, x, name)?;
     Ok(info_list(alloc, found.slot)?)

@@ -8,13 +8,16 @@ ghost use Rattle.moo_world.specs.Rights.{may_read_slot, may_write_slot};
 ghost use Rattle.moo_world.specs.Rows.{slot_seen, IsGood};
 ghost use Rattle.moo_world.specs.World.{World, Slot, slot_of};
 ghost use Rattle.moo_props.specs.Names.{name_of};
+ghost use Rattle.moo_call_parts.specs.Reasons.{error_of};
 ghost use Rattle.moo_call_parts.specs.Outcomes.{world_in};
 ghost use Rattle.moo_property_calls.specs.Checks.{reading_slot, writing_slot};
+ghost use Rattle.moo_call_parts.specs.About.{about_property};
+ghost use Rattle.moo_call_parts.specs.Told.{IsTrueOf};
 
-use moo_call_parts::rights;
+use moo_call_parts::{Reason, rights};
 use moo_props::{FoundSlot, slot_of};
 use moo_rows::Rows;
-use moo_value::{Code, MooStr, ObjNo};
+use moo_value::{MooStr, ObjNo};
 
 /// Whether the programmer may read the property by this slot of it.
 fn may_read<R: Rows>(rows: &R, programmer: ObjNo, found: FoundSlot<'_>) -> bool
@@ -37,18 +40,19 @@ pub(crate) fn readable_slot<'a, R: Rows>(
     programmer: ObjNo,
     x: ObjNo,
     name: &MooStr,
-) -> Result<FoundSlot<'a>, Code>
+) -> Result<FoundSlot<'a>, Reason>
     requires { IsGood (R.held rows.now).maps }
     ensures ok { IfOk result (λ found. (then : Slot → Outcome World) → reading_slot (world_in (R.held rows.now)) programmer x name.now then ≡ then (slot_seen found.definer found.slot.now)) }
-    ensures err { IfErr result (λ code. (then : Slot → Outcome World) → reading_slot (world_in (R.held rows.now)) programmer x name.now then ≡ Failed code) }
+    ensures err { IfErr result (λ reason. (then : Slot → Outcome World) → reading_slot (world_in (R.held rows.now)) programmer x name.now then ≡ Failed (error_of reason)) }
     ensures held { IfOk result (λ found. is_some (get (R.held rows.now).maps.slots (x, found.id)) ≡ true) }
     ensures named { IfOk result (λ found. name_of (R.held rows.now).maps found.id ≡ folded name.now) }
+    ensures told { IfErr result (IsTrueOf (R.held rows.now).maps programmer (about_property x name.now)) }
 {
     let Some(found) = slot_of(rows, x, name) else {
-        return Err(Code::PropertyNotFound);
+        return Err(Reason::NoProperty(x));
     };
     if !may_read(rows, programmer, found) {
-        return Err(Code::Permission);
+        return Err(Reason::NoPropertyR(x));
     }
     Ok(found)
 }
@@ -60,19 +64,20 @@ pub(crate) fn writable_slot<'a, R: Rows>(
     programmer: ObjNo,
     x: ObjNo,
     name: &MooStr,
-) -> Result<FoundSlot<'a>, Code>
+) -> Result<FoundSlot<'a>, Reason>
     requires { IsGood (R.held rows.now).maps }
     ensures slot { IfOk result (λ found. slot_of (world_in (R.held rows.now)) x (folded name.now) ≡ Some (slot_seen found.definer found.slot.now)) }
     ensures may { IfOk result (λ found. may_write_slot (world_in (R.held rows.now)) programmer (slot_seen found.definer found.slot.now) ≡ true) }
-    ensures err { IfErr result (λ code. (then : Slot → Outcome World) → writing_slot (world_in (R.held rows.now)) programmer x name.now then ≡ Failed code) }
+    ensures err { IfErr result (λ reason. (then : Slot → Outcome World) → writing_slot (world_in (R.held rows.now)) programmer x name.now then ≡ Failed (error_of reason)) }
     ensures held { IfOk result (λ found. is_some (get (R.held rows.now).maps.slots (x, found.id)) ≡ true) }
     ensures named { IfOk result (λ found. name_of (R.held rows.now).maps found.id ≡ folded name.now) }
+    ensures told { IfErr result (IsTrueOf (R.held rows.now).maps programmer (about_property x name.now)) }
 {
     let Some(found) = slot_of(rows, x, name) else {
-        return Err(Code::PropertyNotFound);
+        return Err(Reason::NoProperty(x));
     };
     if !may_write(rows, programmer, found) {
-        return Err(Code::Permission);
+        return Err(Reason::NoPropertyW(x));
     }
     Ok(found)
 }

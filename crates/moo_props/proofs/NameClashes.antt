@@ -1,5 +1,5 @@
 -- Clashes of names, by what each object defines itself.
-use Rattle.moo_props.{proofs.Words.{◌≡◌, Bool, ◌||◌, List, [], ◌∷◌, refl, sym, ap, ◌∙◌, is_some, int_eq, filter, list_any, entries, ObjNo, defined_left, Maps, clashes, subtree_of, Name, Property, same_object, same_text, folded, defines_name, World, IsWellFormed, chain, property_names_of, defined_by, defined_by_any, property_named, slot_of, IsSound, world_of, prop_id, any-append, any_map, meets_on}, proofs.Shared.{has_owed}, proofs.DefinedNames.{names_listed}, proofs.Walked.{found_any}, proofs.WholeWalks.{props_all}}
+use Rattle.moo_props.{proofs.Words.{◌≡◌, Bool, true, ◌||◌, Option, None, Some, IfSome, List, [], ◌∷◌, refl, sym, ap, ◌∙◌, is_some, int_eq, filter, list_any, AllByRecursion, get, entries, or_left, or_right, Decides-int_eq, prop_cmp, prop_exact, prop_total, is_past, is_object_seen, look_ups, IsGood, PropId, PropRow, is_among, Slot, is_object, ObjNo, defined_left, Maps, clashes, subtree_of, Name, Property, same_object, same_text, folded, defines_name, World, IsWellFormed, chain, property_names_of, defined_by, defined_by_any, property_named, slot_of, IsSound, world_of, prop_id, any-append, any_map, meets_on}, specs.Clashes.{IsTaken}, proofs.Shared.{has_owed}, proofs.DefinedNames.{names_listed}, proofs.Owing.{definer_in, definer_defines}, proofs.Walked.{found_any, all_filter, all_held, all_pass}, proofs.WholeWalks.{props_all}}
 use Rattle.moo_world.specs.ObjectLists.{shares_property_name}
 
 -- ---- what the objects of a list define
@@ -41,3 +41,25 @@ module _ (t : Maps) (sound : IsSound t) where
       ap (list_any (λ e. p e.1.name)) (defined_left-all y)
       ∙ sym (any_map p (λ e. e.1.name) (filter (λ e. int_eq e.1.definer.0 y.0) (entries t.props)))
       ∙ ap (list_any p) (names_listed t sound y)
+
+-- what a walk gives of what y defines is held, and y's
+pub defined_held : (t : Maps) (y : ObjNo) (from : PropId) → AllByRecursion (λ e. (get t.props e.0 ≡ Some e.1) × (e.1.definer ≡ y)) (defined_left y from t)
+defined_held t y from = each (defined_left y from t) (all_pass (λ e. get t.props e.0 ≡ Some e.1) (λ e. int_eq e.1.definer.0 y.0) _ (all_filter (λ e. get t.props e.0 ≡ Some e.1) (λ e. is_past prop_cmp (Some from) e.0) (entries t.props) (all_held prop_total prop_exact t.props)))
+  where
+    each : (l : List (PropId × PropRow)) → AllByRecursion (λ e. (get t.props e.0 ≡ Some e.1) × (int_eq e.1.definer.0 y.0 ≡ true)) l → AllByRecursion (λ e. (get t.props e.0 ≡ Some e.1) × (e.1.definer ≡ y)) l
+    each [] h = tt
+    each (e ∷ l) h = ((h.0.0, ap (λ n. record { 0 = n }) ((Decides-int_eq e.1.definer.0 y.0).0 h.0.1)), each l h.1)
+
+-- ---- who takes a name
+
+-- the definer of x's slot of the name
+pub taken_above : (t : Maps) → IsGood t → (x : ObjNo) (n : Name) (id : PropId) (s : Slot) → is_some (get t.slots (x, id)) ≡ true → slot_of (world_of t) x (folded n) ≡ Some s → IsTaken (world_of t) x n s.definer
+taken_above t good x n id s held e =
+    let w = world_of t in
+    let here : is_object w x ≡ true = is_object_seen (look_ups t) x ∙ (good.sound.slots x id.0 held).0 in
+    (definer_defines w good.formed x here (folded n) s e, or_left (is_among s.definer (chain w x)) (is_among x (chain w s.definer)) (definer_in w good.formed x here (folded n) s e))
+
+-- one under x that defines the name, if there is one
+pub taken_under : (w : World) (x : ObjNo) (n : Name) (o : Option ObjNo) → IfSome o (λ y. is_among x (chain w y) ≡ true) → IfSome o (λ y. defines_name w y n ≡ true) → IfSome o (IsTaken w x n)
+taken_under w x n None under defines = tt
+taken_under w x n (Some y) under defines = (defines, or_right (is_among y (chain w x)) (is_among x (chain w y)) under)

@@ -1,5 +1,5 @@
 -- What an object reads, by the rows.
-use Rattle.moo_props.{proofs.Words.{◌≡◌, true, Some, [], sym, ap, ◌∙◌, inl, inr, is_some, get, or_cases, same_Some, ObjNo, Value, ObjRow, PropId, PropRow, SlotRow, Clear, Set, Maps, same_object, is_among, same_object-Decides, World, IsWellFormed, is_object, chain, slot_of, read_of, LookUps, IsSound, look_ups, world_of, slot_seen, is_object_seen, chain_of_row, object_seen, name_of, some_of}, proofs.Shared.{object_of_chain, slot_here, slot_on_heir}, proofs.Owing.{definer_in}}
+use Rattle.moo_props.{proofs.Words.{◌≡◌, true, Some, sym, ap, ◌∙◌, inl, inr, is_some, get, or_cases, same_Some, ObjNo, Value, ObjRow, PropId, PropRow, SlotRow, Clear, Set, Maps, same_object, is_among, same_object-Decides, World, IsWellFormed, is_object, chain, slot_of, read_of, LookUps, IsSound, look_ups, world_of, slot_seen, is_object_seen, chain_of_row, object_seen, name_of, some_of}, proofs.Shared.{object_of_chain, slot_here, slot_on_heir}, proofs.Owing.{definer_in}}
 use Rattle.moo_world.proofs.Shown.Reading.{read_step}
 
 module _ (t : Maps) (sound : IsSound t) (wf : IsWellFormed (world_of t)) (x : ObjNo) (id : PropId) (k : SlotRow) (held : get t.slots (x, id) ≡ Some k) where

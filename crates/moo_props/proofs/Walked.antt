@@ -1,8 +1,7 @@
 -- The walk over an object's slots finds the property of a name.
-use Rattle.moo_props.{proofs.Words.{◌≡◌, ℕ, Bool, true, false, cond, Option, None, Some, List, [], ◌∷◌, Ordering, Less, refl, sym, ap, ◌∙◌, subst, ◌&&◌, ◌||◌, is_some, unwrap_or, option_map, option_and_then, IsTotalOrder, tied_itself, nat_cmp_is, eq_by_cmp, is_lt, int_eq, ordering_then, filter, list_any, AllByRecursion, get, entries, get-entries, entries_sorted, both_ways, or_right, Decides-int_eq, CmpEqualImpliesEq, none-some, same_Some, ObjNo, PropId, PropRow, SlotRow, Maps, prop_cmp, slot_cmp, slots_of_left, is_past, slot_exact, object_total, slot_total, Name, same_text, folded, same_text-Decides, WorldObject, Slot, slot_of, IsSound, look_ups, world_of, slot_seen, key-Decides, slot_shown, is_object_seen, name_of, some_of, own_entries, SlotHere, slot_from, LookUps, AreSound, world_shown, or_left, cond_both, FinMap}, proofs.Cases.{no_value, passing}, specs.Names.{is_called}}
+use Rattle.moo_props.{proofs.Words.{◌≡◌, ℕ, Bool, true, false, cond, Some, List, [], ◌∷◌, Ordering, Less, refl, sym, ap, ◌∙◌, ◌&&◌, ◌||◌, is_some, unwrap_or, option_map, IsTotalOrder, tied_itself, nat_cmp_is, eq_by_cmp, is_lt, int_eq, ordering_then, filter, list_any, AllByRecursion, get, entries, get-entries, entries_sorted, or_right, Decides-int_eq, CmpEqualImpliesEq, none-some, same_Some, ObjNo, PropId, PropRow, SlotRow, Maps, prop_cmp, slot_cmp, slots_of_left, is_past, slot_exact, object_total, slot_total, Name, folded, slot_of, IsSound, look_ups, world_of, slot_seen, key-Decides, slot_shown, name_of, some_of, own_entries, SlotHere, LookUps, AreSound, world_shown, or_left, cond_both, FinMap}}
 use Rattle.std.specs.List.{find}
 use Rattle.std.specs.FinMap as map
-use Rattle.moo_world.proofs.Inheritance.Owed.{find_passes}
 
 abbrev pub Entry : Type 0
 Entry = (ObjNo × PropId) × SlotRow
@@ -13,19 +12,11 @@ pub all_filter : {A : Type 0} (P : A → Type 0) (test : A → Bool) (l : List A
 all_filter P test [] a = tt
 all_filter P test (x ∷ l) a = let r = all_filter P test l a.1 in cond_both (test x) (x ∷ filter test l) (filter test l) (AllByRecursion P) (λ e. (a.0, r)) (λ e. r)
 
-all_pass : {A : Type 0} (P : A → Type 0) (test : A → Bool) (l : List A) → AllByRecursion P l → AllByRecursion (λ a. P a × (test a ≡ true)) (filter test l)
+pub all_pass : {A : Type 0} (P : A → Type 0) (test : A → Bool) (l : List A) → AllByRecursion P l → AllByRecursion (λ a. P a × (test a ≡ true)) (filter test l)
 all_pass P test [] a = tt
 all_pass P test (x ∷ l) a =
     let r = all_pass P test l a.1 in
     cond_both (test x) (x ∷ filter test l) (filter test l) (AllByRecursion (λ a. P a × (test a ≡ true))) (λ e. ((a.0, e), r)) (λ e. r)
-
-found_of : {A : Type 0} (P : A → Type 0) (test : A → Bool) (l : List A) (a : A) → AllByRecursion P l → find test l ≡ Some a → P a
-found_of P test [] a h e = absurd (none-some a e)
-found_of P test (x ∷ l) a h e = by (test x) e (found_of P test l a h.1)
-  where
-    by : (b : Bool) → cond b (Some x) (find test l) ≡ Some a → (find test l ≡ Some a → P a) → P a
-    by true k r = subst P (same_Some x a k) h.0
-    by false k r = r k
 
 pub found_any : {A : Type 0} (test : A → Bool) (l : List A) → is_some (find test l) ≡ list_any test l
 found_any test [] = refl
@@ -77,13 +68,6 @@ seen_at m sound x n id h =
     let row = some_of (m.object x) (sound.slots x id (ap is_some h.held)).0 in
     ap (slot_of (world_shown m) x) (sym h.name) ∙ slot_shown m sound x row.0 row.1 id h.prop h.row h.there h.held
 
-abbrev pub is_called_entry : Maps → Name → Entry → Bool
-is_called_entry m n e = is_called m n e.0.1
-
--- the first entry whose property has the name
-abbrev pub first_called : Maps → Name → List Entry → Option Entry
-first_called m n l = find (is_called_entry m n) l
-
 module _ (m : Maps) (sound : IsSound m) (x : ObjNo) where
   -- a slot of the object is met
   pub walk_meets : (p : Entry → Bool) (id : PropId) (s : SlotRow) → get m.slots (x, id) ≡ Some s → p ((x, id), s) ≡ true → list_any p (walk m x) ≡ true
@@ -101,39 +85,9 @@ module _ (m : Maps) (sound : IsSound m) (x : ObjNo) where
           ap (λ o. is_lt (ordering_then o (prop_cmp (record { 0 = 0 }) id))) (tied_itself object_total x)
           ∙ ap is_lt (sym (nat_cmp_is 0 id.0 Less (sound.props_below id.0 (sound.slots x id.0 (ap is_some e)).1).0))
 
-  module _ (n : Name) where
-    call : (p : PropRow) (id : PropId) → get m.props id ≡ Some p → folded p.name ≡ n → (s : SlotRow) → is_called m n id ≡ true
-    call p id e f s = ap (λ o. unwrap_or (option_map (λ (p : PropRow). same_text (folded p.name) n) o) false) e ∙ (same_text-Decides (folded p.name) n).1 f
-
-    -- what is found is a slot of the object, of the property of that name
-    pub found_here : (e : Entry) → first_called m n (walk m x) ≡ Some e → (e.0.0 ≡ x) × (SlotHere (look_ups m) x n e.0.1.0)
-    found_here e f =
-        let at = found_of (λ e. (get m.slots e.0 ≡ Some e.1) × (int_eq e.0.0.0 x.0 ≡ true)) (is_called_entry m n) (walk m x) e (walk_held m x) f in
-        let own : e.0.0 ≡ x = let k = (Decides-int_eq e.0.0.0 x.0).0 at.1 in λ i. record { 0 = k i } in
-        let p = passing (λ (p : PropRow). same_text (folded p.name) n) (get m.props e.0.1) (find_passes (is_called_entry m n) (walk m x) e f) in
-        (own, record { prop = p.0; row = e.1; there = p.1; held = ap (λ y. get m.slots (y, e.0.1)) (sym own) ∙ at.0; name = (same_text-Decides (folded p.0.name) n).0 p.2 })
-
-    -- where nothing is found the object has no slot of that name
-    pub none_here : first_called m n (walk m x) ≡ None → slot_of (world_of m) x n ≡ None
-    none_here f = no_value (slot_of (world_of m) x n) (λ s e.
-        let row = some_of (get m.objects x) (there s e) in
-        let k = slot_from (look_ups m) x n row.0 row.1 s e in
-        both_ways _ (sym (found_any (is_called_entry m n) (walk m x)) ∙ ap is_some f) (walk_meets (is_called_entry m n) (record { 0 = k.0 }) k.1.row k.1.held (call k.1.prop (record { 0 = k.0 }) k.1.there k.1.name k.1.row)))
-      where
-        there : (s : Slot) → slot_of (world_of m) x n ≡ Some s → is_some (get m.objects x) ≡ true
-        there s e = sym (is_object_seen (look_ups m) x) ∙ slotted ((world_of m).object x) s e
-          where
-            slotted : (o : Option WorldObject) (s : Slot) → option_and_then (λ r. r.slot n) o ≡ Some s → is_some o ≡ true
-            slotted None s k = absurd (none-some s k)
-            slotted (Some r) s k = refl
-
   -- a slot that is there is one of the world
   pub here_seen : (n : Name) (id : ℕ) (h : SlotHere (look_ups m) x n id) → slot_of (world_of m) x n ≡ Some (slot_seen h.prop.definer h.row)
   here_seen n id h = seen_at (look_ups m) sound x n id h
-
--- and its property has that name
-pub here_name : (m : Maps) (x : ObjNo) (n : Name) (id : PropId) → SlotHere (look_ups m) x n id.0 → name_of m id ≡ n
-here_name m x n id h = ap (λ o. unwrap_or (option_map (λ (p : PropRow). folded p.name) o) []) h.there ∙ h.name
 
 -- a slot's row is one of the world, under its property's name
 pub slot_here : (m : Maps) (sound : IsSound m) (x : ObjNo) (id : PropId) (s : SlotRow) → get m.slots (x, id) ≡ Some s → (p : PropRow) → get m.props id ≡ Some p → slot_of (world_of m) x (name_of m id) ≡ Some (slot_seen p.definer s)

@@ -5,7 +5,7 @@ use Rattle.std.specs.FinMap.{get}
 use Rattle.moo_value.specs.declared.value.ObjNo.{ObjNo}
 use Rattle.moo_rows.specs.declared.row.PropId.{PropId}
 use Rattle.moo_rows.specs.Maps.{Maps}
-use Rattle.moo_world.specs.Objects.{Name, same_object, same_text, folded}
+use Rattle.moo_world.specs.Objects.{Name, same_object, folded}
 
 -- the folded name of a property
 abbrev pub name_of : Maps → PropId → Name
@@ -14,10 +14,6 @@ name_of maps id = unwrap_or (option_map (λ row. folded row.name) (get maps.prop
 -- the name of a property, as it is spelled
 abbrev pub spelling_of : Maps → PropId → Name
 spelling_of maps id = unwrap_or (option_map (λ row. row.name) (get maps.props id)) []
-
--- the property has this folded name
-abbrev pub is_called : Maps → Name → PropId → Bool
-is_called maps name id = unwrap_or (option_map (λ row. same_text (folded row.name) name) (get maps.props id)) false
 
 -- the object defines the property
 abbrev pub defines : Maps → ObjNo → PropId → Bool

@@ -1,89 +1,97 @@
 //! Names that keep out a new property, or a change of parent.
 
-ghost use Rattle.std.specs.Prelude.{◌≡◌, is_some};
+ghost use Rattle.std.specs.Prelude.{◌≡◌, true, is_some, IfSome};
 ghost use Rattle.std.specs.List.{list_any};
+ghost use Rattle.moo_rows.specs.Named.{name_hash};
 ghost use Rattle.moo_world.specs.Changes.{clashes};
 ghost use Rattle.moo_world.specs.ObjectLists.{shares_property_name, subtree_of};
-ghost use Rattle.moo_world.specs.Objects.{folded};
+ghost use Rattle.moo_world.specs.Objects.{folded, is_among};
 ghost use Rattle.moo_world.specs.PropertyCalls.{defines_name};
 ghost use Rattle.moo_world.specs.Rows.{world_of, IsGood, IsSound};
-ghost use Rattle.moo_world.specs.World.{defined_by_any, property_named};
-ghost use Rattle.moo_props.specs.Clashes.{meets_on};
+ghost use Rattle.moo_world.specs.World.{chain, defined_by_any, property_named};
+ghost use Rattle.moo_props.specs.Clashes.{IsShared, IsTaken, SharesProperty, meets_on};
 
 use crate::descent::{next_under, subtree_top};
-use crate::finding::{find, is_named};
-use moo_rows::{PropId, Rows, each_defined};
+use crate::finding::{find, own_named, slot_of};
+use moo_rows::{PropId, Rows, each_defined, name_hash};
 use moo_value::{MooStr, ObjNo};
 
-/// Whether y itself defines a property of the name.
-fn defines_named<R: Rows>(rows: &R, y: ObjNo, name: &MooStr) -> bool
-    requires { IsSound (R.held rows.now).maps }
+/// Whether y itself defines a property of the name. The hash is that of the name.
+fn defines_named<R: Rows>(rows: &R, y: ObjNo, name: &MooStr, hash: u64) -> bool
+    requires sound { IsSound (R.held rows.now).maps }
+    requires hash { hash ≡ name_hash name.now }
     ensures { result ≡ defines_name (world_of (R.held rows.now).maps) y name.now }
 {
-    for (_id, row) in each_defined(rows, y, PropId(0)) {
-        if is_named(row, name.bytes()) {
-            return true;
-        }
-    }
-    false
+    own_named(rows, y, name.bytes(), hash).is_some()
 }
 
-/// Whether x or a descendant of x defines a property of the name.
-fn is_defined_under<R: Rows>(rows: &R, x: ObjNo, name: &MooStr) -> bool
+/// The first among x and its descendants that defines a property of the name.
+fn is_defined_under<R: Rows>(rows: &R, x: ObjNo, name: &MooStr) -> Option<ObjNo>
     requires { IsGood (R.held rows.now).maps }
-    ensures { let w = world_of (R.held rows.now).maps in result ≡ is_some (property_named (defined_by_any w (subtree_of w x)) (folded name.now)) }
+    ensures exact { let w = world_of (R.held rows.now).maps in is_some result ≡ is_some (property_named (defined_by_any w (subtree_of w x)) (folded name.now)) }
+    ensures under { IfSome result (λ y. is_among x (chain (world_of (R.held rows.now).maps) y) ≡ true) }
+    ensures defines { IfSome result (λ y. defines_name (world_of (R.held rows.now).maps) y name.now ≡ true) }
 {
+    let hash = name_hash(name.bytes());
     let mut at = subtree_top(rows, x);
     while let Some(y) = at {
-        if defines_named(rows, y, name) {
-            return true;
+        if defines_named(rows, y, name, hash) {
+            return Some(y);
         }
         at = next_under(rows, x, y);
     }
-    false
+    None
 }
 
-/// Whether x, an ancestor or a descendant of x defines a property of a name. Names compare without ASCII case.
+/// Which of x, its ancestors and its descendants defines a property of a name, if one does. Names compare without ASCII case.
 ///
-/// It takes no memory. The slots of x show what x and its ancestors define. Below x only what the descendants define
-/// themselves is looked at: m log n steps for m descendants among n objects of the world.
+/// It takes no memory. The name is looked up among what x defines itself, each ancestor of it and each descendant: m log n steps for m
+/// such objects, in a world of n rows.
 ///
 /// LambdaMOO Programmer's Manual, 'Operations on Properties': `add_property`.
-pub fn clashes<R: Rows>(rows: &R, x: ObjNo, name: &MooStr) -> bool
+pub fn clashes<R: Rows>(rows: &R, x: ObjNo, name: &MooStr) -> Option<ObjNo>
     requires { IsGood (R.held rows.now).maps }
-    ensures { result ≡ clashes (world_of (R.held rows.now).maps) x name.now }
+    ensures exact { is_some result ≡ clashes (world_of (R.held rows.now).maps) x name.now }
+    ensures taken { IfSome result (IsTaken (world_of (R.held rows.now).maps) x name.now) }
 {
-    find(rows, x, name).is_some() || is_defined_under(rows, x, name)
+    match slot_of(rows, x, name) {
+        Some(found) => Some(found.definer),
+        None => is_defined_under(rows, x, name),
+    }
 }
 
-/// Whether y itself defines a property of a name that new or an ancestor of new defines.
-fn meets_on<R: Rows>(rows: &R, new: ObjNo, y: ObjNo) -> bool
+/// The first property that y itself defines of a name that new or an ancestor of new defines.
+fn meets_on<R: Rows>(rows: &R, new: ObjNo, y: ObjNo) -> Option<PropId>
     requires { IsGood (R.held rows.now).maps }
-    ensures { result ≡ meets_on (world_of (R.held rows.now).maps) new y }
+    ensures exact { is_some result ≡ meets_on (world_of (R.held rows.now).maps) new y }
+    ensures shared { IfSome result (IsShared (R.held rows.now).maps new y) }
 {
-    for (_id, row) in each_defined(rows, y, PropId(0)) {
+    for (id, row) in each_defined(rows, y, PropId(0)) {
         if find(rows, new, &row.name).is_some() {
-            return true;
+            return Some(id);
         }
     }
-    false
+    None
 }
 
-/// Whether x or a descendant of x defines a property of a name that new or an ancestor of new defines.
+/// The first among x and its descendants that defines a property of a name that new or an ancestor of new defines, with the first such
+/// property of its own.
 ///
-/// It takes no memory. Each property that x or a descendant defines is looked for among the slots of new.
+/// It takes no memory. The name of each property that x or a descendant defines is looked up among what new defines, and each ancestor of
+/// new.
 ///
 /// LambdaMOO Programmer's Manual, 'Fundamental Operations on Objects': `chparent`.
-pub fn shares_property_name<R: Rows>(rows: &R, x: ObjNo, new: ObjNo) -> bool
+pub fn shares_property_name<R: Rows>(rows: &R, x: ObjNo, new: ObjNo) -> Option<(ObjNo, PropId)>
     requires { IsGood (R.held rows.now).maps }
-    ensures { result ≡ shares_property_name (world_of (R.held rows.now).maps) x new }
+    ensures exact { is_some result ≡ shares_property_name (world_of (R.held rows.now).maps) x new }
+    ensures shared { IfSome result (λ found. SharesProperty (R.held rows.now).maps x new found.0 found.1) }
 {
     let mut at = subtree_top(rows, x);
     while let Some(y) = at {
-        if meets_on(rows, new, y) {
-            return true;
+        if let Some(id) = meets_on(rows, new, y) {
+            return Some((y, id));
         }
         at = next_under(rows, x, y);
     }
-    false
+    None
 }

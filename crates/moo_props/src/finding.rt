@@ -2,12 +2,14 @@
 
 ghost use Rattle.std.specs.Prelude.{◌≡◌, true, is_some, option_map, IfSome};
 ghost use Rattle.std.specs.FinMap.{get};
-ghost use Rattle.moo_world.specs.Objects.{folded, same_text};
+ghost use Rattle.moo_rows.specs.Named.{name_hash};
+ghost use Rattle.moo_world.specs.Objects.{folded};
+ghost use Rattle.moo_world.specs.PropertyCalls.{defines_name};
 ghost use Rattle.moo_world.specs.World.{slot_of};
-ghost use Rattle.moo_world.specs.Rows.{world_of, slot_seen, IsSound};
-ghost use Rattle.moo_props.specs.Names.{name_of, is_called};
+ghost use Rattle.moo_world.specs.Rows.{world_of, slot_seen, IsGood, IsSound};
+ghost use Rattle.moo_props.specs.Names.{name_of, defines};
 
-use moo_rows::{PropId, PropRow, Rows, SlotRow, each_slot_of};
+use moo_rows::{PropId, Rows, SlotRow, name_hash};
 use moo_value::{MooStr, ObjNo};
 
 /// A slot on an object, with its property's number and definer.
@@ -18,41 +20,39 @@ pub struct FoundSlot<'a> {
     pub slot: &'a SlotRow,
 }
 
-/// Whether a property has a name, apart from the case of letters.
-pub(crate) fn is_named(row: &PropRow, name: &[u8]) -> bool
-    ensures { result ≡ same_text (folded row.now.name) (folded name.now) }
+/// The property of a name that y itself defines. The hash is that of the name. Takes no memory.
+pub(crate) fn own_named<R: Rows>(rows: &R, y: ObjNo, name: &[u8], hash: u64) -> Option<PropId>
+    requires sound { IsSound (R.held rows.now).maps }
+    requires hash { hash ≡ name_hash name.now }
+    ensures own { IfSome result (λ id. defines (R.held rows.now).maps y id ≡ true) }
+    ensures named { IfSome result (λ id. name_of (R.held rows.now).maps id ≡ folded name.now) }
+    ensures exact { is_some result ≡ defines_name (world_of (R.held rows.now).maps) y name.now }
 {
-    row.name.bytes().eq_ignore_ascii_case(name)
+    rows.next_named(y, name, hash, PropId(0))
 }
 
-/// Whether the property of a number has a name.
-fn is_called<R: Rows>(rows: &R, id: PropId, name: &[u8]) -> bool
-    ensures { result ≡ is_called (R.held rows.now).maps (folded name.now) id }
-{
-    match rows.prop(id) {
-        None => false,
-        Some(row) => is_named(row, name),
-    }
-}
-
-/// The property of a name that x has.
+/// The property of a name that x has. It climbs from x to the one that defines it, and to the root if none does: a look-up for
+/// each object on the way, however many properties they define.
 pub(crate) fn find_named<R: Rows>(rows: &R, x: ObjNo, name: &[u8]) -> Option<PropId>
-    requires { IsSound (R.held rows.now).maps }
+    requires { IsGood (R.held rows.now).maps }
     ensures held { IfSome result (λ id. is_some (get (R.held rows.now).maps.slots (x, id)) ≡ true) }
     ensures named { IfSome result (λ id. name_of (R.held rows.now).maps id ≡ folded name.now) }
     ensures exact { is_some result ≡ is_some (slot_of (world_of (R.held rows.now).maps) x (folded name.now)) }
 {
-    for (key, _slot) in each_slot_of(rows, x, PropId(0)) {
-        if is_called(rows, key.1, name) {
-            return Some(key.1);
+    let hash = name_hash(name);
+    let mut at = x;
+    while let Some(row) = rows.object(at) {
+        if let Some(id) = own_named(rows, at, name, hash) {
+            return Some(id);
         }
+        at = row.parent;
     }
     None
 }
 
 /// The property of a name that x has: one that x or an ancestor of x defines. Names compare without ASCII case.
 pub fn find<R: Rows>(rows: &R, x: ObjNo, name: &MooStr) -> Option<PropId>
-    requires { IsSound (R.held rows.now).maps }
+    requires { IsGood (R.held rows.now).maps }
     ensures held { IfSome result (λ id. is_some (get (R.held rows.now).maps.slots (x, id)) ≡ true) }
     ensures named { IfSome result (λ id. name_of (R.held rows.now).maps id ≡ folded name.now) }
     ensures exact { is_some result ≡ is_some (slot_of (world_of (R.held rows.now).maps) x (folded name.now)) }
@@ -62,7 +62,7 @@ pub fn find<R: Rows>(rows: &R, x: ObjNo, name: &MooStr) -> Option<PropId>
 
 /// The slot on x of the property of a name. Names compare without ASCII case.
 pub fn slot_of<'a, R: Rows>(rows: &'a R, x: ObjNo, name: &MooStr) -> Option<FoundSlot<'a>>
-    requires { IsSound (R.held rows.now).maps }
+    requires { IsGood (R.held rows.now).maps }
     ensures slot { option_map (λ f. slot_seen f.definer f.slot.now) result ≡ slot_of (world_of (R.held rows.now).maps) x (folded name.now) }
     ensures held { IfSome result (λ f. is_some (get (R.held rows.now).maps.slots (x, f.id)) ≡ true) }
     ensures named { IfSome result (λ f. name_of (R.held rows.now).maps f.id ≡ folded name.now) }

@@ -1,13 +1,24 @@
-//! Why a line of a batch can't be read, and what is told of each batch that isn't accepted, in words for people.
+//! Why a line of a batch can't be read, why a call is refused, and what is told of each batch that isn't accepted, in words for people.
 //!
-//! These words go to standard error. Nothing that is proved rests on them: what a batch is answered is judged elsewhere.
-#![tactic(auto)]
+//! Why a call is refused is the reason that the call itself answers when the batch is done again up to it. Nothing that is proved rests on
+//! these words: what a batch is answered is judged elsewhere.
+#![tactic(auto, unfolding(moo_world::specs::Rows::world_shown, moo_world::specs::Objects::same_object))]
 
 mod calls;
+mod finding;
+mod forms;
+mod given;
+mod granted;
 mod headers;
 mod names;
 mod notes;
+mod plain;
+mod refusals;
+mod shown;
+mod telling;
 mod values;
+mod why;
 mod words;
 
 pub use notes::StandardNotes;
+pub use why::{call_why, reply_why};

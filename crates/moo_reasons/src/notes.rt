@@ -5,8 +5,8 @@ ghost use Rattle.moo_world.specs.Rows.{IsGood};
 
 use crate::calls::call_reason;
 use crate::headers::header_reason;
-use crate::words::put_number;
-use moo_refusals::refusal_reason;
+use crate::refusals::refusal_reason;
+use crate::words::{put_number, room_reason};
 use moo_rows::Rows;
 use moo_text::{Answer, Marks, Next, Notes, Reply};
 use std::alloc::{AllocError, Global};
@@ -98,12 +98,8 @@ fn put_reply(
             out.extend_from_slice(told.unwrap_or(code.name()).as_bytes())
         }
         Reply::Full { call } => {
-            out.extend_from_slice(b"full: no number is left for what ")?;
-            out.extend_from_slice(if *call == 0 {
-                b"the batch makes".as_slice()
-            } else {
-                b"the call makes".as_slice()
-            })
+            out.extend_from_slice(b"full: ")?;
+            out.extend_from_slice(room_reason(*call).as_bytes())
         }
         Reply::Stale { seq } => {
             out.extend_from_slice(b"stale: the batch names another number than ")?;

@@ -22,6 +22,15 @@ pub(crate) fn put_shown(bytes: &[u8], out: &mut Vec<u8>) -> Result<(), AllocErro
     Ok(())
 }
 
+/// What there is no room for, by the number of the call that makes it; 0 is the batch itself.
+pub(crate) fn room_reason(call: u32) -> &'static str {
+    if call == 0 {
+        "no number is left for what the batch makes"
+    } else {
+        "no number is left for what the call makes"
+    }
+}
+
 /// Appends a number.
 pub(crate) fn put_number(alloc: Global, number: u64, out: &mut Vec<u8>) -> Result<(), AllocError> {
     let digits = number.to_string(alloc)?;

@@ -1,5 +1,5 @@
 -- What is received of bytes is determined by them.
-use Rattle.moo_request.{proofs.Words.{◌≡◌, inl, inr, ℕ, List, Some, None, arith, sym, ap, subst, ◌∙◌, option_and_then, RequestHead, ReadsRequest, request_unique, Asked, Mode, Plan, Decided, Body, Request, BodyAsks, shape_asked, plan_by, is_head, PlanAsks, Receives, nothing, no_head, request, shape_of}, proofs.HeadLemmas.{no_empty_head}, specs.declared.request.Received.{Received}}
+use Rattle.moo_request.{proofs.Words.{◌≡◌, inl, inr, ℕ, List, Some, None, arith, sym, ap, subst, ◌∙◌, option_and_then, RequestHead, ReadsRequest, request_unique, Asked, Mode, Plan, Decided, Body, Request, BodyAsks, shape_asked, plan_by, is_head, asks_why, PlanAsks, Receives, nothing, no_head, request, shape_of}, proofs.HeadLemmas.{no_empty_head}, specs.declared.request.Received.{Received}}
 
 body-once : (mode : Mode) (bytes : List ℕ) (a b : Asked) → BodyAsks mode bytes a → BodyAsks mode bytes b → a ≡ b
 body-once mode bytes a b (None, j, e) (None, k, f) = e ∙ sym f
@@ -16,11 +16,11 @@ plan-once (Body mode n) rest a b (inr (short, e)) (inl (fits, x)) = absurd (omeg
 plan-once (Body mode n) rest a b (inr (short, e)) (inr (brief, f)) = e ∙ sym f
 
 requests-once : (input : List ℕ) (x y : RequestHead) (t u : List ℕ) (a b : Asked) → ReadsRequest input x t → ReadsRequest input y u
-    → PlanAsks (plan_by x) t a → PlanAsks (plan_by y) u b → Request (is_head x) a ≡ Request (is_head y) b
+    → PlanAsks (plan_by x) t a → PlanAsks (plan_by y) u b → Request (is_head x) (asks_why x) a ≡ Request (is_head y) (asks_why y) b
 requests-once input x y t u a b p q asks others =
     let same = request_unique input x y t u p q in
     let here : PlanAsks (plan_by y) u a = subst (λ rest. PlanAsks (plan_by y) rest a) same.1 (subst (λ head. PlanAsks (plan_by head) t a) same.0 asks) in
-    ap (λ head. Request (is_head head) a) same.0 ∙ ap (Request (is_head y)) (plan-once (plan_by y) u a b here others)
+    ap (λ head. Request (is_head head) (asks_why head) a) same.0 ∙ ap (Request (is_head y) (asks_why y)) (plan-once (plan_by y) u a b here others)
 
 pub received-once : (input : List ℕ) (r q : Received) → Receives input r → Receives input q → r ≡ q
 received-once input r q (nothing e f) (nothing x y) = f ∙ sym y

@@ -18,7 +18,7 @@ pub use Rattle.moo_request.specs.Calls.{Bad, Calls, Whole, calls_from, with_call
 pub use Rattle.moo_request.specs.Found.{HeadStands, IsClose, IsFoundAmong, Lacks, ShowsHead}
 pub use Rattle.moo_request.specs.Given.{Grows, TakesAtMost}
 pub use Rattle.moo_request.specs.Lengths.{values_of}
-pub use Rattle.moo_request.specs.Plan.{body_size, is_head, plan_by}
+pub use Rattle.moo_request.specs.Plan.{asks_why, body_size, is_head, plan_by}
 pub use Rattle.moo_request.specs.Questions.{all_topics}
 pub use Rattle.moo_request.specs.Request.{IsSparing, PlanAsks, Receives, StopsReading, Takes, body, no_head, nothing, request, small}
 pub use Rattle.moo_request.specs.Routes.{with_route, with_topics}

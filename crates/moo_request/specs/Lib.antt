@@ -3,6 +3,7 @@ pub mod Calls
 pub mod Found
 pub mod Given
 pub mod Head
+pub mod Hosts
 pub mod Lengths
 pub mod Numbers
 pub mod Plan

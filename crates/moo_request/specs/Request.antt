@@ -11,7 +11,7 @@ use Rattle.moo_request.specs.declared.request.Received.{Received}
 use Rattle.moo_request.specs.declared.request.Received.TheVariants.{Nothing, Request}
 use Rattle.moo_request.specs.Body.{BodyAsks}
 use Rattle.moo_request.specs.Head.{BeginsWithHead, HasNoHead}
-use Rattle.moo_request.specs.Plan.{plan_by, body_size, is_head}
+use Rattle.moo_request.specs.Plan.{plan_by, body_size, is_head, asks_why}
 use Rattle.moo_request.specs.Settled.{Settles}
 
 -- What is planned, done with what follows the head: a body of n bytes is its first n, and without so many the request is cut off.
@@ -24,9 +24,9 @@ PlanAsks (Body mode n) rest asked =
 -- head and the bytes after it ask.
 pub data Receives (input : List ℕ) (received : Received) : Type 0 where
   nothing : input ≡ [] → received ≡ Nothing → Receives input received
-  no_head : input ≢ [] → HasNoHead input → received ≡ Request false (Refused BadRequest) → Receives input received
+  no_head : input ≢ [] → HasNoHead input → received ≡ Request false false (Refused BadRequest) → Receives input received
   request : (head : RequestHead) (rest : List ℕ) (asked : Asked) → BeginsWithHead input head rest → PlanAsks (plan_by head) rest asked
-      → received ≡ Request (is_head head) asked → Receives input received
+      → received ≡ Request (is_head head) (asks_why head) asked → Receives input received
 
 -- No more bytes are taken than are needed: 8,192 at most; or they begin with a head, and none is after the body that it plans.
 pub data IsSparing (given : List ℕ) : Type 0 where

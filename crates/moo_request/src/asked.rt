@@ -15,6 +15,8 @@ pub enum Method {
 pub enum Refusal {
     /// No head within the limits, no stated length, or no body of the shape.
     BadRequest,
+    /// A page of a browser sent it that isn't of this machine, by what the lines of the head say.
+    Forbidden,
     /// The path has no route.
     NotFound,
     /// The route has this method, and not the request's.

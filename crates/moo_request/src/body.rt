@@ -16,7 +16,8 @@ use crate::asked::{Asked, Mode, Refusal};
 use crate::fault::ReadFault;
 use crate::input::read_until;
 use crate::plan::Plan;
-use crate::shape::{Shape, read_json, shape_in};
+use crate::shape::{Shape, ShapeRead, read_json, shape_in};
+use crate::wrong::{BodyFault, ShapeFault};
 use moo_text::call_in;
 use moo_world::{Batch, Call, Calls};
 use serde_json::Value;
@@ -49,8 +50,20 @@ fn read_calls(alloc: Global, texts: &[&str]) -> Result<CallsRead, AllocError>
     Ok(CallsRead::Whole(calls))
 }
 
-/// What a shape asks.
-fn ask_shape(alloc: Global, mode: Mode, shape: &Shape<'_>) -> Result<Asked, AllocError>
+/// What is wrong with the text of a call, by its number from 1. Unknown if memory for the text is refused.
+fn bad_call(alloc: Global, texts: &[&str], number: u32) -> Option<BodyFault> {
+    let text = texts.get((number as usize).saturating_sub(1))?;
+    let text = String::from_str(alloc, text).ok()?;
+    Some(BodyFault::Call(text))
+}
+
+/// What a shape asks, and what is wrong with it.
+fn ask_shape(
+    alloc: Global,
+    mode: Mode,
+    shape: &Shape<'_>,
+    wrong: &mut Option<BodyFault>,
+) -> Result<Asked, AllocError>
     requires { length shape.now.calls.items ≤ 1000 }
     ensures { IfOk result (λ asked. asked ≡ shape_asked mode (Some (shape_shown shape.now))) }
 {
@@ -63,31 +76,50 @@ fn ask_shape(alloc: Global, mode: Mode, shape: &Shape<'_>) -> Result<Asked, Allo
                 calls: Calls::from_vec(calls),
             },
         )),
-        CallsRead::Bad(number) => Ok(Asked::Refused(Refusal::Malformed(number))),
+        CallsRead::Bad(number) => {
+            *wrong = bad_call(alloc, &shape.calls, number);
+            Ok(Asked::Refused(Refusal::Malformed(number)))
+        }
     }
 }
 
-/// What a JSON asks.
-fn ask_json(alloc: Global, mode: Mode, value: &Value) -> Result<Asked, AllocError>
+/// What a JSON asks, and what is wrong with it.
+fn ask_json(
+    alloc: Global,
+    mode: Mode,
+    value: &Value,
+    wrong: &mut Option<BodyFault>,
+) -> Result<Asked, AllocError>
     ensures { IfOk result (λ asked. asked ≡ shape_asked mode (shape_of (view value.now))) }
 {
     match shape_in(alloc, value)? {
-        Some(shape) => ask_shape(alloc, mode, &shape),
-        None => Ok(Asked::Refused(Refusal::BadRequest)),
+        ShapeRead::Whole(shape) => ask_shape(alloc, mode, &shape, wrong),
+        ShapeRead::Bad(fault) => {
+            *wrong = Some(BodyFault::Shape(fault));
+            Ok(Asked::Refused(Refusal::BadRequest))
+        }
     }
 }
 
-/// What a body asks.
-fn ask_body(alloc: Global, mode: Mode, body: &[u8]) -> Result<Asked, AllocError>
+/// What a body asks, and what is wrong with it.
+fn ask_body(
+    alloc: Global,
+    mode: Mode,
+    body: &[u8],
+    wrong: &mut Option<BodyFault>,
+) -> Result<Asked, AllocError>
     ensures { IfOk result (BodyAsks mode body.now) }
 {
     match read_json(alloc, body)? {
-        Some(value) => ask_json(alloc, mode, &value),
-        None => Ok(Asked::Refused(Refusal::BadRequest)),
+        Some(value) => ask_json(alloc, mode, &value, wrong),
+        None => {
+            *wrong = Some(BodyFault::Shape(ShapeFault::NotJson));
+            Ok(Asked::Refused(Refusal::BadRequest))
+        }
     }
 }
 
-/// What a body of this size asks, which begins at `start` of the bytes and goes on in the reader.
+/// What a body of this size asks, which begins at `start` of the bytes and goes on in the reader, and what is wrong with it.
 fn read_body<R: Read>(
     alloc: Global,
     reader: &mut R,
@@ -95,6 +127,7 @@ fn read_body<R: Read>(
     start: usize,
     mode: Mode,
     size: u64,
+    wrong: &mut Option<BodyFault>,
 ) -> Result<Asked, ReadFault>
     requires inside { start ≤ length bytes.old.items }
     requires bound { start + size ≤ 1056768 }
@@ -108,17 +141,18 @@ fn read_body<R: Read>(
     if !read_until(reader, bytes, end)? {
         return Ok(Asked::Refused(Refusal::BadRequest));
     }
-    let asked = ask_body(alloc, mode, &bytes[start..end])?;
+    let asked = ask_body(alloc, mode, &bytes[start..end], wrong)?;
     Ok(asked)
 }
 
-/// What comes of a plan whose head ends at `start` of the bytes. Nothing is read if it is decided.
+/// What comes of a plan whose head ends at `start` of the bytes, and what is wrong with the body. Nothing is read if it is decided.
 pub(crate) fn follow_plan<R: Read>(
     alloc: Global,
     reader: &mut R,
     bytes: &mut Vec<u8>,
     start: usize,
     plan: Plan,
+    wrong: &mut Option<BodyFault>,
 ) -> Result<Asked, ReadFault>
     requires inside { start ≤ length bytes.old.items }
     requires short { start ≤ 8192 }
@@ -130,6 +164,6 @@ pub(crate) fn follow_plan<R: Read>(
 {
     match plan {
         Plan::Decided(asked) => Ok(asked),
-        Plan::Body(mode, size) => read_body(alloc, reader, bytes, start, mode, size),
+        Plan::Body(mode, size) => read_body(alloc, reader, bytes, start, mode, size, wrong),
     }
 }

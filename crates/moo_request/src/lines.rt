@@ -2,7 +2,7 @@
 
 ghost use Rattle.std.specs.Prelude.{◌≡◌, length, map, All, option_map};
 ghost use Rattle.httparse.specs.Spans.{IsHeaderWithin, header_bytes};
-ghost use Rattle.moo_request.specs.Lengths.{is_line_of, values_of, length_text};
+ghost use Rattle.moo_request.specs.Lengths.{is_line_of, values_of, is_from_page, length_text};
 ghost use Rattle.moo_request.specs.Found.{IsFoundAmong};
 
 use httparse::spans::HeaderSpan;
@@ -19,7 +19,7 @@ pub enum FoundLine<'b> {
 }
 
 /// Whether a line has a name, in any case.
-fn has_name(bytes: &[u8], line: HeaderSpan, name: &[u8]) -> bool
+pub(crate) fn has_name(bytes: &[u8], line: HeaderSpan, name: &[u8]) -> bool
     requires within { IsHeaderWithin (length bytes.now) line }
     ensures { result ≡ is_line_of name.now (header_bytes bytes.now line) }
 {
@@ -41,6 +41,17 @@ fn find<'b>(bytes: &'b [u8], lines: &[HeaderSpan], name: &[u8]) -> FoundLine<'b>
         }
     }
     found
+}
+
+/// Whether a page of a browser sent the request: it has a line `origin`.
+pub(crate) fn is_from_page(bytes: &[u8], lines: &[HeaderSpan]) -> bool
+    requires within { All (IsHeaderWithin (length bytes.now)) lines.now }
+    ensures { result ≡ is_from_page (map (header_bytes bytes.now) lines.now) }
+{
+    match find(bytes, lines, b"origin") {
+        FoundLine::Nothing => false,
+        _ => true,
+    }
 }
 
 /// The one stated length of the body, as it is written.

@@ -2,13 +2,14 @@
 
 ghost use Rattle.std.specs.Prelude.{◌≡◌, All, IsUtf8, length, map, bytes_eq};
 ghost use Rattle.httparse.specs.Spans.{IsHeaderWithin, header_bytes};
-ghost use Rattle.moo_request.specs.Plan.{path_of, method_of, method_text, length_of, body_plan, question_plan, endpoint_plan, routed_plan, plan_of};
+ghost use Rattle.moo_request.specs.Plan.{path_of, is_why, method_of, method_text, length_of, body_plan, question_plan, endpoint_plan, routed_plan, known_plan, is_guarded, allowed_plan, plan_of};
 ghost use Rattle.moo_request.specs.Planned.{IsBounded};
 
 use crate::asked::{Asked, Method, Mode, Refusal};
-use crate::lines::stated_length;
+use crate::host::is_for_us;
+use crate::lines::{is_from_page, stated_length};
 use crate::numbers::bounded;
-use crate::question::Question;
+use crate::question::{Question, Topic};
 use crate::routes::{Endpoint, Routes};
 use httparse::spans::HeaderSpan;
 use std::str;
@@ -29,6 +30,27 @@ fn path(target: &str) -> &str
     match target.split_once('?') {
         Some((path, _)) => path,
         None => target,
+    }
+}
+
+/// Whether what follows the first question mark of a target is `why`.
+fn is_why_query(target: &str) -> bool
+    ensures { result ≡ is_why target.now }
+{
+    match target.split_once('?') {
+        Some((_, query)) => query == "why",
+        None => false,
+    }
+}
+
+/// Whether a target asks why it is refused, if it is.
+pub(crate) fn asks_why(target: &[u8]) -> bool
+    requires text { IsUtf8 target.now }
+    ensures { result ≡ is_why target.now }
+{
+    match str::from_utf8(target) {
+        Ok(target) => is_why_query(target),
+        Err(_) => unreachable!(),
     }
 }
 
@@ -109,7 +131,38 @@ fn plan_endpoint(endpoint: Endpoint, path: &[u8], bytes: &[u8], lines: &[HeaderS
     }
 }
 
-/// First the route, then its method, then what it needs.
+/// Whether a route is refused to a request that names another machine. The page of a browser whose name was made to lead here does so, and
+/// has no line `origin` with a GET.
+fn is_guarded(endpoint: Endpoint) -> bool
+    ensures { result ≡ is_guarded endpoint }
+{
+    match endpoint {
+        Endpoint::Batch(_) | Endpoint::About(Topic::Seq) | Endpoint::About(Topic::Object) => false,
+        Endpoint::About(Topic::Objects) => true,
+    }
+}
+
+/// First the method of a route, then what it needs.
+fn plan_allowed(
+    endpoint: Endpoint,
+    method: &[u8],
+    path: &[u8],
+    bytes: &[u8],
+    lines: &[HeaderSpan],
+) -> Plan
+    requires within { All (IsHeaderWithin (length bytes.now)) lines.now }
+    ensures value { result ≡ allowed_plan endpoint method.now path.now (map (header_bytes bytes.now) lines.now) }
+    ensures bound { IsBounded result }
+{
+    let wanted = method_for(endpoint);
+    if is_method(method, wanted) {
+        plan_endpoint(endpoint, path, bytes, lines)
+    } else {
+        Plan::Decided(Asked::Refused(Refusal::NotAllowed(wanted)))
+    }
+}
+
+/// First the route, then whether it is for this machine, then its method.
 fn plan_route(
     endpoint: Option<Endpoint>,
     method: &[u8],
@@ -123,15 +176,25 @@ fn plan_route(
 {
     match endpoint {
         Some(endpoint) => {
-            let wanted = method_for(endpoint);
-            if is_method(method, wanted) {
-                plan_endpoint(endpoint, path, bytes, lines)
-            } else {
-                Plan::Decided(Asked::Refused(Refusal::NotAllowed(wanted)))
+            if is_guarded(endpoint) && !is_for_us(bytes, lines) {
+                return Plan::Decided(Asked::Refused(Refusal::Forbidden));
             }
+            plan_allowed(endpoint, method, path, bytes, lines)
         }
         None => Plan::Decided(Asked::Refused(Refusal::NotFound)),
     }
+}
+
+/// What a head decides, by the path of its target.
+fn plan_path(routes: &Routes, method: &[u8], path: &str, bytes: &[u8], lines: &[HeaderSpan]) -> Plan
+    requires within { All (IsHeaderWithin (length bytes.now)) lines.now }
+    ensures value { result ≡ known_plan method.now path.now (map (header_bytes bytes.now) lines.now) }
+    ensures bound { IsBounded result }
+{
+    if is_from_page(bytes, lines) {
+        return Plan::Decided(Asked::Refused(Refusal::Forbidden));
+    }
+    plan_route(routes.find(path), method, path.as_bytes(), bytes, lines)
 }
 
 /// What the parts of a head decide.
@@ -148,10 +211,7 @@ pub(crate) fn make_plan(
     ensures bound { IsBounded result }
 {
     match str::from_utf8(target) {
-        Ok(target) => {
-            let path = path(target);
-            plan_route(routes.find(path), method, path.as_bytes(), bytes, lines)
-        }
+        Ok(target) => plan_path(routes, method, path(target), bytes, lines),
         Err(_) => unreachable!(),
     }
 }

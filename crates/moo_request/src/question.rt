@@ -13,6 +13,7 @@ use std::fmt::{self, Display, Formatter};
 pub enum Topic {
     Seq,
     Object,
+    Objects,
 }
 
 /// What a GET asks.
@@ -22,10 +23,12 @@ pub enum Question {
     Seq,
     /// What an object looks like.
     Object(ObjNo),
+    /// The objects from a number on.
+    Objects(ObjNo),
 }
 
 /// Every topic.
-const ALL: [Topic; 2] = [Topic::Seq, Topic::Object];
+const ALL: [Topic; 3] = [Topic::Seq, Topic::Object, Topic::Objects];
 
 /// The number that a path has after so many bytes.
 fn number_after(path: &[u8], start: usize) -> Option<i32>
@@ -53,6 +56,7 @@ impl Topic {
         match self {
             Topic::Seq => "/seq",
             Topic::Object => "/object/{n}",
+            Topic::Objects => "/objects/{n}",
         }
     }
 
@@ -66,6 +70,10 @@ impl Topic {
                 Some(number) => Some(Question::Object(ObjNo(number))),
                 None => None,
             },
+            Topic::Objects => match number_after(path, 9) {
+                Some(number) => Some(Question::Objects(ObjNo(number))),
+                None => None,
+            },
         }
     }
 }
@@ -76,6 +84,7 @@ impl Display for Question {
         match self {
             Question::Seq => write!(f, "/seq"),
             Question::Object(number) => write!(f, "/object/{}", number.0),
+            Question::Objects(number) => write!(f, "/objects/{}", number.0),
         }
     }
 }

@@ -5,8 +5,9 @@ ghost use Rattle.std.specs.List.{list_all};
 ghost use Rattle.serde_json.specs.Read.{read};
 ghost use Rattle.serde_json.specs.View.{view, items_view};
 ghost use Rattle.moo_request.specs.Shape.{texts_of, stated_at, are_within, shape_of};
-ghost use Rattle.moo_request.specs.Shown.{shape_shown};
+ghost use Rattle.moo_request.specs.Shown.{shape_read_shown};
 
+use crate::wrong::ShapeFault;
 use moo_text::object_of;
 use moo_value::ObjNo;
 use serde_json::Value;
@@ -22,6 +23,15 @@ pub struct Shape<'a> {
     pub programmer: ObjNo,
     pub calls: Vec<&'a str>,
     pub at: Option<u64>,
+}
+
+/// What a JSON has.
+#[derive(Drop)]
+pub enum ShapeRead<'a> {
+    /// The shape.
+    Whole(Shape<'a>),
+    /// Another one, by the first check that fails.
+    Bad(ShapeFault),
 }
 
 /// The texts of an array of strings. `None` is another array.
@@ -80,29 +90,53 @@ pub(crate) fn read_json(alloc: Global, bytes: &[u8]) -> Result<Option<Value>, Al
     }
 }
 
-/// The shape that the JSON has. `None` is another shape.
-pub(crate) fn shape_in(alloc: Global, value: &Value) -> Result<Option<Shape<'_>>, AllocError>
-    ensures { IfOk result (λ found. option_map shape_shown found ≡ shape_of (view value.now)) }
+/// What a JSON without a key lacks: the key, if it is an object.
+fn without(value: &Value, key: ShapeFault) -> ShapeFault {
+    if value.is_object() {
+        key
+    } else {
+        ShapeFault::NotAnObject
+    }
+}
+
+/// Which of the two limits the texts are over.
+fn over_limit(texts: &[&str]) -> ShapeFault {
+    if texts.len() <= MAX_CALLS {
+        ShapeFault::LongCall
+    } else {
+        ShapeFault::ManyCalls
+    }
+}
+
+/// The shape that the JSON has.
+pub(crate) fn shape_in(alloc: Global, value: &Value) -> Result<ShapeRead<'_>, AllocError>
+    ensures { IfOk result (λ found. shape_read_shown found ≡ shape_of (view value.now)) }
 {
-    let Some(text) = value.get("as").and_then(Value::as_str) else {
-        return Ok(None);
+    let Some(named) = value.get("as") else {
+        return Ok(ShapeRead::Bad(without(value, ShapeFault::NoProgrammer)));
+    };
+    let Some(text) = named.as_str() else {
+        return Ok(ShapeRead::Bad(ShapeFault::ProgrammerNoText));
     };
     let Some(programmer) = object_of(alloc, text.as_bytes())? else {
-        return Ok(None);
+        return Ok(ShapeRead::Bad(ShapeFault::ProgrammerNoObject));
     };
-    let Some(items) = value.get("calls").and_then(Value::as_array) else {
-        return Ok(None);
+    let Some(listed) = value.get("calls") else {
+        return Ok(ShapeRead::Bad(ShapeFault::NoCalls));
+    };
+    let Some(items) = listed.as_array() else {
+        return Ok(ShapeRead::Bad(ShapeFault::CallsNoArray));
     };
     let Some(calls) = texts_in(alloc, items)? else {
-        return Ok(None);
+        return Ok(ShapeRead::Bad(ShapeFault::CallNoText));
     };
     let Some(at) = at_in(value.get("at")) else {
-        return Ok(None);
+        return Ok(ShapeRead::Bad(ShapeFault::NoNumber));
     };
     if !are_short(&calls) {
-        return Ok(None);
+        return Ok(ShapeRead::Bad(over_limit(&calls)));
     }
-    Ok(Some(Shape {
+    Ok(ShapeRead::Whole(Shape {
         programmer,
         calls,
         at,

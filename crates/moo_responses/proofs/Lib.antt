@@ -2,4 +2,5 @@ pub mod Words
 pub mod Nesting
 pub mod Ascii
 pub mod BodyLemmas
+pub mod PageLemmas
 pub mod HeadLemmas

@@ -1,5 +1,5 @@
 -- The bodies of answers, as JSON. The members are in the order of their keys.
-use Rattle.std.specs.Prelude.{ℕ, Bool, List, map, codes, cond}
+use Rattle.std.specs.Prelude.{ℕ, Bool, List, Option, Some, None, map, codes, cond}
 use Rattle.serde_json.specs.Data.{Data, unsigned, number, string, array, object, Items, member, no_members}
 use Rattle.serde_json.specs.View.{items_of}
 use Rattle.moo_value.specs.declared.value.ObjNo.{ObjNo}
@@ -18,6 +18,16 @@ error_body word = object (member (codes "error") (string word) no_members)
 -- a call, by its number, and what befell it
 abbrev pub call_body : ℕ → List ℕ → Data
 call_body call word = object (member (codes "call") (number (unsigned call)) (member (codes "error") (string word) no_members))
+
+-- the same two with why, if that is told
+abbrev pub told_error_body : Option (List ℕ) → List ℕ → Data
+told_error_body None word = error_body word
+told_error_body (Some why) word = object (member (codes "error") (string word) (member (codes "why") (string why) no_members))
+
+abbrev pub told_call_body : Option (List ℕ) → ℕ → List ℕ → Data
+told_call_body None call word = call_body call word
+told_call_body (Some why) call word =
+    object (member (codes "call") (number (unsigned call)) (member (codes "error") (string word) (member (codes "why") (string why) no_members)))
 
 abbrev pub stale_body : ℕ → Data
 stale_body seq = object (member (codes "error") (string (codes "stale")) (member (codes "seq") (number (unsigned seq)) no_members))

@@ -1,6 +1,8 @@
 pub mod Bodies
 pub mod Fields
 pub mod Bytes
+pub mod Pages
+pub mod PageBodies
 pub mod Told
 pub mod Outcomes
 pub mod Responses

@@ -8,10 +8,10 @@ use Rattle.moo_text.specs.declared.reply.Reply.TheVariants as reply
 use Rattle.moo_request.specs.declared.asked.Method.{Method}
 use Rattle.moo_request.specs.declared.asked.Method.TheVariants.{Get, Post}
 use Rattle.moo_request.specs.declared.asked.Refusal.{Refusal}
-use Rattle.moo_request.specs.declared.asked.Refusal.TheVariants.{BadRequest, NotFound, NotAllowed, TooLarge, Malformed}
+use Rattle.moo_request.specs.declared.asked.Refusal.TheVariants.{BadRequest, Forbidden, NotFound, NotAllowed, TooLarge, Malformed}
 use Rattle.moo_responses.specs.declared.outcome.Outcome.{Outcome}
 use Rattle.moo_responses.specs.declared.outcome.Outcome.TheVariants.{Refused, Closed, Fault, NoMemory, Replied, Told}
-use Rattle.moo_responses.specs.Bodies.{error_body, call_body, stale_body, accepted_body}
+use Rattle.moo_responses.specs.Bodies.{error_body, call_body, told_error_body, told_call_body, stale_body, accepted_body}
 use Rattle.moo_responses.specs.Told.{told_status, told_body}
 use Rattle.moo_responses.specs.Bytes.{text_of}
 
@@ -30,6 +30,7 @@ method_name Post = codes "POST"
 
 abbrev pub refusal_response : Refusal → Response
 refusal_response BadRequest = plain 400 (error_body (codes "bad request"))
+refusal_response Forbidden = plain 403 (error_body (codes "forbidden"))
 refusal_response NotFound = plain 404 (error_body (codes "not found"))
 refusal_response (NotAllowed method) = record { status = 405; allow = Some (method_name method); body = error_body (codes "method not allowed") }
 refusal_response TooLarge = plain 413 (error_body (codes "too large"))
@@ -42,6 +43,17 @@ reply_response (reply.Refused call code) = plain 409 (call_body call (name code)
 reply_response (reply.Full call) = plain 409 (call_body call (codes "full"))
 reply_response (reply.Accepted seq answers) = plain 200 (accepted_body answers seq)
 
+-- the same two, with why a body or a batch is refused, if that is told
+abbrev pub told_refusal : Option (List ℕ) → Refusal → Response
+told_refusal why BadRequest = plain 400 (told_error_body why (codes "bad request"))
+told_refusal why (Malformed call) = plain 400 (told_call_body why call (codes "malformed"))
+told_refusal why other = refusal_response other
+
+abbrev pub told_reply : Option (List ℕ) → Reply → Response
+told_reply why (reply.Refused call code) = plain 409 (told_call_body why call (name code))
+told_reply why (reply.Full call) = plain 409 (told_call_body why call (codes "full"))
+told_reply why other = reply_response other
+
 abbrev pub response_of : Outcome → Response
 response_of (Refused refusal) = refusal_response refusal
 response_of Closed = plain 503 (error_body (codes "closed"))
@@ -53,3 +65,9 @@ response_of (Told told) = plain (told_status told) (told_body told)
 -- the bytes of a response; to HEAD the body is left off
 abbrev pub response_text : Bool → Response → List ℕ
 response_text is_head r = text_of is_head r.status r.allow (compact_text r.body)
+
+-- the same, with why what was asked is refused, if that is told
+abbrev pub response_with : Option (List ℕ) → Outcome → Response
+response_with why (Refused refusal) = told_refusal why refusal
+response_with why (Replied reply) = told_reply why reply
+response_with why other = response_of other

@@ -1,11 +1,11 @@
 //! The JSON of answers, printed.
 
-ghost use Rattle.std.specs.Prelude.{◌≡◌, map, IfOk, string_bytes, codes, false};
+ghost use Rattle.std.specs.Prelude.{◌≡◌, map, IfOk, option_map, string_bytes, codes, false};
 ghost use Rattle.serde_json.specs.Data.{object, string, member, no_members};
 ghost use Rattle.serde_json.specs.View.{items_view, members_view};
 ghost use Rattle.serde_json.specs.Written.{compact_text, members_have_float};
 ghost use Rattle.moo_value.specs.Literal.{print};
-ghost use Rattle.moo_responses.specs.Bodies.{strings, error_body, call_body, stale_body, number_body, accepted_body};
+ghost use Rattle.moo_responses.specs.Bodies.{strings, error_body, call_body, told_error_body, told_call_body, stale_body, number_body, accepted_body};
 
 use crate::limits::read_limits;
 use moo_value::{Value as Literal, print_literal};
@@ -44,6 +44,42 @@ pub(crate) fn call_text(alloc: Global, call: u32, word: &str) -> Result<String, 
 {
     let mut fields = error_fields(alloc, word)?;
     put(&mut fields, alloc, "call", Value::from(u64::from(call)))?;
+    printed(alloc, fields)
+}
+
+/// A word under `error`, and why, if that is told.
+pub(crate) fn told_error_text(
+    alloc: Global,
+    word: &str,
+    why: Option<&str>,
+) -> Result<String, AllocError>
+    ensures { IfOk result (λ text. string_bytes text ≡ compact_text (told_error_body (option_map (λ w. w.now) why.entry) word.now)) }
+{
+    let Some(why) = why else {
+        return error_text(alloc, word);
+    };
+    let why = String::from_str(alloc, why)?;
+    let mut fields = error_fields(alloc, word)?;
+    put(&mut fields, alloc, "why", Value::String(why))?;
+    printed(alloc, fields)
+}
+
+/// A call, by its number, what befell it, and why, if that is told.
+pub(crate) fn told_call_text(
+    alloc: Global,
+    call: u32,
+    word: &str,
+    why: Option<&str>,
+) -> Result<String, AllocError>
+    ensures { IfOk result (λ text. string_bytes text ≡ compact_text (told_call_body (option_map (λ w. w.now) why.entry) call word.now)) }
+{
+    let Some(why) = why else {
+        return call_text(alloc, call, word);
+    };
+    let why = String::from_str(alloc, why)?;
+    let mut fields = error_fields(alloc, word)?;
+    put(&mut fields, alloc, "call", Value::from(u64::from(call)))?;
+    put(&mut fields, alloc, "why", Value::String(why))?;
     printed(alloc, fields)
 }
 

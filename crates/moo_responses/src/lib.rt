@@ -3,13 +3,18 @@
 
 mod answer;
 mod bodies;
+mod entry;
 mod limits;
 mod look_body;
 mod outcome;
+mod page;
+mod page_body;
 mod respond;
 mod response;
 mod told;
 
 pub use answer::answer_text;
+pub use entry::{Entries, Entry};
 pub use outcome::Outcome;
+pub use page::Page;
 pub use told::{Told, tell};

@@ -49,7 +49,7 @@ fn put_objects(
     put(fields, alloc, key, Value::Array(list))
 }
 
-fn put_object(
+pub(crate) fn put_object(
     fields: &mut Map<String, Value>,
     alloc: Global,
     key: &str,
@@ -61,7 +61,7 @@ fn put_object(
     put(fields, alloc, key, Value::String(text))
 }
 
-fn put_name(
+pub(crate) fn put_name(
     fields: &mut Map<String, Value>,
     alloc: Global,
     key: &str,
@@ -73,7 +73,7 @@ fn put_name(
     put(fields, alloc, key, Value::String(text))
 }
 
-fn put_flag(
+pub(crate) fn put_flag(
     fields: &mut Map<String, Value>,
     alloc: Global,
     key: &str,

@@ -1,12 +1,12 @@
 //! The status and the body of what came of a request.
 
-ghost use Rattle.std.specs.Prelude.{◌≡◌, None, IfOk};
-ghost use Rattle.moo_responses.specs.Responses.{plain, method_name, refusal_response, reply_response, response_of};
-ghost use Rattle.moo_responses.specs.Bodies.{error_body, call_body, stale_body, accepted_body};
+ghost use Rattle.std.specs.Prelude.{◌≡◌, None, IfOk, option_map};
+ghost use Rattle.moo_responses.specs.Responses.{plain, method_name, refusal_response, told_refusal, told_reply, response_with};
+ghost use Rattle.moo_responses.specs.Bodies.{error_body, told_error_body, told_call_body, stale_body, accepted_body};
 ghost use Rattle.moo_responses.specs.Told.{told_status, told_body};
 ghost use Rattle.moo_responses.specs.Shown.{Shows};
 
-use crate::bodies::{accepted_text, call_text, error_text, stale_text};
+use crate::bodies::{accepted_text, error_text, stale_text, told_call_text, told_error_text};
 use crate::outcome::Outcome;
 use crate::response::Response;
 use crate::told::{Told, status_of, told_text};
@@ -46,16 +46,30 @@ fn error(alloc: Global, status: StatusCode, word: &str) -> Result<Response, Allo
     Ok(with_body(status, body))
 }
 
-/// A call, and what befell it.
+/// A word under `error`, and why, if that is told.
+fn told_error(
+    alloc: Global,
+    status: StatusCode,
+    word: &str,
+    why: Option<&str>,
+) -> Result<Response, AllocError>
+    ensures { IfOk result (λ r. Shows r (plain status (told_error_body (option_map (λ w. w.now) why.entry) word.now))) }
+{
+    let body = told_error_text(alloc, word, why)?;
+    Ok(with_body(status, body))
+}
+
+/// A call, what befell it, and why, if that is told.
 fn call_error(
     alloc: Global,
     status: StatusCode,
     call: u32,
     word: &str,
+    why: Option<&str>,
 ) -> Result<Response, AllocError>
-    ensures { IfOk result (λ r. Shows r (plain status (call_body call word.now))) }
+    ensures { IfOk result (λ r. Shows r (plain status (told_call_body (option_map (λ w. w.now) why.entry) call word.now))) }
 {
-    let body = call_text(alloc, call, word)?;
+    let body = told_call_text(alloc, call, word, why)?;
     Ok(with_body(status, body))
 }
 
@@ -91,42 +105,49 @@ fn not_allowed(alloc: Global, method: Method) -> Result<Response, AllocError>
     })
 }
 
-fn refuse(alloc: Global, refusal: Refusal) -> Result<Response, AllocError>
-    ensures { IfOk result (λ r. Shows r (refusal_response refusal)) }
+fn refuse(alloc: Global, refusal: Refusal, why: Option<&str>) -> Result<Response, AllocError>
+    ensures { IfOk result (λ r. Shows r (told_refusal (option_map (λ w. w.now) why.entry) refusal)) }
 {
     match refusal {
-        Refusal::BadRequest => error(alloc, StatusCode::BAD_REQUEST, "bad request"),
+        Refusal::BadRequest => told_error(alloc, StatusCode::BAD_REQUEST, "bad request", why),
+        Refusal::Forbidden => error(alloc, StatusCode::FORBIDDEN, "forbidden"),
         Refusal::NotFound => error(alloc, StatusCode::NOT_FOUND, "not found"),
         Refusal::NotAllowed(method) => not_allowed(alloc, method),
         Refusal::TooLarge => error(alloc, StatusCode::PAYLOAD_TOO_LARGE, "too large"),
-        Refusal::Malformed(call) => call_error(alloc, StatusCode::BAD_REQUEST, call, "malformed"),
+        Refusal::Malformed(call) => {
+            call_error(alloc, StatusCode::BAD_REQUEST, call, "malformed", why)
+        }
     }
 }
 
-fn reply_to(alloc: Global, reply: &Reply) -> Result<Response, AllocError>
-    ensures { IfOk result (λ r. Shows r (reply_response reply.now)) }
+fn reply_to(alloc: Global, reply: &Reply, why: Option<&str>) -> Result<Response, AllocError>
+    ensures { IfOk result (λ r. Shows r (told_reply (option_map (λ w. w.now) why.entry) reply.now)) }
 {
     match reply {
         Reply::NoMemory => error(alloc, StatusCode::SERVICE_UNAVAILABLE, "nomemory"),
         Reply::Stale { seq } => stale(alloc, *seq),
         Reply::Refused { call, code } => {
-            call_error(alloc, StatusCode::CONFLICT, *call, code.name())
+            call_error(alloc, StatusCode::CONFLICT, *call, code.name(), why)
         }
-        Reply::Full { call } => call_error(alloc, StatusCode::CONFLICT, *call, "full"),
+        Reply::Full { call } => call_error(alloc, StatusCode::CONFLICT, *call, "full", why),
         Reply::Accepted { seq, answers } => accepted(alloc, answers, *seq),
     }
 }
 
 /// The response to what came of a request.
-pub(crate) fn respond(alloc: Global, outcome: &Outcome) -> Result<Response, AllocError>
-    ensures { IfOk result (λ r. Shows r (response_of outcome.now)) }
+pub(crate) fn respond(
+    alloc: Global,
+    outcome: &Outcome,
+    why: Option<&str>,
+) -> Result<Response, AllocError>
+    ensures { IfOk result (λ r. Shows r (response_with (option_map (λ w. w.now) why.entry) outcome.now)) }
 {
     match outcome {
-        Outcome::Refused(refusal) => refuse(alloc, *refusal),
+        Outcome::Refused(refusal) => refuse(alloc, *refusal, why),
         Outcome::Closed => error(alloc, StatusCode::SERVICE_UNAVAILABLE, "closed"),
         Outcome::Fault => error(alloc, StatusCode::SERVICE_UNAVAILABLE, "fault"),
         Outcome::NoMemory => error(alloc, StatusCode::SERVICE_UNAVAILABLE, "nomemory"),
-        Outcome::Replied(reply) => reply_to(alloc, reply),
+        Outcome::Replied(reply) => reply_to(alloc, reply, why),
         Outcome::Told(told) => say(alloc, told),
     }
 }

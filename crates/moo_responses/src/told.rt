@@ -9,6 +9,8 @@ ghost use Rattle.moo_responses.specs.Told.{looked, told_of, TellingTakesMemory, 
 
 use crate::bodies::{error_text, number_text};
 use crate::look_body::look_text;
+use crate::page::{Page, list_page};
+use crate::page_body::page_text;
 use http::StatusCode;
 use moo_dump::{Look, look};
 use moo_request::Question;
@@ -24,6 +26,8 @@ pub enum Told {
     Object(Look),
     /// The number is that of no object.
     NoObject,
+    /// Some of the objects, and the number of accepted batches.
+    Objects(Page, u64),
 }
 
 /// What a look tells. It shows nothing if there isn't such an object.
@@ -45,6 +49,9 @@ pub fn tell<R: Rows>(alloc: Global, rows: &R, question: Question) -> Result<Told
     match question {
         Question::Seq => Ok(Told::Seq(rows.head().seq)),
         Question::Object(number) => Ok(seen(look(alloc, rows, number)?)),
+        Question::Objects(number) => {
+            Ok(Told::Objects(list_page(alloc, rows, number)?, rows.head().seq))
+        }
     }
 }
 
@@ -53,7 +60,7 @@ pub(crate) fn status_of(told: &Told) -> StatusCode
     ensures { result ≡ told_status told.now }
 {
     match told {
-        Told::Seq(_) | Told::Object(_) => StatusCode::OK,
+        Told::Seq(_) | Told::Object(_) | Told::Objects(_, _) => StatusCode::OK,
         Told::NoObject => StatusCode::NOT_FOUND,
     }
 }
@@ -66,5 +73,6 @@ pub(crate) fn told_text(alloc: Global, told: &Told) -> Result<String, AllocError
         Told::Seq(seq) => number_text(alloc, "seq", *seq),
         Told::Object(look) => look_text(alloc, look),
         Told::NoObject => error_text(alloc, "E_INVARG"),
+        Told::Objects(page, seq) => page_text(alloc, page, *seq),
     }
 }

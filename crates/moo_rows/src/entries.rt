@@ -1,5 +1,6 @@
 //! The keys and the rows of the maps: what tells one from another.
 
+ghost use Rattle.std.proofs.lemmas.Map.Lookups.{exact_unsigned};
 ghost use Rattle.moo_rows.specs.Exact.{prop_exact, verb_id_exact, petition_exact};
 ghost use Rattle.moo_rows.specs.SameClones.{prop_clone, slot_clone, verb_clone, petition_clone};
 ghost use Rattle.moo_rows.specs.ObjectRow.{object_row-exact, object_clone};
@@ -31,6 +32,10 @@ pub trait Row: PartialEq + Clone + Drop {
     ghost exact: { IsExact Self.eq };
 
     ghost clones: { (row copy : Self) → Self.is_clone row copy → copy ≡ row };
+}
+
+impl OrderedKey for u64 {
+    ghost exact = { exact_unsigned };
 }
 
 impl OrderedKey for PropId {

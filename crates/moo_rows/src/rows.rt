@@ -4,6 +4,7 @@ ghost use Rattle.std.specs.Prelude.{◌≡◌, option_map, OnErr, OnOk};
 ghost use Rattle.std.specs.FinMap as map;
 ghost use Rattle.moo_rows.specs.Ordered.{IsNext};
 ghost use Rattle.moo_rows.specs.Links.{IsFirst, is_linked, is_definer};
+ghost use Rattle.moo_rows.specs.Named.{is_named_by, name_hash};
 ghost use Rattle.moo_rows.specs.Maps.{Held, object_cmp, prop_cmp, with_object, without_object, with_prop, without_prop, with_slot, without_slot, with_verb, without_verb, with_petition, without_petition};
 
 use crate::row::{
@@ -62,6 +63,12 @@ pub trait Rows {
     /// The least property past `after` that x defines, or `None` if it defines no property past it.
     fn next_defined(&self, x: ObjNo, after: PropId) -> Option<PropId>
         ensures { IsFirst prop_cmp (is_definer (held self.now).maps x) after result };
+
+    /// The least property past `after` that x defines under a name, whose hash is given, or `None` if it defines no such property past it.
+    /// Names compare without ASCII case.
+    fn next_named(&self, x: ObjNo, name: &[u8], hash: u64, after: PropId) -> Option<PropId>
+        requires { hash ≡ name_hash name.now }
+        ensures { IsFirst prop_cmp (is_named_by (held self.now).maps x name.now) after result };
 
     /// Sets the row of a property, in place of the one that it has, if any. An `Err` is a lack of memory.
     fn put_prop(&mut self, key: PropId, row: PropRow) -> Result<(), AllocError>

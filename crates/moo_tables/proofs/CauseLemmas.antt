@@ -1,5 +1,5 @@
 -- Why one of several calls failed, one after another.
-use Rattle.moo_tables.{proofs.Words.{IfErr, ◌≡◌, inl, inr, ◌≤◌, Ok, Err, Result, IsTrue, IsSome, true≢false, sym, subst, ◌∙◌, arith, ⊤, Error, Trees, State, HasCleanDisk, HasCause, Survives, Tables, Sees, Changes, StaysInside, StopsChange, HasCauseIn}, proofs.InsideLemmas.{clean_before, stays, stays_then}}
+use Rattle.moo_tables.{proofs.Words.{IfErr, ◌≡◌, inl, inr, ◌≤◌, Ok, Err, Result, IsTrue, IsSome, true≢false, sym, subst, ◌∙◌, arith, ⊤, Error, Trees, State, HasCleanDisk, HasCause, Survives, Tables, Sees, Changes, StaysInside, StopsChange, HasCauseIn, true, false, refl, ap, MatchBool, IsUnchanged, store_error, KeepsUnread, Holds, MeetsRowIn, is_conflict, ◌⊎◌}, proofs.InsideLemmas.{clean_before, stays, stays_then}}
 use Rattle.std.specs.Result.{IsErrAnd}
 use Rattle.sqlite_trees.{specs.declared.error.StoreError.{StoreError}, specs.declared.error.StoreError.TheVariants.{OutOfMemory, Io, Corrupt, Full, Broken, Unstorable}}
 
@@ -60,3 +60,34 @@ err_again r (Err x) e P was is it = subst P (sym is) (subst (λ t. IfErr t P) wa
 -- the error of a call after others is handed on
 pub err_after : {A B : Type 0} {old mid new : State} {e : Error} (r : Result A Error) (s : Result B Error) → Reaches old mid → StaysInside mid new → HasCauseIn mid new r → r ≡ Err e → IsErrAnd s (λ x. x ≡ e) → HasCauseIn old new s
 err_after {A} {B} {old} {mid} {new} {e} r s first quiet cause was is = λ clean tables seen. err_again r s e (StopsChange old new) was is (fails_after r first quiet cause clean tables seen)
+
+-- ---- a call that may meet a row with the key
+
+stored_otherwise : (cause : StoreError) → is_conflict (store_error cause) ≡ false
+stored_otherwise OutOfMemory = refl
+stored_otherwise Io = refl
+stored_otherwise Corrupt = refl
+stored_otherwise Full = refl
+stored_otherwise Broken = refl
+stored_otherwise Unstorable = refl
+
+-- no cause of any change is that a rule refused a row
+no_conflict : (old new : State) (e : Error) → StopsChange old new e → is_conflict e ≡ false
+no_conflict old new e (inl h) = ap is_conflict h.1 ∙ stored_otherwise h.0
+no_conflict old new e (inr (inl h)) = ap is_conflict h.0
+no_conflict old new e (inr (inr h)) = ap is_conflict h
+
+sees_on : (old new : State) (tables : Tables) → IsUnchanged old new → Sees old tables → Sees new tables × KeepsUnread old.now new.now
+sees_on old new tables same seen = (
+  record { is_open = same.0.is_open; inside = same.0.mode ∙ seen.inside; current = seen.current; holds = subst (λ db. Holds db tables) (sym same.0.now_is) seen.holds },
+  ap (λ db. db.trees 3) same.0.now_is,
+)
+
+pub met_or_stopped : (old new : State) (e : Error) (tables : Tables) → Sees old tables → ((is_conflict e ≡ true) × IsUnchanged old new) ⊎ StopsChange old new e → MatchBool (is_conflict e) (Sees new tables × KeepsUnread old.now new.now) (StopsChange old new e)
+met_or_stopped old new e tables seen (inl met) = subst (λ b. MatchBool b (Sees new tables × KeepsUnread old.now new.now) (StopsChange old new e)) (sym met.0) (sees_on old new tables met.1 seen)
+met_or_stopped old new e tables seen (inr stopped) = subst (λ b. MatchBool b (Sees new tables × KeepsUnread old.now new.now) (StopsChange old new e)) (sym (no_conflict old new e stopped)) stopped
+
+-- a call that meets none
+pub meets_none : {A : Type 0} (old new : State) (r : Result A Error) → HasCauseIn old new r → MeetsRowIn old new r
+meets_none old new (Ok x) cause = λ clean tables seen. tt
+meets_none old new (Err e) cause = λ clean tables seen. met_or_stopped old new e tables seen (inr (cause clean tables seen))

@@ -1,5 +1,5 @@
 -- What the statements do that write a table with a number as its key, whichever it is.
-use Rattle.moo_tables.{proofs.Words.{◌≡◌, ◌+◌, ◌/◌, ℕ, ℤ, List, [], ◌∷◌, ◌++◌, drop, map, length, slice_get, Option, Some, None, true, false, ◌&&◌, ◌||◌, ◌⊎◌, inl, inr, Bool, Result, Ok, Err, OnOk, IfOk, IsTrue, refl, sym, ap, subst, ◌∙◌, arith, list_all, IsPermutation, Null, Int, Error, Row, column, binary, is_true, col, holds, eval_all, Binary, Compare, Eq, with_rowid, cast_all, cast_row, Chosen, shown, Table, Trees, rowid, has_rowid, put_row, overlay, value_rows, understood, State, Executes, statement_of, runs_as, AreConflicts, conflicts, agree, Column, first_key, plain, Tables, present_schema, numbered, number_places, cells_at, numbered_in, numbered_with, same_number, update_text, put_text, remove_text, AreKeyed, Sees, Changes, RanStatement, KeepsUnread, WritesOver}, proofs.TextLemmas.{WritesByNumber, number_terms, number_overwrite, writes_where, written_over, by_number, rowids_where}, proofs.CastLemmas.{fit, kept_all}, proofs.StepLemmas.{cast_int, updates, deletes}, proofs.UpsertLemmas.{Settles, upserts}, proofs.OverLemmas.{number_one, itself, number_settles}, proofs.UpdateLemmas.{over_or_left}, proofs.QueryLemmas.{chosen, shows_all}, proofs.KeyLemmas.{after_put, after_removal, number_exact, number_apart, ties_one}, proofs.RowLemmas.{moo_quiet, equal_number, put_keyed, rest_keyed, rest, went_out, number_free, has_itself, picks_number}, proofs.SeenLemmas.{schema_seen, SetsTree, sees_still}}
+use Rattle.moo_tables.{proofs.Words.{◌≡◌, ◌+◌, ◌/◌, ℕ, ℤ, List, [], ◌∷◌, ◌++◌, drop, map, length, slice_get, Option, Some, None, true, false, ◌&&◌, ◌||◌, ◌⊎◌, inl, inr, Bool, Result, Ok, Err, OnOk, IfOk, IsTrue, refl, sym, ap, subst, ◌∙◌, arith, list_all, IsPermutation, Null, Int, Error, Row, column, binary, is_true, col, holds, eval_all, Binary, Compare, Eq, with_rowid, cast_all, cast_row, Chosen, shown, Table, Trees, rowid, has_rowid, put_row, overlay, value_rows, understood, State, Executes, statement_of, runs_as, AreConflicts, conflicts, agree, Column, first_key, plain, Tables, present_schema, numbered, number_places, cells_at, numbered_in, numbered_with, same_number, update_text, put_text, remove_text, AreKeyed, Sees, Changes, RanStatement, KeepsUnread, WritesOver, insert_text, true≢false, Has, some_from}, proofs.TextLemmas.{WritesByNumber, number_terms, number_overwrite, writes_where, written_over, by_number, rowids_where}, proofs.CastLemmas.{fit, kept_all}, proofs.StepLemmas.{cast_int, updates, deletes, inserts}, proofs.UpsertLemmas.{Settles, upserts}, proofs.OverLemmas.{number_one, itself, number_settles, all_free}, proofs.InsertLemmas.{is_put}, proofs.UpdateLemmas.{over_or_left}, proofs.QueryLemmas.{chosen, shows_all}, proofs.KeyLemmas.{after_put, after_removal, number_exact, number_apart, ties_one}, proofs.RowLemmas.{moo_quiet, equal_number, put_keyed, rest_keyed, rest, went_out, number_free, has_itself, picks_number}, proofs.SeenLemmas.{schema_seen, SetsTree, sees_still}}
 
 -- a row as its tree has it: the number, and the first column empty
 abbrev pub stored_at : ℤ → Row → Row
@@ -62,6 +62,18 @@ module _ {K C : Type 0} (name : List ℕ) (tree : ℕ) (columns : List Column) (
   module _ (at : ℕ) (is : slice_get present_schema.tables at ≡ Some (numbered name tree columns)) (writes : WritesByNumber at (numbered name tree columns)) (With : ℤ → Option Row → Tables → Tables) (keyed_seen : (s : State) (tables : Tables) → Sees s tables → AreKeyed (s.now.trees tree))
       (sees : (old new : State) (tables : Tables) (key : ℤ) (shown : Option Row) (rows : List Row) → Sees old tables → SetsTree old new tree rows → AreKeyed rows
       → ((k : ℤ) → numbered_in places rows k ≡ numbered_with key shown (numbered_in places (old.now.trees tree)) k) → Sees new (With key shown tables) × KeepsUnread old.now new.now) where
+    -- the row stands in its table
+    stands : (old new : State) (tables : Tables) (key : K) (row : C) (seen : Sees old tables) → SetsTree old new tree (put_row (stored key row) (rest has_rowid (number key) (old.now.trees tree) (keyed_seen old tables seen)))
+        → Sees new (With (number key) (Some (cells key row)) tables) × KeepsUnread old.now new.now
+    stands old new tables key row seen sets =
+        let n = number key in
+        let source = stored key row in
+        let old_rows = old.now.trees tree in
+        let keyed = keyed_seen old tables seen in
+        sees old new tables n (Some (cells key row)) (put_row source (rest has_rowid n old_rows keyed)) seen sets (put_keyed has_rowid n old_rows keyed source refl)
+        (λ k. after_put same_number has_rowid (cells_at places) number_exact number_apart n source old_rows (has_itself n (drop 1 source)) (number_free n source old_rows refl) k
+        ∙ ap (λ shown. numbered_with n (Some shown) (numbered_in places old_rows) k) (it_has.placed key row))
+
     -- one row was written over, or none was there
     abbrev Overs : State → State → K → C → ℕ → Tables → Type 0
     Overs old new key row count tables = ((Sees new (With (number key) (Some (cells key row)) tables) × KeepsUnread old.now new.now) × (count ≡ 1)) ⊎ ((Sees new tables × KeepsUnread old.now new.now) × (count ≡ 0))
@@ -84,13 +96,7 @@ module _ {K C : Type 0} (name : List ℕ) (tree : ℕ) (columns : List Column) (
               let f = o.row in
               let named : rowid f.row ≡ Int n = f.numbered ∙ ap Int (ties_one (rowid f.row) f.number n (itself has_rowid n old_rows keyed (number_one n old_rows keyed) o.there f) f.here) in
               let rows_are = it.edited.applies.rows ∙ o.after_is ∙ ap (λ r. put_row r (rest has_rowid n old_rows keyed)) (kept_updated key row f.row named) in
-              inl (
-                sees old new tables n (Some params) (put_row source (rest has_rowid n old_rows keyed)) seen (sets _ rows_are)
-                    (put_keyed has_rowid n old_rows keyed source refl)
-                    (λ k. after_put same_number has_rowid (cells_at places) number_exact number_apart n source old_rows (has_itself n (drop 1 source)) (number_free n source old_rows refl) k
-                    ∙ ap (λ shown. numbered_with n (Some shown) (numbered_in places old_rows) k) (it_has.placed key row)),
-                it.counted ∙ o.count,
-              ))
+              inl (stands old new tables key row seen (sets _ rows_are), it.counted ∙ o.count))
           | inr l ↦ inr (sees_still (sets old_rows (it.edited.applies.rows ∙ l.after_is)) tables seen, it.counted ∙ l.count)
         ]
 
@@ -111,6 +117,22 @@ module _ {K C : Type 0} (name : List ℕ) (tree : ℕ) (columns : List Column) (
         (rest_keyed has_rowid n old_rows keyed)
         (after_removal same_number has_rowid (cells_at places) number_exact number_apart n old_rows)
 
+    pub insert : (old new : State) (key : K) (row : C) (r : Result ℕ Error) → RanStatement (insert_text t) (cells key row) old new r → OnOk r (Changes (With (number key) (Some (cells key row))) old new)
+    insert old new key row (Err e) ran = tt
+    insert old new key row (Ok count) ran = λ clean tables seen.
+        let has = schema_seen seen in
+        let n = number key in
+        let source = stored key row in
+        let params = cells key row in
+        let old_rows = old.now.trees tree in
+        let keyed = keyed_seen old tables seen in
+        let w = runs_as (insert_text t) params old new present_schema has _ writes.insert.command writes.insert.plain count (ran clean).1 in
+        let it = inserts present_schema moo_quiet at _ _ _ _ _ _ _ is old new has (statement_of (insert_text t) (understood present_schema (insert_text t))) params count (number_terms t) (length columns + 1) source (it_has.alone key row) w in
+        let put = is_put present_schema t old.now.trees new.now.trees source source (ap (with_rowid Chosen old_rows) (kept key row)) it.applies in
+        let none = λ (r : Row) (in_it : Has old_rows r) (here : has_rowid n r ≡ true). true≢false (sym (some_from (has_rowid n) old_rows r in_it here) ∙ put.free) in
+        let rows_are = put.rows_are ∙ ap (put_row source) (all_free has_rowid n old_rows keyed none) in
+        stands old new tables key row seen (record { schema_is = it.schema_is; sound = w.sound; is_open = w.shown.is_open; inside = (ran clean).0; rows_are = rows_are; others = it.applies.others })
+
     pub put : (old new : State) (key : K) (row : C) (r : Result ℕ Error) → RanStatement (put_text t) (cells key row) old new r → OnOk r (Changes (With (number key) (Some (cells key row))) old new)
     put old new key row (Err e) ran = tt
     put old new key row (Ok count) ran = λ clean tables seen.
@@ -127,11 +149,7 @@ module _ {K C : Type 0} (name : List ℕ) (tree : ℕ) (columns : List Column) (
         let met = subst (λ r. AreConflicts (Some (0 ∷ [])) present_schema.indexes t old_rows r it.found) whole it.conflicts in
         let ends = subst (λ r. Settles present_schema t old.now.trees params update r it.found new.now.trees) whole it.settles in
         let settled = number_settles t n old.now.trees new.now.trees keyed (it_has.stored old.now.trees) params source (length columns) (number_overwrite t) (λ r in_it. meets key row r) (kept key row) (it_has.there key row) (λ r. refl) (kept_over key row) it.found met ends in
-        sees old new tables n (Some params) (put_row source (rest has_rowid n old_rows keyed)) seen
-        (record { schema_is = it.schema_is; sound = w.sound; is_open = w.shown.is_open; inside = (ran clean).0; rows_are = settled.0; others = settled.1 })
-        (put_keyed has_rowid n old_rows keyed source refl)
-        (λ k. after_put same_number has_rowid (cells_at places) number_exact number_apart n source old_rows (has_itself n (drop 1 source)) (number_free n source old_rows refl) k
-        ∙ ap (λ shown. numbered_with n (Some shown) (numbered_in places old_rows) k) (it_has.placed key row))
+        stands old new tables key row seen (record { schema_is = it.schema_is; sound = w.sound; is_open = w.shown.is_open; inside = (ran clean).0; rows_are = settled.0; others = settled.1 })
 
     pub update : (old new : State) (key : K) (row : C) (r : Result ℕ Error) → RanStatement (update_text t) (cells key row) old new r → IfOk r (λ count. WritesOver (With (number key) (Some (cells key row))) count old new)
     update old new key row (Err e) ran = tt

@@ -57,10 +57,12 @@ module _ {K : Type 0} (has : K → Row → Bool) (key : K) (rows : List Row) (ke
       record { row = s.0; in_it = s.1; here = sym (meets s.0 s.1) ∙ s.2; number = id_in (rowid s.0); numbered = value; is = s.3 ∙ ap (λ v. v ∷ []) value }
 
   -- where no row has the key, the others are all
+  pub all_free : ((r : Row) → Has rows r → has key r ≡ true → ⊥) → rows ≡ rest has key rows keyed
+  all_free none = removed (has key) rows [] keyed (λ x in_it. absurd in_it) (λ r in_it passes. none r in_it passes)
+
   pub all_others : (target : List ℕ) (table : Table) (new : Row) → AreConflicts (Some target) present_schema.indexes table rows new []
       → ((r : Row) → Has rows r → conflicts (Some target) present_schema.indexes table new r ≡ has key r) → rows ≡ rest has key rows keyed
-  all_others target table new met meets =
-      removed (has key) rows [] keyed (λ x in_it. absurd in_it) (λ r in_it passes. met.complete r in_it (meets r in_it ∙ passes))
+  all_others target table new met meets = all_free (λ r in_it passes. met.complete r in_it (meets r in_it ∙ passes))
 
   module _ (one : (r s : Row) → Has rows r → Has rows s → has key r ≡ true → has key s ≡ true → r ≡ s) (there : Row) (f : Found there) where
     pub itself : has_rowid f.number f.row ≡ true

@@ -1,5 +1,6 @@
 -- What the statements do that write a table with two columns as its key, whichever it is.
-use Rattle.moo_tables.{proofs.Words.{◌≡◌, ◌+◌, ◌/◌, ℕ, ℤ, List, [], ◌∷◌, ◌++◌, drop, map, length, slice_get, Option, Some, None, true, false, ◌&&◌, ◌||◌, ◌⊎◌, inl, inr, Bool, Result, Ok, Err, OnOk, IfOk, IsTrue, refl, sym, ap, subst, ◌∙◌, arith, list_all, and_parts, IsPermutation, Null, Int, Error, Row, column, binary, is_true, col, holds, eval_all, Binary, Compare, Eq, with_rowid, next_rowid, cast_all, cast_row, Chosen, shown, Table, Trees, rowid, put_row, overlay, value_rows, understood, State, Executes, statement_of, runs_as, AreConflicts, conflicts, agree, Column, first_key, plain, Tables, present_schema, paired, pair_places, has_pair, cells_at, paired_in, paired_with, same_numbers, update_text, put_text, remove_text, AreKeyed, Sees, Changes, RanStatement, KeepsUnread, WritesOver}, proofs.TextLemmas.{WritesByPair, pair_terms, pair_overwrite, writes_where, written_over, by_pair, rowids_where}, proofs.CastLemmas.{fit, kept_all}, proofs.StepLemmas.{cast_null, cast_int, updates, deletes}, proofs.UpsertLemmas.{Settles, upserts}, proofs.OverLemmas.{free_beside, pair_settles}, proofs.UpdateLemmas.{over_or_left}, proofs.ListingLemmas.{exactly}, proofs.ReadLemmas.{ArePairs}, proofs.QueryLemmas.{chosen, shows_all}, proofs.KeyLemmas.{after_put, after_removal, pair_exact, pair_apart}, proofs.RowLemmas.{moo_quiet, equal_number, put_keyed, rest_keyed, rest, went_out, pair_has, picks_pair}, proofs.SeenLemmas.{schema_seen, SetsTree, sees_still}}
+use Rattle.moo_tables.{proofs.Words.{Equal, ◌≡◌, ◌+◌, ◌/◌, ℕ, ℤ, List, [], ◌∷◌, ◌++◌, drop, map, length, slice_get, Option, Some, None, true, false, ◌&&◌, ◌||◌, ◌⊎◌, inl, inr, Bool, Result, Ok, Err, OnOk, IfOk, IsTrue, refl, sym, ap, subst, ◌∙◌, arith, list_all, and_parts, IsPermutation, Null, Int, Error, Row, column, binary, is_true, col, holds, eval_all, Binary, Compare, Eq, with_rowid, next_rowid, cast_all, cast_row, Chosen, shown, Table, Trees, rowid, put_row, overlay, value_rows, understood, State, Executes, statement_of, runs_as, AreConflicts, conflicts, agree, Column, first_key, plain, Tables, present_schema, paired, pair_places, has_pair, cells_at, paired_in, paired_with, same_numbers, update_text, put_text, remove_text, AreKeyed, Sees, Changes, RanStatement, KeepsUnread, WritesOver, insert_text, true≢false, Has, some_from, tied_itself, value_cmp, value_cmp_total, is_eq, IsSound}, proofs.TextLemmas.{WritesByPair, pair_terms, pair_overwrite, writes_where, written_over, by_pair, rowids_where}, proofs.CastLemmas.{fit, kept_all}, proofs.StepLemmas.{cast_null, cast_int, updates, deletes, inserts}, proofs.UpsertLemmas.{Settles, upserts}, proofs.OverLemmas.{free_beside, pair_settles, all_free}, proofs.InsertLemmas.{is_put, put_there, others_there}, proofs.UpdateLemmas.{over_or_left}, proofs.ListingLemmas.{exactly}, proofs.ReadLemmas.{ArePairs}, proofs.QueryLemmas.{chosen, shows_all}, proofs.KeyLemmas.{after_put, after_removal, pair_exact, pair_apart}, proofs.RowLemmas.{moo_quiet, equal_number, put_keyed, rest_keyed, rest, went_out, pair_has, picks_pair, pair_free}, proofs.SeenLemmas.{schema_seen, SetsTree, sees_still}}
+use Rattle.sqlite_trees.proofs.TreeLemmas.{IsShaped-put_row}
 
 -- The rows of the table have these cells. Each of these facts is computed, whatever the columns are.
 pub record HasPairs {K C : Type 0} (t : Table) (pair : K → ℤ × ℤ) (cells : K → C → Row) : Type 0 where
@@ -72,6 +73,19 @@ module _ {K C : Type 0} (name : List ℕ) (tree : ℕ) (columns : List Column) (
   module _ (at : ℕ) (is : slice_get present_schema.tables at ≡ Some (paired name tree columns)) (writes : WritesByPair at (paired name tree columns)) (With : ℤ × ℤ → Option Row → Tables → Tables) (keyed_seen : (s : State) (tables : Tables) → Sees s tables → AreKeyed (s.now.trees tree)) (pairs_seen : (s : State) (tables : Tables) → Sees s tables → ArePairs (s.now.trees tree))
       (sees : (old new : State) (tables : Tables) (key : ℤ × ℤ) (shown : Option Row) (rows : List Row) → Sees old tables → SetsTree old new tree rows → AreKeyed rows
       → ((k : ℤ × ℤ) → paired_in places rows k ≡ paired_with key shown (paired_in places (old.now.trees tree)) k) → Sees new (With key shown tables) × KeepsUnread old.now new.now) where
+    -- the row stands in its table, under a number that none of the others has
+    stands : (old new : State) (tables : Tables) (key : K) (row : C) (id : ℤ) (seen : Sees old tables) → SetsTree old new tree (put_row (Int id ∷ cells key row) (rest has_pair (pair key) (old.now.trees tree) (keyed_seen old tables seen)))
+        → ((r : Row) → Has (rest has_pair (pair key) (old.now.trees tree) (keyed_seen old tables seen)) r → value_cmp (rowid r) (Int id) ≡ Equal → ⊥)
+        → Sees new (With (pair key) (Some (cells key row)) tables) × KeepsUnread old.now new.now
+    stands old new tables key row id seen sets free =
+        let two = pair key in
+        let source = Int id ∷ cells key row in
+        let old_rows = old.now.trees tree in
+        let keyed = keyed_seen old tables seen in
+        sees old new tables two (Some (cells key row)) (put_row source (rest has_pair two old_rows keyed)) seen sets (put_keyed has_pair two old_rows keyed source refl)
+        (λ k. after_put same_numbers has_pair (cells_at places) pair_exact pair_apart two source old_rows (has_its_pair id key row) free k
+        ∙ ap (λ shown. paired_with two (Some shown) (paired_in places old_rows) k) (it_has.placed id key row))
+
     -- one row was written over, or none was there
     abbrev Overs : State → State → K → C → ℕ → Tables → Type 0
     Overs old new key row count tables = ((Sees new (With (pair key) (Some (cells key row)) tables) × KeepsUnread old.now new.now) × (count ≡ 1)) ⊎ ((Sees new tables × KeepsUnread old.now new.now) × (count ≡ 0))
@@ -97,13 +111,7 @@ module _ {K C : Type 0} (name : List ℕ) (tree : ℕ) (columns : List Column) (
               let ties = and_parts _ _ f.here in
               let row_is = over_updated key row f.number f.row f.numbered (exactly (column f.row 1) two.0 ints.0 ties.0) (exactly (column f.row 2) two.1 ints.1 ties.1) in
               let rows_are = it.edited.applies.rows ∙ o.after_is ∙ ap (λ r. put_row (cast_row t r) (rest has_pair two old_rows keyed)) row_is ∙ ap (λ r. put_row r (rest has_pair two old_rows keyed)) (kept f.number key row) in
-              inl (
-                sees old new tables two (Some params) (put_row (Int f.number ∷ params) (rest has_pair two old_rows keyed)) seen (sets _ rows_are)
-                    (put_keyed has_pair two old_rows keyed (Int f.number ∷ params) refl)
-                    (λ k. after_put same_numbers has_pair (cells_at places) pair_exact pair_apart two (Int f.number ∷ params) old_rows (has_its_pair f.number key row) (free_beside has_pair two old_rows keyed one o.there f (Int f.number ∷ params) refl) k
-                    ∙ ap (λ shown. paired_with two (Some shown) (paired_in places old_rows) k) (it_has.placed f.number key row)),
-                it.counted ∙ o.count,
-              ))
+              inl (stands old new tables key row f.number seen (sets _ rows_are) (free_beside has_pair two old_rows keyed one o.there f (Int f.number ∷ params) refl), it.counted ∙ o.count))
           | inr l ↦ inr (sees_still (sets old_rows (it.edited.applies.rows ∙ l.after_is)) tables seen, it.counted ∙ l.count)
         ]
 
@@ -124,6 +132,30 @@ module _ {K C : Type 0} (name : List ℕ) (tree : ℕ) (columns : List Column) (
         (rest_keyed has_pair two old_rows keyed)
         (after_removal same_numbers has_pair (cells_at places) pair_exact pair_apart two old_rows)
 
+    -- rows of a sound tree are told by their pairs
+    module _ (pairs_sound : (db : Trees) → IsSound present_schema db → AreKeyed (db tree) → ArePairs (db tree)) where
+      pub insert : (old new : State) (key : K) (row : C) (r : Result ℕ Error) → RanStatement (insert_text t) (cells key row) old new r → OnOk r (Changes (With (pair key) (Some (cells key row))) old new)
+      insert old new key row (Err e) ran = tt
+      insert old new key row (Ok count) ran = λ clean tables seen.
+          let has = schema_seen seen in
+          let two = pair key in
+          let params = cells key row in
+          let old_rows = old.now.trees tree in
+          let next = next_rowid old_rows in
+          let source = Int next ∷ params in
+          let keyed = keyed_seen old tables seen in
+          let w = runs_as (insert_text t) params old new present_schema has _ writes.insert.command writes.insert.plain count (ran clean).1 in
+          let it = inserts present_schema moo_quiet at _ _ _ _ _ _ _ is old new has (statement_of (insert_text t) (understood present_schema (insert_text t))) params count (pair_terms t) (length columns + 1) (Null ∷ params) (it_has.alone key row) w in
+          let put = is_put present_schema t old.now.trees new.now.trees (Null ∷ params) source (fresh old_rows key row) it.applies in
+          let sound = subst (λ schema. IsSound schema new.now.trees) it.schema_is w.sound in
+          let there = pairs_sound new.now.trees sound (subst AreKeyed (sym put.rows_are) (IsShaped-put_row source old_rows refl keyed)) in
+          let none = λ (r : Row) (in_it : Has old_rows r) (here : has_pair two r ≡ true).
+          let same : r ≡ source = there.one two r source (others_there put r in_it) (put_there put) here (has_its_pair next key row) in
+          let tie : is_eq (value_cmp (rowid r) (Int next)) ≡ true = ap (λ x. is_eq (value_cmp (rowid x) (Int next))) same ∙ ap is_eq (tied_itself value_cmp_total (Int next)) in
+          true≢false (sym (some_from (λ x. is_eq (value_cmp (rowid x) (Int next))) old_rows r in_it tie) ∙ put.free) in
+          let rows_are = put.rows_are ∙ ap (put_row source) (all_free has_pair two old_rows keyed none) in
+          stands old new tables key row next seen (record { schema_is = it.schema_is; sound = w.sound; is_open = w.shown.is_open; inside = (ran clean).0; rows_are = rows_are; others = it.applies.others }) (pair_free two old_rows [] keyed)
+
     pub put : (old new : State) (key : K) (row : C) (r : Result ℕ Error) → RanStatement (put_text t) (cells key row) old new r → OnOk r (Changes (With (pair key) (Some (cells key row))) old new)
     put old new key row (Err e) ran = tt
     put old new key row (Ok count) ran = λ clean tables seen.
@@ -140,12 +172,7 @@ module _ {K C : Type 0} (name : List ℕ) (tree : ℕ) (columns : List Column) (
         let met = subst (λ r. AreConflicts (Some (1 ∷ 2 ∷ [])) present_schema.indexes t old_rows r it.found) whole it.conflicts in
         let ends = subst (λ r. Settles present_schema t old.now.trees params update r it.found new.now.trees) whole it.settles in
         let settled = pair_settles t two old.now.trees new.now.trees keyed (pairs_seen old tables seen) (it_has.stored old.now.trees) params (length columns) (pair_overwrite t) (λ r in_it. meets next key row r) (λ id. kept id key row) (λ id. it_has.there next id key row) (λ id r. refl) (over next key row) it.found met ends in
-        let number = settled.0.number in
-        sees old new tables two (Some params) (put_row (Int number ∷ params) (rest has_pair two old_rows keyed)) seen
-        (record { schema_is = it.schema_is; sound = w.sound; is_open = w.shown.is_open; inside = (ran clean).0; rows_are = settled.0.rows_are; others = settled.1 })
-        (put_keyed has_pair two old_rows keyed (Int number ∷ params) refl)
-        (λ k. after_put same_numbers has_pair (cells_at places) pair_exact pair_apart two (Int number ∷ params) old_rows (has_its_pair number key row) settled.0.free k
-        ∙ ap (λ shown. paired_with two (Some shown) (paired_in places old_rows) k) (it_has.placed number key row))
+        stands old new tables key row settled.0.number seen (record { schema_is = it.schema_is; sound = w.sound; is_open = w.shown.is_open; inside = (ran clean).0; rows_are = settled.0.rows_are; others = settled.1 }) settled.0.free
 
     pub update : (old new : State) (key : K) (row : C) (r : Result ℕ Error) → RanStatement (update_text t) (cells key row) old new r → IfOk r (λ count. WritesOver (With (pair key) (Some (cells key row))) count old new)
     update old new key row (Err e) ran = tt

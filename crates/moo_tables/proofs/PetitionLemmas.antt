@@ -1,5 +1,5 @@
 -- What the statements on petitions do.
-use Rattle.moo_tables.{proofs.Words.{ℕ, ℤ, pos, List, [], ◌∷◌, Option, Some, None, Result, OnOk, IfOk, Vec, ◌≡◌, refl, sym, ap, subst, Global, Value, Null, Int, Text, Error, Row, State, cells_over, all_but, petition_row, with_petition_cells, Tables, petition_table, numbered_with, numbered_over, update_petition_text, keep_petition_text, put_petition_text, remove_petition_text, Changes, RanStatement, WritesOver, HasCauseIn}, specs.declared.petition.PetitionCells.{PetitionCells}, proofs.TextLemmas.{petition_writes, petition_keeps}, proofs.RefusalLemmas.{each}, proofs.StoppedLemmas.{Ran}, proofs.StopNumberLemmas.{PassesNumbers}, proofs.NumberLemmas.{HasNumbers}, proofs.KeepNumberLemmas.{KeepsNumbers}, proofs.TypedLemmas.{petition_texts}, proofs.SeenLemmas.{petitions_seen, rows_seen, sees_petition}}
+use Rattle.moo_tables.{proofs.Words.{ℕ, ℤ, pos, List, [], ◌∷◌, Option, Some, None, Result, OnOk, IfOk, Vec, ◌≡◌, refl, sym, ap, subst, Global, Value, Null, Int, Text, Error, Row, State, cells_over, all_but, petition_row, with_petition_cells, Tables, petition_table, numbered_with, numbered_over, update_petition_text, keep_petition_text, put_petition_text, remove_petition_text, Changes, RanStatement, WritesOver, HasCauseIn, insert_petition_text, MeetsRowIn}, specs.declared.petition.PetitionCells.{PetitionCells}, proofs.TextLemmas.{petition_writes, petition_keeps}, proofs.RefusalLemmas.{each}, proofs.StoppedLemmas.{Ran}, proofs.StopNumberLemmas.{PassesNumbers}, proofs.NumberLemmas.{HasNumbers}, proofs.KeepNumberLemmas.{KeepsNumbers}, proofs.TypedLemmas.{petition_texts}, proofs.SeenLemmas.{petitions_seen, rows_seen, sees_petition}}
 use Rattle.moo_tables.proofs.StopNumberLemmas as stop
 use Rattle.moo_tables.proofs.NumberLemmas as number
 use Rattle.moo_tables.proofs.KeepNumberLemmas as kept
@@ -38,6 +38,10 @@ remove = number.remove _ 9 _ number_of whole has_numbers 6 refl petition_writes 
 abbrev Over : PetitionId → PetitionCells → Option (Vec ℕ Global) → Tables → Tables
 Over id row text tables = record tables { petition = numbered_over (number_of id) (cells_over (over id row) 2 text) tables.petition }
 
+pub insert : (old new : State) (id : PetitionId) (row : PetitionCells) (text : Vec ℕ Global) (r : Result ℕ Error) → row.calls ≡ Some text → RanStatement insert_petition_text (petition_row id row (Text text.items)) old new r → OnOk r (Changes (with_petition_cells id (Some row)) old new)
+insert old new id row text r is ran = subst (λ o. OnOk r (Changes (Over id row o) old new)) (sym is)
+    (number.insert _ 9 _ number_of whole has_numbers 6 refl petition_writes With (λ s tables seen. petitions_seen seen) sees_petition old new id (row, text.items) r ran)
+
 pub put : (old new : State) (id : PetitionId) (row : PetitionCells) (text : Vec ℕ Global) (r : Result ℕ Error) → row.calls ≡ Some text → RanStatement put_petition_text (petition_row id row (Text text.items)) old new r → OnOk r (Changes (with_petition_cells id (Some row)) old new)
 put old new id row text r is ran = subst (λ o. OnOk r (Changes (Over id row o) old new)) (sym is)
     (number.put _ 9 _ number_of whole has_numbers 6 refl petition_writes With (λ s tables seen. petitions_seen seen) sees_petition old new id (row, text.items) r ran)
@@ -69,6 +73,9 @@ passes = record {
 
 pub remove_fails : (old new : State) (id : PetitionId) (r : Result ℕ Error) → Ran remove_petition_text (Int (pos id.0) ∷ []) old new r → HasCauseIn old new r
 remove_fails old new id = stop.remove _ 9 _ number_of whole has_numbers passes 6 refl petition_writes (λ s tables seen. petitions_seen seen) old new (pos id.0) petition_writes.remove.one
+
+pub insert_fails : (old new : State) (id : PetitionId) (row : Whole) (r : Result ℕ Error) → Ran insert_petition_text (whole id row) old new r → MeetsRowIn old new r
+insert_fails old new id row = stop.insert _ 9 _ number_of whole has_numbers passes 6 refl petition_writes (λ s tables seen. petitions_seen seen) old new id row petition_writes.insert.one
 
 pub put_fails : (old new : State) (id : PetitionId) (row : Whole) (r : Result ℕ Error) → Ran put_petition_text (whole id row) old new r → HasCauseIn old new r
 put_fails old new id row = stop.put _ 9 _ number_of whole has_numbers passes 6 refl petition_writes (λ s tables seen. petitions_seen seen) old new id row petition_writes.put.one

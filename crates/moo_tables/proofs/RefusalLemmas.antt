@@ -1,5 +1,5 @@
 -- Why SQL refuses a write of our tables: it can, for its steps or for its rows' numbers, but not for its text, its types or its keys.
-use Rattle.moo_tables.{proofs.Words.{◌≡◌, ◌⊎◌, inl, inr, ℕ, zero, suc, ℤ, List, [], ◌∷◌, ◌++◌, length, drop, Bool, true, false, true≢false, ◌||◌, not, Option, Some, None, Err, Result, IsSome, refl, sym, ap, subst, ◌∙◌, arith, length-append, ◌/◌, ◌&&◌, nat_lt, AllByRecursion, list_all, Error, Row, Table, Trees, put_row, rowid, with_tree, Edit, edit_of, with_rowid, without_all, cast_row, Given, Chosen, Answers, RefusesQuery, value_rows, edit_error, Concludes, Task, Written, Edited, Updates, Deletes, InsertsOr, Tries, TriesEach, Judged, Upserts, Meets, Clears, Puts, shown, count_of, nothing, inner, end, Term, overlay, Enforced, Datatype, NotNull, Check, PrimaryKey, Unique, ForeignKey, Refers, Keeps, passes, AreConflicts, ids_of, is_int, Column, Abort, Upsert, Values, Order, IsRefused, is_taken, taken_by, left_by, edited, are_fresh, have_rowids, is_referred, no_fold_overflows, accepts_program, accepts_terms, present_schema, table_of}, proofs.TextLemmas.{plain_query, writes_where}}
+use Rattle.moo_tables.{proofs.Words.{◌≡◌, ◌⊎◌, inl, inr, ℕ, zero, suc, ℤ, List, [], ◌∷◌, ◌++◌, length, drop, Bool, true, false, true≢false, ◌||◌, not, Option, Some, None, Err, Result, IsSome, refl, sym, ap, subst, ◌∙◌, arith, length-append, ◌/◌, ◌&&◌, nat_lt, AllByRecursion, list_all, Error, Row, Table, Trees, put_row, rowid, with_tree, Edit, edit_of, with_rowid, without_all, cast_row, Given, Chosen, Answers, RefusesQuery, value_rows, edit_error, Concludes, Task, Written, Edited, Updates, Deletes, InsertsOr, Tries, TriesEach, Judged, Upserts, Meets, Clears, Puts, shown, count_of, nothing, inner, end, Term, overlay, Enforced, Datatype, NotNull, Check, PrimaryKey, Unique, ForeignKey, Refers, Keeps, passes, AreConflicts, ids_of, is_int, Column, Abort, Upsert, Values, Order, IsRefused, is_taken, taken_by, left_by, edited, are_fresh, have_rowids, is_referred, no_fold_overflows, accepts_program, accepts_terms, present_schema, table_of, Inserts, is_conflict}, proofs.TextLemmas.{plain_query, writes_where}}
 use Rattle.sqlite.{specs.declared.error.Error.TheVariants.{SqliteFailure}, specs.declared.run.Mode.{Mode}}
 use Rattle.sqlite.specs.declared.error.ErrorCode.TheVariants as code
 use Rattle.sqlite_schema.specs.declared.schema.Among.TheVariants.{All}
@@ -84,6 +84,22 @@ pub edited_clear : (db : Trees) (edit : Edit) (e : Error) → IsClear db edit �
 edited_clear db edit e clear (None, wrote, is) = absurd (let x = is in cc)
 edited_clear db edit e clear (Some why, wrote, is) = (let same : e ≡ edit_error why = (let x = is in cc) in same ∙ not_refused db edit clear why (refused_by db edit why refl wrote))
 
+-- a refused edit whose rows have numbers, and to which nothing refers, broke a rule of its table, or no number is left
+conflicting : (db : Trees) (edit : Edit) → have_rowids edit.news ≡ true → is_referred present_schema Enforced edit ≡ true → (why : Refusal) → IsRefused present_schema Enforced db edit why
+    → (is_conflict (edit_error why) ≡ true) ⊎ (edit_error why ≡ SqliteFailure code.NoRowid)
+conflicting db edit keyed referred (Violates rule) h = inl refl
+conflicting db edit keyed referred Mismatch h = absurd (both keyed h)
+conflicting db edit keyed referred NoRowid h = inr refl
+conflicting db edit keyed referred BadReference h = absurd (both referred h)
+conflicting db edit keyed referred TooDeep h = absurd h
+
+edited_conflicts : (db : Trees) (edit : Edit) (e : Error) → have_rowids edit.news ≡ true → is_referred present_schema Enforced edit ≡ true → Edited present_schema Enforced db edit (Err (Some e))
+    → (is_conflict e ≡ true) ⊎ (e ≡ SqliteFailure code.NoRowid)
+edited_conflicts db edit e keyed referred (None, wrote, is) = absurd (let x = is in cc)
+edited_conflicts db edit e keyed referred (Some why, wrote, is) =
+    let same : e ≡ edit_error why = (let x = is in cc) in
+    subst (λ x. (is_conflict x ≡ true) ⊎ (x ≡ SqliteFailure code.NoRowid)) (sym same) (conflicting db edit keyed referred why (refused_by db edit why refl wrote))
+
 -- ---- a table of ours: no CHECK, no reference, nothing computed
 
 fits : (adds removes : Bool) → ((not adds || true) && (not removes || true)) ≡ true
@@ -136,6 +152,26 @@ module _ (name : List ℕ) (tree : ℕ) (columns : List Column) (key : Option �
         | inr next ↦ absurd (let x = next.2 in cc)
       ]
     ]
+
+    -- a plain insertion of a row may meet one with its key; else all that is left is its steps, and the numbers
+    pub insert_stops : (terms : List Term) (width : ℕ) (source row : Row) → accepts_terms terms (params ++ []) ≡ true → value_rows (params ++ []) width (length terms / width) terms ≡ source ∷ [] → with_rowid Chosen (db tree) (cast_row t source) ≡ row
+        → is_int (rowid row) ≡ true → Inserts mine (Values terms width) db (Err (Some e)) → (is_conflict e ≡ true) ⊎ IsAllowed limit e
+    insert_stops terms width source row accepted sources is keyed h = elim (halted h) [
+      | inl asked ↦ elim asked [ inl bad ↦ absurd (true≢false (sym accepted ∙ bad.1)) | inr cut ↦ inr (inl cut) ]
+      | inr rows ↦ elim (halted rows.2) [
+        | inl counted ↦ absurd (let x = counted in cc)
+        | inr counter ↦ elim (halted counter.2) [
+          | inl wrote ↦ refused (subst (λ rs. Edited present_schema Enforced db (edit_of db t [] Chosen 0 rs) (Err (Some e))) (rows.1.1 ∙ sources) wrote)
+          | inr put ↦ elim (halted put.2) [ inl counts ↦ absurd (let x = counts in cc) | inr next ↦ absurd (let x = next.2 in cc) ]
+        ]
+      ]
+    ]
+      where
+        refused : Edited present_schema Enforced db (edit_of db t [] Chosen 0 (source ∷ [])) (Err (Some e)) → (is_conflict e ≡ true) ⊎ IsAllowed limit e
+        refused wrote =
+            let edit = edit_of db t [] Chosen 0 (source ∷ []) in
+            let numbered : have_rowids edit.news ≡ true = subst (λ r. (is_int (rowid r) && true) ≡ true) (sym is) (alone _ keyed) in
+            elim (edited_conflicts db edit e numbered (fits true false) wrote) [ inl met ↦ inl met | inr none ↦ inr (inr none) ]
 
     pub delete_stops : (filter project : List Term) → accepts_program present_schema [] (plain_query tree filter project []) params ≡ true
         → ((answer : List Row) → Answers (record { schema = present_schema; trees = db }) (writes_where tree filter project) params answer → IsClear db (edit_of db t (ids_of answer) Given 0 []))

@@ -1,5 +1,5 @@
 -- Why a statement fails that writes a table with a number as its key, whichever it is.
-use Rattle.moo_tables.{proofs.Words.{◌≡◌, ◌⊎◌, inl, inr, ℕ, ◌+◌, ℤ, List, [], ◌∷◌, ◌++◌, filter, map, drop, length, slice_get, Bool, true, false, true≢false, ◌&&◌, not, Some, None, Ok, Err, Result, IsTrue, refl, sym, ap, subst, ◌∙◌, list_any, list_all, IsPermutation, Error, Value, Null, Int, Text, is_eq, and_parts, and_from, tied_itself, value_cmp_total, Row, value_cmp, Term, col, holds, eval_all, Table, Trees, rowid, has_rowid, with_tree, edit_of, with_rowid, without_all, id_in, cast_row, Given, Chosen, Updates, shown, overlay, Does, Answers, InsertOr, Update, Delete, Values, Abort, Enforced, understood, State, mode_of, Unique, Column, Keeps, is_taken, AreConflicts, Has, ids_of, some_has, some_from, all_has, has_filtered, is_int, one_permutation, accepts_program, accepts_terms, HasCauseIn, Tables, present_schema, numbered, update_text, keep_text, put_text, remove_text, AreKeyed, Sees}, proofs.TextLemmas.{WritesByNumber, KeepsByNumber, plain_query, number_terms, number_overwrite, number_keep, written_over, writes_where, by_number, by_given}, proofs.KeyLemmas.{is_false, both_ways, filter_same, int_value}, proofs.QueryLemmas.{chosen, shows_all}, proofs.OverLemmas.{none_kept, no_permutation, alone, picks_given, number_one}, proofs.NumberLemmas.{HasNumbers, stored_at}, proofs.KeepNumberLemmas.{KeepsNumbers}, proofs.TypedLemmas.{HasText}, proofs.SeenLemmas.{schema_seen, sound_seen}, proofs.ListingLemmas.{exactly}, proofs.RefusalLemmas.{IsAllowed, IsClear, IsFit, Upserting, clear_none, clear_one, update_stops, delete_stops, upsert_stops, concluded, halted}, proofs.StoppedLemmas.{IsOne, Ran, at_schema, stops}}
+use Rattle.moo_tables.{proofs.Words.{◌≡◌, ◌⊎◌, inl, inr, ℕ, ◌+◌, ℤ, List, [], ◌∷◌, ◌++◌, filter, map, drop, length, slice_get, Bool, true, false, true≢false, ◌&&◌, not, Some, None, Ok, Err, Result, IsTrue, refl, sym, ap, subst, ◌∙◌, list_any, list_all, IsPermutation, Error, Value, Null, Int, Text, is_eq, and_parts, and_from, tied_itself, value_cmp_total, Row, value_cmp, Term, col, holds, eval_all, Table, Trees, rowid, has_rowid, with_tree, edit_of, with_rowid, without_all, id_in, cast_row, Given, Chosen, Updates, shown, overlay, Does, Answers, InsertOr, Update, Delete, Values, Abort, Enforced, understood, State, mode_of, Unique, Column, Keeps, is_taken, AreConflicts, Has, ids_of, some_has, some_from, all_has, has_filtered, is_int, one_permutation, accepts_program, accepts_terms, HasCauseIn, Tables, present_schema, numbered, update_text, keep_text, put_text, remove_text, AreKeyed, Sees, Insert, insert_text, is_conflict, MeetsRowIn}, proofs.TextLemmas.{WritesByNumber, KeepsByNumber, plain_query, number_terms, number_overwrite, number_keep, written_over, writes_where, by_number, by_given}, proofs.KeyLemmas.{is_false, both_ways, filter_same, int_value}, proofs.QueryLemmas.{chosen, shows_all}, proofs.OverLemmas.{none_kept, no_permutation, alone, picks_given, number_one}, proofs.NumberLemmas.{HasNumbers, stored_at}, proofs.KeepNumberLemmas.{KeepsNumbers}, proofs.TypedLemmas.{HasText}, proofs.SeenLemmas.{schema_seen, sound_seen}, proofs.ListingLemmas.{exactly}, proofs.RefusalLemmas.{IsAllowed, IsClear, IsFit, Upserting, clear_none, clear_one, update_stops, delete_stops, upsert_stops, concluded, halted, insert_stops}, proofs.CauseLemmas.{met_or_stopped}, proofs.StoppedLemmas.{IsOne, Ran, at_schema, stops, stops_or}}
 use Rattle.moo_tables.proofs.NumberLemmas as numbers
 use Rattle.moo_tables.proofs.KeepNumberLemmas as kept_of
 
@@ -139,6 +139,13 @@ module _ {K C : Type 0} (name : List ℕ) (tree : ℕ) (columns : List Column) (
             let r = met.sound there (inl refl) in
             ap rowid r.3 ∙ exactly (rowid r.0) (number key) (all_has (λ r. IsTrue (is_int (rowid r))) (db tree) r.0 keyed.1 r.1) (sym (numbers.meets name tree columns number cells it_has key row r.0) ∙ r.2)
 
+        inserts : (text : List ℕ) → Does s.step_limit (mode_of s) (cells key row) (record { schema = present_schema; trees = db }) text None (Insert at (Values (number_terms t) (length columns + 1))) (Err (Some e)) → (is_conflict e ≡ true) ⊎ IsAllowed s.step_limit e
+        inserts text h = elim (halted (rw is at h)) [
+          | inl wrote ↦ insert_stops name tree columns (Some 0) (0 ∷ []) [] [] db s.step_limit (cells key row) e (number_terms t) (length columns + 1) source source
+              (passes.puts key row) (it_has.alone key row) (ap (with_rowid Chosen (db tree)) (numbers.kept name tree columns number cells it_has key row)) (passes.fit db key row).keyed wrote
+          | inr done ↦ absurd (concluded s.step_limit t (cells key row) done.0 e done.2)
+        ]
+
         puts : (text : List ℕ) → Does s.step_limit (mode_of s) (cells key row) (record { schema = present_schema; trees = db }) text None (InsertOr at Abort (Values (number_terms t) (length columns + 1)) (record { target = Some (0 ∷ []); update = Some (written_over tree (length columns) (number_overwrite t)) } ∷ [])) (Err (Some e)) → IsAllowed s.step_limit e
         puts text h = elim (halted (rw is at h)) [
           | inl wrote ↦ upsert_stops name tree columns (Some 0) (0 ∷ []) [] [] db s.step_limit (cells key row) e (0 ∷ []) (by_given (length columns)) (number_overwrite t) (number_terms t) (length columns + 1) source source
@@ -161,6 +168,13 @@ module _ {K C : Type 0} (name : List ℕ) (tree : ℕ) (columns : List Column) (
     update old new key row one (Err e) ran = λ clean tables seen.
         stops (update_text t) (cells key row) old new present_schema (schema_seen seen) _ writes.update.command writes.update.plain one refl refl e
         (λ text does. updates at is old tables seen (keyed_seen old tables seen) e key row text (at_schema old.step_limit (mode_of old) (cells key row) old.now present_schema text (Update at (writes_where tree by_number (number_overwrite t))) e (schema_seen seen) does)) (ran clean seen.inside)
+
+    pub insert : (old new : State) (key : K) (row : C) → IsOne (length (insert_text t)) (length (cells key row)) (understood present_schema (insert_text t)) → (r : Result ℕ Error) → Ran (insert_text t) (cells key row) old new r → MeetsRowIn old new r
+    insert old new key row one (Ok count) ran = λ clean tables seen. tt
+    insert old new key row one (Err e) ran = λ clean tables seen.
+        let command = Insert at (Values (number_terms t) (length columns + 1)) in
+        met_or_stopped old new e tables seen (stops_or (insert_text t) (cells key row) old new present_schema (schema_seen seen) _ writes.insert.command writes.insert.plain one refl refl e
+        (λ text does. inserts at is old tables seen (keyed_seen old tables seen) e key row text (at_schema old.step_limit (mode_of old) (cells key row) old.now present_schema text command e (schema_seen seen) does)) (ran clean seen.inside))
 
     pub put : (old new : State) (key : K) (row : C) → IsOne (length (put_text t)) (length (cells key row)) (understood present_schema (put_text t)) → (r : Result ℕ Error) → Ran (put_text t) (cells key row) old new r → HasCauseIn old new r
     put old new key row one (Ok count) ran = λ clean tables seen. tt

@@ -1,5 +1,5 @@
 -- Why a statement fails that writes a table with two columns as its key, whichever it is.
-use Rattle.moo_tables.{proofs.Words.{◌≡◌, ◌⊎◌, inl, inr, ℕ, ◌+◌, ℤ, List, [], ◌∷◌, ◌++◌, map, drop, length, slice_get, true, true≢false, not, Some, None, Ok, Err, Result, IsTrue, refl, sym, ap, subst, ◌∙◌, IsPermutation, is_eq, and_parts, not-true, tied_itself, value_cmp_total, plain, Error, Value, Null, Int, Text, Row, column, value_cmp, col, eval_all, Table, Trees, rowid, has_rowid, put_row, without_rowid, with_tree, edit_of, without_all, id_in, next_rowid, cast_row, Given, Chosen, Updates, shown, overlay, Does, Answers, InsertOr, Update, Delete, Values, understood, State, mode_of, Abort, Enforced, Unique, Column, Keeps, AreConflicts, Has, ids_of, all_has, has_filtered, is_int, accepts_program, accepts_terms, HasCauseIn, Tables, present_schema, paired, has_pair, update_text, keep_text, put_text, remove_text, AreKeyed, Sees}, proofs.TextLemmas.{WritesByPair, KeepsByPair, plain_query, pair_terms, pair_overwrite, pair_keep, written_over, writes_where, by_pair, by_given}, proofs.KeyLemmas.{int_value}, proofs.QueryLemmas.{chosen, shows_all}, proofs.OverLemmas.{picks_given, number_one}, proofs.ReadLemmas.{ArePairs}, proofs.PairLemmas.{HasPairs}, proofs.KeepPairLemmas.{KeepsPairs}, proofs.TypedLemmas.{HasText}, proofs.SeenLemmas.{schema_seen, sound_seen}, proofs.ListingLemmas.{exactly}, proofs.UniqueLemmas.{AreApart, IsNumbered, are_apart, put_apart}, proofs.RefusalLemmas.{IsAllowed, IsClear, IsFit, Upserting, clear_none, clear_one, update_stops, delete_stops, upsert_stops, concluded, halted}, proofs.StoppedLemmas.{IsOne, Ran, at_schema, stops}, proofs.StopNumberLemmas.{none_left, OneRow, one_or_none}}
+use Rattle.moo_tables.{proofs.Words.{◌≡◌, ◌⊎◌, inl, inr, ℕ, ◌+◌, ℤ, List, [], ◌∷◌, ◌++◌, map, drop, length, slice_get, true, true≢false, not, Some, None, Ok, Err, Result, IsTrue, refl, sym, ap, subst, ◌∙◌, IsPermutation, is_eq, and_parts, not-true, tied_itself, value_cmp_total, plain, Error, Value, Null, Int, Text, Row, column, value_cmp, col, eval_all, Table, Trees, rowid, has_rowid, put_row, without_rowid, with_tree, edit_of, without_all, id_in, next_rowid, cast_row, Given, Chosen, Updates, shown, overlay, Does, Answers, InsertOr, Update, Delete, Values, understood, State, mode_of, Abort, Enforced, Unique, Column, Keeps, AreConflicts, Has, ids_of, all_has, has_filtered, is_int, accepts_program, accepts_terms, HasCauseIn, Tables, present_schema, paired, has_pair, update_text, keep_text, put_text, remove_text, AreKeyed, Sees, Insert, insert_text, is_conflict, MeetsRowIn}, proofs.TextLemmas.{WritesByPair, KeepsByPair, plain_query, pair_terms, pair_overwrite, pair_keep, written_over, writes_where, by_pair, by_given}, proofs.KeyLemmas.{int_value}, proofs.QueryLemmas.{chosen, shows_all}, proofs.OverLemmas.{picks_given, number_one}, proofs.ReadLemmas.{ArePairs}, proofs.PairLemmas.{HasPairs}, proofs.KeepPairLemmas.{KeepsPairs}, proofs.TypedLemmas.{HasText}, proofs.SeenLemmas.{schema_seen, sound_seen}, proofs.ListingLemmas.{exactly}, proofs.UniqueLemmas.{AreApart, IsNumbered, are_apart, put_apart}, proofs.RefusalLemmas.{IsAllowed, IsClear, IsFit, Upserting, clear_none, clear_one, update_stops, delete_stops, upsert_stops, concluded, halted, insert_stops}, proofs.CauseLemmas.{met_or_stopped}, proofs.StoppedLemmas.{IsOne, Ran, at_schema, stops, stops_or}, proofs.StopNumberLemmas.{none_left, OneRow, one_or_none}}
 use Rattle.moo_tables.proofs.PairLemmas as pairs_of
 use Rattle.moo_tables.proofs.KeepPairLemmas as kept_of
 use Rattle.sqlite_rules.proofs.PlaceLemmas.{next_is_free}
@@ -159,6 +159,13 @@ module _ {K C : Type 0} (name : List ℕ) (tree : ℕ) (columns : List Column) (
                 (one_clear key row id (eval_all (pair_overwrite t) ((cells key row ++ Int id ∷ shown t source) ∷ o.row ∷ [])) o.row o.in_it there named refl (pairs_of.over name tree columns pair cells it_has next key row id o.row named at_key.0 at_key.1))
             by_answer id r in_it here own value answer (inr none) = subst (λ a. IsClear db (edit_of db t (ids_of a) Given 1 a)) (sym none) none_clear
 
+        inserts : (text : List ℕ) → Does s.step_limit (mode_of s) (cells key row) (record { schema = present_schema; trees = db }) text None (Insert at (Values (pair_terms t) (length columns + 1))) (Err (Some e)) → (is_conflict e ≡ true) ⊎ IsAllowed s.step_limit e
+        inserts text h = elim (halted (rw is at h)) [
+          | inl wrote ↦ insert_stops name tree columns None (1 ∷ 2 ∷ []) ((1 ∷ 2 ∷ []) ∷ []) (plain ∷ []) db s.step_limit (cells key row) e (pair_terms t) (length columns + 1) (Null ∷ cells key row) source
+              (passes.puts key row) (it_has.alone key row) (pairs_of.fresh name tree columns pair cells it_has rows key row) (passes.fit db next key row).keyed wrote
+          | inr done ↦ absurd (concluded s.step_limit t (cells key row) done.0 e done.2)
+        ]
+
         puts : (text : List ℕ) → Does s.step_limit (mode_of s) (cells key row) (record { schema = present_schema; trees = db }) text None (InsertOr at Abort (Values (pair_terms t) (length columns + 1)) (record { target = Some (1 ∷ 2 ∷ []); update = Some (written_over tree (length columns) (pair_overwrite t)) } ∷ [])) (Err (Some e)) → IsAllowed s.step_limit e
         puts text h = elim (halted (rw is at h)) [
           | inl wrote ↦ upsert_stops name tree columns None (1 ∷ 2 ∷ []) ((1 ∷ 2 ∷ []) ∷ []) (plain ∷ []) db s.step_limit (cells key row) e (1 ∷ 2 ∷ []) (by_given (length columns)) (pair_overwrite t) (pair_terms t) (length columns + 1) (Null ∷ cells key row) source
@@ -180,6 +187,13 @@ module _ {K C : Type 0} (name : List ℕ) (tree : ℕ) (columns : List Column) (
     update old new key row one (Err e) ran = λ clean tables seen.
         stops (update_text t) (cells key row) old new present_schema (schema_seen seen) _ writes.update.command writes.update.plain one refl refl e
         (λ text does. updates at is old tables seen (keyed_seen old tables seen) (pairs_seen old tables seen) e key row text (at_schema old.step_limit (mode_of old) (cells key row) old.now present_schema text (Update at (writes_where tree by_pair (pair_overwrite t))) e (schema_seen seen) does)) (ran clean seen.inside)
+
+    pub insert : (old new : State) (key : K) (row : C) → IsOne (length (insert_text t)) (length (cells key row)) (understood present_schema (insert_text t)) → (r : Result ℕ Error) → Ran (insert_text t) (cells key row) old new r → MeetsRowIn old new r
+    insert old new key row one (Ok count) ran = λ clean tables seen. tt
+    insert old new key row one (Err e) ran = λ clean tables seen.
+        let command = Insert at (Values (pair_terms t) (length columns + 1)) in
+        met_or_stopped old new e tables seen (stops_or (insert_text t) (cells key row) old new present_schema (schema_seen seen) _ writes.insert.command writes.insert.plain one refl refl e
+        (λ text does. inserts at is old tables seen (keyed_seen old tables seen) (pairs_seen old tables seen) e key row text (at_schema old.step_limit (mode_of old) (cells key row) old.now present_schema text command e (schema_seen seen) does)) (ran clean seen.inside))
 
     pub put : (old new : State) (key : K) (row : C) → IsOne (length (put_text t)) (length (cells key row)) (understood present_schema (put_text t)) → (r : Result ℕ Error) → Ran (put_text t) (cells key row) old new r → HasCauseIn old new r
     put old new key row one (Ok count) ran = λ clean tables seen. tt

@@ -8,27 +8,27 @@ pub use Rattle.std.specs.Cmp.{IsTotalOrder}
 pub use Rattle.std.specs.List.{AllByRecursion, AllZip, list_all, list_any, range_with_len}
 pub use Rattle.std.specs.List.Sorted.{IsPermutation}
 pub use Rattle.std.specs.Ordering.{int_cmp, is_eq, is_lt, is_ne, match_ordering, ordering_reverse, ordering_then}
-pub use Rattle.std.specs.Prelude.{nat_lt, ⊤}
+pub use Rattle.std.specs.Prelude.{MatchBool, nat_lt, ⊤}
 pub use Rattle.std.specs.declared.alloc.Global.{Global}
 pub use Rattle.std.specs.declared.cmp.Ordering.{Ordering}
 pub use Rattle.std.specs.declared.cmp.Ordering.TheVariants.{Equal, Greater, Less}
 pub use Rattle.moo_rows.specs.declared.row.PropId.{PropId}
-pub use Rattle.moo_tables.specs.Cause.{HasCauseIn, StopsChange}
+pub use Rattle.moo_tables.specs.Cause.{HasCauseIn, MeetsRowIn, StopsChange, is_conflict}
 pub use Rattle.moo_tables.specs.Cells.{KeepsOthers, cells_after, counter_with, head_cells, object_cells, petition_cells, petition_head_cells, prop_cells, slot_cells, tables_with, verb_cells, with_counter, with_each, with_head_cells, with_next_petition, with_object_cells, with_object_changes, with_petition_cells, with_petition_changes, with_prop_cells, with_prop_changes, with_slot_cells, with_slot_changes, with_verb_cells, with_verb_changes}
 pub use Rattle.moo_tables.specs.Columns.{all_but, cells_over}
 pub use Rattle.moo_tables.specs.Inside.{AreKeyed, Changes, FailsToRead, HasNoTables, HasTables, Holds, IsCurrent, IsMade, KeepsUnread, Leaves, RanStatement, ReadsTables, Rests, Sees, StaysInside, no_rows, no_tables}
 pub use Rattle.moo_tables.specs.Listing.{AreListed, ArePaired, IsRowBelow, ListsNumbers, ListsPairs, ListsTables, has_key_pair, tables_of}
 pub use Rattle.moo_tables.specs.Head.{put_counter_text}
 pub use Rattle.moo_tables.specs.Migrated.{HasNoSlot, IsGrown, IsUnderWay, grown, migrated}
-pub use Rattle.moo_tables.specs.Object.{keep_object_text, object_row, put_object_text, remove_object_text, update_object_text}
+pub use Rattle.moo_tables.specs.Object.{insert_object_text, keep_object_text, object_row, put_object_text, remove_object_text, update_object_text}
 pub use Rattle.moo_tables.specs.Over.{WritesOver}
-pub use Rattle.moo_tables.specs.Petition.{keep_petition_text, petition_row, put_petition_text, remove_petition_text, update_petition_text}
-pub use Rattle.moo_tables.specs.Prop.{put_prop_text, remove_prop_text, update_prop_text}
+pub use Rattle.moo_tables.specs.Petition.{insert_petition_text, keep_petition_text, petition_row, put_petition_text, remove_petition_text, update_petition_text}
+pub use Rattle.moo_tables.specs.Prop.{insert_prop_text, put_prop_text, remove_prop_text, update_prop_text}
 pub use Rattle.moo_tables.specs.Rising.{has_two_numbers, is_above, pair_cmp, pair_of_ints}
-pub use Rattle.moo_tables.specs.Slot.{keep_slot_text, put_slot_text, remove_slot_text, slot_row, update_slot_text}
+pub use Rattle.moo_tables.specs.Slot.{insert_slot_text, keep_slot_text, put_slot_text, remove_slot_text, slot_row, update_slot_text}
 pub use Rattle.moo_tables.specs.Tables.{Tables, cells_at, first_schema, found_in, has_pair, head_places, head_schema, head_table, no_schema, number_places, numbered, numbered_in, numbered_over, numbered_with, object_places, object_schema, object_table, pair_places, paired, paired_in, paired_over, paired_with, petition_head_places, petition_head_table, petition_places, petition_rows, petition_schema, petition_table, present_schema, prop_places, prop_schema, prop_table, required, same_number, same_numbers, schema_of, second_schema, slot2_schema, slot2_table, slot_places, slot_schema, slot_table, slot_tree, table_of, tables_in, verb_places, verb_table, with_cells}
-pub use Rattle.moo_tables.specs.Texts.{create_text, keep_text, names, put_text, remove_text, select_text, update_text}
-pub use Rattle.moo_tables.specs.Verb.{keep_verb_text, put_verb_text, remove_verb_text, update_verb_text, verb_row}
+pub use Rattle.moo_tables.specs.Texts.{create_text, insert_text, keep_text, names, put_text, remove_text, select_text, update_text}
+pub use Rattle.moo_tables.specs.Verb.{insert_verb_text, keep_verb_text, put_verb_text, remove_verb_text, update_verb_text, verb_row}
 pub use Rattle.moo_tables.specs.Version.{IsEarlier, has_lettered_bits, has_petitions, present}
 pub use Rattle.moo_tables.specs.declared.slot.SlotCells.{SlotCells}
 pub use Rattle.moo_tables.specs.declared.version.Version.{Version}
@@ -39,7 +39,7 @@ pub use Rattle.sqlite.proofs.StateLemmas.{survives_then, survives_weaker}
 pub use Rattle.sqlite.specs.Cast.{cast, cast_all, cast_row}
 pub use Rattle.sqlite.specs.Clock.{timed}
 pub use Rattle.sqlite.specs.Collation.TheVariants.{Binary}
-pub use Rattle.sqlite.specs.Command.TheVariants.{CreateTable, Delete, InsertOr, Select, Update}
+pub use Rattle.sqlite.specs.Command.TheVariants.{CreateTable, Delete, Insert, InsertOr, Select, Update}
 pub use Rattle.sqlite.specs.Compile.{table_defined_by}
 pub use Rattle.sqlite.specs.Does.{Concludes, Does, Tally, lacks_sequence}
 pub use Rattle.sqlite.specs.Edit.{Applies, Edit, edit_of, id_in, next_rowid, put_all, with_rowid, without_all}
@@ -54,10 +54,10 @@ unfoldable pub use Rattle.sqlite.specs.Order.{value_cmp}
 pub use Rattle.sqlite.specs.Program.{overlay}
 pub use Rattle.sqlite.specs.Query.{IsAnswer, Output, Query, end, inner, output, output_cmp}
 pub use Rattle.sqlite.specs.Rowids.TheVariants.{Chosen, Given}
-pub use Rattle.sqlite.specs.Rows.{Clears, Deletes, Edited, InsertsOr, Judged, Meets, Puts, Task, Tries, TriesEach, Updates, Upserts, Written, count_of, nothing, shown}
+pub use Rattle.sqlite.specs.Rows.{Clears, Deletes, Edited, Inserts, InsertsOr, Judged, Meets, Puts, Task, Tries, TriesEach, Updates, Upserts, Written, count_of, nothing, shown}
 pub use Rattle.sqlite.specs.Schema.{Schema}
 pub use Rattle.sqlite.specs.Source.TheVariants.{Values}
-pub use Rattle.sqlite.specs.State.{CommitsShowing, Executes, ExecutesInside, Fails, FailsToShow, HasCause, HasCleanDisk, IsMisplaced, IsNoStatement, IsRolledBack, IsStatement, IsUnchanged, KeepsCommit, KeepsCounts, Opens, RunsCommand, Shows, ShowsRows, State, Survives, Writes, is_pragma, mode_of, shows_rows, text_of}
+pub use Rattle.sqlite.specs.State.{CommitsShowing, Executes, ExecutesInside, Fails, FailsToShow, HasCause, HasCleanDisk, IsMisplaced, IsNoStatement, IsRolledBack, IsStatement, IsUnchanged, KeepsCommit, KeepsCounts, Opens, RunsCommand, Shows, ShowsRows, State, Survives, Writes, is_pragma, mode_of, shows_rows, store_error, text_of}
 unfoldable pub use Rattle.sqlite.specs.State.{EndsScope, ExecutesIn, FailsToQuery, IsNotRun, Shown}
 pub use Rattle.sqlite.specs.Table.{Table}
 pub use Rattle.sqlite.specs.Term.{Env, Term, col, eval_all, holds, lit, op2}

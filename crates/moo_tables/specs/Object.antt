@@ -8,7 +8,7 @@ use Rattle.moo_value.specs.declared.value.ObjNo.{ObjNo}
 use Rattle.moo_rows.specs.declared.row.ObjRow.{ObjRow}
 use Rattle.moo_tables.specs.declared.object.ObjectCells.{ObjectCells}
 use Rattle.moo_tables.specs.Columns.{numbered, number, text, flag_cell, cells_over, KeepsCell}
-use Rattle.moo_tables.specs.Texts.{keep_text, put_text, remove_text, update_text}
+use Rattle.moo_tables.specs.Texts.{insert_text, keep_text, put_text, remove_text, update_text}
 
 abbrev pub object_table : Table
 object_table = numbered (codes "object") 1
@@ -49,6 +49,9 @@ update_object_text = update_text object_table
 
 abbrev pub keep_object_text : List ℕ
 keep_object_text = keep_text 11 object_table
+
+abbrev pub insert_object_text : List ℕ
+insert_object_text = insert_text object_table
 
 abbrev pub put_object_text : List ℕ
 put_object_text = put_text object_table

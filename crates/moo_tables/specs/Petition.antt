@@ -8,7 +8,7 @@ use Rattle.moo_rows.specs.declared.row.PetitionId.{PetitionId}
 use Rattle.moo_rows.specs.declared.row.PetitionRow.{PetitionRow}
 use Rattle.moo_tables.specs.declared.petition.PetitionCells.{PetitionCells}
 use Rattle.moo_tables.specs.Columns.{numbered, number, text, cells_over, KeepsCell}
-use Rattle.moo_tables.specs.Texts.{keep_text, put_text, remove_text, update_text}
+use Rattle.moo_tables.specs.Texts.{insert_text, keep_text, put_text, remove_text, update_text}
 
 abbrev pub petition_table : Table
 petition_table = numbered (codes "petition") 9 (number (codes "id") ∷ number (codes "who") ∷ text (codes "calls") ∷ [])
@@ -32,6 +32,9 @@ update_petition_text = update_text petition_table
 
 abbrev pub keep_petition_text : List ℕ
 keep_petition_text = keep_text 2 petition_table
+
+abbrev pub insert_petition_text : List ℕ
+insert_petition_text = insert_text petition_table
 
 abbrev pub put_petition_text : List ℕ
 put_petition_text = put_text petition_table

@@ -7,7 +7,7 @@ use Rattle.moo_rows.specs.declared.row.PropId.{PropId}
 use Rattle.moo_rows.specs.declared.row.PropRow.{PropRow}
 use Rattle.moo_tables.specs.declared.prop.PropCells.{PropCells}
 use Rattle.moo_tables.specs.Columns.{numbered, number, text, KeepsCell}
-use Rattle.moo_tables.specs.Texts.{put_text, remove_text, update_text}
+use Rattle.moo_tables.specs.Texts.{insert_text, put_text, remove_text, update_text}
 
 abbrev pub prop_table : Table
 prop_table = numbered (codes "prop") 2 (number (codes "id") ∷ number (codes "definer") ∷ text (codes "name") ∷ [])
@@ -28,6 +28,9 @@ pub record PropColumns (a b : PropRow) (old new : Row) : Type 0 where
 -- the texts that write its rows
 abbrev pub update_prop_text : List ℕ
 update_prop_text = update_text prop_table
+
+abbrev pub insert_prop_text : List ℕ
+insert_prop_text = insert_text prop_table
 
 abbrev pub put_prop_text : List ℕ
 put_prop_text = put_text prop_table

@@ -9,7 +9,7 @@ use Rattle.moo_rows.specs.declared.row.PropId.{PropId}
 use Rattle.moo_rows.specs.declared.row.SlotRow.{SlotRow}
 use Rattle.moo_tables.specs.declared.slot.SlotCells.{SlotCells}
 use Rattle.moo_tables.specs.Columns.{paired, number, text, cells_over, KeepsCell}
-use Rattle.moo_tables.specs.Texts.{keep_text, put_text, remove_text, update_text}
+use Rattle.moo_tables.specs.Texts.{insert_text, keep_text, put_text, remove_text, update_text}
 
 abbrev pub slot_table : Table
 slot_table = paired (codes "slot") 3 (number (codes "object") ∷ number (codes "prop") ∷ number (codes "owner") ∷ text (codes "bits") ∷ text (codes "value") ∷ [])
@@ -38,6 +38,9 @@ update_slot_text = update_text slot2_table
 
 abbrev pub keep_slot_text : List ℕ
 keep_slot_text = keep_text 4 slot2_table
+
+abbrev pub insert_slot_text : List ℕ
+insert_slot_text = insert_text slot2_table
 
 abbrev pub put_slot_text : List ℕ
 put_slot_text = put_text slot2_table

@@ -9,7 +9,7 @@ use Rattle.moo_rows.specs.declared.row.VerbId.{VerbId}
 use Rattle.moo_rows.specs.declared.row.VerbRow.{VerbRow}
 use Rattle.moo_tables.specs.declared.verb.VerbCells.{VerbCells}
 use Rattle.moo_tables.specs.Columns.{paired, number, text, cells_over, KeepsCell}
-use Rattle.moo_tables.specs.Texts.{keep_text, put_text, remove_text, update_text}
+use Rattle.moo_tables.specs.Texts.{insert_text, keep_text, put_text, remove_text, update_text}
 
 abbrev pub verb_table : Table
 verb_table = paired (codes "verb") 5
@@ -40,6 +40,9 @@ update_verb_text = update_text verb_table
 
 abbrev pub keep_verb_text : List ℕ
 keep_verb_text = keep_text 4 verb_table
+
+abbrev pub insert_verb_text : List ℕ
+insert_verb_text = insert_text verb_table
 
 abbrev pub put_verb_text : List ℕ
 put_verb_text = put_text verb_table

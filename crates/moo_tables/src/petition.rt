@@ -87,6 +87,16 @@ impl TableRow for PetitionCells {
         }
     }
 
+    fn insert<T: Run>(&self, tx: &mut T, id: PetitionId) -> Result<usize, Error> {
+        match &self.calls {
+            Some(calls) => tx.run(
+                "INSERT INTO petition VALUES (?1, ?2, ?3)",
+                &petition_values(id, self, calls.as_slice()),
+            ),
+            None => keep_petition(tx, id, self),
+        }
+    }
+
     fn put<T: Run>(&self, tx: &mut T, id: PetitionId) -> Result<usize, Error> {
         match &self.calls {
             Some(calls) => tx.run(

@@ -5,9 +5,30 @@ ghost use Rattle.moo_tables.specs.Cells.{with_each};
 ghost use Rattle.moo_tables.specs.Cause.{HasCauseIn};
 ghost use Rattle.moo_tables.specs.Inside.{StaysInside, Changes};
 
-use crate::statement::Run;
+use crate::statement::{Run, is_conflict};
 use crate::table_row::TableRow;
 use sqlite::Error;
+
+/// Puts a new row. If a row has its key after all, the new one takes its place. Answers whether the insertion met one.
+///
+/// A plain insertion looks the key up once, and one that may write over a row looks it up twice.
+fn write_new<T: Run, R: TableRow>(tx: &mut T, key: R::Key, row: &R) -> Result<bool, Error>
+    ensures same_reference { T.lender tx.new ≡ T.lender tx.old }
+    ensures inside { StaysInside (T.state tx.old) (T.state tx.new) }
+    ensures written { OnOk result (Changes (R.with_row key (Some row.now)) (T.state tx.old) (T.state tx.new)) }
+    ensures cause { HasCauseIn (T.state tx.old) (T.state tx.new) result }
+{
+    match row.insert(tx, key) {
+        Ok(_) => Ok(false),
+        Err(error) => {
+            if !is_conflict(&error) {
+                return Err(error);
+            }
+            row.put(tx, key)?;
+            Ok(true)
+        }
+    }
+}
 
 /// Writes over the row with the key, or puts a new one if no row has it. Answers whether one had it.
 fn write_over<T: Run, R: TableRow>(tx: &mut T, key: R::Key, row: &R) -> Result<bool, Error>
@@ -20,8 +41,7 @@ fn write_over<T: Run, R: TableRow>(tx: &mut T, key: R::Key, row: &R) -> Result<b
     if count > 0 {
         return Ok(true);
     }
-    row.put(tx, key)?;
-    Ok(false)
+    write_new(tx, key, row)
 }
 
 /// Puts the new row, or deletes the old one if there is no new one. Answers whether the next row is expected to be there.
@@ -40,10 +60,7 @@ fn write_row<T: Run, R: TableRow>(
 {
     match cells {
         Some(row) if expected => write_over(tx, key, row),
-        Some(row) => {
-            row.put(tx, key)?;
-            Ok(false)
-        }
+        Some(row) => write_new(tx, key, row),
         None => {
             R::remove(tx, key)?;
             Ok(expected)
@@ -51,7 +68,7 @@ fn write_row<T: Run, R: TableRow>(
     }
 }
 
-/// Writes these changes, one after another. After a row that wasn't there the others are taken to be new too.
+/// Writes these changes, one after another. After a row that wasn't there the others are taken to be new too, until one is there.
 pub(crate) fn write_rows<T: Run, R: TableRow>(
     tx: &mut T,
     changes: &[(R::Key, Option<R>)],

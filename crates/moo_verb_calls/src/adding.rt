@@ -12,12 +12,15 @@ ghost use Rattle.moo_world.specs.VerbReading.{args_of};
 ghost use Rattle.moo_world.specs.VerbCalls.{add_verb};
 ghost use Rattle.moo_world.specs.Keeps.{Keeps};
 ghost use Rattle.moo_call_parts.specs.Outcomes.{world_in, ComesTo, Answers};
-ghost use Rattle.moo_verb_calls.specs.Checks.{taking_verb_info};
+ghost use Rattle.moo_call_parts.specs.Reasons.{error_of};
+ghost use Rattle.moo_verb_calls.specs.Checks.{IsTrueOfVerbInfo, taking_verb_info};
+ghost use Rattle.moo_call_parts.specs.About.{about_new_verb};
+ghost use Rattle.moo_call_parts.specs.Told.{IsTold};
 
-use moo_call_parts::{ArgTexts, Fault, VerbInfo, ZERO, rights};
+use moo_call_parts::{ArgTexts, Fault, Reason, VerbInfo, ZERO, rights};
 use moo_rows::{ArgSpec, Rows, VerbBits, VerbRow};
 use moo_tree::valid;
-use moo_value::{Code, MooStr, ObjNo, Value};
+use moo_value::{MooStr, ObjNo, Value};
 use moo_verbs::{check_names, read_args};
 use std::alloc::Global;
 
@@ -30,20 +33,21 @@ fn has_word(names: &MooStr) -> bool
 
 /// The rights that a verb takes with an owner and names, or E_INVARG: if the owner isn't an object, then if the rights have
 /// a letter other than `r`, `w`, `x` and `d`, then if the names are empty or all spaces.
-pub(crate) fn bits_taken<R: Rows>(rows: &R, verb: VerbInfo<'_>) -> Result<VerbBits, Code>
+pub(crate) fn bits_taken<R: Rows>(rows: &R, verb: VerbInfo<'_>) -> Result<VerbBits, Reason>
     ensures owner { OnOk result (is_object (world_in (R.held rows.now)) verb.entry.info.owner ≡ true) }
     ensures bits { IfOk result (λ bits. verb_bits_of verb.entry.info.perms.now ≡ Some bits) }
     ensures names { OnOk result (has_word verb.entry.names.now ≡ true) }
-    ensures err { IfErr result (λ code. (then : VerbBits → Outcome World) → taking_verb_info (world_in (R.held rows.now)) (verb.entry.info.owner, verb.entry.info.perms.now) verb.entry.names.now then ≡ Failed code) }
+    ensures err { IfErr result (λ reason. (then : VerbBits → Outcome World) → taking_verb_info (world_in (R.held rows.now)) (verb.entry.info.owner, verb.entry.info.perms.now) verb.entry.names.now then ≡ Failed (error_of reason)) }
+    ensures told { IfErr result (IsTrueOfVerbInfo (R.held rows.now).maps verb.entry.info.perms.now verb.entry.names.now) }
 {
     if !valid(rows, verb.info.owner) {
-        return Err(Code::InvalidArgument);
+        return Err(Reason::NoObject(verb.info.owner));
     }
     let Some(bits) = VerbBits::read(verb.info.perms) else {
-        return Err(Code::InvalidArgument);
+        return Err(Reason::VerbPerms);
     };
     if !has_word(verb.names) {
-        return Err(Code::InvalidArgument);
+        return Err(Reason::VerbNames);
     }
     Ok(bits)
 }
@@ -69,19 +73,20 @@ fn verb_taken<R: Rows>(
     ensures there { OnOk result (is_object (world_in (R.held rows.now)) x ≡ true) }
     ensures names { OnOk result (has_word verb.entry.names.now ≡ true) }
     ensures left { OnOk result (nat_lt (world_in (R.held rows.now)).next_verb 4294967295 ≡ true) }
+    ensures told { IsTold (R.held rows.now).maps programmer (about_new_verb x verb.entry.info.perms.now verb.entry.names.now (args.entry.dobj.now, args.entry.prep.now, args.entry.iobj.now)) result }
 {
     if !valid(rows, x) {
-        return Err(Fault::Moo(Code::InvalidArgument));
+        return Err(Fault::Moo(Reason::NoObject(x)));
     }
     let bits = bits_taken(rows, verb)?;
     let Some(args) = args_of(args) else {
-        return Err(Fault::Moo(Code::InvalidArgument));
+        return Err(Fault::Moo(Reason::VerbArgs));
     };
     if !rights::may_write_object(rows, programmer, x) {
-        return Err(Fault::Moo(Code::Permission));
+        return Err(Fault::Moo(Reason::NoObjectW(x)));
     }
     if !rights::may_make_owner(rows, programmer, verb.info.owner) {
-        return Err(Fault::Moo(Code::Permission));
+        return Err(Fault::Moo(Reason::NoOwner(verb.info.owner)));
     }
     if rows.head().next_verb == u32::MAX {
         return Err(Fault::Full);
@@ -107,6 +112,7 @@ pub fn add_verb<R: Rows>(
         (add_verb (world_in (R.held rows.old)) programmer x (verb.entry.info.owner, verb.entry.info.perms.now) verb.entry.names.now (args.entry.dobj.now, args.entry.prep.now, args.entry.iobj.now))
         (R.held rows.old) (R.held rows.new) result }
     ensures kept { OnOk result (Keeps (R.held rows.old) (R.held rows.new)) }
+    ensures told { IsTold (R.held rows.old).maps programmer (about_new_verb x verb.entry.info.perms.now verb.entry.names.now (args.entry.dobj.now, args.entry.prep.now, args.entry.iobj.now)) result }
 {
     let (bits, args) = verb_taken(rows, programmer, x, verb, args)?;
     let row = VerbRow {

@@ -9,12 +9,14 @@ ghost use Rattle.moo_world.specs.VerbCalls.{delete_verb, set_verb_info, set_verb
 ghost use Rattle.moo_world.specs.Keeps.{Keeps};
 ghost use Rattle.moo_call_parts.specs.Outcomes.{world_in, ComesTo};
 ghost use Rattle.moo_verbs.specs.Places.{verb_place};
+ghost use Rattle.moo_call_parts.specs.About.{about_verb, about_verb_args, about_verb_info};
+ghost use Rattle.moo_call_parts.specs.Told.{IsTold};
 
 use crate::adding::{args_of, bits_taken};
-use moo_call_parts::{ArgTexts, Fault, VerbInfo, ZERO, rights};
+use moo_call_parts::{ArgTexts, Fault, Reason, VerbInfo, ZERO, rights};
 use moo_rows::Rows;
 use moo_tree::valid;
-use moo_value::{Code, ObjNo, Value};
+use moo_value::{ObjNo, Value};
 use moo_verbs::found_verb;
 use moo_world::Desc;
 use std::alloc::Global;
@@ -35,15 +37,16 @@ pub fn delete_verb<R: Rows>(
     ensures gone { OnOk result
         ((id : VerbId) × (option_map (λ f. f.0) (found_verb (world_in (R.held rows.old)) x desc.now) ≡ Some (verb_place (R.held rows.old).maps x id))
         × ((R.held rows.new).maps.verbs ≡ remove (R.held rows.old).maps.verbs (x, id))) }
+    ensures told { IsTold (R.held rows.old).maps programmer (about_verb x desc.now) result }
 {
     if !valid(rows, x) {
-        return Err(Fault::Moo(Code::InvalidArgument));
+        return Err(Fault::Moo(Reason::NoObject(x)));
     }
     if !rights::may_write_object(rows, programmer, x) {
-        return Err(Fault::Moo(Code::Permission));
+        return Err(Fault::Moo(Reason::NoObjectW(x)));
     }
     let Some(verb) = found_verb(rows, x, desc) else {
-        return Err(Fault::Moo(Code::VerbNotFound));
+        return Err(Fault::Moo(Reason::NoVerb(x)));
     };
     let id = verb.id;
     moo_verbs::delete(rows, x, id)?;
@@ -68,19 +71,20 @@ pub fn set_verb_info<R: Rows>(
         (set_verb_info (world_in (R.held rows.old)) programmer x desc.now (verb.entry.info.owner, verb.entry.info.perms.now) verb.entry.names.now)
         (R.held rows.old) (R.held rows.new) result }
     ensures kept { OnOk result (Keeps (R.held rows.old) (R.held rows.new)) }
+    ensures told { IsTold (R.held rows.old).maps programmer (about_verb_info x desc.now verb.entry.info.perms.now verb.entry.names.now) result }
 {
     if !valid(rows, x) {
-        return Err(Fault::Moo(Code::InvalidArgument));
+        return Err(Fault::Moo(Reason::NoObject(x)));
     }
     let Some(found) = found_verb(rows, x, desc) else {
-        return Err(Fault::Moo(Code::VerbNotFound));
+        return Err(Fault::Moo(Reason::NoVerb(x)));
     };
     let bits = bits_taken(rows, verb)?;
     if !rights::may_write_verb(rows, programmer, found.row) {
-        return Err(Fault::Moo(Code::Permission));
+        return Err(Fault::Moo(Reason::NoVerbW(x)));
     }
     if !rights::may_make_owner(rows, programmer, verb.info.owner) {
-        return Err(Fault::Moo(Code::Permission));
+        return Err(Fault::Moo(Reason::NoOwner(verb.info.owner)));
     }
     let names = verb.names.copy(alloc)?;
     let id = found.id;
@@ -105,18 +109,19 @@ pub fn set_verb_args<R: Rows>(
         (set_verb_args (world_in (R.held rows.old)) programmer x desc.now (args.entry.dobj.now, args.entry.prep.now, args.entry.iobj.now))
         (R.held rows.old) (R.held rows.new) result }
     ensures kept { OnOk result (Keeps (R.held rows.old) (R.held rows.new)) }
+    ensures told { IsTold (R.held rows.old).maps programmer (about_verb_args x desc.now (args.entry.dobj.now, args.entry.prep.now, args.entry.iobj.now)) result }
 {
     if !valid(rows, x) {
-        return Err(Fault::Moo(Code::InvalidArgument));
+        return Err(Fault::Moo(Reason::NoObject(x)));
     }
     let Some(verb) = found_verb(rows, x, desc) else {
-        return Err(Fault::Moo(Code::VerbNotFound));
+        return Err(Fault::Moo(Reason::NoVerb(x)));
     };
     let Some(args) = args_of(args) else {
-        return Err(Fault::Moo(Code::InvalidArgument));
+        return Err(Fault::Moo(Reason::VerbArgs));
     };
     if !rights::may_write_verb(rows, programmer, verb.row) {
-        return Err(Fault::Moo(Code::Permission));
+        return Err(Fault::Moo(Reason::NoVerbW(x)));
     }
     let id = verb.id;
     moo_verbs::set_args(alloc, rows, x, id, args)?;

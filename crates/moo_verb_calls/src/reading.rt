@@ -12,12 +12,15 @@ ghost use Rattle.moo_world.specs.World.{World};
 ghost use Rattle.moo_world.specs.Prepositions.{prep_text, object_spec_text};
 ghost use Rattle.moo_world.specs.VerbCalls.{verbs, verb_info, verb_args};
 ghost use Rattle.moo_call_parts.specs.Outcomes.{world_in, Answers};
+ghost use Rattle.moo_call_parts.specs.Reasons.{error_of};
 ghost use Rattle.moo_verb_calls.specs.Checks.{reading_verb};
+ghost use Rattle.moo_call_parts.specs.About.{about_object, about_verb};
+ghost use Rattle.moo_call_parts.specs.Told.{IsTold, IsTrueOf};
 
-use moo_call_parts::{Fault, list_of, rights, text_list};
+use moo_call_parts::{Fault, Reason, list_of, rights, text_list};
 use moo_rows::{ArgSpec, Rows, VerbRow};
 use moo_tree::valid;
-use moo_value::{Code, MooStr, ObjNo, Value};
+use moo_value::{MooStr, ObjNo, Value};
 use moo_verbs::{bits_letters, found_verb, print_object_spec, print_prep};
 use moo_world::Desc;
 use std::alloc::{AllocError, Global};
@@ -27,13 +30,14 @@ use std::alloc::{AllocError, Global};
 /// LambdaMOO Programmer's Manual, 'Operations on Verbs'.
 pub fn verbs<R: Rows>(rows: &R, alloc: Global, programmer: ObjNo, x: ObjNo) -> Result<Value, Fault>
     requires { IsGood (R.held rows.now).maps }
-    ensures { Answers (verbs (world_in (R.held rows.now)) programmer x) (R.held rows.now) result }
+    ensures comes { Answers (verbs (world_in (R.held rows.now)) programmer x) (R.held rows.now) result }
+    ensures told { IsTold (R.held rows.now).maps programmer (about_object x) result }
 {
     if !valid(rows, x) {
-        return Err(Fault::Moo(Code::InvalidArgument));
+        return Err(Fault::Moo(Reason::NoObject(x)));
     }
     if !rights::may_read_object(rows, programmer, x) {
-        return Err(Fault::Moo(Code::Permission));
+        return Err(Fault::Moo(Reason::NoObjectR(x)));
     }
     let names = moo_verbs::list(alloc, rows, x)?;
     let answer = text_list(alloc, names)?;
@@ -56,19 +60,20 @@ fn readable_verb<'a, R: Rows>(
     programmer: ObjNo,
     x: ObjNo,
     desc: &Desc,
-) -> Result<&'a VerbRow, Code>
+) -> Result<&'a VerbRow, Reason>
     requires { IsGood (R.held rows.now).maps }
     ensures ok { IfOk result (λ verb. (then : VerbRow → Outcome World) → reading_verb (world_in (R.held rows.now)) programmer x desc.now then ≡ then verb.now) }
-    ensures err { IfErr result (λ code. (then : VerbRow → Outcome World) → reading_verb (world_in (R.held rows.now)) programmer x desc.now then ≡ Failed code) }
+    ensures err { IfErr result (λ reason. (then : VerbRow → Outcome World) → reading_verb (world_in (R.held rows.now)) programmer x desc.now then ≡ Failed (error_of reason)) }
+    ensures told { IfErr result (IsTrueOf (R.held rows.now).maps programmer (about_verb x desc.now)) }
 {
     if !valid(rows, x) {
-        return Err(Code::InvalidArgument);
+        return Err(Reason::NoObject(x));
     }
     let Some(found) = found_verb(rows, x, desc) else {
-        return Err(Code::VerbNotFound);
+        return Err(Reason::NoVerb(x));
     };
     if !rights::may_read_verb(rows, programmer, found.row) {
-        return Err(Code::Permission);
+        return Err(Reason::NoVerbR(x));
     }
     Ok(found.row)
 }
@@ -99,7 +104,8 @@ pub fn verb_info<R: Rows>(
     desc: &Desc,
 ) -> Result<Value, Fault>
     requires { IsGood (R.held rows.now).maps }
-    ensures { Answers (verb_info (world_in (R.held rows.now)) programmer x desc.now) (R.held rows.now) result }
+    ensures comes { Answers (verb_info (world_in (R.held rows.now)) programmer x desc.now) (R.held rows.now) result }
+    ensures told { IsTold (R.held rows.now).maps programmer (about_verb x desc.now) result }
 {
     let verb = readable_verb(rows, programmer, x, desc)?;
     let answer = info_of(alloc, verb)?;
@@ -129,7 +135,8 @@ pub fn verb_args<R: Rows>(
     desc: &Desc,
 ) -> Result<Value, Fault>
     requires { IsGood (R.held rows.now).maps }
-    ensures { Answers (verb_args (world_in (R.held rows.now)) programmer x desc.now) (R.held rows.now) result }
+    ensures comes { Answers (verb_args (world_in (R.held rows.now)) programmer x desc.now) (R.held rows.now) result }
+    ensures told { IsTold (R.held rows.now).maps programmer (about_verb x desc.now) result }
 {
     let verb = readable_verb(rows, programmer, x, desc)?;
     let answer = args_of(alloc, verb.args)?;

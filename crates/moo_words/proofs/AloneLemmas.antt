@@ -1,7 +1,8 @@
 -- That words name one task.
-use Rattle.std.{proofs.Common.{◌≡◌, ◌<◌, ◌≤◌, inl, inr, ℕ, List, Option, Some, refl, sym, ap, subst, ◌∙◌, arith, length}, proofs.lemmas.Bool.{true≢false}, specs.Str.{bytes_eq}, specs.Str.Parse.{digits_value, without_leading_plus}}
-use Rattle.clap.{specs.Walk.{Row, Text, one_of}, specs.Simple.{subcommand_of}}
-use Rattle.moo_words.{specs.Commands.{moo_app}, specs.declared.task.Task.{Task}, specs.declared.task.Service.{Service}, specs.declared.task.Action.{Action}, specs.declared.task.Action.TheVariants.{Init, Apply, Ask, Dump, Load, Check, Serve}, specs.Tasks.{HasNumber, IsService, HasArguments, IsTask, NamesTask, NamesAlone, command_of, text_word, service_of, request_of}}
+use Rattle.std.{proofs.Common.{◌≡◌, ◌<◌, ◌≤◌, inl, inr, ℕ, List, Option, Some, None, option_map, refl, sym, ap, subst, ◌∙◌, arith, length}, proofs.lemmas.Bool.{true≢false}, specs.Str.{bytes_eq}, specs.Str.Parse.{digits_value, without_leading_plus}}
+use Rattle.std.specs.Prelude.{codes, find, option_and_then, slice_get}
+use Rattle.clap.{specs.Walk.{Row, Text, first_of, one_of, row_text}, specs.Values.{read_as}, specs.Simple.{subcommand_of}}
+use Rattle.moo_words.{specs.Commands.{moo_app}, specs.declared.task.Task.{Task}, specs.declared.task.Service.{Service}, specs.declared.task.Action.{Action}, specs.declared.task.Action.TheVariants.{Init, Apply, Ask, Dump, Load, Check, Serve}, specs.Tasks.{HasNumber, HasCount, IsService, HasArguments, IsTask, NamesTask, NamesAlone, command_of, text_word, service_of, request_of}}
 
 same_some : {A : Type 0} (o : Option A) (a b : A) → o ≡ Some a → o ≡ Some b → a ≡ b
 same_some o a b e f = let same : Some a ≡ Some b = sym e ∙ f in cc
@@ -10,8 +11,25 @@ one_number : (rows : List Row) (id : Text) (n m : ℕ) → HasNumber rows id n �
 one_number rows id n m (text, one, value) (other, also, worth) =
     sym value ∙ ap (λ t. digits_value 10 (without_leading_plus t)) (same_some (one_of id rows) text other one also) ∙ worth
 
+-- an argument that isn't there has no number
+none_then : (id : Text) (rows : List Row) → first_of id rows ≡ None → one_of id rows ≡ None
+none_then id rows none = go (find (λ r. bytes_eq r.id id) rows) none
+  where
+    go : (o : Option Row) → option_and_then (λ r. slice_get r.values 0) o ≡ None → option_and_then row_text o ≡ None
+    go None e = refl
+    go (Some row) e = ap (option_map (read_as row.reading)) e
+
+not_absent : (rows : List Row) (id : Text) (n : ℕ) → HasNumber rows id n → first_of id rows ≡ None → ⊥
+not_absent rows id n (text, one, value) none = let bad : Some text ≡ None = sym one ∙ none_then id rows none in cc
+
+one_count : (rows : List Row) (n m : ℕ) → HasCount rows n → HasCount rows m → n ≡ m
+one_count rows n m (inl of) (inl also) = one_number rows (codes "COUNT") n m of.0 also.0
+one_count rows n m (inl of) (inr also) = absurd (not_absent rows (codes "COUNT") n of.0 also.0)
+one_count rows n m (inr of) (inl also) = absurd (not_absent rows (codes "COUNT") m also.0 of.0)
+one_count rows n m (inr of) (inr also) = of.1 ∙ sym also.1
+
 one_service : (rows : List Row) (a b : Service) → IsService rows a → IsService rows b → a ≡ b
-one_service rows a b of also = grind (arith, one_number)
+one_service rows a b of also = grind (arith, one_number, one_count)
 
 one_action : (rows : List Row) (a b : Action) → command_of a ≡ command_of b → HasArguments rows a → HasArguments rows b → (text_word a ≡ text_word b) × (service_of a ≡ service_of b)
 one_action rows (Apply batches) (Apply others) same of also = (sym of ∙ also, refl)

@@ -1,12 +1,15 @@
 -- What the getters of the matches read.
-use Rattle.std.{proofs.Common.{◌≡◌, ℕ, List, Option, Some, None, Result, Ok, IfSome, Bor, option_map, refl, sym, ◌∙◌}, specs.Box.{box_value}, specs.Str.Parse.{digits_value, without_leading_plus}}
-use Rattle.clap.{specs.Matches.{ReadsOne, first_value, one_text}, specs.Walk.{Row, Text, rows_of}, specs.declared.parser.matches.Found.{Found}, specs.Matches.{subcommand_name_of}, specs.Simple.{subcommand_rows, subcommand_rows_of}, specs.declared.parser.matches.ArgMatches.{ArgMatches}, specs.declared.parser.matches.ArgMatches.TheViews.{out-ArgMatches, out-SubCommand}, proofs.WalkLemmas.{first_value-rows, one_text-rows}}
+use Rattle.std.{proofs.Common.{◌≡◌, ℕ, List, Option, Some, None, Result, Ok, IfSome, Bor, option_map, refl, sym, ap, ◌∙◌}, specs.Box.{box_value}, specs.Str.Parse.{digits_value, without_leading_plus}}
+use Rattle.clap.{specs.Matches.{ReadsOne, first_value, one_text}, specs.Walk.{Row, Text, rows_of, first_of}, specs.declared.parser.matches.Found.{Found}, specs.Matches.{subcommand_name_of}, specs.Simple.{subcommand_rows, subcommand_rows_of}, specs.declared.parser.matches.ArgMatches.{ArgMatches}, specs.declared.parser.matches.ArgMatches.TheViews.{out-ArgMatches, out-SubCommand}, proofs.WalkLemmas.{first_value-rows, one_text-rows}}
 use Rattle.moo_words.specs.Tasks.{HasNumber, HasText}
 
 pub text_given : (found : Found) (id : Text) (r : Option (Bor (List ℕ))) → option_map (λ s. s.now) r ≡ first_value found id
     → IfSome r (λ text. HasText (rows_of found) id text.now)
 text_given found id None e = tt
 text_given found id (Some text) e = sym (first_value-rows found id) ∙ sym e
+
+pub no_text : (found : Found) (id : Text) (r : Option (Bor (List ℕ))) → option_map (λ s. s.now) r ≡ first_value found id → r ≡ None → first_of id (rows_of found) ≡ None
+no_text found id r e none = sym (first_value-rows found id) ∙ sym e ∙ ap (option_map (λ s. s.now)) none
 
 module _ {E : Type 0} (gives : List ℕ → Result ℕ E → Type 0)
     (reads : (text : Text) (n : ℕ) → gives text (Ok n) → digits_value 10 (without_leading_plus text) ≡ n) where

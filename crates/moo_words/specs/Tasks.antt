@@ -22,11 +22,15 @@ abbrev pub HasNumber : List Row → Text → ℕ → Type 0
 HasNumber rows id n =
     (text : Text) × (one_of id rows ≡ Some text) × (digits_value 10 (without_leading_plus text) ≡ n)
 
+-- how many connections are served: as many as the argument says, or without it 4,294,967,295
+abbrev pub HasCount : List Row → ℕ → Type 0
+HasCount rows n =
+    (HasNumber rows (codes "COUNT") n × (n ≤ 1000000))
+    ⊎ ((first_of (codes "COUNT") rows ≡ None) × (n ≡ 4294967295))
+
 -- what `serve` is told: a port, and a number of connections
 abbrev pub IsService : List Row → Service → Type 0
-IsService rows service =
-    HasNumber rows (codes "PORT") service.port × (1 ≤ service.port)
-    × HasNumber rows (codes "COUNT") service.count × (service.count ≤ 1000000)
+IsService rows service = HasNumber rows (codes "PORT") service.port × (1 ≤ service.port) × HasCount rows service.count
 
 -- the command of an action
 abbrev pub command_of : Action → Text
@@ -76,7 +80,12 @@ pub record Request : Type 0 where
   pub service : Option Service
 
 abbrev pub request_of : Task → Request
-request_of task = record { command = command_of task.action; file = task.file.now; text = text_word task.action; service = service_of task.action }
+request_of task = record {
+  command = command_of task.action;
+  file = task.file.now;
+  text = text_word task.action;
+  service = service_of task.action;
+}
 
 -- the batches of standard input on a new world
 abbrev pub IsDefault : Task → Type 0
@@ -91,7 +100,8 @@ mistakes words = fault_of moo_app words
 abbrev pub NamesTask : List Text → Task → Type 0
 NamesTask words task =
     ((length words ≤ 1) × IsDefault task)
-    ⊎ ((1 < length words) × (mistakes words ≡ []) × (found : Text × List Row) × (subcommand_of moo_app words ≡ Some found) × IsTask found task)
+    ⊎ ((1 < length words) × (mistakes words ≡ [])
+    × (found : Text × List Row) × (subcommand_of moo_app words ≡ Some found) × IsTask found task)
 
 -- any task that the words name asks for what this one does
 abbrev pub NamesAlone : List Text → Task → Type 0

@@ -31,7 +31,6 @@ fn count_arg<'a>(alloc: Global) -> Arg<'a>
     ensures local { result.global ≡ false }
 {
     Arg::new(alloc, "COUNT")
-        .required(true)
         .value_parser(value_parser!(u32).range(0..=1_000_000))
         .help(help::COUNT)
 }
@@ -86,8 +85,8 @@ fn with_command<'a>(
     command: Result<Command<'a>, AllocError>,
 ) -> Result<Command<'a>, AllocError>
     requires { IfOk command (λ command. (fields_of command).has_globals ≡ false) }
-    ensures { (old added : App) → IfOk program.entry (λ program. app_of program ≡ old) → IfOk command.entry (λ command. app_of command ≡ added)
-        → IfOk result (λ new. app_of new ≡ with_subcommand old added.top) }
+    ensures { (old added : App) → IfOk program.entry (λ program. app_of program ≡ old)
+        → IfOk command.entry (λ command. app_of command ≡ added) → IfOk result (λ new. app_of new ≡ with_subcommand old added.top) }
 {
     program?.subcommand(command?)
 }

@@ -11,7 +11,8 @@ pub(crate) const DUMP_FILE: &str = "A file that `moo dump` wrote, or - for stand
 
 pub(crate) const PORT: &str = "The port on 127.0.0.1 to listen on, 1 to 65535";
 
-pub(crate) const COUNT: &str = "How many connections to take before it ends, 0 to 1000000";
+pub(crate) const COUNT: &str =
+    "How many connections to take before it ends, 0 to 1000000; without it, 4294967295";
 
 pub(crate) const MOO: &str =
     "Keeps the objects of a text world in a database, and runs batches of calls on them";
@@ -197,6 +198,7 @@ written; or `moo: read fault`, or `moo: input too long`: DUMP is over 1,073,741,
 failed; 3 `moo: not a dump, line L`: no dump has a line such as line L there, counted from 1; or
 `moo: damaged KIND KEY`: all lines can be read, but they show no world; 4 `moo: no memory`.
 Objects and petitions have their numbers in KEY; properties and verbs are counted from 1, in DUMP's order.
+Standard error names the line of DUMP, and what is wrong with it.
 
 Example:
   moo dump world.db > world.txt
@@ -217,22 +219,24 @@ pub(crate) const SERVE: &str = "Answer HTTP requests on 127.0.0.1:PORT, one a co
 
 pub(crate) const SERVE_MORE: &str =
     "Standard output: `listening 127.0.0.1:PORT` once FILE is open and the port is bound; at the end, after COUNT
-connections, `served A failed F`.
+connections, `served A failed F`. Without COUNT that is after 4,294,967,295 connections.
 
 POST /batch runs a batch, POST /ask says what it would answer. The body is JSON, with calls as in a text:
   {\"as\":\"#3\",\"calls\":[\"create(#1)\"]}, and \"at\":17, a bare number, to act only on a world with number 17
 Other keys are ignored: a mistyped \"at\" guards nothing. GET /seq answers the number, and GET /object/5 the
-built-in properties of #5, its children and its contents. Answers are JSON:
+built-in properties of #5, its children and its contents. GET /objects/5 lists objects from #5
+on. With ?why after /batch or /ask a refusal says why. Answers are JSON:
   200 {\"answers\":[\"#4\",\"{1, 2}\"],\"seq\":18}   each answer a string, as in a text; or what GET asks
   409 {\"call\":K,\"error\":\"E_PERM\"} or {\"error\":\"stale\",\"seq\":S}     it is refused, and changed nothing
   400 {\"error\":\"bad request\"} or {\"call\":K,\"error\":\"malformed\"}; 413 its body is over 1,048,576 bytes
   404 no such path, or no such object; 405 the path has another method; 503 nomemory, fault or closed
+  403 the page of a browser sent it
 All of these count in A. A connection that breaks off or is silent for 10 seconds counts in F.
 
 While it runs no other command can open FILE. A signal ends it early, and what it answered is kept. Nobody is
 asked who they are: let no one else on this machine reach the port.
 
-Exit status: 0 COUNT connections were taken; 1 `moo: cannot listen`, `moo: store fault`, or standard
+Exit status: 0 all connections were taken; 1 `moo: cannot listen`, `moo: store fault`, or standard
 output failed; 3 `moo: damaged KIND KEY` or `moo: newer version`; 4 `moo: no memory`.
 
 Example:

@@ -3,7 +3,7 @@ ghost use Rattle.std.specs.Prelude.{◌≡◌, ◌<◌, List, Some, map, IfOk, I
 ghost use Rattle.clap.specs.Simple.{subcommand_rows_of};
 ghost use Rattle.clap.specs.Walk.{Row, Text, rows_of};
 ghost use Rattle.clap.specs.Matches.{found_of};
-ghost use Rattle.moo_words.specs.Tasks.{HasNumber, HasText, IsService, IsAction, IsTask, IsRefusal, NamesTask, NamesAlone};
+ghost use Rattle.moo_words.specs.Tasks.{HasNumber, HasText, HasCount, IsService, IsAction, IsTask, IsRefusal, NamesTask, NamesAlone};
 
 use crate::commands::moo_command;
 use clap::{ArgMatches, Error};
@@ -37,7 +37,8 @@ pub enum Action<'a> {
     Serve(Service),
 }
 
-/// How `serve` answers: on this port of 127.0.0.1, 1 to 65535, and it ends after so many connections, 0 to 1,000,000.
+/// How `serve` answers: on this port of 127.0.0.1, 1 to 65535, and it ends after so many connections, 0 to 1,000,000, or 4,294,967,295 if
+/// no number is given.
 #[derive(Clone, Copy, Drop)]
 pub struct Service {
     pub port: u16,
@@ -54,6 +55,9 @@ pub enum Usage {
     Absent,
 }
 
+// So many connections are served if no number is given.
+const ENDLESS: u32 = 4_294_967_295;
+
 // The text of an argument.
 fn text_of<'a>(matches: &ArgMatches<'a>, id: &str) -> Option<&'a str>
     ensures { IfSome result (λ text. HasText (rows_of (found_of matches.now)) id.now text.now) }
@@ -68,13 +72,29 @@ fn number_of(matches: &ArgMatches<'_>, id: &str) -> Option<u32>
     matches.get_one::<u32>(id)
 }
 
+// How many connections `serve` takes. Without a number it doesn't end before a signal, or 4,294,967,295 connections.
+fn count_in(matches: &ArgMatches<'_>) -> Option<u32>
+    ensures { IfSome result (HasCount (rows_of (found_of matches.now))) }
+{
+    match matches.get_str("COUNT") {
+        None => Some(ENDLESS),
+        Some(_text) => {
+            let count = number_of(matches, "COUNT")?;
+            if count > 1_000_000 {
+                return None;
+            }
+            Some(count)
+        }
+    }
+}
+
 // What `serve` is told.
 fn service_in(matches: &ArgMatches<'_>) -> Option<Service>
     ensures { IfSome result (IsService (rows_of (found_of matches.now))) }
 {
     let port = number_of(matches, "PORT")?;
-    let count = number_of(matches, "COUNT")?;
-    if port == 0 || port > 65535 || count > 1_000_000 {
+    let count = count_in(matches)?;
+    if port == 0 || port > 65535 {
         return None;
     }
     Some(Service {

@@ -95,6 +95,10 @@ impl Rows for Counting {
         self.rows.next_defined(x, after)
     }
 
+    fn next_named(&self, x: ObjNo, name: &[u8], hash: u64, after: PropId) -> Option<PropId> {
+        self.rows.next_named(x, name, hash, after)
+    }
+
     fn put_prop(&mut self, key: PropId, row: PropRow) -> Result<(), AllocError> {
         one_more(&mut self.counts.props.0);
         self.rows.put_prop(key, row)

@@ -73,7 +73,7 @@ pub(super) fn added<R: Rows>(
 {
     let name = MooStr::from_bytes(alloc, name)?;
     assert!(rt; valid(rows, ObjNo(x)));
-    assert!(rt; !clashes(rows, ObjNo(x), &name));
+    assert!(rt; clashes(rows, ObjNo(x), &name).is_none());
     assert!(rt; rows.head().next_prop < u32::MAX);
     let value = Value::Int(value);
     Ok(define(alloc, rows, ObjNo(x), name, value, WIZARD, bits)?)
@@ -197,7 +197,7 @@ pub(super) fn moved<R: Rows>(
     assert!(rt; valid(rows, ObjNo(x)));
     assert!(rt; valid(rows, ObjNo(new)));
     assert!(rt; !is_under(rows, ObjNo(new), ObjNo(x)));
-    assert!(rt; !shares_property_name(rows, ObjNo(x), ObjNo(new)));
+    assert!(rt; shares_property_name(rows, ObjNo(x), ObjNo(new)).is_none());
     Ok(reparent(alloc, rows, ObjNo(x), ObjNo(new))?)
 }
 

@@ -2,6 +2,10 @@ use Rattle.std.{proofs.Common.{◌≡◌, true, Ok, None, Some, sym, ap, ◌∙�
 use Rattle.moo_value.specs.declared.code.Code.TheVariants.{Permission, InvalidArgument}
 use Rattle.moo_world.{specs.Answers.{zero}, specs.Objects.{same_object}, specs.Outcomes.{Done, Failed, check, found_or, given as given_to}, specs.Requests.{decline, one_integer, petition_at, without}, specs.Rights.{is_wizard}}
 use Rattle.moo_batch.{specs.Outcomes.{state_in}, proofs.Beside.{removed-keeps, removed-state}}
+use Rattle.std.proofs.Common.{false, subst}
+use Rattle.moo_rows.{specs.declared.row.PetitionId.{PetitionId}, specs.declared.row.PetitionRow.{PetitionRow}}
+use Rattle.moo_call_parts.{specs.About.{about_given}, specs.Told.{IfAbout}}
+use Rattle.moo_batch.specs.Telling.{about_number}
 use Rattle.moo_batch.proofs.declining.decline.Goals as goal
 
 pub returns-in_default-clause-reaches : goal.returns-in_default-clause-reaches
@@ -36,3 +40,20 @@ returns-clause-reaches g c =
 
 pub returns-clause-kept : goal.returns-clause-kept
 returns-clause-kept g c = removed-keeps (g.R.Rows.held c.args.rows.now) (g.R.Rows.held c.remove_petition.new.self) c.in-Some.id c.in_ok-remove_petition.ensures.ok c.requires.good
+
+pub returns-in_default-clause-told : goal.returns-in_default-clause-told
+returns-in_default-clause-told g c =
+    let s = state_in (g.R.Rows.held c.args.rows.now) in
+    let none : petition_at s c.in_ok-number.number ≡ None = search rules in
+    subst (λ read. IfAbout (about_given read about_number).number (λ number. petition_at s number ≡ None)) c.in_ok-number.ensures none
+
+pub returns-then-not-may_decline-clause-told : goal.returns-then-not-may_decline-clause-told
+returns-then-not-may_decline-clause-told g c =
+    let s = state_in (g.R.Rows.held c.args.rows.now) in
+    let p = c.args.programmer in
+    let found : petition_at s c.in_ok-number.number ≡ Some (c.in-Some.id, c.in-Some.row.now) = search rules in
+    subst
+    (λ read. IfAbout (about_given read about_number).number
+    (λ number. (e : PetitionId × PetitionRow) × (petition_at s number ≡ Some e) × ((same_object e.1.who p || is_wizard s.world p) ≡ false)))
+    c.in_ok-number.ensures
+    ((c.in-Some.id, c.in-Some.row.now), found, sym c.may_decline.ensures ∙ c.if-not-may_decline.true)

@@ -4,6 +4,12 @@ use Rattle.moo_rows.{specs.declared.row.PetitionId.{PetitionId}, specs.declared.
 use Rattle.moo_world.{specs.Arguments.{fits}, specs.Outcomes.{Failed, check, found_or, given as given_to}, specs.Requests.{State, grant, held_steps, in_world, one_integer, petition_at, without}, specs.Rights.{is_wizard}, specs.World.{World}, proofs.Batches.Requested.{found_there}, proofs.Form.Petitions.{held_fit}}
 use Rattle.moo_call_parts.specs.Outcomes.{world_in}
 use Rattle.moo_batch.{specs.Outcomes.{state_in, ComesInTurn, KeepInTurn, Reaches}, proofs.Beside.{removed-keeps, removed-state}, proofs.InTurn.{granted-reaches, granted-keeps, on_ok}}
+use Rattle.std.{proofs.Common.{◌<◌, ◌≤◌, length, arith}, specs.Prelude.{nat_le, ◌&&◌}, specs.Prelude.{nat_lt}, proofs.lemmas.Bool.{and_parts, leb-true}}
+use Rattle.moo_world.specs.{Petitions.{is_named, are_few, are_shallow}, Arguments.{is_number, all_within_limits}}
+use Rattle.moo_call_parts.specs.About.{about_given}
+use Rattle.moo_batch.{specs.Telling.{IsFaultInTurn, about_number}, proofs.TrueInTurn.{granted-told, if_told}}
+use Rattle.std.proofs.Common.{None}
+use Rattle.moo_call_parts.specs.Told.{IfAbout}
 use Rattle.moo_batch.proofs.granting.grant.Goals as goal
 
 pub held_steps-requires-clause-good : goal.held_steps-requires-clause-good
@@ -53,3 +59,39 @@ returns-clause-kept g c =
     on_ok c.held_steps.result
     (λ kept. granted-keeps p c.args.args.now n e old mid new given found c.in_ok-remove_petition.ensures.ok removed (subst (λ l. KeepInTurn p l mid new) helds kept))
     c.held_steps.ensures.kept
+
+pub held_steps-requires-clause-few : goal.held_steps-requires-clause-few
+held_steps-requires-clause-few g c =
+    let s = state_in (g.R.Rows.held c.args.rows.now) in
+    let row = c.in-Some.row.now in
+    let calls = spread row.calls in
+    let found : petition_at s c.in_ok-number.number ≡ Some (c.in-Some.id, row) = search rules in
+    let fit = c.requires.good.petitions.fit c.in-Some.id row (found_there s c.in_ok-number.number (c.in-Some.id, row) found) in
+    let after = (and_parts (is_number row.who) _ fit).1 in
+    let few = (and_parts (are_few row.calls) _ (and_parts (list_all is_named calls) _ after).1).0 in
+    let short = leb-true (length calls) 64 (and_parts (nat_lt 0 (length calls)) (nat_le (length calls) 64) few).1 in
+    subst (λ helds. length helds ≤ 64) (sym (c.items.ensures.plain ∙ ap (λ (r : PetitionRow). spread r.calls) c.in_ok-row.ensures)) short
+
+pub returns-clause-told : goal.returns-clause-told
+returns-clause-told g c =
+    let old = g.R.Rows.held c.args.rows.now in
+    let mid = g.R.Rows.held c.remove_petition.new.self in
+    let new = g.R.Rows.held c.held_steps.new.rows in
+    let p = c.args.programmer in
+    let n = c.in_ok-number.number in
+    let e : PetitionId × PetitionRow = (c.in-Some.id, c.in-Some.row.now) in
+    let given : one_integer c.args.args.now ≡ Ok n = search rules in
+    let found : petition_at (state_in old) n ≡ Some e = search rules in
+    let helds : c.items.result.now ≡ spread c.in-Some.row.now.calls = c.items.ensures.plain ∙ ap (λ (r : PetitionRow). spread r.calls) c.in_ok-row.ensures in
+    let o = held_steps (world_in mid) p c.items.result.now in
+    if_told c.held_steps.result (ComesInTurn o new) _ _
+    (λ fault comes is. granted-told p c.args.args.now n e old mid new o (about_given (one_integer c.args.args.now) about_number) fault given found c.in_ok-remove_petition.ensures.ok comes
+    (subst (λ (l : List Value). IsFaultInTurn p l mid.maps fault) helds is))
+    c.held_steps.ensures.comes c.held_steps.ensures.told
+
+pub returns-in_default-clause-told : goal.returns-in_default-clause-told
+returns-in_default-clause-told g c =
+    let s = state_in (g.R.Rows.held c.args.rows.now) in
+    let given : one_integer c.args.args.now ≡ Ok c.in_ok-number.number = search rules in
+    let none : petition_at s c.in_ok-number.number ≡ None = search rules in
+    subst (λ read. IfAbout (about_given read about_number).number (λ number. petition_at s number ≡ None)) (sym given) none

@@ -1,5 +1,6 @@
 use Rattle.std.{proofs.Common.{◌≡◌, ◌+◌, [], ◌∷◌, ◌++◌, length, drop, sym, ap, ◌∙◌, subst, rules, arith}, proofs.lemmas.Grind.{common_steps}}
 use Rattle.moo_world.specs.Judge.{FailedAt, FullAt}
+use Rattle.moo_call_parts.specs.Reasons.{error_of}
 use Rattle.moo_batch.proofs.Running.{HaveRunSoFar, run-started, run-one_more, run-ended, run-kept, run-failed, run-full}
 use Rattle.moo_batch.proofs.judging.run_calls.Goals as goal
 
@@ -18,8 +19,20 @@ returns-in-Err-Moo-clause-comes g c =
     let next : drop c.loop-call.call-index calls ≡ c.call-item.result ∷ left = grind (arith, common_steps) in
     let so_far = subst (HaveRunSoFar (g.R.Rows.held c.args.rows.now) c.args.programmer calls c.loop-call.answers.items (g.R.Rows.held c.loop-call.rows)) next c.loop-call.invariant.0 in
     let comes = rw c.in-Err-Moo.field-0-is at c.in-Err-Moo.ensures.reaches in
-    let failed = run-failed c.call-item.result left c.in-Err-Moo.code so_far comes in
-    rw c.in-Err-Moo.field-0-is (failed ∙ ap (λ n. FailedAt n c.in-Err-Moo.code) (omega arith))
+    let failed = run-failed c.call-item.result left (error_of c.in-Err-Moo.reason) so_far comes in
+    let code : c.code.result ≡ error_of c.in-Err-Moo.reason = rw c.in-Err-Moo.field-0-is at c.code.ensures in
+    failed ∙ ap (λ n. FailedAt n (error_of c.in-Err-Moo.reason)) (omega arith) ∙ ap (FailedAt (c.len.result + 1)) (sym code)
+
+pub returns-in-Err-Held-clause-comes : goal.returns-in-Err-Held-clause-comes
+returns-in-Err-Held-clause-comes g c =
+    let calls = c.args.calls.now in
+    let left = drop (c.loop-call.call-index + 1) calls in
+    let next : drop c.loop-call.call-index calls ≡ c.call-item.result ∷ left = grind (arith, common_steps) in
+    let so_far = subst (HaveRunSoFar (g.R.Rows.held c.args.rows.now) c.args.programmer calls c.loop-call.answers.items (g.R.Rows.held c.loop-call.rows)) next c.loop-call.invariant.0 in
+    let comes = rw c.in-Err-Held.field-0-is at c.in-Err-Held.ensures.reaches in
+    let failed = run-failed c.call-item.result left (error_of c.in-Err-Held.reason) so_far comes in
+    let code : c.code-in-Err-Held.result ≡ error_of c.in-Err-Held.reason = rw c.in-Err-Held.field-0-is at c.code-in-Err-Held.ensures in
+    failed ∙ ap (λ n. FailedAt n (error_of c.in-Err-Held.reason)) (omega arith) ∙ ap (FailedAt (c.len.result + 1)) (sym code)
 
 pub returns-in-Err-Full-clause-comes : goal.returns-in-Err-Full-clause-comes
 returns-in-Err-Full-clause-comes g c =

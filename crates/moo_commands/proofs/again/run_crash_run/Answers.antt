@@ -1,14 +1,5 @@
-use Rattle.moo_commands.{proofs.Words.{given_to}, proofs.AgainLemmas.{crash_run, crash_rows}}
+use Rattle.moo_commands.proofs.AgainLemmas.{crash_run, crash_rows}
 use Rattle.moo_commands.proofs.again.run_crash_run.Goals as goal
 
 pub returns : goal.returns
-returns g c = record {
-  reopened =
-      crash_run
-      (λ input host after. given_to g.R.Read g.H.BatchFiles g.H.Ports g.H.Source.Arrivals g.H.Source.Reader.Read g.H.Source.Writer.Write input host after)
-      (λ input host after. given_to g.Q.Read g.G.BatchFiles g.G.Ports g.G.Source.Arrivals g.G.Source.Reader.Read g.G.Source.Writer.Write input host after);
-  numbers =
-      crash_rows
-      (λ input host after. given_to g.R.Read g.H.BatchFiles g.H.Ports g.H.Source.Arrivals g.H.Source.Reader.Read g.H.Source.Writer.Write input host after)
-      (λ input host after. given_to g.Q.Read g.G.BatchFiles g.G.Ports g.G.Source.Arrivals g.G.Source.Reader.Read g.G.Source.Writer.Write input host after);
-}
+returns g c = record { reopened = crash_run g.S.Runs.run g.N.Runs.run; numbers = crash_rows g.S.Runs.run g.N.Runs.run }

@@ -5,38 +5,25 @@ use Rattle.moo_load.specs.RowsOf.{AreRowsOf}
 -- the dump shows no world, and the file isn't opened
 pub returns-in-Err-clause-runs : goal.returns-in-Err-clause-runs
 returns-in-Err-clause-runs g c =
-    let given = given_to g.R.Read g.H.BatchFiles g.H.Ports g.H.Source.Arrivals g.H.Source.Reader.Read g.H.Source.Writer.Write c.args.input.now c.args.host.now c.args.host.now in
+    let given = given_to g.S.Input.Read g.S.Host.BatchFiles g.S.Host.Ports g.S.Host.Source.Arrivals g.S.Host.Source.Reader.Read g.S.Host.Source.Writer.Write c.args.session.now.input c.args.session.now.host c.args.session.now.host in
     let told = refuses_dump c.args.task.action given c.args.dump.now c.in-Err.failure c.requires.word c.in-Err.ensures.failure in
     record {
-      anew = λ anew. (c.in-Err.failure, inr (c.requires.load, told), c.report.ensures);
-      taken = λ s anew holds. tt;
-      kept = λ s other holds. never_other c.args.task c.requires.load other;
-      led = λ rows other holds. never_other c.args.task c.requires.load other;
-      only = λ tables other holds. never_other c.args.task c.requires.load other;
-      nothing = λ other none. tt;
-      other = λ trees other holds others. tt;
-      sound = λ other. tt;
-      unsound = λ other none. never_other c.args.task c.requires.load other;
-      foreign = λ trees other holds others. never_other c.args.task c.requires.load other;
-      room = λ anew. tt;
-      occupied = λ trees anew holds any. tt;
-      still = λ trees other reads holds. tt;
+      anew = λ anew. (c.in-Err.failure, inr (c.requires.load, told), c.report-session.ensures);
+      over = λ other held holds. never_other c.args.task c.requires.load other;
       opened = λ other. never_other c.args.task c.requires.load other;
       left = λ s holds clean. holds;
-      trees = λ trees other holds. never_other c.args.task c.requires.load other;
       spared = λ trees anew holds any clean. record { trees = trees; holds = holds; such = refl };
       unmade = λ trees anew holds clean. record { trees = trees; holds = holds; such = inl refl };
       spares = λ some whole clean. tt;
       fresh = λ anew none clean. inl none;
       begun = λ anew half clean. inr (inl half);
-      blank = λ other none. never_other c.args.task c.requires.load other;
       rests = refl;
-      told = inr (c.requires.load, (c.args.start, refl), c.in-Err.failure, told, c.report.ensures);
+      told = inr (c.requires.load, (c.args.start, refl), c.in-Err.failure, told, c.report-session.ensures);
     }
 
 pub returns-in-Ok-load_from-clause-runs : goal.returns-in-Ok-load_from-clause-runs
 returns-in-Ok-load_from-clause-runs g c =
-    let given = given_to g.R.Read g.H.BatchFiles g.H.Ports g.H.Source.Arrivals g.H.Source.Reader.Read g.H.Source.Writer.Write c.args.input.now c.args.host.now c.run_in_files.new.host in
+    let given = given_to g.S.Input.Read g.S.Host.BatchFiles g.S.Host.Ports g.S.Host.Source.Arrivals g.S.Host.Source.Reader.Read g.S.Host.Source.Writer.Write c.args.session.now.input c.args.session.now.host c.run_in_files.new.session.host in
     let s = state_of c.in-Ok.rows.maps in
     let stands = c.in-Ok-load_from.ensures.stands in
     let world = c.in-Ok-load_from.world in
@@ -50,67 +37,37 @@ returns-in-Ok-load_from-clause-runs g c =
           world = subst (BeginsWith c.args.task.action given) (sym same) (begins_dumped c.args.task.action given c.args.dump.now s c.requires.load c.requires.word c.in-Ok.ensures.dumped (held_rows c.in-Ok.rows.maps c.in-Ok.ensures.good c.in-Ok.ensures.limit));
           numbers = numbered_dumped c.args.task.action world.rows.maps c.requires.load (subst (λ rows. AreRowsOf (state_of rows) rows) (sym c.in-Ok-load_from.ensures.rows) c.in-Ok.ensures.numbered);
         },
-        of_other_texts c.args.task c.requires.load (state_of world.rows.maps) _ given _ _ _ _ _ _ _ (surely _ _ _ _ _ _ _ _ _ _ (ran.runs true (state_of world.rows.maps) (subst (StandsFor over_files true world) (sym same) stands))) (λ rests. rests),
+        of_other_texts c.args.task c.requires.load (state_of world.rows.maps) _ given _ _ _ _ (surely _ _ _ _ _ _ _ (ran.runs true (state_of world.rows.maps) (subst (StandsFor over_files true world) (sym same) stands))) (λ rests. rests),
       );
       taken = λ t anew holds clean. c.in-Ok-load_from.ensures.taken t holds (ran.clean true s stands clean);
-      kept = λ s other holds. never_other c.args.task c.requires.load other;
-      led = λ rows other holds. never_other c.args.task c.requires.load other;
-      only = λ tables other holds. never_other c.args.task c.requires.load other;
-      nothing = λ other none. never_other c.args.task c.requires.load other;
-      other = λ trees other holds others. never_other c.args.task c.requires.load other;
+      over = λ other held holds. never_other c.args.task c.requires.load other;
       sound = λ other. never_other c.args.task c.requires.load other;
-      unsound = λ other none. tt;
-      foreign = λ trees other holds others. tt;
       room = λ anew clean. c.in-Ok-load_from.ensures.room (ran.clean true s stands clean);
       occupied = λ trees anew holds any clean. c.in-Ok-load_from.ensures.occupied trees holds any (ran.clean true s stands clean);
-      still = λ trees other reads holds. never_other c.args.task c.requires.load other;
       opened = λ other. never_other c.args.task c.requires.load other;
-      left = λ s holds. tt;
-      trees = λ trees other holds. tt;
-      spared = λ trees anew holds any. tt;
-      unmade = λ trees anew holds. tt;
-      spares = λ some whole. tt;
-      fresh = λ anew none. tt;
-      begun = λ anew half. tt;
-      blank = λ other none. tt;
-      rests = tt;
-      told = tt;
     }
 
 pub returns-in-Err-load_from-clause-runs : goal.returns-in-Err-load_from-clause-runs
 returns-in-Err-load_from-clause-runs g c =
     let fault = c.in-Err-load_from.fault in
-    let image = image_at g.T.Start in
-    let given = given_to g.R.Read g.H.BatchFiles g.H.Ports g.H.Source.Arrivals g.H.Source.Reader.Read g.H.Source.Writer.Write c.args.input.now c.args.host.now c.args.host.now in
+    let image = image_at g.S.File.Start in
+    let given = given_to g.S.Input.Read g.S.Host.BatchFiles g.S.Host.Ports g.S.Host.Source.Arrivals g.S.Host.Source.Reader.Read g.S.Host.Source.Writer.Write c.args.session.now.input c.args.session.now.host c.args.session.now.host in
     let s = state_of c.in-Ok.rows.maps in
     let begins = begins_dumped c.args.task.action given c.args.dump.now s c.requires.load c.requires.word c.in-Ok.ensures.dumped (held_rows c.in-Ok.rows.maps c.in-Ok.ensures.good c.in-Ok.ensures.limit) in
-    let old = g.W.Write.contents c.args.output.now in
-    let new = g.W.Write.contents c.report-in-Err-load_from.new.output in
-    let status = c.report-in-Err-load_from.result in
-    let reports = tells_fault fault c.refusal.result old new status (inl c.refusal.ensures) c.report-in-Err-load_from.ensures in
+    let old = g.S.Output.Write.contents c.args.session.now.output in
+    let new = g.S.Output.Write.contents c.report-session-in-Err-load_from.new.output in
+    let status = c.report-session-in-Err-load_from.result in
+    let reports = tells_fault fault c.refusal.result old new status (inl c.refusal.ensures) c.report-session-in-Err-load_from.ensures in
     record {
-      anew = λ anew. fails_to_begin c.args.task given old new status (fails_at_once fault old new status c.in-Err-load_from.ensures.fault reports);
-      taken = λ s anew holds. tt;
-      kept = λ s other holds. never_other c.args.task c.requires.load other;
-      led = λ rows other holds. never_other c.args.task c.requires.load other;
-      only = λ tables other holds. never_other c.args.task c.requires.load other;
-      nothing = λ other none. tt;
-      other = λ trees other holds others. tt;
-      sound = λ other. tt;
-      unsound = λ other none. never_other c.args.task c.requires.load other;
-      foreign = λ trees other holds others. never_other c.args.task c.requires.load other;
-      room = λ anew. tt;
-      occupied = λ trees anew holds any. tt;
-      still = λ trees other reads holds. tt;
+      anew = λ anew. fails_to_begin c.args.task (record { given = given; before = old; after = new; status = status }) (fails_at_once fault (record { given = given; before = old; after = new; status = status }) c.in-Err-load_from.ensures.fault reports);
+      over = λ other held holds. never_other c.args.task c.requires.load other;
       opened = λ other. never_other c.args.task c.requires.load other;
       left = c.in-Err-load_from.ensures.refused;
-      trees = λ trees other holds. never_other c.args.task c.requires.load other;
       spared = λ trees anew holds any. c.in-Err-load_from.ensures.kept trees holds any;
       unmade = λ trees anew holds clean. unmade_begins c.args.task.action given s begins trees image c.in-Err-load_from.remains (c.in-Err-load_from.ensures.trees trees holds clean);
       spares = λ some whole. c.in-Err-load_from.ensures.spared some (whole (load_begins c.args.task c.requires.load));
       fresh = λ anew none clean. fresh_begins c.args.task.action given s begins image c.in-Err-load_from.remains (c.in-Err-load_from.ensures.blank none clean);
       begun = λ anew half clean. fresh_begins c.args.task.action given s begins image c.in-Err-load_from.remains (c.in-Err-load_from.ensures.begun half clean);
-      blank = λ other none. never_other c.args.task c.requires.load other;
       rests = refl;
       told = inl (fault, c.in-Err-load_from.ensures.stopped, reports);
     }

@@ -8,19 +8,19 @@ returns-in-Ok g c =
     record {
       kept = λ s keeps clean.
           let first = c.run_in.ensures.clean false here found.1 clean in
-          inr (surely_ends _ _ _ _ _ _ _ _ _ _ (c.run_in.ensures.runs true s (c.in-Ok.ensures.stands s keeps first)));
+          inr (surely_ends _ _ _ _ _ _ _ (c.run_in.ensures.runs true s (c.in-Ok.ensures.stands s keeps first)));
       only = λ tables rests clean.
           let first = c.run_in.ensures.clean false here found.1 clean in
-          inr (c.in-Ok.world.rows.maps, found.0, (c.in-Ok.ensures.shown first tables rests).0, unseen _ _ _ _ _ _ _ _ _ _ (c.run_in.ensures.runs false here found.1));
+          inr (c.in-Ok.world.rows.maps, found.0, (c.in-Ok.ensures.shown first tables rests).0, unseen _ _ _ _ _ _ _ (c.run_in.ensures.runs false here found.1));
       input = c.run_in.ensures.input;
-      opened = inr (c.in-Ok.world.rows.maps, found.0, unseen _ _ _ _ _ _ _ _ _ _ (c.run_in.ensures.runs false here found.1));
+      opened = inr (c.in-Ok.world.rows.maps, found.0, unseen _ _ _ _ _ _ _ (c.run_in.ensures.runs false here found.1));
     }
 
 pub returns-in-Err : goal.returns-in-Err
 returns-in-Err g c = record {
   kept = λ s keeps clean.
-      inl (refl, (c.from.result, of_opening c.in-Err.fault c.from.result c.from.ensures (c.in-Err.ensures.whole s keeps clean), c.report.ensures), as_before (state g.S.Store c.args.conn) (state g.S.Store c.in-Err.conn) s keeps c.in-Err.ensures.crash_refused clean);
-  only = λ tables rests clean. inl (refl, c.in-Err.fault, c.in-Err.ensures.fault clean tables rests, subst (λ f. Reports f (g.W.Write.contents c.args.output.now) (g.W.Write.contents c.report.new.output) c.report.result) c.from.ensures c.report.ensures);
+      inl (refl, (c.from.result, of_opening c.in-Err.fault c.from.result c.from.ensures (c.in-Err.ensures.whole s keeps clean), c.report-session.ensures), as_before (state g.B.Store c.args.conn) (state g.B.Store c.in-Err.conn) s keeps c.in-Err.ensures.crash_refused clean);
+  only = λ tables rests clean. inl (refl, c.in-Err.fault, c.in-Err.ensures.fault clean tables rests, subst (λ f. Reports f (g.S.Output.Write.contents c.args.session.now.output) (g.S.Output.Write.contents c.report-session.new.output) c.report-session.result) c.from.ensures c.report-session.ensures);
   input = λ other. refl;
-  opened = inl (refl, (c.from.result, of_refusal c.in-Err.fault c.from.result c.from.ensures, c.report.ensures));
+  opened = inl (refl, (c.from.result, of_refusal c.in-Err.fault c.from.result c.from.ensures, c.report-session.ensures));
 }

@@ -1,5 +1,8 @@
-use Rattle.moo_damage.{proofs.Words.{rules, ◌≡◌, Some, sym, ap, ◌∙◌, subst, IfNone, AllByRecursion, get, entries, from_entries, get-empty, none-some, ObjNo, ObjRow, object_exact, object_cmp, objects_left, object_total, HasEnd, Loops}, proofs.Firsts.{FirstIn, held_entries, ended, stopped}}
+use Rattle.moo_damage.{proofs.Words.{rules, ◌≡◌, Some, sym, ap, ◌∙◌, subst, IfNone, AllByRecursion, get, entries, from_entries, get-empty, none-some, ObjNo, ObjRow, object_exact, object_cmp, objects_left, object_total, HasEnd, Loops}, proofs.Firsts.{FirstIn, held_entries, ended, stopped}, proofs.Descending.{all_end}}
 use Rattle.moo_damage.proofs.trees.first_loop.Goals as goal
+
+pub returns-then-links_descend : goal.returns-then-links_descend
+returns-then-links_descend g c = all_end c.args.link (g.R.Rows.held c.args.rows.now).maps c.requires (c.links_descend.ensures c.if-links_descend.true)
 
 pub loop-x-init : goal.loop-x-init
 loop-x-init g c =

@@ -2,8 +2,8 @@ use Rattle.moo_dump.{proofs.Words.{ℕ, take, ◌∙◌, Appends, dump, state_of
 use Rattle.moo_dump.proofs.dumping.dump.Goals as goal
 use Rattle.std.proofs.lemmas.Result.{on_ok_weaker, on_err_weaker}
 
-pub returns-in_err-definitions-clause-err : goal.returns-in_err-definitions-clause-err
-returns-in_err-definitions-clause-err g c =
+pub returns-in_err-outline-clause-err : goal.returns-in_err-outline-clause-err
+returns-in_err-outline-clause-err g c =
     let old = g.W.Write.contents c.args.output.now in
     let none : (count : ℕ) × Appends old old (take count (dump (state_of (g.R.Rows.held c.args.rows.now).maps))) = (0, Appends-nothing old) in
     on_err c.from_residual.result none

@@ -10,7 +10,7 @@ returns g c =
     let t = (g.R.Rows.held c.args.rows.now).maps in
     elim c.match-object.branch [
       | in-Some+in_ok-put_object_line+in_ok-put_properties+in_ok-put_slots+in_ok-put_verbs w ↦
-          let ids : w.defined_by.result.now ≡ ids_defined t c.args.x = w.defined_by.ensures ∙ c.requires.listed c.args.x in
+          let ids : w.defined_by.result.now ≡ ids_defined t c.args.x = w.defined_by.ensures ∙ c.requires.outline.listed c.args.x in
           ap (λ (v : Vec ℕ). v.items) w.text-is
           ∙ joined _ _ _ _ _ _ _ _ _ c.new-text.ensures.items w.in_ok-put_object_line.ensures
           (w.in_ok-put_properties.ensures ∙ ap (λ l. w.put_object_line.new.out.items ++ flat_map (property_line_of t c.args.x) l) ids)

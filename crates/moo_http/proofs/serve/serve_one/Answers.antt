@@ -10,11 +10,11 @@ returns-in-Nothing-clause-served g c known stand at =
     nothing g.S.Store known stand c.args.world.now _ _ _ tt (subst (λ r. Takes (g.R.Read.remaining c.args.reader.now) (g.R.Read.remaining c.read_request.new.reader) r) c.in-Nothing.is c.in_ok-read_request.ensures.takes) at
     (record { same = refl; crash = c.leaves.ensures known stand at })
 
-pub returns-in-Request-clause-served : goal.returns-in-Request-clause-served
-returns-in-Request-clause-served g c known stand at =
+pub returns-clause-served : goal.returns-clause-served
+returns-clause-served g c known stand at =
     let done = c.serve_asked.ensures.answered known stand at in
-    served g.S.Store known c.serve_asked.result stand c.args.world.now c.serve_asked.new.world _ _ _ _ c.in-Request.is_head c.in-Request.asked done.0
-    (subst (λ r. Takes (g.R.Read.remaining c.args.reader.now) (g.R.Read.remaining c.read_request.new.reader) r) c.in-Request.is c.in_ok-read_request.ensures.takes) done.1 done.2 done.3 c.serve_asked.ensures.fault
+    served g.S.Store known c.serve_asked.result stand c.args.world.now c.serve_asked.new.world _ _ _ _ c.in-Request.is_head c.in-Request.asks_why c.in-Request.asked done.0 done.1
+    (subst (λ r. Takes (g.R.Read.remaining c.args.reader.now) (g.R.Read.remaining c.read_request.new.reader) r) c.in-Request.is c.in_ok-read_request.ensures.takes) done.2 done.3 done.4 done.5 c.serve_asked.ensures.fault
 
 pub returns-in_err-read_request-clause-moved : goal.returns-in_err-read_request-clause-moved
 returns-in_err-read_request-clause-moved g c = ([], [], written_none g.S.Store c.args.world.now (g.met.S.Store.settled c.args.world.now.connection.store))
@@ -22,5 +22,5 @@ returns-in_err-read_request-clause-moved g c = ([], [], written_none g.S.Store c
 pub returns-in-Nothing-clause-moved : goal.returns-in-Nothing-clause-moved
 returns-in-Nothing-clause-moved g c = ([], [], written_none g.S.Store c.args.world.now (g.met.S.Store.settled c.args.world.now.connection.store))
 
-pub returns-in-Request-clause-moved : goal.returns-in-Request-clause-moved
-returns-in-Request-clause-moved g c = c.serve_asked.ensures.moved
+pub returns-clause-moved : goal.returns-clause-moved
+returns-clause-moved g c = c.serve_asked.ensures.moved

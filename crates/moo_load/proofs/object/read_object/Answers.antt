@@ -81,4 +81,4 @@ returns-in_err-accept-clause-err c =
     rw p.1 (λ unreadable x row fits is.
     let rest = and_parts (is_text row.name) (is_number row.owner && accept_fits row.accept) fits in
     let accept = and_parts (is_number row.owner) (accept_fits row.accept) rest.1 in
-    c.in_err-accept.ensures.err (sym p.2 ∙ unreadable) row.accept accept.1 (c.accept-item.is ∙ ap (λ l. get_or l 11 c.accept-item.result) is))
+    c.in_err-accept.ensures.err (λ none. unreadable (p.2 ∙ none)) row.accept accept.1 (c.accept-item.is ∙ ap (λ l. get_or l 11 c.accept-item.result) is))

@@ -15,7 +15,7 @@ pub returns-in_err-values-clause-err : goal.returns-in_err-values-clause-err
 returns-in_err-values-clause-err c =
     let p = err_from_is_err_and c.from_residual-in_err-values.result c.from_residual-in_err-values.ensures.1 in
     rw p.1 (λ unreadable e within room same.
-    of_values (λ l. ⊥) c.in_ok-word.literal.now (c.in_err-values.ensures.err (sym p.2 ∙ unreadable)) e (split_is c.args.line.now c.in_ok-word.literal.now c.in_ok-word.word e within c.in_ok-word.ensures.ok same).1)
+    of_values (λ l. ⊥) c.in_ok-word.literal.now (c.in_err-values.ensures.err (λ none. unreadable (p.2 ∙ none))) e (split_is c.args.line.now c.in_ok-word.literal.now c.in_ok-word.word e within c.in_ok-word.ensures.ok same).1)
 
 pub returns-in-Object-clause-put : goal.returns-in-Object-clause-put
 returns-in-Object-clause-put c =

@@ -1,8 +1,8 @@
 use Rattle.moo_load.{proofs.Words.{◌≡◌, ◌+◌, ap, sym, subst, ◌∙◌, refl, arith, Head, Held, AreRead, insert, max, petition_taken}, proofs.Within.{petition_put, counted, IsNext}, proofs.One.Values.{one_petition}}
 use Rattle.moo_load.proofs.taking.take_petition.Goals as goal
 
-pub returns-then-head-id-clause-read : goal.returns-then-head-id-clause-read
-returns-then-head-id-clause-read c =
+pub returns-clause-read : goal.returns-clause-read
+returns-clause-read c =
     let put : AreRead c.put_petition.new.self.maps =
     subst (λ (h : Held). AreRead h.maps) (sym c.in_ok-put_petition.ensures.ok) (petition_put c.args.rows.now c.in_ok-id.id c.in_ok-id.row c.requires c.in_ok-id.ensures.some c.in_ok-id.ensures.fits) in
     let own : c.head-head.result ≡ c.put_petition.new.self.maps.head = c.head-head.ensures in
@@ -11,12 +11,12 @@ returns-then-head-id-clause-read c =
     let above : IsNext (c.in_ok-id.id.0 + 1) = (omega arith, omega (arith, c.in_ok-id.ensures.below)) in
     subst (λ (h : Held). AreRead h.maps) (sym c.set_head.ensures) (counted c.put_petition.new.self.maps c.head-head.result _ put own refl refl props verbs above)
 
-pub returns-else-head-id-clause-read : goal.returns-else-head-id-clause-read
-returns-else-head-id-clause-read c =
+pub returns-then-id-head-clause-read : goal.returns-then-id-head-clause-read
+returns-then-id-head-clause-read c =
     subst (λ (h : Held). AreRead h.maps) (sym c.in_ok-put_petition.ensures.ok) (petition_put c.args.rows.now c.in_ok-id.id c.in_ok-id.row c.requires c.in_ok-id.ensures.some c.in_ok-id.ensures.fits)
 
-pub returns-then-head-id-clause-put : goal.returns-then-head-id-clause-put
-returns-then-head-id-clause-put c id row is =
+pub returns-clause-put : goal.returns-clause-put
+returns-clause-put c id row is =
     let maps = c.args.rows.now.maps in
     let own : c.head-head.result ≡ maps.head = c.head-head.ensures ∙ ap (λ (h : Held). h.maps.head) c.in_ok-put_petition.ensures.ok in
     let o = one_petition (c.in_ok-id.id, c.in_ok-id.row) (id, row) (sym c.in_ok-id.ensures.shown ∙ is) in
@@ -26,8 +26,8 @@ returns-then-head-id-clause-put c id row is =
     ∙ (λ i. record ((c.in_ok-put_petition.ensures.ok i).maps) { head = record (own i) { next_petition = max (own i).next_petition (c.in_ok-id.id.0 + 1) } })
     ∙ (λ i. petition_taken maps (o i).0 (o i).1)
 
-pub returns-else-head-id-clause-put : goal.returns-else-head-id-clause-put
-returns-else-head-id-clause-put c id row is =
+pub returns-then-id-head-clause-put : goal.returns-then-id-head-clause-put
+returns-then-id-head-clause-put c id row is =
     let maps = c.args.rows.now.maps in
     let own : c.head-head.result ≡ maps.head = c.head-head.ensures ∙ ap (λ (h : Held). h.maps.head) c.in_ok-put_petition.ensures.ok in
     let o = one_petition (c.in_ok-id.id, c.in_ok-id.row) (id, row) (sym c.in_ok-id.ensures.shown ∙ is) in

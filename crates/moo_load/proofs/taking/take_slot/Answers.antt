@@ -27,7 +27,7 @@ returns-clause-put c x p k id is next =
 pub returns-in_err-slot-clause-err : goal.returns-in_err-slot-clause-err
 returns-in_err-slot-clause-err c =
     let p = err_from_is_err_and c.from_residual.result c.from_residual.ensures.1 in
-    rw p.1 (λ unreadable x q k id fits next. c.in_err-slot.ensures.err (sym p.2 ∙ unreadable) x q.0 q.1 (dumped_slot k) fits)
+    rw p.1 (λ unreadable x q k id fits next. c.in_err-slot.ensures.err (λ none. unreadable (p.2 ∙ none)) x q.0 q.1 (dumped_slot k) fits)
 
 pub returns-in_default-clause-err : goal.returns-in_default-clause-err
 returns-in_default-clause-err c unreadable x p k id fits next is =

@@ -25,4 +25,4 @@ returns-clause-put c x row is =
 pub returns-in_err-object-clause-err : goal.returns-in_err-object-clause-err
 returns-in_err-object-clause-err c =
     let p = err_from_is_err_and c.from_residual.result c.from_residual.ensures.1 in
-    rw p.1 (λ unreadable left x row fitting. c.in_err-object.ensures.err (sym p.2 ∙ unreadable) x row fitting)
+    rw p.1 (λ unreadable left x row fitting. c.in_err-object.ensures.err (λ none. unreadable (p.2 ∙ none)) x row fitting)

@@ -30,4 +30,4 @@ returns-clause-fits c =
 pub returns-in_err-map_err-clause-err : goal.returns-in_err-map_err-clause-err
 returns-in_err-map_err-clause-err c =
     let p = err_from_is_err_and c.from_residual-in_err-map_err.result c.from_residual-in_err-map_err.ensures.1 in
-    rw p.1 (λ unreadable objects short same. let none = sym p.2 ∙ unreadable in cc)
+    rw p.1 (λ unreadable objects short same. absurd (unreadable p.2))

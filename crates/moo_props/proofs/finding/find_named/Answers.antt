@@ -1,27 +1,29 @@
-use Rattle.moo_props.{proofs.Words.{◌≡◌, cond, None, Some, sym, ap, ◌∙◌, is_some, slots_of_left, folded, SlotHere, look_ups}, proofs.Walked.{walk, first_called, found_here, none_here, here_seen, here_name}}
+use Rattle.moo_props.{proofs.Words.{◌≡◌, false, refl, sym, ap, ◌∙◌, arith, length, look_ups, defines_name, world_of}, proofs.NamedOnes.{none_left, some_left, rest_left, above_next, own_held}}
+use Rattle.moo_world.proofs.Shown.Seen.{chain_of_row}
 use Rattle.moo_props.proofs.finding.find_named.Goals as goal
 
-found : (g : _) (c : goal.After-result-1 g) → first_called (g.R.Rows.held c.args.rows.now).maps (folded c.args.name.now) (walk (g.R.Rows.held c.args.rows.now).maps c.args.x) ≡ Some (c.in-Some.key, c.in-Some._slot.now)
-found g c =
-    let m = (g.R.Rows.held c.args.rows.now).maps in
-    let rest = slots_of_left c.next.new.self.object c.next.new.self.last (g.R.Rows.held c.next.new.self.rows.now).maps in
-    sym c.loop-key.invariant ∙ ap (first_called m (folded c.args.name.now)) c.in-Some.ensures.steps
-    ∙ ap (λ b. cond b (Some (c.in-Some.key, c.in-Some._slot.now)) (first_called m (folded c.args.name.now) rest)) (sym c.is_called.ensures ∙ c.if-is_called.true)
+pub loop-row-init : goal.loop-row-init
+loop-row-init g c = record { any = refl; above = λ d h. h }
 
-here : (g : _) (c : goal.After-result-1 g) → (c.in-Some.key.0 ≡ c.args.x) × (SlotHere (look_ups (g.R.Rows.held c.args.rows.now).maps) c.args.x (folded c.args.name.now) c.in-Some.key.1.0)
-here g c = found_here (g.R.Rows.held c.args.rows.now).maps c.requires c.args.x (folded c.args.name.now) (c.in-Some.key, c.in-Some._slot.now) (found g c)
+pub returns-in-Some-own_named-clause-held : goal.returns-in-Some-own_named-clause-held
+returns-in-Some-own_named-clause-held g c =
+    own_held (g.R.Rows.held c.args.rows.now).maps c.requires c.args.x c.loop-row.at c.in-Some.row.now c.in-Some.ensures c.loop-row.invariant.above c.in-Some-own_named.id c.in-Some-own_named.ensures.own
 
-pub returns-then-is_called-clause-held : goal.returns-then-is_called-clause-held
-returns-then-is_called-clause-held g c = ap is_some (here g c).1.held
+pub returns-in-Some-own_named-clause-exact : goal.returns-in-Some-own_named-clause-exact
+returns-in-Some-own_named-clause-exact g c =
+    some_left (g.R.Rows.held c.args.rows.now).maps c.requires c.args.x c.loop-row.at c.in-Some.row.now c.in-Some.ensures c.args.name.now (sym c.in-Some-own_named.ensures.exact) c.loop-row.invariant.any
 
-pub returns-then-is_called-clause-named : goal.returns-then-is_called-clause-named
-returns-then-is_called-clause-named g c = here_name (g.R.Rows.held c.args.rows.now).maps c.args.x (folded c.args.name.now) c.in-Some.key.1 (here g c).1
+pub loop-row-smaller : goal.loop-row-smaller
+loop-row-smaller g c = omega (arith, ap length (chain_of_row (look_ups (g.R.Rows.held c.args.rows.now).maps) c.requires.formed.tree c.loop-row.at c.in-Some.row.now c.in-Some.ensures))
 
-pub returns-then-is_called-clause-exact : goal.returns-then-is_called-clause-exact
-returns-then-is_called-clause-exact g c = sym (ap is_some (here_seen (g.R.Rows.held c.args.rows.now).maps c.requires c.args.x (folded c.args.name.now) c.in-Some.key.1.0 (here g c).1))
+pub loop-row-preserved : goal.loop-row-preserved
+loop-row-preserved g c =
+    let t = (g.R.Rows.held c.args.rows.now).maps in
+    let other : defines_name (world_of t) c.loop-row.at c.args.name.now ≡ false = sym c.in_default-own_named.ensures.exact in
+    record {
+      any = rest_left t c.requires c.args.x c.loop-row.at c.in-Some.row.now c.in-Some.ensures c.args.name.now other ∙ c.loop-row.invariant.any;
+      above = above_next t c.requires c.args.x c.loop-row.at c.in-Some.row.now c.in-Some.ensures c.loop-row.invariant.above;
+    }
 
 pub returns-clause-exact : goal.returns-clause-exact
-returns-clause-exact g c =
-    let m = (g.R.Rows.held c.args.rows.now).maps in
-    let nothing_left : first_called m (folded c.args.name.now) (walk m c.args.x) ≡ None = sym c.loop-key.invariant ∙ ap (first_called m (folded c.args.name.now)) c.in-None.ensures.steps.0 in
-    sym (ap is_some (none_here m c.requires c.args.x (folded c.args.name.now) nothing_left))
+returns-clause-exact g c = none_left (g.R.Rows.held c.args.rows.now).maps c.requires c.args.x c.args.name.now c.loop-row.at c.in_default.ensures c.loop-row.invariant.any

@@ -1,8 +1,14 @@
-use Rattle.moo_props.{proofs.Words.{◌≡◌, slots_of_left, folded}, proofs.Walked.{walk, first_called}}
+use Rattle.moo_props.proofs.Words.{◌≡◌, true, length, list_any, ObjNo, is_among, chain, defines_name, world_of}
 use Rattle.moo_props.proofs.finding.find_named.Given as goal
 
--- what is found in what is left is what is found in all
-abbrev pub invariant-loop-key : goal.invariant-loop-key
-invariant-loop-key g l =
-    let m = (g.R.Rows.held l.rows).maps in
-    first_called m (folded l.name) (slots_of_left l.key-iterator.object l.key-iterator.last (g.R.Rows.held l.key-iterator.rows.now).maps) ≡ first_called m (folded l.name) (walk m l.fn.x)
+-- one from here on defines the name just where one of all does, and who is from here on is one of all
+abbrev pub invariant-loop-row : goal.invariant-loop-row
+invariant-loop-row g l =
+    let w = world_of (g.R.Rows.held l.rows).maps in
+    record {
+      any : list_any (λ y. defines_name w y l.name) (chain w l.at) ≡ list_any (λ y. defines_name w y l.fn.name) (chain w l.fn.x);
+      above : (d : ObjNo) → is_among d (chain w l.at) ≡ true → is_among d (chain w l.fn.x) ≡ true;
+    }
+
+abbrev pub decreases-loop-row : goal.decreases-loop-row
+decreases-loop-row g l = length (chain (world_of (g.R.Rows.held l.rows).maps) l.at)

@@ -1,5 +1,6 @@
-use Rattle.moo_memory.{proofs.Words.{None, ap, ◌∙◌, unwrap_or, get, get-empty, from_entries, object_cmp, prop_cmp, row_has, row_defined}, proofs.Overlays.{overlaid-none}}
+use Rattle.moo_memory.{proofs.Words.{None, sym, ap, ◌∙◌, unwrap_or, get, get-empty, from_entries, object_cmp, prop_cmp, row_has, row_defined}, proofs.Overlays.{overlaid-none}}
 use Rattle.moo_memory.proofs.draft.Draft.new.Goals as goal
+use Rattle.std.proofs.lemmas.Option.{none-some}
 
 pub returns-clause-maps : goal.returns-clause-maps
 returns-clause-maps g c =
@@ -15,4 +16,5 @@ pub invariant_of-result : goal.invariant_of-result
 invariant_of-result g c = (
   λ link key _ _. ap (λ o. row_has link (unwrap_or o None)) (ap (λ es. get (from_entries {R = object_cmp} es) key) c.new.ensures.empty ∙ get-empty object_cmp key),
   λ x id _. ap (λ o. row_defined x (unwrap_or o None)) (ap (λ es. get (from_entries {R = prop_cmp} es) id) c.new-2.ensures.empty ∙ get-empty prop_cmp id),
+  λ id row h. absurd (none-some row (sym (ap (λ o. unwrap_or o None) (ap (λ es. get (from_entries {R = prop_cmp} es) id) c.new-2.ensures.empty ∙ get-empty prop_cmp id)) ∙ h)),
 )

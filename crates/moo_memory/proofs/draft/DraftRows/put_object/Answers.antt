@@ -14,4 +14,5 @@ invariant_of-self-2 g c =
       either-change below _ _ c.put.result _ _ c.add.new.self c.args.key (Some c.args.row) c.put.ensures.ok c.put.ensures.err more
           (λ l e f. put-there l c.args.row (may_have_own c.add.new.self l c.args.key) (λ h. c.in_ok-add.ensures.there l (ap (has_link l) c.ties.ensures ∙ h) f) e),
       c.self.invariant.1,
+      c.self.invariant.2,
     )

@@ -1,11 +1,12 @@
-use Rattle.moo_memory.{proofs.Words.{None, refl, prop_exact, prop_total, contents, slot_cmp}, proofs.Drafts.{seen-put, seen-refused, draft-remove}}
+use Rattle.moo_memory.{proofs.Words.{None, refl, prop_exact, prop_total, contents, slot_cmp, named_cmp}, proofs.Drafts.{seen-done, draft-remove, draft-untag}}
 use Rattle.moo_memory.proofs.draft.DraftRows.remove_prop.Goals as goal
 
 pub returns-clause-ok : goal.returns-clause-ok
-returns-clause-ok g c = seen-put prop_total prop_exact (λ t. t.props) (λ m t. record t { props = m }) c.self.view_is c.put.result _ _ _ _ refl c.args.key None c.put.ensures.ok
+returns-clause-ok g c = seen-done prop_total prop_exact (λ t. t.props) (λ m t. record t { props = m }) c.self.view_is _ _ _ _ refl c.args.key None c.in_ok-put.ensures.ok
 
-pub returns-clause-err : goal.returns-clause-err
-returns-clause-err g c = seen-refused prop_total prop_exact (λ t. t.props) (λ m t. record t { props = m }) c.self.view_is c.put.result _ _ _ _ refl c.put.ensures.err
-
-pub invariant_of-self : goal.invariant_of-self
-invariant_of-self g c = (c.self.invariant.0, draft-remove _ _ c.args.key _ _ c.put.result (contents slot_cmp c.self.inside.definers) c.put.ensures.ok c.put.ensures.err c.self.invariant.1)
+pub invariant_of-self-2 : goal.invariant_of-self-2
+invariant_of-self-2 g c = (
+  c.self.invariant.0,
+  draft-remove _ _ c.args.key (contents slot_cmp c.self.inside.definers) (contents slot_cmp c.forget_defined.new.pairs) c.in_ok-put.ensures.ok.0 c.self.invariant.1 (λ x id other e. c.forget_defined.ensures x id other e),
+  draft-untag _ _ c.args.key (contents named_cmp c.self.inside.names) (contents named_cmp c.forget_tagged.new.names) c.in_ok-put.ensures.ok.0 c.self.invariant.2 (λ p apart h. c.forget_tagged.ensures p.0 p.1 (λ same. absurd (apart same)) h),
+)

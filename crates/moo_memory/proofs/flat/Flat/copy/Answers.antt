@@ -1,4 +1,4 @@
-use Rattle.moo_memory.proofs.Words.{rules, ap, ◌∙◌, sym, subst, refl, ⊤, get, contents, AreCovered, AreOfDefiners, ObjNo, PropId, Held, object_cmp, prop_cmp, slot_cmp}
+use Rattle.moo_memory.proofs.Words.{rules, ap, ◌∙◌, sym, subst, refl, ⊤, get, contents, AreCovered, AreOfDefiners, AreByName, Tag, named_cmp, ObjNo, PropId, Held, object_cmp, prop_cmp, slot_cmp}
 use Rattle.moo_memory.proofs.flat.Flat.copy.Goals as goal
 use Rattle.std.proofs.lemmas.Map.Entries.{entries_from_clone}
 use Rattle.std.specs.FinMap as map
@@ -20,9 +20,12 @@ pub invariant_of-result : goal.invariant_of-result
 invariant_of-result c =
     let objects = entries_from_clone _ _ (λ (x y : ObjNo) h. search rules) object_clone c.self.inside.objects.entries c.in_ok-clone.field-0.entries c.in_ok-clone.ensures.cases in
     let props = entries_from_clone _ _ (λ (x y : PropId) h. search rules) prop_clone c.self.inside.props.entries c.in_ok-clone-2.field-0.entries c.in_ok-clone-2.ensures.cases in
-    let definers = entries_from_clone _ _ (λ (x y : ObjNo × PropId) h. search rules) (λ (x y : ⊤) h. refl) c.self.inside.definers.entries c.in_ok-clone-6.field-0.entries c.in_ok-clone-6.ensures.cases in (
+    let definers = entries_from_clone _ _ (λ (x y : ObjNo × PropId) h. search rules) (λ (x y : ⊤) h. refl) c.self.inside.definers.entries c.in_ok-clone-6.field-0.entries c.in_ok-clone-6.ensures.cases in
+    let names = entries_from_clone _ _ (λ (x y : Tag × PropId) h. search rules) (λ (x y : ⊤) h. refl) c.self.inside.names.entries c.in_ok-clone-7.field-0.entries c.in_ok-clone-7.ensures.cases in (
       subst (λ m. AreCovered (get m) c.in_ok-copy.field-0) (sym (λ i. map.from_entries {R = object_cmp} (objects i)))
           (subst (AreCovered (get (contents object_cmp c.self.inside.objects))) (sym c.in_ok-copy.ensures) c.self.invariant.0),
       subst (λ m. AreOfDefiners (get m) (contents slot_cmp c.in_ok-clone-6.field-0)) (sym (λ i. map.from_entries {R = prop_cmp} (props i)))
           (subst (AreOfDefiners (get (contents prop_cmp c.self.inside.props))) (sym (λ i. map.from_entries {R = slot_cmp} (definers i))) c.self.invariant.1),
+      subst (λ m. AreByName (get m) (contents named_cmp c.in_ok-clone-7.field-0)) (sym (λ i. map.from_entries {R = prop_cmp} (props i)))
+          (subst (AreByName (get (contents prop_cmp c.self.inside.props))) (sym (λ i. map.from_entries {R = named_cmp} (names i))) c.self.invariant.2),
     )

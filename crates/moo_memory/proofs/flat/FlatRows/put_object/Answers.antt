@@ -10,6 +10,7 @@ invariant_of-self-then-are_same c =
           (λ l h. covered-there l c.args.row row_at c.self.inside.links c.args.key c.self.invariant.0 was h)
           (λ q. ap (λ m. get m q) c.in_ok-old.ensures.ok ∙ get-insert object_total (contents object_cmp c.self.inside.objects) c.args.key c.args.row q),
       c.self.invariant.1,
+      c.self.invariant.2,
     )
 
 pub invariant_of-self-2 : goal.invariant_of-self-2
@@ -21,6 +22,7 @@ invariant_of-self-2 c =
           (λ l h. stays-there l c.args.row c.forget.new.self c.add.new.self c.args.key (c.forget.ensures l c.args.key (λ _. ap (has_link l) ties ∙ h)) (c.in_default.ensures.there l (ap (has_link l) ties ∙ h)))
           (λ q. ap (λ m. get m q) c.in_ok-old.ensures.ok ∙ get-insert object_total (contents object_cmp c.self.inside.objects) c.args.key c.args.row q),
       c.self.invariant.1,
+      c.self.invariant.2,
     )
 
 pub returns-clause-ok : goal.returns-clause-ok

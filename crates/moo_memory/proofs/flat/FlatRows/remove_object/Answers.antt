@@ -7,4 +7,5 @@ invariant_of-self c = (
       (λ l q has e. c.forget.ensures l q has e)
       (λ q. ap (λ m. get m q) c.remove.ensures ∙ get-remove object_total (contents object_cmp c.self.inside.objects) c.args.key q),
   c.self.invariant.1,
+  c.self.invariant.2,
 )

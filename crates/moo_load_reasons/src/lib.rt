@@ -1,0 +1,15 @@
+//! Why a text gives no world, in words for people, with the line that shows it.
+//!
+//! These words go to standard error. Nothing that is proved rests on them: `moo_load` refuses the text, with its reason.
+#![tactic(auto)]
+
+mod broken;
+mod damaged;
+mod finding;
+mod order;
+mod said;
+mod slots;
+mod telling;
+mod values;
+
+pub use telling::told;

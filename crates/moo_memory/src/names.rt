@@ -1,0 +1,94 @@
+//! Properties by their names: those that may have one, whose rows are still to be looked at. They are kept by tag, a definer and the
+//! hash of a name.
+
+ghost use Rattle.std.specs.Prelude.{◌≡◌, ◌↔◌, true, Some, is_some, option_map, IsTrue};
+ghost use Rattle.std.specs.FinMap as map;
+ghost use Rattle.moo_rows.specs.declared.row.PropId.{PropId};
+ghost use Rattle.moo_rows.specs.Links.{IsFirst};
+ghost use Rattle.moo_rows.specs.Maps.{prop_cmp};
+ghost use Rattle.moo_rows.specs.Named.{Tag, is_alike, named_cmp, row_named, tag_of};
+ghost use Rattle.moo_rows.specs.Ordered.{contents};
+
+use moo_rows::{PropId, PropRow, name_hash, ordered};
+use moo_value::ObjNo;
+use std::collections::BTreeMap;
+
+/// Whether two names are the same, ASCII case aside.
+fn is_alike(first: &[u8], second: &[u8]) -> bool
+    ensures { result ≡ is_alike first.now second.now }
+{
+    first.eq_ignore_ascii_case(second)
+}
+
+/// Whether there is a row, and x defines it under the name.
+pub fn row_named(row: Option<&PropRow>, x: ObjNo, name: &[u8]) -> bool
+    ensures { result ≡ row_named x name.now (option_map (λ row. row.now) row.entry) }
+{
+    match row {
+        None => false,
+        Some(row) => row.definer == x && is_alike(row.name.bytes(), name),
+    }
+}
+
+/// The tag of a row.
+pub fn tag_of(row: &PropRow) -> (ObjNo, u64)
+    ensures { result ≡ tag_of row.now }
+{
+    (row.definer, name_hash(row.name.bytes()))
+}
+
+/// The tag of a row, if there is one.
+pub fn tag_if(row: Option<&PropRow>) -> Option<(ObjNo, u64)> {
+    match row {
+        None => None,
+        Some(row) => Some(tag_of(row)),
+    }
+}
+
+/// Whether two tags are one.
+fn same_tag(one: (ObjNo, u64), other: (ObjNo, u64)) -> bool
+    ensures { IsTrue result ↔ (one ≡ other) }
+{
+    one == other
+}
+
+/// The next property that is kept for a tag. Takes no memory.
+pub fn next_tagged(
+    names: &BTreeMap<((ObjNo, u64), PropId), ()>,
+    tag: (ObjNo, u64),
+    after: PropId,
+) -> Option<PropId>
+    ensures { IsFirst prop_cmp (λ q. is_some (map.get (contents named_cmp names.now) (tag, q))) after result }
+{
+    let (of, key) = ordered::next(names, Some((tag, after)))?;
+    if same_tag(of, tag) { Some(key) } else { None }
+}
+
+/// Whether this tag stays.
+fn is_tag(stays: Option<(ObjNo, u64)>, tag: (ObjNo, u64)) -> bool
+    ensures { IsTrue result ↔ (stays ≡ Some tag) }
+{
+    match stays {
+        None => false,
+        Some(one) => same_tag(one, tag),
+    }
+}
+
+/// Forgets that a property may have the tag that it had, if it had one, unless it stays. Takes no memory.
+pub fn forget_tagged(
+    names: &mut BTreeMap<((ObjNo, u64), PropId), ()>,
+    was: Option<(ObjNo, u64)>,
+    stays: Option<(ObjNo, u64)>,
+    key: PropId,
+)
+    ensures { (tag : Tag) (id : PropId) → (id ≡ key → stays ≡ Some tag) → is_some (map.get (contents named_cmp names.old) (tag, id)) ≡ true → is_some (map.get (contents named_cmp names.new) (tag, id)) ≡ true }
+{
+    let was = match was {
+        None => return,
+        Some(was) => was,
+    };
+    if is_tag(stays, was) {
+        return;
+    }
+    ordered::remove(names, (was, key));
+}

@@ -1,0 +1,87 @@
+//! What a call is given.
+
+use moo_value::{MooStr, ObjNo, Value, ValueList};
+use moo_world::{BuiltIn, Call, CallName};
+
+/// Where a value is among those that a call is given. All are counted from 0.
+#[derive(Clone, Copy)]
+pub(crate) enum Position {
+    /// A value of the call.
+    Value(usize),
+    /// An item of a list that is a value of the call.
+    Item(usize, usize),
+}
+
+pub(crate) const FIRST: Position = Position::Value(0);
+
+pub(crate) const SECOND: Position = Position::Value(1);
+
+pub(crate) const THIRD: Position = Position::Value(2);
+
+/// The new name that `set_property_info` may be given.
+pub(crate) const NEW_NAME: Position = Position::Item(2, 2);
+
+/// A call by its name and its values, and its programmer.
+#[derive(Clone, Copy)]
+pub(crate) struct Given<'a> {
+    pub(crate) programmer: ObjNo,
+    pub(crate) name: CallName,
+    pub(crate) values: &'a [Value],
+}
+
+/// A call of the programmer's.
+pub(crate) fn given_by<'a>(programmer: ObjNo, call: &'a Call) -> Given<'a> {
+    Given {
+        programmer,
+        name: call.name,
+        values: call.args.items(),
+    }
+}
+
+/// The value there, if there is one.
+pub(crate) fn value_at<'a>(given: Given<'a>, position: Position) -> Option<&'a Value> {
+    match position {
+        Position::Value(place) => given.values.get(place),
+        Position::Item(place, inside) => match given.values.get(place) {
+            Some(Value::List(list)) => list.items().get(inside),
+            _ => None,
+        },
+    }
+}
+
+/// Whether it is the object that the call begins with.
+pub(crate) fn is_first(given: Given<'_>, object: ObjNo) -> bool {
+    match value_at(given, FIRST) {
+        Some(Value::Obj(first)) => *first == object,
+        _ => false,
+    }
+}
+
+/// The text there, if there is one.
+pub(crate) fn text_at<'a>(given: Given<'a>, position: Position) -> Option<&'a MooStr> {
+    match value_at(given, position) {
+        Some(Value::Str(text)) => Some(text),
+        _ => None,
+    }
+}
+
+/// The built-in property that the second value names, if it is the name of one.
+pub(crate) fn built_in_at(given: Given<'_>) -> Option<BuiltIn> {
+    BuiltIn::of_name(text_at(given, SECOND)?)
+}
+
+/// The list there, if there is one.
+pub(crate) fn list_at<'a>(given: Given<'a>, position: Position) -> Option<&'a ValueList> {
+    match value_at(given, position) {
+        Some(Value::List(list)) => Some(list),
+        _ => None,
+    }
+}
+
+/// The number that the call begins with, if it begins with one.
+pub(crate) fn first_number(given: Given<'_>) -> Option<i64> {
+    match value_at(given, FIRST) {
+        Some(Value::Int(number)) => Some(*number),
+        _ => None,
+    }
+}

@@ -1,0 +1,19 @@
+# Completion of moo-shell for bash.
+
+_moo_shell()
+{
+    local word=${COMP_WORDS[COMP_CWORD]} before=${COMP_WORDS[COMP_CWORD - 1]}
+    COMPREPLY=()
+    case $before in
+        -f | --file | --names | --moo | --token)
+            mapfile -t COMPREPLY < <(compgen -f -- "$word")
+            return
+            ;;
+        --port | --web | --as) return ;;
+    esac
+    case $word in
+        -*) mapfile -t COMPREPLY < <(compgen -W "--port --web --token --as --file -f --dry-run --quiet -q --names --moo --help" -- "$word") ;;
+        *) mapfile -t COMPREPLY < <(compgen -f -- "$word") ;;
+    esac
+}
+complete -o filenames -F _moo_shell moo-shell

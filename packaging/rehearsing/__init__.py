@@ -1,0 +1,1 @@
+"""What packaging/rehearse is made of: machines, the blocks of the page, and clients."""

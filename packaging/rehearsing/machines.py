@@ -1,0 +1,125 @@
+"""New machines of Debian 12: containers that boot systemd, made by `debootstrap`."""
+
+from __future__ import annotations
+
+import atexit
+import os
+import re
+import shutil
+import signal
+import subprocess
+import time
+from pathlib import Path
+
+from rehearsing.page import TOP, here, is_wrong
+
+SECONDS = 600
+MIRROR = "http://deb.debian.org/debian"
+ENTER = "--mount --uts --ipc --net --pid --root --wd".split()
+PATH = "/usr/local/sbin:/usr/local/bin:/usr/sbin:/usr/bin:/sbin:/bin"
+HOME = {"HOME": "/root", "PATH": PATH, "LANG": "C.UTF-8", "DEBIAN_FRONTEND": "noninteractive"}
+
+
+def group_for(name: str) -> Path | None:
+    """A control group for a machine, if this machine's systemd doesn't make one: two machines may not share theirs."""
+    if os.path.exists("/run/systemd/system"):
+        return None
+    found = re.search(r"^\S+ (\S+) cgroup2 ", Path("/proc/mounts").read_text(), re.M)
+    if not found:
+        is_wrong("there is no cgroup2 on this machine")
+    assert found
+    group = Path(found[1]) / f"rehearse-{name}"
+    group.mkdir(exist_ok=True)
+    return group
+
+
+class Machine:
+    """A new machine. `other` plays another machine: there the sources are, and there copies are kept. `disk2` is a disk that outlives it."""
+
+    def __init__(self, folder: Path, name: str) -> None:
+        self.root, self.name, self.log = folder / name, name, folder / f"{name}.log"
+        self.other, self.disk2 = folder / "other", folder / "disk2"
+        self.first: int | None = None
+        shutil.rmtree(self.root, ignore_errors=True)
+        subprocess.run(["cp", "--archive", folder / "base", self.root], check=True)
+        (self.root / "srv/journal2").mkdir(exist_ok=True)
+        atexit.register(self.kill)
+        self.boot()
+
+    def boot(self) -> None:
+        """Starts the machine, and waits until it is up."""
+        group = group_for(self.name)
+        binds = [f"--bind={self.other}:/other", f"--bind={self.disk2}:/srv/journal2"]
+        words = ["systemd-nspawn", "--quiet", f"--directory={self.root}", f"--machine=rehearse-{self.name}", *binds]
+        # What is needed to give a unit a network of its own.
+        words += ["--capability=CAP_NET_ADMIN", "--register=no", *(["--keep-unit"] if group else []), "--console=pipe", "--boot"]
+        if group:
+            words = ["sh", "-c", f'echo $$ >{group}/cgroup.procs; exec "$@"', "sh", *words]
+        with open(self.log, "ab") as log:
+            self.process = subprocess.Popen(
+                words,
+                env={**os.environ, "SYSTEMD_NSPAWN_UNIFIED_HIERARCHY": "1"},
+                stdin=subprocess.DEVNULL,
+                stdout=log,
+                stderr=log,
+                start_new_session=True,
+            )
+        end = time.monotonic() + SECONDS
+        while (state := self.state()) != "running":
+            if state == "degraded" or self.process.poll() is not None or time.monotonic() > end:
+                failed = self.run(["systemctl --failed --no-legend"], is_good=False) if state else ""
+                is_wrong(f"machine {self.name} is {state or 'not up'}: {failed}; its log is {self.log}")
+            time.sleep(0.5)
+
+    def state(self) -> str:
+        """What its systemd says of it; nothing, if that doesn't run yet. The container's first process isn't its first child at once."""
+        children = Path(f"/proc/{self.process.pid}/task/{self.process.pid}/children")
+        found = children.read_text().split() if children.exists() else []
+        self.first = int(found[0]) if found else None
+        return self.run(["systemctl is-system-running --wait"], is_good=False).strip() if found else ""
+
+    def words(self, lines: list[str]) -> list[str]:
+        """The command that runs lines of a shell on the machine, of which each has to succeed."""
+        return ["nsenter", f"--target={self.first}", *ENTER, "bash", "-exc", "\n".join(["cd /root", *here(lines)])]
+
+    def run(self, lines: list[str], is_good: bool = True, text: str = "") -> str:
+        """What lines of a shell print. `text` is their standard input."""
+        with open(self.log, "ab") as log:
+            done = subprocess.run(
+                self.words(lines), env=HOME, input=text, stdout=subprocess.PIPE, stderr=log, text=True, timeout=SECONDS, check=False
+            )
+            log.write(done.stdout.encode())
+        if is_good and done.returncode:
+            is_wrong(f"machine {self.name}: status {done.returncode} of {here(lines)}; its log is {self.log}")
+        return done.stdout
+
+    def start(self, lines: list[str]) -> subprocess.Popen[str]:
+        """Lines of a shell that go on while others run."""
+        return subprocess.Popen(self.words(lines), env=HOME, stdin=subprocess.DEVNULL, stdout=subprocess.PIPE, stderr=subprocess.DEVNULL, text=True)
+
+    def kill(self) -> None:
+        """Ends all that runs on it, at once."""
+        if self.first and self.process.poll() is None:
+            os.kill(self.first, signal.SIGKILL)
+            self.process.wait(SECONDS)
+
+    def lose(self) -> None:
+        """Kills it and deletes its disk."""
+        self.kill()
+        shutil.rmtree(self.root)
+
+
+def make_base(folder: Path) -> None:
+    """What each machine begins as, the sources for them, and the disk that outlives them."""
+    if not (folder / "base").exists():
+        words = ["debootstrap", "--include=dbus,systemd-sysv", "bookworm", folder / "unfinished", MIRROR]
+        subprocess.run(words, stdout=subprocess.DEVNULL, check=True)
+        (folder / "unfinished/etc/apt/apt.conf.d/yes").write_text('APT::Get::Assume-Yes "true";\n')
+        # Debian's own packages needn't be synced file by file.
+        (folder / "unfinished/etc/dpkg/dpkg.cfg.d/fast").write_text("force-unsafe-io\n")
+        (folder / "unfinished/etc/machine-id").write_text("")
+        (folder / "unfinished").rename(folder / "base")
+    for name in ("other", "disk2"):
+        shutil.rmtree(folder / name, ignore_errors=True)
+        (folder / name).mkdir()
+    subprocess.run(["git", "clone", "--quiet", "--bare", TOP, folder / "other/sources.git"], check=True)

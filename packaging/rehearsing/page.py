@@ -1,0 +1,108 @@
+"""The blocks of commands of docs/OPERATING.md, as they are run."""
+
+from __future__ import annotations
+
+import contextlib
+import random
+import re
+import socket
+import sys
+import time
+from collections.abc import Iterator
+from pathlib import Path
+
+TOP = Path(__file__).resolve().parents[2]
+# Each block of commands of the page that is followed: its heading, and how its first line begins.
+BLOCKS = {
+    "install": ("Install", "apt-get update"),
+    "make install": ("Install", "apt-get install make git xz-utils python3"),
+    "make a world": ("Run", "runuser -u moo -- moo init"),
+    "settings": ("Run", "printf 'PORT="),
+    "start": ("Run", "systemctl enable --now"),
+    "install the front": ("Let people in", "apt-get install ./out/moo-web"),
+    "start the front": ("Let people in", "for unit in moo moo-watch"),
+    "a second journal": ("Let people in", "install -d -o moo-web -g moo-web -m 700 /srv/journal2"),
+    "get at it": ("Let people in", 'alone="nsenter'),
+    "a text of batches": ("Let people in", "systemctl stop moo-web@world.socket"),
+    "a key": ("A standby", "usermod --shell"),
+    "begin a standby": ("A standby", "install -d -o moo-web"),
+    "back up": ("Back up", "systemctl start moo-backup@world"),
+    "copy the journal": ("Back up", "systemctl start moo-keep@world"),
+    "copy away": ("Back up", "rsync "),
+    "bring back": ("Restore", "rsync "),
+    "move away": ("Restore", "systemctl stop "),
+    "restore": ("Restore", "ls /var/backups/moo"),
+    "begin the journal anew": ("Restore", "echo ONCE=--rebase"),
+    "from the journal": ("Drills", "systemctl stop moo-web@world.socket moo-web@world moo@world moo-backup"),
+    "put in place": ("Drills", "install -o moo -g moo -m 600 /srv/again/world.db*"),
+    "end the standby": ("Drills", "systemctl disable --now moo-follow@world"),
+    "become the world": ("Drills", "install -o moo -g moo -m 600 /var/lib/moo-web/world/standby.db "),
+    "noon": ("Drills", "install -d -m 700 /srv/again"),
+    "go on from noon": ("Drills", "systemctl stop moo-web@world.socket moo-web@world moo@world"),
+    "somebody left": ("Drills", "runuser -u moo-web -- moo-people"),
+    "upgrade": ("Upgrade", "make deb"),
+    "upgrade both": ("Upgrade", "apt-get install --reinstall"),
+}
+
+
+def is_wrong(why: str) -> None:
+    """Ends the rehearsal."""
+    sys.exit(f"packaging/rehearse: {why}")
+
+
+def page() -> list[tuple[str, list[str]]]:
+    """The blocks of the page, each with its heading."""
+    blocks: list[tuple[str, list[str]]] = []
+    heading, is_inside = "", False
+    for line in (TOP / "docs/OPERATING.md").read_text().splitlines():
+        heading = line[3:] if line.startswith("## ") else heading
+        if line.startswith("    ") and not is_inside:
+            blocks.append((heading, []))
+        is_inside = line.startswith("    ")
+        if is_inside:
+            blocks[-1][1].append(line[4:])
+    return blocks
+
+
+def block(name: str) -> list[str]:
+    """The lines of a block. Of two that begin alike it is the one whose first line is no longer than that."""
+    heading, begins = BLOCKS[name]
+    found = [lines for under, lines in page() if under == heading and lines[0].startswith(begins)]
+    found = [lines for lines in found if lines[0] == begins] or found
+    if len(found) != 1:
+        is_wrong(f"{len(found)} blocks of the page under '{heading}' begin with '{begins}'")
+    return found[0]
+
+
+def free_port() -> int:
+    """A port that nobody listens on now, and that no other program gets by chance: it isn't one that the system gives away."""
+    while True:
+        port = random.randrange(20_000, 30_000)
+        with socket.socket() as probe, contextlib.suppress(OSError):
+            probe.bind(("127.0.0.1", port))
+            return port
+
+
+# The ports of a world and of its front: those of the page may be taken here.
+PORT, WEB_PORT = free_port(), free_port()
+
+
+def here(lines: list[str]) -> list[str]:
+    """Commands with the ports of this rehearsal, and with the folder that plays another machine in place of OTHER."""
+    changes = (("8080", str(PORT)), ("8088", str(WEB_PORT)), ("OTHER:", "/other/"), ("ADDRESS", "/other/sources.git"))
+    for old, new in changes:
+        lines = [line.replace(old, new) for line in lines]
+    return lines
+
+
+def with_copy(lines: list[str], copy: Path) -> list[str]:
+    """Commands on a copy, with its name in place of that of the page."""
+    return [re.sub(r"world\.db-\d{8}T\S+?(?=/|$)", copy.name, line) for line in lines]
+
+
+@contextlib.contextmanager
+def step(name: str) -> Iterator[None]:
+    """A step, whose name and seconds are printed when it is done."""
+    began = time.monotonic()
+    yield
+    print(f"ok {name}: {time.monotonic() - began:.0f} s", flush=True)

@@ -1,0 +1,262 @@
+"""tools/moo-shell at a terminal: completion, history, Ctrl-C, Ctrl-D, and that its service ends with it."""
+
+from __future__ import annotations
+
+import os
+import re
+import signal
+import stat
+
+from tests.support.cases import ProgramTest
+from tests.support.program import ended
+from tests.support.shell import at_prompt, children, has_ended, is_running, run_shell
+from tests.support.terminal import Terminal
+from tests.support.worlds import make, run
+
+TAB, UP, END_OF_INPUT = "\t", "\x1b[A", "\x04"
+LAMP = """batch as #3
+create(#1)
+set(#4, "name", "Lantern")
+add_property(#4, "description", "dull", {#3, "rc"})
+add_property(#4, "weight", 1, {#3, "r"})
+add_verb(#4, {#3, "r", "light ig*nite"}, {"this", "none", "none"})
+create(#4)
+end
+"""
+
+
+class Typed(ProgramTest):
+    """Lines that are typed at a prompt on world.db."""
+
+    limit = 900
+
+    def setUp(self) -> None:
+        super().setUp()
+        make("world.db", LAMP)
+
+    def shell(self, *words: str, **more: str) -> Terminal:
+        return at_prompt(*words, "world.db", **more)
+
+    def done(self, shell: Terminal, line: str, prompt: str = "#3> ") -> list[str]:
+        """The lines that are shown between a line that is typed and the next prompt."""
+        shell.line(line)
+        return shell.until(f"\n{prompt}").removesuffix(f"\n{prompt}").split("\n")[1:]
+
+    def leave(self, shell: Terminal) -> int:
+        shell.type(END_OF_INPUT)
+        return shell.end()
+
+
+class Lines(Typed):
+    def test_calls_and_batches(self) -> None:
+        shell = self.shell()
+        self.case("a call is a batch of one", self.done(shell, "$box = create(#1)"), ["$box = #6  accepted 2"])
+        self.case("its name is used", self.done(shell, 'set($box, "name", "box")'), ["0  accepted 3"])
+        for line, prompt in (("begin", "   1> "), ("$lid = create($box)", "   2> "), ('set($lid, "name", "lid")', "   3> ")):
+            self.case(f"in a batch nothing is answered yet: {line}", self.done(shell, line, prompt), [])
+        self.case("a batch may be tried", self.done(shell, "\\ask", "   3> ")[0].split()[0], "#7")
+        self.case("and is listed", self.done(shell, "\\list", "   3> ")[0], "1  $lid = create($box)")
+        came = self.done(shell, "end")
+        self.case("the answers are beside their calls", came[1].split(None, 1), ["0", 'set($lid, "name", "lid")'])
+        self.case("with the number", came[-1], "accepted 4")
+        self.case("a refusal says why", "E_TYPE" in self.done(shell, 'set($box, "name", 3)')[0], True)
+        self.case("a call may be tried", self.done(shell, "\\ask create(#1)")[0].split()[0], "#8")
+        self.case("which changes nothing", self.done(shell, "\\seq"), ["4"])
+        self.case("an undone call isn't sent", self.undone(shell), ["#8  accepted 5"])
+        self.case("another programmer", self.done(shell, "\\as $box", "#6> "), ['as #6 "box", not a player'])
+        self.case("who calls is told", "E_PERM" in self.done(shell, "recycle(#3)", "#6> ")[0], True)
+        self.case("Ctrl-D ends it", self.leave(shell), 0)
+        self.case("the world holds it", run("check", "world.db"), (0, "ok seq 5 objects 9\n"))
+
+    def test_a_batch_that_is_mended(self) -> None:
+        shell = self.shell()
+        for number, line in enumerate(("begin", "$a = create(#4)", 'set($a, "nam", "a")', 'get($a, "name")'), 1):
+            self.done(shell, line, f"   {number}> ")
+        told = self.done(shell, "end")
+        self.case("which call was refused", told[0].startswith('call 2: refused: set(#6, "nam", "a"): E_PROPNF'), True)
+        self.case("and what can be done", "\\fix CALL" in told[1], True)
+        told = self.done(shell, '\\fix set($a, "name", "a")')
+        self.case("it is sent again", [line.split()[0] for line in told], ["$a", "0", '"a"', "accepted"])
+        self.case("once", self.done(shell, "\\fix create(#1)"), ["no batch was refused at a call"])
+        self.leave(shell)
+
+    def undone(self, shell: Terminal) -> list[str]:
+        """What a batch of two calls is answered, of which the second is undone."""
+        self.done(shell, "begin", "   1> ")
+        self.done(shell, "create(#1)", "   2> ")
+        self.done(shell, "recycle(#2)", "   3> ")
+        self.done(shell, "\\undo", "   2> ")
+        came = self.done(shell, "end")
+        return came
+
+    def test_pasted_lines(self) -> None:
+        shell = self.shell()
+        shell.line('\x1b[200~create(#1)\nset(#6, "name", 3)\nset(#6, "name", "late")\x1b[201~')
+        shown = shell.until("\n#3> ")
+        shown = shown if "E_TYPE" in shown else shown + shell.until("\n#3> ")
+        self.case("they are done up to the first that is refused", ("accepted 2" in shown, "E_TYPE" in shown), (True, True))
+        self.case("what comes after it isn't", self.done(shell, 'get(#6, "name")'), ['""  accepted 3'])
+        self.leave(shell)
+
+    def test_end_of_input_in_a_batch(self) -> None:
+        shell = self.shell()
+        self.done(shell, "begin", "   1> ")
+        self.done(shell, "recycle(#4)", "   2> ")
+        shell.type(END_OF_INPUT)
+        self.case("Ctrl-D drops the batch", "the batch is dropped, with 1 call; nothing was sent" in shell.until("\n#3> "), True)
+        self.case("nothing was sent", self.done(shell, "\\seq"), ["1"])
+        self.case("the next one ends the shell", self.leave(shell), 0)
+
+    def test_interrupts(self) -> None:
+        shell = self.shell()
+        self.done(shell, "begin", "   1> ")
+        self.done(shell, "recycle(#4)", "   2> ")
+        shell.type("recycle(")
+        shell.until("recycle(")
+        self.case("Ctrl-C drops the batch", "the batch is dropped, with 1 call; nothing was sent" in shell.interrupt("\n#3> "), True)
+        shell.type("recycle(#4)")
+        shell.until("recycle(#4)")
+        shell.interrupt("\n#3> ")
+        self.case("and the line that is typed", self.done(shell, "\\seq"), ["1"])
+        self.case("the service goes on", self.done(shell, "valid(#4)"), ["1  accepted 2"])
+        self.leave(shell)
+
+    def test_help(self) -> None:
+        shell = self.shell()
+        for line in ("help", "\\help"):
+            told = self.done(shell, line)
+            words = ("show", "tree", "places", "find", "petitions", "as", "seq", "dump")
+            self.case(f"{line} lists the words", [each for each in words if not any(row.startswith(f"  \\{each}") for row in told)], [])
+        self.case("of a call it is the program's own", self.done(shell, "\\help create"), self.lines_of_help("  create("))
+        self.case("of an error too", self.done(shell, "\\help e_args"), ["  E_ARGS  too many values, or too few"])
+        self.case("an unknown word", self.done(shell, "\\help creat"), ["there is no help on creat (did you mean create?)"])
+        self.leave(shell)
+
+    def lines_of_help(self, begins: str) -> list[str]:
+        return [line for line in ended("apply", "--help").written.splitlines() if line.startswith(begins)]
+
+
+class Completion(Typed):
+    def completed(self, shell: Terminal, text: str) -> str:
+        """What a text becomes by a tab. It is made a comment, so that it isn't run, and is looked up in the history."""
+        shell.type(text + TAB)
+        shell.type("\x01//\n")
+        shell.until("\n#3> ")
+        shell.type(UP)
+        shell.type("\x05")
+        shell.hear(0.3)
+        shell.type("\n")
+        return re.sub(r"\x08.*", "", shell.until("\n#3> ")).split("//", 1)[-1].split("\n")[0].strip()
+
+    def test_what_is_completed(self) -> None:
+        shell = self.shell()
+        self.done(shell, "$lantern = create(#4)")
+        cases = (
+            ("cre", "create("),
+            ("\\ask cre", "\\ask create("),
+            ("$x = max_", "$x = max_object("),
+            ("\\peti", "\\petitions"),
+            ("$lan", "$lantern"),
+            ("recycle($lan", "recycle($lantern"),
+            ('get(#4, "desc', 'get(#4, "description"'),
+            ('get($lantern, "we', 'get($lantern, "weight"'),
+            ('set(#5, "loc', 'set(#5, "location"'),
+            ('clear_property(#5, "loc', 'clear_property(#5, "loc'),
+            ('verb_info(#4, "ig', 'verb_info(#4, "ignite"'),
+            ('create("x', 'create("x'),
+            ("\\help reset", "\\help reset"),
+            ("\\help recy", "\\help recycle"),
+            ("include wor", "include world.db"),
+        )
+        for text, wanted in cases:
+            self.case(f"{text} becomes {wanted}", self.completed(shell, text), wanted)
+        shell.type("\x15")
+        self.leave(shell)
+
+
+class History(Typed):
+    def test_it_is_kept(self) -> None:
+        shell = self.shell()
+        self.done(shell, 'get(#4, "name")')
+        shell.type(UP + "\n")
+        self.case("a line comes again", '"Lantern"  accepted 3' in shell.until("\n#3> "), True)
+        self.leave(shell)
+        self.case("nobody else may read the file", stat.S_IMODE(os.stat("history").st_mode), 0o600)
+        shell = self.shell()
+        shell.type(UP + "\n")
+        self.case("also in the next session", '"Lantern"  accepted 4' in shell.until("\n#3> "), True)
+        self.leave(shell)
+
+
+class Shown(Typed):
+    def test_an_object(self) -> None:
+        shell = self.shell()
+        self.done(shell, 'set(#5, "weight", 3)')
+        told = self.done(shell, "\\show #5")
+        self.case("its name", told[0], '#5 ""')
+        self.case("its parents", '  parents   #4 "Lantern", #1 "Root Class"' in told, True)
+        self.case("its own value", any(re.search(r'weight = 3 +\(defined on #4; #3 "r"\)', line) for line in told), True)
+        inherited = r'description = "dull" +\(defined on #4, the value of #4; #3 "rc"\)'
+        self.case("an inherited one", any(re.search(inherited, line) for line in told), True)
+        told = self.done(shell, "\\show #4")
+        self.case("its children", '  children  #5 ""' in told, True)
+        self.case("its verbs", '    1  light ig*nite  (this none none; #3 "r")' in told, True)
+        self.case("what isn't an object", self.done(shell, "\\show #77"), ["#77 isn't an object"])
+        self.leave(shell)
+
+    def test_a_pager_for_long_answers(self) -> None:
+        shell = self.shell(PAGER="sed s/^/paged:/")
+        self.case("a long text is paged", self.done(shell, "\\help calls")[0][:6], "paged:")
+        self.case("a short one isn't", self.done(shell, "\\seq"), ["1"])
+        self.leave(shell)
+
+    def test_colours(self) -> None:
+        no, dumb = {"NO_COLOR": "1"}, {"TERM": "dumb"}
+        cases: list[tuple[str, dict[str, str], bool]] = [("a terminal", {}, True), ("if told so", no, False), ("a plain one", dumb, False)]
+        for name, more, wanted in cases:
+            shell = self.shell(**more)
+            self.done(shell, "creat(#1)")
+            self.leave(shell)
+            self.case(name, "\x1b[31mmalformed" in shell.raw, wanted)
+        came = run_shell("world.db", text="creat(#1)\n")
+        self.case("there are none in a pipe", (came.status, "\x1b" in came.written + came.complaint), (1, False))
+
+    def test_one_who_may_not_read(self) -> None:
+        shell = self.shell("--as", "5")
+        told = self.done(shell, "\\show #4", "#5> ")
+        self.case("what may not be listed is said to be so", "    (the properties that #4 defines may not be listed)" in told, True)
+        self.case("the verbs too", "  verbs     may not be listed" in told, True)
+        self.leave(shell)
+
+
+class Ends(Typed):
+    """The service of the shell's own ends with it."""
+
+    def service_of(self, shell: Terminal) -> int:
+        (service,) = children(shell.process.pid)
+        return service
+
+    def test_signals(self) -> None:
+        for number in (signal.SIGTERM, signal.SIGHUP, signal.SIGKILL, signal.SIGSEGV):
+            shell = self.shell()
+            service = self.service_of(shell)
+            self.case(f"it runs until {number.name}", is_running(service), True)
+            os.kill(shell.process.pid, number)
+            shell.end()
+            self.case(f"it has ended after {number.name}", has_ended(service), True)
+            self.case(f"the world is free after {number.name}", run("check", "world.db"), (0, "ok seq 1 objects 6\n"))
+
+    def test_a_terminal_that_closes(self) -> None:
+        shell = self.shell()
+        service = self.service_of(shell)
+        os.close(shell.master)
+        shell.process.wait(60)
+        self.case("it has ended", has_ended(service), True)
+
+    def test_its_own_end(self) -> None:
+        shell = self.shell()
+        service = self.service_of(shell)
+        os.kill(service, signal.SIGKILL)
+        self.case("it is started again", self.done(shell, "valid(#4)")[-1], "1  accepted 2")
+        self.case("as another process", self.service_of(shell) != service, True)
+        self.case("and ended", (self.leave(shell), run("check", "world.db")), (0, (0, "ok seq 2 objects 6\n")))

@@ -1,0 +1,104 @@
+"""tools/moo-watch: a file that is gone, and answers of other programs. What the unit runs is in test_install."""
+
+import http.server
+import pathlib
+import shutil
+import subprocess
+import sys
+import tempfile
+import threading
+import unittest
+
+from tests.support.operating import KeptService, SECONDS, TOOLS, make_world
+
+FIRST = "batch as #3\ncreate(#1)\nend\n"
+
+
+class Stranger(http.server.BaseHTTPRequestHandler):
+    """Another program that listens at the port of the service."""
+
+    status, body = 200, b""
+
+    def do_GET(self) -> None:
+        """Answers what the test says."""
+        self.send_response(self.status)
+        self.end_headers()
+        self.wfile.write(self.body)
+
+    def log_message(self, *_: object) -> None:
+        """Says nothing."""
+
+
+class Watch(unittest.TestCase):
+    """An empty folder."""
+
+    def setUp(self) -> None:
+        room = tempfile.TemporaryDirectory()
+        self.addCleanup(room.cleanup)
+        self.room = pathlib.Path(room.name)
+        self.file = self.room / "world.db"
+
+    def watch(self, *words: object) -> tuple[int, str, str]:
+        """The status of moo-watch, and what it printed and complained of. Its command would make the file `ran`."""
+        command = [sys.executable, TOOLS / "moo-watch", "--wait", "10", *words, "touch", self.room / "ran"]
+        ran = subprocess.run(list(map(str, command)), stdout=subprocess.PIPE, stderr=subprocess.PIPE, text=True, timeout=SECONDS)
+        return ran.returncode, ran.stdout, ran.stderr
+
+    def assert_wrong(self, reason: str, *words: object) -> None:
+        """It fails for this reason, and runs nothing."""
+        status, printed, complaint = self.watch(*words)
+        self.assertEqual((status, printed), (1, ""))
+        self.assertIn(reason, complaint)
+        self.assertNotIn("Traceback", complaint)
+        self.assertFalse((self.room / "ran").exists())
+
+
+class File(Watch):
+    """The file that a service has open."""
+
+    def serve(self, count: int = 1_000_000) -> KeptService:
+        """A service of a new world."""
+        make_world(self.file, FIRST)
+        service = KeptService(self.file, count)
+        self.addCleanup(service.stop)
+        return service
+
+    def test_the_file_of_the_service(self) -> None:
+        port = self.serve().port
+        self.assertEqual(self.watch("--world", self.file, port), (0, "seq 1\n", ""))
+
+    def test_a_run_that_ends_with_the_answer(self) -> None:
+        port = self.serve(count=1).port
+        for _ in range(3):
+            self.assertEqual(self.watch("--world", self.file, port), (0, "seq 1\n", ""))
+
+    def test_a_file_that_is_gone(self) -> None:
+        port = self.serve().port
+        self.file.unlink()
+        self.assert_wrong(f"the file {self.file} is gone: ", "--world", self.file, port)
+
+    def test_a_file_that_was_replaced(self) -> None:
+        port = self.serve().port
+        shutil.copy(self.file, self.room / "other.db")
+        (self.room / "other.db").rename(self.file)
+        self.assert_wrong(f"the service has another file open than {self.file}: ", "--world", self.file, port)
+
+
+class Answers(Watch):
+    """Another program at the port."""
+
+    def test_another_program(self) -> None:
+        server = http.server.HTTPServer(("127.0.0.1", 0), Stranger)
+        self.addCleanup(server.server_close)
+        self.addCleanup(server.shutdown)
+        threading.Thread(target=server.serve_forever, daemon=True).start()
+        for status, body in ((200, b"{}"), (200, b"[1]"), (200, b'{"seq":"1"}'), (503, b"7"), (503, b"{}"), (404, b"null")):
+            with self.subTest(status=status, body=body):
+                Stranger.status, Stranger.body = status, body
+                self.assert_wrong(f"another program than moo answers at port {server.server_port}", server.server_port)
+        Stranger.body = b"<html>"
+        self.assert_wrong("moo-watch: no answer: ", server.server_port)
+
+
+if __name__ == "__main__":
+    unittest.main()

@@ -1,0 +1,236 @@
+"""The `\\` words of the shell."""
+
+from __future__ import annotations
+
+import dataclasses
+from collections.abc import Callable
+from pathlib import Path
+from typing import Optional
+
+from moo_shell import looks
+from moo_shell.batches import Item, Refused
+from moo_shell.helping import ASIDE, TOPICS, help_on, overview
+from moo_shell.lines import counted, did_you_mean, read_line, unquoted
+from moo_shell.service import Service
+from moo_shell.session import Session
+from moo_shell.told import Failed
+
+
+@dataclasses.dataclass(frozen=True)
+class Command:
+    """A `\\` word: what it is given, what it does in a sentence, and the function that does it."""
+
+    given: str
+    does: str
+    run: Callable[[Session, str], None]
+
+
+def object_or_none(session: Session, text: str) -> Optional[int]:
+    """The object that a word is given, if it is given one."""
+    return session.number(text) if text else None
+
+
+def show(session: Session, text: str) -> None:
+    """All of an object."""
+    whole = session.world.whole(session.number(text))
+    things = session.world.things_of(sorted(number for number in looks.mentioned(whole) if number >= 0))
+    session.output.show(looks.shown(whole, things, session.output.width()))
+
+
+def tree(session: Session, text: str) -> None:
+    """The objects by their parents."""
+    session.output.show(looks.tree(session.world.things(), object_or_none(session, text)))
+
+
+def places(session: Session, text: str) -> None:
+    """The objects by where they are."""
+    session.output.show(looks.places(session.world.things(), object_or_none(session, text)))
+
+
+def find(session: Session, text: str) -> None:
+    """The objects with a word in their names."""
+    if not text:
+        raise Failed("\\find WORD: which word?")
+    found = looks.found(session.world.things(), unquoted(text))
+    session.output.show(found or f"no name has {unquoted(text)}")
+
+
+def petitions(session: Session, _: str) -> None:
+    """The petitions that may be seen."""
+    found = session.world.petitions()
+    things = session.world.things_of(sorted({who for _, who, _ in found}))
+    session.output.show(looks.shown_petitions(found, things) or "there are no petitions")
+
+
+def ask(session: Session, text: str) -> None:
+    """What a call would answer, or the open batch so far."""
+    if text:
+        line = read_line(text)
+        if line.kind != "call":
+            raise Failed("\\ask CALL: a call is tried, as \\ask create(#1)")
+        items, who = [Item(line.text, line.name, session.place)], session.who
+        if session.open is not None:
+            items, who = [*session.open, *items], session.open_who
+    elif session.open is not None:
+        items, who = session.open, session.open_who
+    else:
+        raise Failed("\\ask CALL: which call?")
+    try:
+        done = session.ask(items, who)
+    except Refused as refused:
+        at = f"call {refused.call}, " if len(items) > 1 and refused.call else ""
+        session.output.show(f"would be {at}{session.with_help(refused, items).reason}")
+        return
+    rows = list(zip(items, done.answers))[-1 if text else 0 :]
+    if session.is_script:
+        session.output.show("\n".join(answer for _, answer in rows))
+    else:
+        session.output.show("\n".join(f"{answer}  {session.output.dim('would answer ' + item.text)}" for item, answer in rows))
+
+
+def names(session: Session, text: str) -> None:
+    """The names; with a file they are kept in it."""
+    if text:
+        if session.is_copy:
+            raise Failed("this is a copy of the world: its names aren't kept")
+        session.keep_names(Path(unquoted(text)).expanduser())
+        session.output.note(f"names are kept in {session.file_of_names}")
+        return
+    objects = [session.number(value) for value in session.names.values() if value.startswith("#")]
+    things = session.world.things_of(sorted({number for number in objects if number >= 0}))
+    rows = []
+    for name, value in sorted(session.names.items()):
+        rows.append(f"{name} = {looks.named(int(value[1:]), things) if value.startswith('#') else value}")
+    session.output.show("\n".join(rows) or "there are no names yet: $hall = create(#1) makes one")
+
+
+def as_number(session: Session, text: str) -> None:
+    """Another programmer for the calls that follow."""
+    if not session.door.can_name:
+        raise Failed("the front knows by the token who calls: \\as can't name another programmer")
+    if session.open is not None:
+        raise Failed("a batch is open: it is of one programmer")
+    if not text:
+        session.output.show(session.find_programmer())
+        return
+    number = session.number(text)
+    session.world.built_in(number)
+    session.world.who = number
+    if not session.is_script:
+        session.output.note(session.find_programmer())
+
+
+def seq(session: Session, _: str) -> None:
+    """The number of accepted batches."""
+    session.batches.seq = session.door.seq()
+    session.output.show(str(session.batches.seq))
+
+
+def dump(session: Session, text: str) -> None:
+    """The dump of the world, to a new file or to the terminal."""
+    path = Path(unquoted(text)).expanduser() if text else None
+    if path and path.exists():
+        raise Failed(f"{path} is there already")
+    told = dump_of(session)
+    if path is None:
+        session.output.show(told.rstrip("\n"))
+        return
+    if session.is_copy:
+        session.output.note(f"{path} isn't written: this is a copy of the world")
+        return
+    try:
+        with open(path, "x") as file:
+            file.write(told)
+    except OSError as error:
+        raise Failed(f"{path}: {error.strerror}") from None
+
+
+def dump_of(session: Session) -> str:
+    """The dump of the world, by the service's route, or by the program if the service is the shell's own and has no such route."""
+    reply = session.door.tried("GET", "/dump")
+    if reply.is_good:
+        return reply.text
+    if not reply.is_missing:
+        raise Failed(f"{session.door.where()} gives no dump: {reply.error}")
+    if isinstance(session.door, Service):
+        return session.door.dump()
+    raise Failed("this service has no dump: `moo dump FILE` makes one when the service has ended")
+
+
+def include(session: Session, text: str) -> None:
+    """The lines of another file."""
+    session.include(unquoted(text))
+
+
+def show_help(session: Session, text: str) -> None:
+    """The overview, or what help says about a word."""
+    session.output.show(help_on(session.manual, COMMANDS_BY_HELP, text) if text else overview(session.manual, COMMANDS_BY_HELP))
+
+
+def list_batch(session: Session, _: str) -> None:
+    """The calls of the open batch."""
+    if session.open is None:
+        raise Failed("no batch is open: `begin` opens one")
+    rows = [f"{number}  {item.name + ' = ' if item.name else ''}{item.text}" for number, item in enumerate(session.open, 1)]
+    session.output.show("\n".join(rows) or "no calls yet")
+
+
+def undo(session: Session, _: str) -> None:
+    """Drops the last call of the open batch."""
+    if not session.open:
+        raise Failed("no call of an open batch is there to drop")
+    session.output.note(f"dropped: {session.open.pop().text}")
+
+
+def fix(session: Session, text: str) -> None:
+    """Sends a batch that was refused again, with another call in the place of the refused one."""
+    if session.open is not None:
+        raise Failed("a batch is open: \\abandon drops it")
+    line = read_line(text)
+    if line.kind != "call":
+        raise Failed("\\fix CALL: the call that takes the place of the refused one")
+    session.fix(Item(line.text, line.name, session.place))
+
+
+def abandon(session: Session, _: str) -> None:
+    """Drops the open batch."""
+    if session.open is None:
+        raise Failed("no batch is open")
+    session.output.note(f"the batch is dropped, with {counted(session.abandon(), 'call')}; nothing was sent")
+
+
+def leave(session: Session, _: str) -> None:
+    """Ends the session."""
+    session.is_over = True
+
+
+COMMANDS = {
+    "show": Command("#5", "all of an object: owner, parents, place, flags, properties with their values and origins, verbs", show),
+    "tree": Command("[#1]", "the objects by their parents", tree),
+    "places": Command("[#2]", "the objects by where they are", places),
+    "find": Command("WORD", "the objects with a word in their names", find),
+    "petitions": Command("", "the petitions: all of them for a wizard, else one's own", petitions),
+    "ask": Command("CALL", "what a call would answer; nothing changes. In a batch without a CALL: the batch so far", ask),
+    "as": Command("N", "the calls that follow are those of programmer #N", as_number),
+    "names": Command("[FILE]", "the names and what they stand for; with FILE they are kept in it from now on", names),
+    "seq": Command("", "the number of accepted batches", seq),
+    "dump": Command("[FILE]", "the whole world as a text, for `moo load`; FILE must be new", dump),
+    "include": Command("FILE", "does the lines of a file, up to the first that is refused", include),
+    "list": Command("", "the calls of the open batch", list_batch),
+    "undo": Command("", "drops the last call of the open batch", undo),
+    "abandon": Command("", "drops the open batch; so does Ctrl-C", abandon),
+    "fix": Command("CALL", "sends the batch that was refused again, with CALL in the place of the refused call", fix),
+    "help": Command("[WORD]", f"this, or help on a call, an error, or one of: {', '.join([*TOPICS, *ASIDE])}", show_help),
+    "quit": Command("", "ends the shell; so does Ctrl-D", leave),
+}
+ALIASES = {"exit": "quit", "q": "quit", "h": "help", "?": "help"}
+COMMANDS_BY_HELP = {name: (command.given, command.does) for name, command in COMMANDS.items()}
+
+
+def run_command(session: Session, word: str, text: str) -> None:
+    """Does a `\\` word with what it is given."""
+    word = ALIASES.get(word, word)
+    if word not in COMMANDS:
+        like = did_you_mean("\\" + word, ["\\" + name for name in COMMANDS])
+        raise Failed(f"\\{word} isn't a word of the shell{like}; \\help lists them")
+    COMMANDS[word].run(session, text)

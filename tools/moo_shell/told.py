@@ -1,0 +1,86 @@
+"""What the shell says: its failures, and the streams and colours that it writes with."""
+
+from __future__ import annotations
+
+import os
+import shutil
+import subprocess
+import sys
+from typing import Optional
+
+RED, DIM, BOLD, PLAIN = "\x1b[31m", "\x1b[2m", "\x1b[1m", "\x1b[0m"
+PAGER = ("less", "-FRX")
+
+
+class Failed(Exception):
+    """Why a line of the shell wasn't done. `place` is the file and the line that it is about, if that isn't the line that is being done.
+
+    `status` is what a script ends with: 1, or what the program `moo` ended with. `afterword` is what is told in a line after it.
+    """
+
+    def __init__(self, reason: str, place: Optional[tuple[str, int]] = None, status: int = 1) -> None:
+        super().__init__(reason)
+        self.reason, self.place, self.status = reason, place, status
+        self.afterword = ""
+
+    def __str__(self) -> str:
+        return f"{self.place[0]}: line {self.place[1]}: {self.reason}" if self.place else self.reason
+
+
+class Output:
+    """Standard output and standard error. On a terminal there are colours, and at a prompt a pager for long texts."""
+
+    def __init__(self, is_quiet: bool = False) -> None:
+        self.is_quiet = is_quiet
+        self.is_terminal = sys.stdout.isatty()
+        self.has_pager = False
+        self.has_colours = self.is_terminal and "NO_COLOR" not in os.environ and os.environ.get("TERM", "dumb") != "dumb"
+
+    def dim(self, text: str) -> str:
+        """A text of less weight, if there are colours."""
+        return f"{DIM}{text}{PLAIN}" if self.has_colours else text
+
+    def bold(self, text: str) -> str:
+        """A text of more weight, if there are colours."""
+        return f"{BOLD}{text}{PLAIN}" if self.has_colours else text
+
+    def width(self) -> Optional[int]:
+        """How many letters a line of the terminal has; None if it isn't a terminal."""
+        return shutil.get_terminal_size().columns if self.is_terminal else None
+
+    def answer(self, text: str) -> None:
+        """Writes an answer, unless the shell is quiet."""
+        if not self.is_quiet:
+            print(text, flush=self.is_terminal)
+
+    def show(self, text: str) -> None:
+        """Writes a text that was asked for, by a pager if it is longer than the terminal."""
+        lines = text.count("\n") + 1
+        if self.has_pager and self.is_terminal and lines >= shutil.get_terminal_size().lines and self.page(text):
+            return
+        print(text, flush=self.is_terminal)
+
+    @staticmethod
+    def page(text: str) -> bool:
+        """Whether a pager showed a text: the one that `PAGER` names, or else `less`."""
+        named = os.environ.get("PAGER")
+        words: list[str] = ["sh", "-c", named] if named else list(PAGER)
+        if not shutil.which(words[0]):
+            return False
+        sys.stdout.flush()
+        with subprocess.Popen(words, stdin=subprocess.PIPE, text=True) as pager:
+            try:
+                pager.communicate(text + "\n")
+            except (BrokenPipeError, KeyboardInterrupt):
+                pass
+        return pager.returncode != 127
+
+    def note(self, text: str) -> None:
+        """Writes a remark to standard error."""
+        sys.stdout.flush()
+        print(self.dim(text), file=sys.stderr, flush=True)
+
+    def complain(self, text: str) -> None:
+        """Writes to standard error why something wasn't done."""
+        sys.stdout.flush()
+        print(f"{RED}{text}{PLAIN}" if self.has_colours and sys.stderr.isatty() else text, file=sys.stderr, flush=True)

@@ -1,0 +1,68 @@
+"""What the programs of the front share: their folder, their words, and how they end."""
+
+from __future__ import annotations
+
+import argparse
+import os
+import sys
+import threading
+import time
+from pathlib import Path
+
+PEOPLE_FILE = "people.db"
+
+
+class Failed(Exception):
+    """The program can't do what it was told, for this reason."""
+
+
+class Teller:
+    """Writes lines to standard error, each with the program's name; the same line again at most once a minute."""
+
+    def __init__(self, program: str) -> None:
+        self.program, self.lock = program, threading.Lock()
+        self.told: dict[str, float] = {}
+
+    def __call__(self, text: str) -> None:
+        with self.lock:
+            now = time.monotonic()
+            if now - self.told.get(text, -60.0) < 60.0:
+                return
+            if len(self.told) > 1000:
+                self.told.clear()
+            self.told[text] = now
+            print(f"{self.program}: {text}", file=sys.stderr, flush=True)
+
+
+def own_folder(text: str) -> Path:
+    """The folder of this name, which is made if it isn't there, for its owner alone. `Failed`: it can't be."""
+    folder = Path(text).absolute()
+    missing = [path for path in (folder, *folder.parents) if not path.exists()]
+    try:
+        folder.mkdir(mode=0o700, parents=True, exist_ok=True)
+        for path in missing:
+            sync_folder(path.parent)
+    except OSError as error:
+        raise Failed(f"{folder}: {error.strerror}") from error
+    return folder
+
+
+def sync_folder(folder: Path) -> None:
+    """Sees to it that the names in a folder are on the disk."""
+    opened = os.open(folder, os.O_RDONLY | os.O_DIRECTORY)
+    try:
+        os.fsync(opened)
+    finally:
+        os.close(opened)
+
+
+def only_ours() -> None:
+    """Makes each file that is made from now on one of mode 0600."""
+    os.umask(0o077)
+
+
+def port_number(text: str) -> int:
+    """A port."""
+    if not text.isascii() or not text.isdigit() or not 0 <= int(text) <= 65535:
+        raise argparse.ArgumentTypeError(f"{text!r} isn't a port")
+    return int(text)
