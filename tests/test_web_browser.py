@@ -1,5 +1,6 @@
 """The pages in a real browser, Debian's chromium: without scripts, at 320 pixels, in the dark, by the keyboard; and a stranger's page."""
 
+import functools
 import http.server
 import pathlib
 import tempfile
@@ -32,9 +33,30 @@ return found"""
 STARTED = {}
 
 
-def tearDownModule():
+def end_browsers():
     while STARTED:
         STARTED.popitem()[1].quit()
+
+
+def tearDownModule():
+    end_browsers()
+
+
+def once_more(test):
+    """Runs a test once more, in new browsers, if the driver of a browser fails and not the page."""
+
+    @functools.wraps(test)
+    def run(self):
+        from selenium.common.exceptions import WebDriverException
+
+        try:
+            return test(self)
+        except WebDriverException as error:
+            print(f"the driver of the browser failed, so the test runs once more: {error.msg}")
+        end_browsers()
+        return test(self)
+
+    return run
 
 
 class Stranger:
@@ -109,6 +131,8 @@ class BrowserTest(unittest.TestCase):
             STARTED[kind] = browsers.browser(**how)
             STARTED[kind].set_page_load_timeout(SECONDS)
         driver = STARTED[kind]
+        # Nothing of the test before is under way any more that could bring a cookie.
+        driver.get("about:blank")
         driver.execute_cdp_cmd("Network.clearBrowserCookies", {})
         return driver
 
@@ -117,9 +141,14 @@ class BrowserTest(unittest.TestCase):
         from selenium.webdriver.common.by import By
 
         driver.get(self.home + path)
-        driver.switch_to.active_element.send_keys(name)
+        self.type_name(driver, name)
         driver.find_element(By.NAME, "password").send_keys(password + "\n")
         self.wait(lambda: driver.find_elements(By.CSS_SELECTOR, "form[action='/out']"))
+
+    def type_name(self, driver, name):
+        """Types a name into the first field, which has the focus as soon as the page is drawn."""
+        self.wait(lambda: driver.switch_to.active_element.get_attribute("name") == "name")
+        driver.switch_to.active_element.send_keys(name)
 
     def wait(self, is_so):
         """Waits until something is so."""
@@ -134,6 +163,7 @@ class BrowserTest(unittest.TestCase):
 
 
 class Without(BrowserTest):
+    @once_more
     def test_scripts_are_off(self):
         """Every page, and what a name with a script in it does: nothing."""
         driver = self.browser()
@@ -145,6 +175,7 @@ class Without(BrowserTest):
             with self.subTest(path=path):
                 self.assertTrue(driver.title.endswith(" · moo"), driver.title)
 
+    @once_more
     def test_with_scripts_on_none_runs(self):
         driver = self.browser(script=True)
         driver.get("data:text/html,<title>before</title><script>document.title='hit'</script>")
@@ -161,6 +192,7 @@ class Without(BrowserTest):
 
 
 class Shapes(BrowserTest):
+    @once_more
     def test_320_pixels(self):
         """No page is wider than the window. The map may be, in a part of its own that scrolls."""
         driver = self.browser(width=320, height=640)
@@ -174,6 +206,7 @@ class Shapes(BrowserTest):
         with self.subTest(path=path):
             self.assertEqual(self.size(driver)[0], width)
 
+    @once_more
     def test_light_and_dark(self):
         """Text has a contrast of at least 5.5 to 1 on its ground, links and small text too."""
         from selenium.webdriver.common.by import By
@@ -191,6 +224,7 @@ class Shapes(BrowserTest):
                     self.assertGreater(len(colours), 5)
                     self.assertEqual({text: colour for text, colour in colours.items() if contrast(colour, paper) < 5.5}, {})
 
+    @once_more
     def test_the_style_is_the_sheets(self):
         from selenium.webdriver.common.by import By
 
@@ -203,6 +237,7 @@ class Shapes(BrowserTest):
         self.assertAlmostEqual(drawing.size["height"], cell.size["height"], delta=2)
         self.assertGreater(drawing.size["height"], 40)
 
+    @once_more
     def test_trees_fold_without_scripts(self):
         from selenium.webdriver.common.by import By
 
@@ -214,6 +249,7 @@ class Shapes(BrowserTest):
             self.wait(lambda is_open=is_open: (hall.get_attribute("open") is not None) == is_open)
             hall.find_element(By.TAG_NAME, "summary").send_keys(" ")
 
+    @once_more
     def test_the_keyboard_skips_to_the_page(self):
         from selenium.webdriver.common.keys import Keys
 
@@ -230,6 +266,7 @@ class Shapes(BrowserTest):
 
 
 class Sessions(BrowserTest):
+    @once_more
     def test_signing_in_and_out(self):
         from selenium.webdriver.common.by import By
 
@@ -243,6 +280,7 @@ class Sessions(BrowserTest):
         driver.get(self.home + "/o/8")
         self.assertEqual(driver.title, "Sign in · moo")
 
+    @once_more
     def test_an_old_session(self):
         """It has ended meanwhile: what is asked for comes after signing in again."""
         from selenium.webdriver.common.by import By
@@ -254,10 +292,13 @@ class Sessions(BrowserTest):
         driver.add_cookie({"name": "__Host-moo", "value": "an-old-one", "path": "/", "secure": True, "httpOnly": True, "sameSite": "Lax"})
         driver.find_element(By.CSS_SELECTOR, "dl.facts a[href='/o/7']").click()
         self.wait(lambda: driver.title == "Sign in · moo")
-        driver.switch_to.active_element.send_keys("ada")
+        self.type_name(driver, "ada")
         driver.find_element(By.NAME, "password").send_keys(PASSWORD + "\n")
-        self.wait(lambda: driver.current_url == f"{self.home}/o/7")
+        # The form that asks for the password had this address already.
+        self.wait(lambda: driver.find_elements(By.CSS_SELECTOR, "form[action='/out']"))
+        self.assertEqual(driver.current_url, f"{self.home}/o/7")
 
+    @once_more
     def test_a_page_of_a_stranger_that_posts(self):
         """To the form of the password, with a guessed token. The browser sends no cookie with it, or the front refuses it."""
         from selenium.webdriver.common.by import By
@@ -268,12 +309,13 @@ class Sessions(BrowserTest):
             with Stranger(self.home + path) as page:
                 driver.get(page)
                 driver.find_element(By.TAG_NAME, "button").click()
-                self.wait(lambda path=path: driver.current_url == self.home + path)
+                self.wait(lambda: driver.title == "Not from here · moo")
                 with self.subTest(path=path):
-                    self.assertEqual(driver.title, "Not from here · moo")
+                    self.assertEqual(driver.current_url, self.home + path)
         driver.get(self.home + "/o/8")
         self.assertEqual(driver.title, "Ada's chest #8 · moo", "the session goes on")
 
+    @once_more
     def test_a_page_of_a_stranger_that_shows_ours_in_a_frame(self):
         driver = self.browser()
         self.sign_in(driver, "ada")
