@@ -16,7 +16,8 @@ from tests.support.program import MOO, TOP
 from tests.support.service import free_port
 
 TOOLS = TOP / "tools"
-SECONDS = 60
+# How long is waited for what comes at once on a machine that has time.
+SECONDS = 300
 
 
 def said(*words: object, text: str = "") -> tuple[int, str]:
@@ -50,6 +51,8 @@ class KeptService:
         self.starts = 0
         self.process: Optional[subprocess.Popen[bytes]] = None
         self.is_stopped, self.is_listening = threading.Event(), threading.Event()
+        # Held while a program is started, so that none is that `stop` doesn't see.
+        self.starting = threading.Lock()
         self.keeper = threading.Thread(target=self.keep, daemon=True)
         self.keeper.start()
         if not self.is_listening.wait(SECONDS):
@@ -57,14 +60,18 @@ class KeptService:
 
     def keep(self) -> None:
         """Runs the program again and again."""
-        while not self.is_stopped.is_set():
-            words = [MOO, "serve", str(self.file), str(self.port), str(self.count)]
-            with subprocess.Popen(words, stdout=subprocess.PIPE, stderr=subprocess.DEVNULL) as self.process:
-                assert self.process.stdout
-                if self.process.stdout.readline().startswith(b"listening"):
+        words = [MOO, "serve", str(self.file), str(self.port), str(self.count)]
+        while True:
+            with self.starting:
+                if self.is_stopped.is_set():
+                    return
+                self.process = subprocess.Popen(words, stdout=subprocess.PIPE, stderr=subprocess.DEVNULL)
+            with self.process as process:
+                assert process.stdout
+                if process.stdout.readline().startswith(b"listening"):
                     self.starts += 1
                     self.is_listening.set()
-                self.process.wait()
+                process.wait()
             self.is_listening.clear()
             self.is_stopped.wait(self.rest)
 
@@ -76,7 +83,8 @@ class KeptService:
 
     def stop(self) -> None:
         """Ends it for good."""
-        self.is_stopped.set()
+        with self.starting:
+            self.is_stopped.set()
         self.kill()
         self.keeper.join(SECONDS)
 

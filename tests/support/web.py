@@ -112,6 +112,8 @@ class Kept:
     def __init__(self, started: Callable[[int], Front]) -> None:
         self.started, self.count = started, 0
         self.front: Optional[Front] = None
+        # Held while one is started, so that none is that `stop` doesn't see.
+        self.starting = threading.Lock()
         self.statuses: set[int] = set()
         self.is_over = threading.Event()
         self.on_end: Callable[[], None] = lambda: None
@@ -120,15 +122,19 @@ class Kept:
 
     def keep(self) -> None:
         """Starts fronts, one after another."""
-        while not self.is_over.is_set():
-            self.front = self.started(self.count)
-            self.count += 1
+        while True:
+            with self.starting:
+                if self.is_over.is_set():
+                    return
+                self.front = self.started(self.count)
+                self.count += 1
             self.statuses.add(self.front.process.wait())
             self.on_end()
 
     def stop(self) -> None:
         """Kills the last of them."""
-        self.is_over.set()
+        with self.starting:
+            self.is_over.set()
         assert self.front
         self.front.process.kill()
         self.thread.join(SECONDS)
