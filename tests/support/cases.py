@@ -30,7 +30,7 @@ class ProgramTest(unittest.TestCase):
     """
 
     # The seconds that one test may take.
-    limit = 600
+    limit = 3000
 
     def setUp(self) -> None:
         self.enter_folder()

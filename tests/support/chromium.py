@@ -13,7 +13,7 @@ from typing import Any, Optional
 
 from tests.support.service import free_port
 
-PATIENCE = 60
+PATIENCE = 300
 CHROMIUM, DRIVER = shutil.which("chromium"), shutil.which("chromedriver")
 # Why the tests are left out, if they are.
 MISSING = None if CHROMIUM and DRIVER else "chromium and chromium-driver aren't there"

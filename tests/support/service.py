@@ -10,7 +10,8 @@ from typing import IO, Optional
 
 from tests.support.processes import start
 
-PATIENCE = 60
+# How long is waited for what comes at once on a machine that has time.
+PATIENCE = 300
 
 
 def free_port() -> int:

@@ -60,7 +60,7 @@ def is_running(process: int) -> bool:
         return False
 
 
-def has_ended(process: int, seconds: float = 20) -> bool:
+def has_ended(process: int, seconds: float = PATIENCE) -> bool:
     """Whether a process ends within this time."""
     end = time.monotonic() + seconds
     while is_running(process):

@@ -32,7 +32,7 @@ class Terminal:
             words, cwd=folder, env=env, stdin=slave, stdout=slave, stderr=slave, preexec_fn=lambda: own_terminal(slave), close_fds=True
         )
         os.close(slave)
-        self.raw, self.shown, self.seen = "", "", 0
+        self.data, self.raw, self.shown, self.seen = b"", "", "", 0
 
     def type(self, text: str) -> None:
         """Types a text as it is."""
@@ -60,7 +60,9 @@ class Terminal:
             data = os.read(self.master, 65536)
         except OSError:
             return False
-        self.raw += data.decode("utf-8", "replace")
+        # A letter may come in two pieces.
+        self.data += data
+        self.raw = self.data.decode("utf-8", "replace")
         self.shown = SIGNS.sub("", self.raw).replace("\r\n", "\n")
         return bool(data)
 
