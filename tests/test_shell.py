@@ -9,7 +9,7 @@ import stat
 
 from tests.support.cases import ProgramTest
 from tests.support.program import ended
-from tests.support.shell import at_prompt, children, has_ended, is_running, run_shell
+from tests.support.shell import PATIENCE, at_prompt, children, has_ended, is_running, run_shell
 from tests.support.terminal import Terminal
 from tests.support.worlds import make, run
 
@@ -28,7 +28,7 @@ end
 class Typed(ProgramTest):
     """Lines that are typed at a prompt on world.db."""
 
-    limit = 900
+    limit = 3000
 
     def setUp(self) -> None:
         super().setUp()
@@ -250,13 +250,15 @@ class Ends(Typed):
         shell = self.shell()
         service = self.service_of(shell)
         os.close(shell.master)
-        shell.process.wait(60)
+        shell.process.wait(PATIENCE)
         self.case("it has ended", has_ended(service), True)
 
     def test_its_own_end(self) -> None:
         shell = self.shell()
         service = self.service_of(shell)
         os.kill(service, signal.SIGKILL)
+        # While it ends it would still take a connection, and lose the answer.
+        self.case("it was killed", has_ended(service), True)
         self.case("it is started again", self.done(shell, "valid(#4)")[-1], "1  accepted 2")
         self.case("as another process", self.service_of(shell) != service, True)
         self.case("and ended", (self.leave(shell), run("check", "world.db")), (0, (0, "ok seq 2 objects 6\n")))

@@ -30,7 +30,7 @@ LOOKS = "\\tree\n\\places\n\\find lan\n\\show #6\n\\show #3\n"
 class Served(ProgramTest):
     """A service of the program on world.db."""
 
-    limit = 900
+    limit = 3000
 
     def setUp(self) -> None:
         super().setUp()

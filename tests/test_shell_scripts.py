@@ -2,6 +2,8 @@
 
 from __future__ import annotations
 
+import contextlib
+import errno
 import os
 import resource
 import signal
@@ -9,12 +11,13 @@ import subprocess
 import tempfile
 import time
 from pathlib import Path
+from typing import Iterator
 
 from tests.support.cases import ProgramTest
 from tests.support.processes import start
 from tests.support.program import MOO, TOP, Ended
 from tests.support.service import Service, free_port
-from tests.support.shell import SHELL, children, environment, has_ended, run_script, run_shell
+from tests.support.shell import PATIENCE, SHELL, children, environment, has_ended, run_script, run_shell
 from tests.support.worlds import make, run
 
 QUOTA = """\
@@ -90,13 +93,31 @@ def seconds_of_children() -> float:
     return used.ru_utime + used.ru_stime
 
 
+@contextlib.contextmanager
+def opened_for_writing(fifo: str, seconds: float) -> Iterator[None]:
+    """A fifo that somebody else reads, or waits for, within so many seconds."""
+    end = time.monotonic() + seconds
+    while True:
+        try:
+            opened = os.open(fifo, os.O_WRONLY | os.O_NONBLOCK)
+            break
+        except OSError as error:
+            if error.errno != errno.ENXIO or time.monotonic() > end:
+                raise
+        time.sleep(0.05)
+    try:
+        yield
+    finally:
+        os.close(opened)
+
+
 def rooms_of(number: int) -> str:
     """The lines that make so many rooms, two for each."""
     return "".join(f'$room{each} = create(#1) // room {each}\nset($room{each}, "name", "room {each}")\n' for each in range(number))
 
 
 class OnWorld(ProgramTest):
-    limit = 900
+    limit = 3000
 
     def setUp(self) -> None:
         super().setUp()
@@ -225,12 +246,11 @@ class Scripts(OnWorld):
                 [*SHELL, "-f", "never", "world.db"], env=environment(), stderr=subprocess.DEVNULL,
                 preexec_fn=lambda: signal.signal(signal.SIGINT, signal.SIG_DFL),
             )  # fmt: skip
-            end = time.monotonic() + 30
-            while not (found := children(shell.pid)) and time.monotonic() < end:
-                time.sleep(0.05)
-            time.sleep(0.5)
-            os.kill(shell.pid, number)
-            self.case(f"it ends by {number.name}", (shell.wait(60), has_ended(found[0])), (status, True))
+            # Somebody may write only once the shell reads its script: then its service runs.
+            with opened_for_writing("never", PATIENCE):
+                (service,) = children(shell.pid)
+                os.kill(shell.pid, number)
+                self.case(f"it ends by {number.name}", (shell.wait(PATIENCE), has_ended(service)), (status, True))
 
 
 class Rehearsals(OnWorld):
