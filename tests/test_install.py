@@ -303,7 +303,6 @@ class Units(InFolder):
     def with_stand_in(self, line, service):
         """A command's status and what it printed, with a stand-in for moo-end that notes its words and ends the service."""
         (self.prefix / "lib/moo/moo-end").write_text(f'#!/bin/sh\necho "$@" >{self.room}/asked\nkill {service.pid}\n')
-        line = line.replace("--wait 60", "--wait 0.1")
         done = subprocess.run(["sh", "-c", line], stdout=subprocess.PIPE, stderr=subprocess.PIPE, text=True, timeout=SECONDS)
         return done.returncode, done.stdout
 
@@ -327,7 +326,8 @@ class Units(InFolder):
         self.assertEqual(self.with_stand_in(line, service), (0, "seq 0\n"))
         service.kill()
         service.wait(SECONDS)
-        self.assertEqual(self.with_stand_in(line, service), (1, ""))
+        self.assertIn("--wait 60", line)
+        self.assertEqual(self.with_stand_in(line.replace("--wait 60", "--wait 0.1"), service), (1, ""))
         self.assertEqual(self.asked(), "")
 
     def test_the_watch_waits_for_the_next_run(self):

@@ -163,11 +163,12 @@ class Serve(ProgramTest):
 
     def test_silent_peer(self):
         service = Service(MOO, ":memory:", 2)
-        silent = service.peer()
         began = time.monotonic()
+        silent = service.peer()
         self.case("after a silent peer the next is served", service.ask(get("/seq")), answer("200 OK", '{"seq":0}'))
         waited = time.monotonic() - began
-        self.case("after ten seconds", 9 < waited < 30, True)
+        # On a busy machine it may be more.
+        self.case("after ten seconds", 9 < waited < 60, True)
         self.case("the silent one is told nothing", heard(silent), b"")
         silent.close()
         self.case("and has failed", service.end(), (0, "served 1 failed 1\n"))

@@ -7,6 +7,7 @@ import subprocess
 import sys
 import tempfile
 import threading
+import time
 import unittest
 
 from tests.support.operating import KeptService, SECONDS, TOOLS, make_world
@@ -40,7 +41,7 @@ class Watch(unittest.TestCase):
 
     def watch(self, *words: object) -> tuple[int, str, str]:
         """The status of moo-watch, and what it printed and complained of. Its command would make the file `ran`."""
-        command = [sys.executable, TOOLS / "moo-watch", "--wait", "10", *words, "touch", self.room / "ran"]
+        command = [sys.executable, TOOLS / "moo-watch", "--wait", "60", *words, "touch", self.room / "ran"]
         ran = subprocess.run(list(map(str, command)), stdout=subprocess.PIPE, stderr=subprocess.PIPE, text=True, timeout=SECONDS)
         return ran.returncode, ran.stdout, ran.stderr
 
@@ -68,9 +69,13 @@ class File(Watch):
         self.assertEqual(self.watch("--world", self.file, port), (0, "seq 1\n", ""))
 
     def test_a_run_that_ends_with_the_answer(self) -> None:
-        port = self.serve(count=1).port
-        for _ in range(3):
-            self.assertEqual(self.watch("--world", self.file, port), (0, "seq 1\n", ""))
+        service = self.serve(count=1)
+        for number in range(1, 4):
+            # Between two runs nobody has the file open, which on a busy machine may be so for long.
+            end = time.monotonic() + SECONDS
+            while service.starts < number and time.monotonic() < end:
+                time.sleep(0.01)
+            self.assertEqual(self.watch("--world", self.file, service.port), (0, "seq 1\n", ""))
 
     def test_a_file_that_is_gone(self) -> None:
         port = self.serve().port
