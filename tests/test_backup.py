@@ -19,6 +19,7 @@ import threading
 import time
 import unittest
 
+from tests.support import processes
 from tests.support.operating import KeptService, SECONDS, TOOLS, checked, make_world, said, tool, use_tools
 from tests.support.program import MOO
 
@@ -285,8 +286,8 @@ class AtRest(Copies):
 class UnderLoad(Copies):
     """A world that a service has open, and a client writes to."""
 
-    def load(self, count=1_000_000):
-        self.service = KeptService(self.file, count, rest=0.1)
+    def load(self, count=1_000_000, rest=0.1):
+        self.service = KeptService(self.file, count, rest)
         self.addCleanup(self.service.stop)
         self.writer = Writer(self.service.port)
         self.addCleanup(self.writer.end)
@@ -316,7 +317,8 @@ class UnderLoad(Copies):
         self.assertGreater(self.service.starts, COPIES)
 
     def test_a_run_that_goes_on(self):
-        self.load()
+        # The command ends one run: so the next one may not come before the copy on a busy machine.
+        self.load(rest=1)
         for _ in range(3):
             before = len(self.writer.made)
             self.assert_not_copied("the world was in use for 0.1 seconds", "--wait", "0.1")
@@ -333,7 +335,7 @@ class UnderLoad(Copies):
         chance = random.Random(1)
         for number in range(COPIES):
             time.sleep(chance.uniform(0, 0.1))
-            self.service.process.send_signal(signal.SIGSTOP)
+            processes.stand_still(self.service.process)
             before = len(self.writer.made)
             folder = self.room / f"snapshot-{number}"
             folder.mkdir()

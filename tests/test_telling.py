@@ -44,11 +44,6 @@ def size_in_mb(file):
     return -(-os.path.getsize(file) // MB)
 
 
-def state_of(process):
-    """The letter of a process's state, as T if it is stopped and Z if it has ended."""
-    return Path(f"/proc/{process.pid}/stat").read_text().rpartition(")")[2].split()[0]
-
-
 @contextlib.contextmanager
 def on_one_processor():
     """What is started meanwhile runs on the same processor as this does: so it stands still while this is awake."""
@@ -62,12 +57,10 @@ def on_one_processor():
 
 def is_stopped_between(process, least, most):
     """Stops a process once it has read so many bytes. False: it had read too many by then, or had ended."""
-    while state_of(process) != "Z" and bytes_read(process) < least:
+    while processes.state_of(process) != "Z" and bytes_read(process) < least:
         time.sleep(0.0002)
-    process.send_signal(signal.SIGSTOP)
-    while state_of(process) not in "TZ":
-        time.sleep(0.0002)
-    return state_of(process) == "T" and bytes_read(process) <= most
+    processes.stand_still(process)
+    return processes.state_of(process) == "T" and bytes_read(process) <= most
 
 
 def commit(process, number):

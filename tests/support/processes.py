@@ -7,6 +7,8 @@ import os
 import signal
 import subprocess
 import sys
+import time
+from pathlib import Path
 from typing import Any, Sequence
 
 started: list[subprocess.Popen[bytes]] = []
@@ -35,6 +37,18 @@ def run_script(words: Sequence[Any], seconds: float, **variables: str) -> tuple[
 def run_python(script: object, *words: object, seconds: float = 300) -> tuple[int, str]:
     """The same of a script in Python."""
     return run_script([sys.executable, "-B", script, *words], seconds)
+
+
+def stand_still(process: subprocess.Popen[bytes]) -> None:
+    """Stops a process, and waits until it stands still."""
+    process.send_signal(signal.SIGSTOP)
+    while state_of(process) not in "TZ":
+        time.sleep(0.0002)
+
+
+def state_of(process: subprocess.Popen[bytes]) -> str:
+    """The letter of a process's state, as T if it is stopped and Z if it has ended."""
+    return Path(f"/proc/{process.pid}/stat").read_text().rpartition(")")[2].split()[0]
 
 
 def end_all() -> None:
