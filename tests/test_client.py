@@ -3,6 +3,7 @@
 The service is killed 200 times while four clients write to it. `KILLS` in the environment is another number of kills, `SEED` the seed.
 """
 
+import contextlib
 import os
 import pathlib
 import random
@@ -177,7 +178,8 @@ class Breaker:
                 peer, _ = self.listener.accept()
             except OSError:
                 return
-            with peer:
+            # A client whose patience is over may be gone.
+            with peer, contextlib.suppress(ConnectionError):
                 self.treat(peer)
 
     def treat(self, peer):
@@ -206,15 +208,23 @@ def whole_request(peer):
     """The bytes of one request."""
     said = b""
     while b"\r\n\r\n" not in said:
-        said += peer.recv(65536)
+        said += part_of(peer)
     head, _, body = said.partition(b"\r\n\r\n")
     length = 0
     for line in head.lower().split(b"\r\n"):
         if line.startswith(b"content-length:"):
             length = int(line.split(b":")[1])
     while len(body) < length:
-        body += peer.recv(65536)
+        body += part_of(peer)
     return head + b"\r\n\r\n" + body
+
+
+def part_of(peer):
+    """What comes next of a peer. `ConnectionError`: it has gone."""
+    part = peer.recv(65536)
+    if not part:
+        raise ConnectionResetError
+    return part
 
 
 class BrokenConnections(WithService):
@@ -269,7 +279,8 @@ class BrokenConnections(WithService):
         self.assertEqual(self.made(), [answer])
 
     def test_patience_ends(self):
-        world = self.through(*["answer"] * 1000, patience=0.3)
+        # Within its patience the batch has to be sent.
+        world = self.through(*["answer"] * 1000, patience=5)
         with self.assertRaises(moo_client.Unsure):
             world.run([("create", Obj(4))], as_=3)
 
@@ -309,13 +320,15 @@ class Kills(WithService):
         writers = [Writer(self.port, Obj(number), is_over) for number in range(4, 4 + CLIENTS)]
         for writer in writers:
             writer.start()
-        kills = 0
-        # On a busy machine few batches come between two kills: then there are more kills.
+        kills, longest = 0, 0.05
+        # On a busy machine few batches come between two kills: then there are more kills, and more time between them.
         while kills < KILLS or sum(len(writer.made) for writer in writers) <= KILLS:
             self.assertTrue(self.service.is_listening.wait(SECONDS))
-            time.sleep(chance.uniform(0, 0.05))
+            time.sleep(chance.uniform(0, longest))
             self.service.kill()
             kills += 1
+            if sum(len(writer.made) for writer in writers) < kills // 2:
+                longest = min(1.02 * longest, 10)
             self.assertFalse(any(writer.wrong for writer in writers), f"seed {seed}")
             self.assertLess(kills, 50 * KILLS, f"seed {seed}: too few batches to show anything")
         is_over.set()

@@ -1,4 +1,6 @@
 """Requests of which a part isn't read: each is answered whole, and its connection isn't reset."""
+import contextlib
+import math
 import random
 import time
 
@@ -10,6 +12,8 @@ SEED = 49
 COUNT = 600
 # What the service reads on of a request that it refused.
 MOST = 65_536
+# How often a peer that goes on is tried, if the machine is busy.
+TRIES = 20
 
 
 def filler(chance, most):
@@ -89,16 +93,22 @@ class Resets(ProgramTest):
         self.case("all of them are served", service.end(), (0, f"served {COUNT} failed 0\n"))
 
     def waits(self, name, peer_of, sends):
-        """A refused peer that goes on after its answer: the next one is served within the second that the service reads on, or little more."""
-        service = Service(MOO, ":memory:", 2)
-        with peer_of(service) as peer:
-            answered = heard(peer)
-            began = time.monotonic()
-            sends(peer)
-            self.case(f"{name}: it has its answer", answered[:12], b"HTTP/1.1 400")
-            self.case(f"{name}: so has the next one", self.next_answer(service), seq(0))
-            self.case(f"{name}: after a second", time.monotonic() - began < 3, True)
-        self.case(f"{name}: both are served", service.end(), (0, "served 2 failed 0\n"))
+        """A refused peer that goes on after its answer: the next one is served within the second that the service reads on, or little more.
+
+        On a busy machine it may be more, so that it is tried some times; the wait for a silent peer is ten seconds each time.
+        """
+        least, tries = math.inf, 0
+        while least >= 3 and tries < TRIES:
+            service = Service(MOO, ":memory:", 2)
+            with peer_of(service) as peer:
+                answered = heard(peer)
+                began = time.monotonic()
+                sends(peer)
+                self.case(f"{name}: it has its answer", answered[:12], b"HTTP/1.1 400")
+                self.case(f"{name}: so has the next one", self.next_answer(service), seq(0))
+                least, tries = min(least, time.monotonic() - began), tries + 1
+            self.case(f"{name}: both are served", service.end(), (0, "served 2 failed 0\n"))
+        self.case(f"{name}: after a second", least < 3, True)
 
     def next_answer(self, service):
         with service.peer() as peer:
@@ -111,17 +121,17 @@ class Resets(ProgramTest):
             peer.sendall(b"GARBAGE\r\n\r\n")
             return peer
 
+        # The service may have closed by then.
         def trickles(peer):
-            for _ in range(8):
-                time.sleep(0.1)
-                peer.send(b"x")
+            with contextlib.suppress(ConnectionError):
+                for _ in range(8):
+                    time.sleep(0.1)
+                    peer.send(b"x")
 
         def floods(peer):
-            try:
+            with contextlib.suppress(ConnectionError):
                 for _ in range(64):
                     peer.sendall(b"x" * MOST)
-            except ConnectionError:
-                pass
 
         self.waits("a silent one", refused, lambda peer: None)
         self.waits("one that sends a byte now and then", refused, trickles)
