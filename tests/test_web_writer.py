@@ -24,8 +24,9 @@ from moo_web.journal import Journal, NoRoom  # noqa: E402
 from moo_web.segments import Accepted, accepted_in  # noqa: E402
 from moo_web.writer import Busy, Stopped, Unknown, Writer  # noqa: E402
 
-SECONDS = 20
-PATIENCE = 0.4
+# How long is waited for what comes at once on a machine that has time; and how long if it doesn't come, but a batch has to be sent.
+SECONDS = 60
+PATIENCE = 2
 
 
 class World(Door):
@@ -103,7 +104,7 @@ class WriterTest(unittest.TestCase):
         self.writer = self.journal = None
         self.addCleanup(self.end)
 
-    def begin(self, *plan, world=None, is_rebase=False, patience=PATIENCE, **how):
+    def begin(self, *plan, world=None, is_rebase=False, patience=SECONDS, **how):
         """A writer that has started."""
         self.end()
         self.world = world or World()
@@ -189,13 +190,13 @@ class Outcomes(WriterTest):
         self.assertEqual(self.told, [])
 
     def test_memory_that_runs_out_after_it_was_told_to_be_decided(self):
-        self.begin()
-        words, batch = ["closed"], self.world.batch
-        self.world.batch = lambda said, word: batch(said, words[-1])
+        self.begin(patience=PATIENCE)
+        words, sent, batch = ["closed"], [], self.world.batch
+        self.world.batch = lambda said, word: (sent.append(words[-1]), batch(said, words[-1]))[1]
         with self.assertRaises(Unknown):
             self.write("make")
         words.append("nomemory")
-        time.sleep(0.6)
+        self.wait_for(lambda: sent.count("nomemory") > 1)
         words.append("")
         self.wait_for(lambda: self.writer.seq == 1)
         self.assertEqual((self.world.acted, self.kinds()), ([("make",)], ["base", "intent", "done"]))
@@ -401,18 +402,19 @@ class Starts(WriterTest):
 
 class Waiting(WriterTest):
     def test_nobody_answers(self):
-        self.begin()
+        self.begin(patience=PATIENCE)
         self.world.is_away = True
         began = time.monotonic()
         with self.assertRaises(Busy):
             self.write("make")
-        self.assertLess(time.monotonic() - began, PATIENCE + 5)
+        self.assertLess(time.monotonic() - began, PATIENCE + 20)
         self.world.is_away = False
+        self.writer.patience = SECONDS
         self.assertEqual(self.write("look").said["seq"], 1)
         self.assertEqual((self.world.acted, self.kinds()), ([("look",)], ["base", "intent", "done"]))
 
     def test_a_batch_that_was_sent_is_decided_later(self):
-        self.begin("lost")
+        self.begin("lost", patience=PATIENCE)
         sent, self.world.sent = self.world.sent, None
         hold = threading.Event()
 
@@ -429,25 +431,27 @@ class Waiting(WriterTest):
             self.write("look")
         hold.set()
         self.wait_for(lambda: self.writer.seq == 1)
+        self.writer.patience = SECONDS
         self.assertEqual(self.write("last").said["seq"], 2)
         self.assertEqual(self.world.acted, [("make",), ("last",)], "who was told busy isn't sent later")
 
     def test_a_queue_that_is_full(self):
         self.begin()
-        hold, sent = threading.Event(), self.world.sent
-        self.world.sent = lambda *given: (hold.wait(SECONDS), sent(*given))[1]
+        is_held, hold, sent = threading.Event(), threading.Event(), self.world.sent
+        self.world.sent = lambda *given: (is_held.set(), hold.wait(SECONDS), sent(*given))[2]
         self.addCleanup(setattr, writer_module, "LONGEST_QUEUE", writer_module.LONGEST_QUEUE)
         writer_module.LONGEST_QUEUE = 3
-        self.writer.patience = SECONDS
         answers = []
         threads = [threading.Thread(target=lambda: answers.append(self.write("make").status)) for _ in range(4)]
+        # The first is in hand, and the others wait.
         for number, thread in enumerate(threads):
             thread.start()
-            self.wait_for(lambda: len(self.writer.queue) == max(0, number))
+            self.assertTrue(is_held.wait(SECONDS))
+            self.wait_for(lambda number=number: len(self.writer.queue) == number)
         began = time.monotonic()
         with self.assertRaises(Busy):
             self.write("make")
-        self.assertLess(time.monotonic() - began, 5)
+        self.assertLess(time.monotonic() - began, SECONDS / 2)
         hold.set()
         for thread in threads:
             thread.join(SECONDS)
