@@ -89,7 +89,9 @@ class Api_(unittest.TestCase):
         self.writer.start()
         self.addCleanup(lambda: (self.writer.end(SECONDS), self.journal.close()))
         self.app = App(self.told.append)
-        Api(self.app, self.door, self.writer, self.people, self.rate)
+        api = Api(self.app, self.door, self.writer, self.people, self.rate)
+        # Their clock stands still: so it is no matter how fast requests come.
+        api.of_tokens.clock = api.of_addresses.clock = lambda: 1000.0
         for name, number in (("wizard", 3), ("ada", 4)):
             self.people.add(name, number, PASSWORD)
         self.tokens = {name: self.people.make_token(name) for name in ("wizard", "ada")}

@@ -184,7 +184,7 @@ class PagesTest(unittest.TestCase):
         self.moo = KeptService(self.room / "world.db")
         self.addCleanup(self.moo.stop)
         (self.room / "front").mkdir()
-        self.people = People(self.room / "front/people.db", self.clock)
+        self.people = People(self.room / "front/people.db", self.clock, self.clock)
         self.addCleanup(self.people.close)
         self.journal = Journal(self.room / "front", None, self.told.append)
         self.door = Door(self.moo.port)
@@ -193,12 +193,14 @@ class PagesTest(unittest.TestCase):
         self.addCleanup(self.journal.close)
         self.addCleanup(self.writer.end, SECONDS)
         self.app = App(self.told.append)
-        Api(self.app, self.door, self.writer, self.people, self.rate)
+        api = Api(self.app, self.door, self.writer, self.people, self.rate)
         self.pages = make_pages(self.app, self.people, self.writer, History(self.room / "front"), self.rate)
+        for limit in (api.of_tokens, api.of_addresses, self.pages.rate):
+            limit.clock = self.clock
         for name, number in self.numbers.items():
             self.people.add(name, number, PASSWORD)
 
-    # The clock of the sessions is set by hand.
+    # The clock of the sessions and of the limits is set by hand.
     now = 1_800_000_000.0
 
     def clock(self) -> float:
