@@ -1,7 +1,7 @@
 """What the pages of a real browser may do to a service of this machine: nothing."""
 import unittest
 
-from tests.support.chromium import MISSING, STRANGER, Browser, Pages
+from tests.support.chromium import MISSING, STRANGER, Browser, DriverFailed, Pages, once_more
 from tests.support.cases import ProgramTest
 from tests.support.exchange import MOO, accepted, posted, said, seq
 from tests.support.service import Service, get
@@ -30,13 +30,18 @@ class InABrowser(ProgramTest):
         self.url = f"http://127.0.0.1:{self.service.port}"
         self.pages = Pages({f"/form{path}": FORM.format(url=f"{self.url}{path}") for path in ("/batch", "/ask")} | {"/blank": BLANK})
         self.addCleanup(self.pages.close)
-        self.browser = Browser()
+        try:
+            self.browser = Browser()
+        except DriverFailed as error:
+            print(f"the browser is started once more: {error}")
+            self.browser = Browser()
         self.addCleanup(self.browser.close)
         self.before = said(self.service, get("/objects/0"))
 
     def unchanged(self, name):
         self.case(f"{name}: nothing changed", said(self.service, get("/objects/0")) == self.before, True)
 
+    @once_more
     def test_a_form(self):
         for path in ("/batch", "/ask"):
             self.browser.open(f"http://127.0.0.1:{self.pages.port}/form{path}")
@@ -45,6 +50,7 @@ class InABrowser(ProgramTest):
         # The same bytes act if no page sends them: the line `origin` is what refuses them.
         self.case("without a page", said(self.service, posted("/batch", FORM_BODY)), accepted(1, "#4"))
 
+    @once_more
     def test_a_fetch(self):
         self.browser.open(f"http://127.0.0.1:{self.pages.port}/blank")
         post = {"method": "POST", "body": CREATE}
@@ -58,6 +64,7 @@ class InABrowser(ProgramTest):
             self.case(f"GET {path}", self.browser.run(FETCH, f"{self.url}{path}", {}), ["TypeError", 0, ""])
         self.case("the service goes on", said(self.service, get("/seq")), seq(0))
 
+    @once_more
     def test_another_name(self):
         """A page whose name leads to this machine is of the same origin as the service: it sees each answer."""
         here = f"http://{STRANGER}:{self.service.port}"

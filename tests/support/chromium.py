@@ -1,6 +1,8 @@
 """Debian's chromium without a window, led by chromium-driver over its protocol, and pages for it."""
 from __future__ import annotations
 
+import contextlib
+import functools
 import http.client
 import http.server
 import json
@@ -9,7 +11,7 @@ import shutil
 import subprocess
 import threading
 import time
-from typing import Any, Optional
+from typing import Any, Callable, Optional
 
 from tests.support.service import free_port
 
@@ -23,6 +25,10 @@ ARGUMENTS = [
     "--headless=new", "--no-sandbox", "--disable-gpu", "--disable-dev-shm-usage", "--no-proxy-server", "--no-first-run",
     f"--host-resolver-rules=MAP {STRANGER} 127.0.0.1",
 ]
+
+
+class DriverFailed(Exception):
+    """The driver of the browser, or the browser, fails, and not the page."""
 
 
 class Browser:
@@ -46,10 +52,10 @@ class Browser:
         said, end = "", time.monotonic() + PATIENCE
         while "started successfully" not in said:
             if not select.select([self.driver.stdout], [], [], max(0, end - time.monotonic()))[0]:
-                raise AssertionError(f"chromedriver doesn't start: {said}")
+                raise DriverFailed(f"chromedriver doesn't start: {said}")
             line = self.driver.stdout.readline()
             if not line:
-                raise AssertionError(f"chromedriver ended: {said}")
+                raise DriverFailed(f"chromedriver ended: {said}")
             said += line
 
     def say(self, method: str, path: str, said: Optional[dict[str, Any]] = None) -> Any:
@@ -59,10 +65,12 @@ class Browser:
             body = None if said is None else json.dumps(said)
             connection.request(method, path, body, {"content-type": "application/json"})
             value = json.loads(connection.getresponse().read())["value"]
+        except (OSError, http.client.HTTPException, ValueError) as error:
+            raise DriverFailed(f"{path}: {error!r}") from error
         finally:
             connection.close()
         if isinstance(value, dict) and "error" in value:
-            raise AssertionError(f"{path}: {value['error']}: {value.get('message')}")
+            raise DriverFailed(f"{path}: {value['error']}: {value.get('message')}")
         return value
 
     def open(self, url: str) -> None:
@@ -88,18 +96,39 @@ class Browser:
         raise AssertionError(f"the browser doesn't come to {url}")
 
     def close(self) -> None:
-        """Ends it."""
+        """Ends it. If the driver fails at that, nothing is lost."""
         try:
-            self.say("DELETE", f"/session/{self.session}")
+            with contextlib.suppress(DriverFailed):
+                self.say("DELETE", f"/session/{self.session}")
         finally:
             self.stop_driver()
 
     def stop_driver(self) -> None:
         """Ends the driver, and its browser with it."""
         self.driver.terminate()
-        self.driver.wait(PATIENCE)
+        try:
+            self.driver.wait(PATIENCE)
+        except subprocess.TimeoutExpired:
+            self.driver.kill()
+            self.driver.wait()
         assert self.driver.stdout
         self.driver.stdout.close()
+
+
+def once_more(test: Callable[[Any], None]) -> Callable[[Any], None]:
+    """Runs a test once more, with all that it has made anew, if the driver of the browser fails and not the page."""
+
+    @functools.wraps(test)
+    def run(self: Any) -> None:
+        try:
+            return test(self)
+        except DriverFailed as error:
+            print(f"the driver of the browser failed, so the test runs once more: {error}")
+        self.doCleanups()
+        self.setUp()
+        return test(self)
+
+    return run
 
 
 class Pages:
