@@ -78,7 +78,8 @@ class Stranger:
             def log_message(self, *given):
                 pass
 
-        self.server = http.server.HTTPServer(("127.0.0.1", 0), Answers)
+        # A browser may connect once more beside its request, and say nothing there.
+        self.server = http.server.ThreadingHTTPServer(("127.0.0.1", 0), Answers)
         threading.Thread(target=self.server.serve_forever, daemon=True).start()
 
     def __enter__(self):
@@ -106,27 +107,32 @@ def contrast(one, other):
     return (more + 0.05) / (less + 0.05)
 
 
+@functools.cache
+def front_for_all():
+    """A front on a world, until the module ends: for all tests, which only look."""
+    room = tempfile.TemporaryDirectory()
+    unittest.addModuleCleanup(room.cleanup)
+    unittest.addModuleCleanup(processes.end_all)
+    folder = pathlib.Path(room.name)
+    more = f'batch as #3\ncreate(#1)\nset(#10, "name", "{SCRIPT}")\nadd_property(#10, "text", "{SCRIPT}", {{#3, "r"}})\nend\n'
+    make_world(folder / "world.db", WORLD + more)
+    moo = KeptService(folder / "world.db")
+    unittest.addModuleCleanup(moo.stop)
+    for name, number in (("wizard", 3), ("ada", 4)):
+        add_person(folder / "front", name, number)
+    return Front(folder / "front", moo.port)
+
+
 class BrowserTest(unittest.TestCase):
     @classmethod
     def setUpClass(cls):
         if why := lacking() or browsers.lacking():
             raise unittest.SkipTest(why)
-        room = tempfile.TemporaryDirectory()
-        cls.addClassCleanup(room.cleanup)
-        cls.addClassCleanup(processes.end_all)
-        cls.room = pathlib.Path(room.name)
-        more = f'batch as #3\ncreate(#1)\nset(#10, "name", "{SCRIPT}")\nadd_property(#10, "text", "{SCRIPT}", {{#3, "r"}})\nend\n'
-        make_world(cls.room / "world.db", WORLD + more)
-        cls.moo = KeptService(cls.room / "world.db")
-        cls.addClassCleanup(cls.moo.stop)
-        for name, number in (("wizard", 3), ("ada", 4)):
-            add_person(cls.room / "front", name, number)
-        cls.front = Front(cls.room / "front", cls.moo.port)
-        cls.home = f"http://127.0.0.1:{cls.front.port}"
+        cls.home = f"http://127.0.0.1:{front_for_all().port}"
 
     def browser(self, **how):
         """A browser of this kind, without cookies: one for all tests, since it takes its time to start."""
-        kind = tuple(sorted(how.items()))
+        kind = tuple(sorted((key, value) for key, value in how.items() if value))
         if kind not in STARTED:
             STARTED[kind] = browsers.browser(**how)
             STARTED[kind].set_page_load_timeout(SECONDS)
@@ -172,8 +178,9 @@ class Without(BrowserTest):
         self.sign_in(driver)
         for path in PATHS:
             driver.get(self.home + path)
+            title = driver.title
             with self.subTest(path=path):
-                self.assertTrue(driver.title.endswith(" · moo"), driver.title)
+                self.assertTrue(title.endswith(" · moo"), title)
 
     @once_more
     def test_with_scripts_on_none_runs(self):
@@ -183,9 +190,10 @@ class Without(BrowserTest):
         self.sign_in(driver)
         for path in ("/o/10", "/", "/find?q=script", "/map/parents", "/o/10/property?name=text", "/history"):
             driver.get(self.home + path)
+            title, scripts = driver.title, driver.execute_script("return document.querySelectorAll('main script, main b b').length")
             with self.subTest(path=path):
-                self.assertTrue(driver.title.endswith(" · moo"), driver.title)
-                self.assertEqual(driver.execute_script("return document.querySelectorAll('main script, main b b').length"), 0)
+                self.assertTrue(title.endswith(" · moo"), title)
+                self.assertEqual(scripts, 0)
         self.assertEqual([line for line in driver.get_log("browser") if "Refused" in line["message"]], [], "what the policy had to stop")
         driver.get(self.home + "/o/10")
         self.assertIn(SCRIPT, driver.execute_script("return document.querySelector('h1').textContent"))
@@ -203,8 +211,9 @@ class Shapes(BrowserTest):
 
     def assert_fits(self, driver, path, width):
         driver.get(self.home + path)
+        found, _ = self.size(driver)
         with self.subTest(path=path):
-            self.assertEqual(self.size(driver)[0], width)
+            self.assertEqual(found, width)
 
     @once_more
     def test_light_and_dark(self):
@@ -217,10 +226,10 @@ class Shapes(BrowserTest):
             for path in ("/", "/o/8", "/history", "/you", "/in"):
                 driver.get(self.home + path)
                 paper = driver.find_element(By.TAG_NAME, "html").value_of_css_property("background-color")
+                colours = driver.execute_script(COLOURS)
                 with self.subTest(path=path, dark=dark):
                     self.assertEqual(brightness(paper) > 0.4, not dark)
                     self.assertTrue(brightness(paper) > ground if not dark else brightness(paper) < ground)
-                    colours = driver.execute_script(COLOURS)
                     self.assertGreater(len(colours), 5)
                     self.assertEqual({text: colour for text, colour in colours.items() if contrast(colour, paper) < 5.5}, {})
 
@@ -262,7 +271,8 @@ class Shapes(BrowserTest):
         self.assertNotEqual(first.value_of_css_property("outline-style"), "none")
         first.send_keys(Keys.ENTER)
         self.wait(lambda: driver.current_url.endswith("#main"))
-        self.assertEqual(driver.switch_to.active_element.get_attribute("id"), "main")
+        # The focus comes with the next picture.
+        self.wait(lambda: driver.switch_to.active_element.get_attribute("id") == "main")
 
 
 class Sessions(BrowserTest):
@@ -310,8 +320,9 @@ class Sessions(BrowserTest):
                 driver.get(page)
                 driver.find_element(By.TAG_NAME, "button").click()
                 self.wait(lambda: driver.title == "Not from here · moo")
+                address = driver.current_url
                 with self.subTest(path=path):
-                    self.assertEqual(driver.current_url, self.home + path)
+                    self.assertEqual(address, self.home + path)
         driver.get(self.home + "/o/8")
         self.assertEqual(driver.title, "Ada's chest #8 · moo", "the session goes on")
 
