@@ -1,8 +1,8 @@
 """Values as they are written: which bytes are values, and how long and deep they may be. Here are the bytes that no scene can hold."""
 import json
-import time
 
 from tests.support.cases import ProgramTest
+from tests.support.processes import seconds_of_children
 from tests.support.program import MOO, edit, run_bytes
 from tests.support.service import Service, answer, post
 
@@ -126,12 +126,12 @@ class Literals(ProgramTest):
                 replied, responded = b"malformed 2\n", answer("400 Bad Request", '{"call":1,"error":"malformed"}')
             else:
                 replied, responded = accepted("0", printed), answer("200 OK", json_of({"answers": ["0", printed], "seq": 1}))
-            began = time.monotonic()
+            began = seconds_of_children()
             self.case(f"{name}, in a text", run_bytes("apply", ":memory:", "-", text=text), (0, replied))
             self.case(f"{name}, over HTTP", reply_over_http(calls), responded)
-            # Bytes that are read again for each item or each byte take far longer.
+            # Bytes that are read again for each item or each byte take far longer. It is the time on the processors, which may be busy.
             if len(written) > LONGEST:
-                self.case(f"{name}, within five seconds", time.monotonic() - began < 5, True)
+                self.case(f"{name}, within five seconds", seconds_of_children() - began < 5, True)
 
     def test_tabs_in_names(self):
         for name, calls, answers in TABS:

@@ -4,6 +4,7 @@ from __future__ import annotations
 import atexit
 import contextlib
 import os
+import resource
 import signal
 import subprocess
 import sys
@@ -37,6 +38,12 @@ def run_script(words: Sequence[Any], seconds: float, **variables: str) -> tuple[
 def run_python(script: object, *words: object, seconds: float = 300) -> tuple[int, str]:
     """The same of a script in Python."""
     return run_script([sys.executable, "-B", script, *words], seconds)
+
+
+def seconds_of_children() -> float:
+    """The seconds of a processor that the processes took which were started and have ended, with those that they started."""
+    used = resource.getrusage(resource.RUSAGE_CHILDREN)
+    return used.ru_utime + used.ru_stime
 
 
 def stand_still(process: subprocess.Popen[bytes]) -> None:
