@@ -24,7 +24,7 @@ from tests.support.operating import KeptService, SECONDS, checked, make_world, s
 from tests.support.program import MOO
 from tests.support.service import free_port
 from tests.support.web import DEBIANS_PYTHON, Front, Kept, PASSWORD, RoomTest, WEB, add_person, ask, program, use_web
-from tests.test_web_kills import FIRST, NAMES, SCRIPT, Client
+from tests.test_web_kills import FIRST, NAMES, SCRIPT, Client, done_by
 from tests.test_web_replay import ReplayTest
 
 use_web()
@@ -483,8 +483,10 @@ class Kills(RoomTest):
             client.start()
         self.kill(kept, clients)
         is_over.set()
+        # What a client is told must be known before its front is stopped.
         for client in clients:
-            client.join(SECONDS)
+            client.join(2 * SECONDS)
+            self.assertFalse(client.is_alive())
             self.assertIsNone(client.wrong)
         for one in kept.values():
             one.stop()
@@ -497,10 +499,10 @@ class Kills(RoomTest):
         self.kills[name] += 1
 
     def kill(self, kept, clients):
-        """Kills one or the other until each side has had its kills."""
+        """Kills one or the other until each side has had its kills. On a busy machine few batches come between two: then there are more."""
         while not any(client.wrong for client in clients):
             here, there = self.kills["front"] + self.kills["moo"], sum(self.kills[name] for name in ("standby", "copying standby", "way"))
-            if min(here, there) >= KILLS and min(self.kills.values()) >= KILLS // 10:
+            if min(here, there) >= KILLS and min(self.kills.values()) >= KILLS // 10 and done_by(clients) > KILLS // 4:
                 return
             time.sleep(self.chance.uniform(0, 0.8))
             if self.chance.random() < 0.3 and self.moo.is_listening.wait(SECONDS):

@@ -119,8 +119,10 @@ class Kills(RoomTest):
             client.start()
         kills = self.kill(kept, clients)
         is_over.set()
+        # What a client is told must be known before its front is stopped.
         for client in clients:
-            client.join(SECONDS)
+            client.join(2 * SECONDS)
+            self.assertFalse(client.is_alive())
             self.assertIsNone(client.wrong)
         kept.stop()
         self.assertEqual(kept.statuses, {-signal.SIGKILL}, kept.front.said()[-2000:])
