@@ -136,7 +136,7 @@ def file_at(seq):
 def heard(stream, length):
     """So many bytes of a stream, or fewer if it ends or nothing more comes in time."""
     came = b""
-    while len(came) < length and select.select([stream], [], [], PATIENCE / 4)[0]:
+    while len(came) < length and select.select([stream], [], [], PATIENCE)[0]:
         more = os.read(stream.fileno(), length - len(came))
         if not more:
             break

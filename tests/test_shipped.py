@@ -17,7 +17,7 @@ import unittest
 TOP = pathlib.Path(__file__).resolve().parent.parent
 SCRIPTS = ("build", "crates", "kit", "program", "release", "sources", "stamp")
 TOOLS = "awk bash cat chmod cp cut dirname env git grep mkdir mktemp mv rm sed sh sha256sum sleep sort tr uname wc xargs xz".split()
-SECONDS = 60
+SECONDS = 300
 
 # What the stand-in for rt does: it tells that it proved both crates, and makes the program.
 PROVES = """#!/bin/sh
@@ -256,14 +256,15 @@ class Shipped(unittest.TestCase):
         heeds = lambda: signal.signal(signal.SIGINT, signal.SIG_DFL)
         run = subprocess.Popen([".ci/build"], cwd=self.top, env=self.environment(), stdout=subprocess.PIPE, text=True, preexec_fn=heeds)
         self.addCleanup(run.stdout.close)
-        until = time.monotonic() + SECONDS
-        while not (self.group.exists() and self.group.read_text().strip()) and time.monotonic() < until:
-            time.sleep(0.05)
+        # Before it hears of rt, a Ctrl-C could come before rt is waited for.
+        while "low" not in (line := run.stdout.readline()):
+            self.assertTrue(line, "it ended")
         group = int(self.group.read_text())
         self.addCleanup(lambda: runs_in_group(group) and os.killpg(group, signal.SIGKILL))
         self.assertTrue(runs_in_group(group))
         run.send_signal(signal.SIGINT)
         self.assertEqual(run.wait(timeout=SECONDS), 1)
+        until = time.monotonic() + SECONDS
         while runs_in_group(group) and time.monotonic() < until:
             time.sleep(0.05)
         self.assertFalse(runs_in_group(group))

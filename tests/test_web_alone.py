@@ -21,6 +21,8 @@ from tests.support.program import MOO, TOP
 from tests.support.web import DEBIANS_PYTHON, WEB, add_person, ask, lacking
 
 KILLS = 12
+# The seconds for which it goes on at least.
+LONG_ENOUGH = 10
 NOBODY = 65534
 NETWORK = f"moo-test-{os.getpid()}"
 
@@ -96,7 +98,11 @@ class Alone(unittest.TestCase):
                 running = {"moo": self.moo(), "front": self.front()}
                 stranger = self.stranger(way)
                 last = self.answered()
-                for _ in range(KILLS):
+                began = time.monotonic()
+                rounds = 0
+                # On a busy machine the stranger tries less often.
+                while rounds < KILLS or time.monotonic() < began + LONG_ENOUGH:
+                    rounds += 1
                     for name in chance.choice((["moo"], ["front"], ["moo", "front"])):
                         running[name].kill()
                         running[name].wait()

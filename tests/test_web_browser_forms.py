@@ -9,6 +9,7 @@ import re
 import unittest
 
 from tests.support import browser
+from tests.support.operating import SECONDS
 from tests.support.web import PASSWORD
 from tests.test_web_form_stops import WithFront
 
@@ -21,7 +22,7 @@ class Person:
     def __init__(self, test, name, width, by_keys):
         self.test, self.name, self.by_keys, self.width = test, name, by_keys, width
         self.driver = browser.browser(width)
-        self.driver.set_page_load_timeout(60)
+        self.driver.set_page_load_timeout(SECONDS)
         self.open("/in")
         self.fill("name", name)
         self.fill("password", PASSWORD)
@@ -116,7 +117,7 @@ class Person:
 
         page = self.driver.find_element("tag name", "html")
         self.act_on(element, "\ue007")
-        WebDriverWait(self.driver, 60).until(lambda driver: browser.is_gone(page))
+        WebDriverWait(self.driver, SECONDS).until(lambda driver: browser.is_gone(page))
         self.fits()
 
 
