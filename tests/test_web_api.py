@@ -90,7 +90,7 @@ class Api_(unittest.TestCase):
         self.addCleanup(lambda: (self.writer.end(SECONDS), self.journal.close()))
         self.app = App(self.told.append)
         api = Api(self.app, self.door, self.writer, self.people, self.rate)
-        # Their clock stands still: so it is no matter how fast requests come.
+        # Their clock stands still, however slowly requests come.
         api.of_tokens.clock = api.of_addresses.clock = lambda: 1000.0
         for name, number in (("wizard", 3), ("ada", 4)):
             self.people.add(name, number, PASSWORD)
