@@ -13,7 +13,7 @@ from types import ModuleType
 from typing import Optional
 
 from tests.support.program import MOO, TOP
-from tests.support.service import free_port
+from tests.support.service import CANNOT_LISTEN, free_port
 
 TOOLS = TOP / "tools"
 # How long is waited for what comes at once on a machine that has time.
@@ -47,7 +47,7 @@ class KeptService:
 
     def __init__(self, file: object, count: int = 1_000_000, rest: float = 0.0, port: Optional[int] = None) -> None:
         self.file, self.count, self.rest = file, count, rest
-        self.port = port or free_port()
+        self.port, self.is_chosen = port or free_port(), not port
         self.starts = 0
         self.process: Optional[subprocess.Popen[bytes]] = None
         self.is_stopped, self.is_listening = threading.Event(), threading.Event()
@@ -60,18 +60,22 @@ class KeptService:
 
     def keep(self) -> None:
         """Runs the program again and again."""
-        words = [MOO, "serve", str(self.file), str(self.port), str(self.count)]
         while True:
             with self.starting:
                 if self.is_stopped.is_set():
                     return
+                words = [MOO, "serve", str(self.file), str(self.port), str(self.count)]
                 self.process = subprocess.Popen(words, stdout=subprocess.PIPE, stderr=subprocess.DEVNULL)
             with self.process as process:
                 assert process.stdout
-                if process.stdout.readline().startswith(b"listening"):
+                first = process.stdout.readline().decode()
+                if first.startswith("listening"):
                     self.starts += 1
                     self.is_listening.set()
                 process.wait()
+            if first == CANNOT_LISTEN and self.is_chosen and not self.starts:
+                # Another program has taken the port just now.
+                self.port = free_port()
             self.is_listening.clear()
             self.is_stopped.wait(self.rest)
 

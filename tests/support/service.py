@@ -12,6 +12,7 @@ from tests.support.processes import start
 
 # How long is waited for what comes at once on a machine that has time.
 PATIENCE = 300
+CANNOT_LISTEN = "moo: cannot listen\n"
 
 
 def free_port() -> int:
@@ -29,13 +30,20 @@ class Service:
         self, program: str, file: str, count: Optional[int], port: Optional[int] = None, folder: Optional[str] = None,
         env: Optional[dict[str, str]] = None,
     ) -> None:  # fmt: skip
-        self.port = port or free_port()
-        words = [program, "serve", file, str(self.port)]
-        if count is not None:
-            words.append(str(count))
+        self.port, self.told = port or free_port(), ""
+        self.begin(program, file, count, folder, env)
+        # Another program may have taken the port just now.
+        while self.first == CANNOT_LISTEN and not port:
+            self.end()
+            self.port = free_port()
+            self.begin(program, file, count, folder, env)
+
+    def begin(self, program: str, file: str, count: Optional[int], folder: Optional[str], env: Optional[dict[str, str]]) -> None:
+        """Starts it, and hears its first line."""
+        words = [program, "serve", file, str(self.port), *([] if count is None else [str(count)])]
         self.process = start(words, cwd=folder, stdout=subprocess.PIPE, stderr=subprocess.PIPE, env=env)
         assert self.process.stdout
-        self.first, self.told = line_of(self.process.stdout), ""
+        self.first = line_of(self.process.stdout)
 
     def is_listening(self) -> bool:
         """Whether its first line says that it listens."""

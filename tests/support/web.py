@@ -77,10 +77,19 @@ class Front:
     ) -> None:  # fmt: skip
         self.port = port or free_port()
         self.told = pathlib.Path(f"{folder}.told")
-        all_words = [*script, folder, "--moo-port", moo_port, "--port", self.port, *words]
+        self.begin([*script, folder, "--moo-port", moo_port, *words], env, wait)
+        # Another program may have taken the port just now.
+        while wait and not port and not self.first and "Address already in use" in self.said():
+            self.end()
+            self.told.unlink()
+            self.port = free_port()
+            self.begin([*script, folder, "--moo-port", moo_port, *words], env, wait)
+
+    def begin(self, words: Sequence[object], env: Optional[dict[str, str]], wait: bool) -> None:
+        """Starts it, and hears its first line if it is waited for."""
         with open(self.told, "ab") as told:
             how: dict[str, Any] = {"stdout": subprocess.PIPE, "stderr": told, "env": dict(os.environ, **(env or {}))}
-            self.process = processes.start([str(word) for word in all_words], **how)
+            self.process = processes.start([str(word) for word in (*words, "--port", self.port)], **how)
         assert self.process.stdout
         self.first = self.process.stdout.readline().decode() if wait else None
 
