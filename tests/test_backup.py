@@ -50,7 +50,7 @@ class Writer(threading.Thread):
 
     def __init__(self, port):
         super().__init__(daemon=True)
-        self.world = Moo(port, mark=(Obj(4), "mark"))
+        self.world = Moo(port, mark=(Obj(4), "mark"), patience=SECONDS)
         self.is_over, self.made, self.wrong = threading.Event(), [], None
 
     def run(self):

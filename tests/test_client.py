@@ -10,10 +10,9 @@ import random
 import socket
 import tempfile
 import threading
-import time
 import unittest
 
-from tests.support.operating import KeptService, SECONDS, checked, make_world, said, use_tools
+from tests.support.operating import KeptService, Pace, SECONDS, checked, make_world, said, use_tools
 
 use_tools()
 
@@ -290,7 +289,7 @@ class Writer(threading.Thread):
 
     def __init__(self, port, own, is_over):
         super().__init__(daemon=True)
-        self.world = Moo(port, mark=(own, "mark"))
+        self.world = Moo(port, mark=(own, "mark"), patience=SECONDS)
         self.own, self.is_over = own, is_over
         self.made, self.wrong, self.settled = [], None, 0
         self.world.is_mine = self.is_mine
@@ -320,16 +319,14 @@ class Kills(WithService):
         writers = [Writer(self.port, Obj(number), is_over) for number in range(4, 4 + CLIENTS)]
         for writer in writers:
             writer.start()
-        kills, longest = 0, 0.05
+        kills, pace = 0, Pace(chance, 0.05)
         # On a busy machine few batches come between two kills: then there are more kills, and more time between them.
         while kills < KILLS or sum(len(writer.made) for writer in writers) <= KILLS:
             self.assertTrue(self.service.is_listening.wait(SECONDS))
-            time.sleep(chance.uniform(0, longest))
+            pace.rest(sum(len(writer.made) for writer in writers))
             self.service.kill()
             kills += 1
-            if sum(len(writer.made) for writer in writers) < kills // 2:
-                longest = min(1.02 * longest, 10)
-            self.assertFalse(any(writer.wrong for writer in writers), f"seed {seed}")
+            self.assertEqual([writer.wrong for writer in writers if writer.wrong], [], f"seed {seed}")
             self.assertLess(kills, 50 * KILLS, f"seed {seed}: too few batches to show anything")
         is_over.set()
         for writer in writers:

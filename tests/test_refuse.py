@@ -111,7 +111,7 @@ def refuse_in_turn(task, fault, opening):
 
 @unittest.skipUnless(shutil.which("cc"), "the command cc isn't on this machine")
 class Refuse(ProgramTest):
-    limit = 24 * 3600 if IS_WHOLE else 900
+    limit = 24 * 3600 if IS_WHOLE else 3600
 
     def setUp(self):
         super().setUp()

@@ -46,6 +46,14 @@ class Person:
         for each in words:
             self.test.assertIn(each, text)
 
+    def has_focus_in(self, field):
+        """A field has the focus, which it gets when the page is drawn."""
+        from selenium.webdriver.support.wait import WebDriverWait
+
+        WebDriverWait(self.driver, SECONDS).until(
+            lambda driver: driver.switch_to.active_element.get_attribute("id") == field, f"the focus isn't in {field}"
+        )
+
     # What is done
 
     def open(self, path):
@@ -208,7 +216,7 @@ class Scene(WithFront):
             ada.fill("f-place", "lam")
             ada.press("Preview")
             ada.sees("“é”, letter 4 of “Café”, can’t be kept", "No object is named “lam”. Is it one of these?")
-            self.assertEqual(ada.driver.switch_to.active_element.get_attribute("id"), "f-names")
+            ada.has_focus_in("f-names")
             ada.tick("place.choice", "#8")
             ada.press("Use the plain letters" if "Use the plain letters" in ada.text() else "Use “Cafe”")
             ada.sees("This would be refused. The place doesn’t accept it. E_NACC")

@@ -37,6 +37,8 @@ class DemoTest(unittest.TestCase):
             [str(word) for word in words] or ["make", "-s", "-C", str(TOP), "-o", "all", "demo", f"MOO={MOO}"], env=env,
             stdout=subprocess.PIPE,
             stderr=subprocess.STDOUT, text=True, start_new_session=True,
+            # A shell that runs the tests in the background has them ignore Ctrl-C, and what they start would, too.
+            preexec_fn=lambda: signal.signal(signal.SIGINT, signal.SIG_DFL),
         )  # fmt: skip
         self.addCleanup(lambda: demo.poll() is None and os.killpg(demo.pid, signal.SIGKILL))
         said = []

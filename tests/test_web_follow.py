@@ -20,7 +20,7 @@ import unittest
 
 from tests.support import processes
 from tests.support.crashing_front import STEPS
-from tests.support.operating import KeptService, SECONDS, checked, make_world, said
+from tests.support.operating import KeptService, Pace, SECONDS, checked, make_world, said
 from tests.support.program import MOO
 from tests.support.service import free_port
 from tests.support.web import DEBIANS_PYTHON, Front, Kept, PASSWORD, RoomTest, WEB, add_person, ask, program, use_web
@@ -500,11 +500,12 @@ class Kills(RoomTest):
 
     def kill(self, kept, clients):
         """Kills one or the other until each side has had its kills. On a busy machine few batches come between two: then there are more."""
+        pace = Pace(self.chance, 0.8)
         while not any(client.wrong for client in clients):
             here, there = self.kills["front"] + self.kills["moo"], sum(self.kills[name] for name in ("standby", "copying standby", "way"))
             if min(here, there) >= KILLS and min(self.kills.values()) >= KILLS // 10 and done_by(clients) > KILLS // 4:
                 return
-            time.sleep(self.chance.uniform(0, 0.8))
+            pace.rest(done_by(clients))
             if self.chance.random() < 0.3 and self.moo.is_listening.wait(SECONDS):
                 self.moo.kill()
                 self.count("moo")

@@ -16,7 +16,7 @@ import time
 import unittest
 
 from tests.support.crashing_front import STEPS
-from tests.support.operating import KeptService, SECONDS, make_world, said
+from tests.support.operating import KeptService, Pace, SECONDS, make_world, said
 from tests.support.service import free_port
 from tests.support.web import DEBIANS_PYTHON, Front, Kept, RoomTest, add_person, ask, program, use_web
 
@@ -139,12 +139,13 @@ class Kills(RoomTest):
                 self.moo.kill()
 
         kept.on_end = on_end
+        pace = Pace(self.chance, 1.2)
         # On a busy machine few batches come between two kills: then there are more kills.
         while (
             sum(kills.values()) < KILLS or min(self.steps[step] for step in STEPS) < 2 or done_by(clients) <= KILLS // 4
         ) and not any(client.wrong for client in clients):
             self.assertLess(sum(kills.values()), 50 * KILLS, "too few batches to show anything")
-            time.sleep(self.chance.uniform(0, 1.2))
+            pace.rest(done_by(clients))
             if self.moo.is_listening.wait(SECONDS):
                 self.moo.kill()
                 kills["moo"] += 1

@@ -5,10 +5,12 @@ from __future__ import annotations
 import importlib.machinery
 import importlib.util
 import pathlib
+import random
 import re
 import subprocess
 import sys
 import threading
+import time
 from types import ModuleType
 from typing import Optional
 
@@ -40,6 +42,21 @@ def make_world(file: object, text: str) -> None:
     status, replies = said("apply", file, "-", text=text)
     if status or re.search(r"^(refused|malformed|stale|fault)", replies, re.M):
         raise AssertionError(f"the first batches were answered {replies!r}")
+
+
+class Pace:
+    """The time between two kills. If nothing comes about meanwhile, as on a busy machine, it gets longer."""
+
+    LONGEST = 30.0
+
+    def __init__(self, chance: random.Random, seconds: float) -> None:
+        self.chance, self.seconds, self.now, self.done = chance, seconds, seconds, 0
+
+    def rest(self, done: int) -> None:
+        """Rests for up to so long. `done` is how much has come about by now."""
+        self.now = max(self.seconds, self.now / 1.1) if done > self.done else min(1.5 * self.now, self.LONGEST)
+        self.done = done
+        time.sleep(self.chance.uniform(0, self.now))
 
 
 class KeptService:
