@@ -11,11 +11,14 @@ The world: #4 defines q and has 100 children, of which each has a child; below #
 and at most 200 of them, defines a property and has a verb. Times are in microseconds, the least of three runs (of one among a million); the
 columns are sizes, a line for each call.
 """
+from __future__ import annotations
+
 import argparse
 import os
 import subprocess
 import sys
 import time
+from typing import Optional
 
 CALLS = 100
 MANY = 1_000_000
@@ -62,14 +65,15 @@ SECTIONS = (
 class Session:
     """A run of the program on a world in memory, or in a new file of a folder, which is asked through pipes."""
 
-    def __init__(self, program, folder):
+    def __init__(self, program: str, folder: Optional[str]) -> None:
         self.file = os.path.join(folder, f"each.{os.getpid()}.db") if folder else None
         if self.file:
             subprocess.run([program, "init", self.file], stdout=subprocess.DEVNULL, check=True)
         self.run = subprocess.Popen([program, "apply", self.file or ":memory:", "-"], stdin=subprocess.PIPE, stdout=subprocess.PIPE)
 
-    def ask(self, batches):
-        """The replies to these batches; each has to be accepted."""
+    def ask(self, batches: list[str]) -> None:
+        """Runs these batches, and reads their replies. Each has to be accepted."""
+        assert self.run.stdin and self.run.stdout
         text = "".join(f"batch as #3\n{calls}\nend\n" for calls in batches)
         self.run.stdin.write(text.encode())
         self.run.stdin.flush()
@@ -80,32 +84,34 @@ class Session:
             while line != b"end\n":
                 line = self.run.stdout.readline()
 
-    def resident(self):
+    def resident(self) -> int:
         """The memory of the process, in bytes."""
         with open(f"/proc/{self.run.pid}/status") as status:
             return next(int(line.split()[1]) * 1024 for line in status if line.startswith("VmRSS"))
 
-    def end(self):
+    def end(self) -> None:
+        """Ends the run, and removes its file."""
+        assert self.run.stdin
         self.run.stdin.close()
         if self.run.wait() != 0:
             sys.exit(f"the run ended with {self.run.returncode}")
-        for end in ("", "-wal") if self.file else ():
-            if os.path.exists(self.file + end):
-                os.remove(self.file + end)
+        for path in (self.file, f"{self.file}-wal") if self.file else ():
+            if os.path.exists(path):
+                os.remove(path)
 
 
-def by_thousands(calls):
+def by_thousands(calls: list[str]) -> list[str]:
     """Batches of at most 1,000 calls."""
     return ["\n".join(calls[i : i + 1000]) for i in range(0, len(calls), 1000)]
 
 
-def parent(number):
-    """Each object after the heirs has ten children, the first ten of them hanging from #1."""
-    behind = number - FIRST
-    return 1 if behind < 10 else FIRST + behind // 10 - 1
+def parent(number: int) -> int:
+    """The parent of an object after the heirs: each of these has ten children, and the first ten are under #1."""
+    place = number - FIRST
+    return 1 if place < 10 else FIRST + place // 10 - 1
 
 
-def plant(session, objects):
+def plant(session: Session, objects: int) -> float:
     """Makes the world, and gives the bytes that an object takes."""
     session.ask(["create(#1)", 'add_property(#4, "q", 10, {#3, "rc"})'])
     session.ask(by_thousands(["create(#4)"] * CALLS + [f"create(#{heir})" for heir in HEIRS]))
@@ -122,23 +128,23 @@ def plant(session, objects):
     return taken
 
 
-def apart(objects):
+def apart(objects: int) -> int:
     """From one object that defines a property and has a verb to the next: they are a hundredth of all, and at most 200."""
     return max(100, objects // 200)
 
 
-def leaves(objects):
+def leaves(objects: int) -> list[int]:
     """100 objects that have no child and define nothing, far from each other."""
     low = FIRST + (objects - FIRST) // 10 + 10
     step = (objects - low) // CALLS
     return [number + 1 if (number - FIRST) % apart(objects) == 0 else number for number in range(low, low + step * CALLS, step)]
 
 
-def measure(program, objects, folder):
+def measure(program: str, objects: int, folder: Optional[str]) -> tuple[dict[str, float], float]:
     """The time of each section by its name, and what an object takes."""
     session = Session(program, folder)
     taken = plant(session, objects)
-    times = {}
+    times: dict[str, float] = {}
     asked = 20 if objects >= MANY else CALLS
     for name, call in SECTIONS:
         batches = [call.format(x=x, y=y) for x, y in zip(leaves(objects)[:asked], HEIRS)]
@@ -149,14 +155,16 @@ def measure(program, objects, folder):
     return times, taken
 
 
-def main():
+def main() -> None:
+    """Measures each program, and prints its table."""
     words = argparse.ArgumentParser(description=__doc__, formatter_class=argparse.RawDescriptionHelpFormatter)
     words.add_argument("programs", nargs="+")
     words.add_argument("--objects", nargs="+", type=int, default=[1_000, 10_000, 100_000, 1_000_000])
     words.add_argument("--files", metavar="FOLDER")
     asked = words.parse_args()
     for program in asked.programs:
-        best, bytes_taken = {}, {}
+        best: dict[int, dict[str, float]] = {}
+        bytes_taken: dict[int, float] = {}
         for objects in asked.objects:
             runs = [measure(program, objects, asked.files) for _ in range(1 if objects >= MANY else 3)]
             best[objects] = {name: min(times[name] for times, _ in runs) for name, _ in SECTIONS}

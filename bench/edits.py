@@ -12,6 +12,8 @@ rows are added and deleted, one to three edits a copy. The world has clear and s
 Whichever it is, the edited rows stay as they are until a batch is accepted. The seed is printed first. It stops at the first edit of which
 anything else comes, with its seed, its number and its statements, and leaves the file: status 1. FIRST begins at that number.
 """
+from __future__ import annotations
+
 import collections
 import os
 import random
@@ -21,6 +23,7 @@ import sqlite3
 import subprocess
 import sys
 import tempfile
+from typing import Any, Callable, Optional, Sequence, TypeVar
 
 sys.dont_write_bytecode = True
 sys.path.insert(0, os.path.dirname(os.path.dirname(os.path.abspath(__file__))))
@@ -70,36 +73,48 @@ TEXTS = {("object", "name"), ("object", "accept"), ("prop", "name"), ("slot2", "
 NUMBERS = [-(2**63), -(2**31) - 1, -(2**31), -2, -1, 0, 1, 2, 3, 4, 5, 6, 7, 8, 9, 10, 11, 2**31 - 1, 2**31, 2**32 - 1, 2**32, 2**63 - 1]
 # Texts that are cells of some column, and texts that are cells of none.
 WORDS = [
-    "", " ", "r", "w", "rw", "CWR", "rr", "x", "rd", "none", "any", "this", "in", "in/inside/into", "with/using", "name", "A", "a", "b", "look", "l*ook get",
-    "0", "-1", "9223372036854775807", "9223372036854775808", "-9223372036854775809", "#4", "#-1", "#2147483648", "{}", "{#1}", "{ #1}", "{#1,#5 }", "{1,}", "{", "}", '"', '"x"',
-    '"\\', "E_PERM", "e_perm", "E_", "{" * 32 + "}" * 32, "{" * 33 + "}" * 33, "\t", "\n", "a\nb", "\u00e9", "'", "x" * 255, "x" * 256, '"' + "x" * 65535 + '"',
+    "", " ", "r", "w", "rw", "CWR", "rr", "x", "rd", "none", "any", "this", "in", "in/inside/into", "with/using", "name", "A", "a", "b",
+    "look", "l*ook get",
+    "0", "-1", "9223372036854775807", "9223372036854775808", "-9223372036854775809", "#4", "#-1", "#2147483648", "{}", "{#1}", "{ #1}",
+    "{#1,#5 }", "{1,}", "{", "}", '"', '"x"',
+    '"\\', "E_PERM", "e_perm", "E_", "{" * 32 + "}" * 32, "{" * 33 + "}" * 33, "\t", "\n", "a\nb", "\u00e9", "'", "x" * 255, "x" * 256,
+    '"' + "x" * 65535 + '"',
     '"' + "x" * 65536 + '"', "{" + "0," * 1023 + "0}", "{" + "0," * 1024 + "0}", "a b", "a " * 300,
-    '{{"players"}}', '{ {"sing" ,#1},{"Grant", 1}}', '{{"players"},}', "{{}}", "{{1}}", '{"players"}', "{" + ",".join(['{"players"}'] * 64) + "}",
+    '{{"players"}}', '{ {"sing" ,#1},{"Grant", 1}}', '{{"players"},}', "{{}}", "{{1}}", '{"players"}',
+    "{" + ",".join(['{"players"}'] * 64) + "}",
     "{" + ",".join(['{"players"}'] * 65) + "}", '{{"x",' + "{" * 28 + "}" * 28 + "}}", '{{"x",' + "{" * 29 + "}" * 29 + "}}",
 ]
+# A statement, and the values for its marks.
+Edit = tuple[str, list[Any]]
+Rows = dict[str, list[tuple[Any, ...]]]
+Found = TypeVar("Found")
 BYTES = [b"\x00", b"\xff", b"a\x00b", b'"\xc3"', b"\x7f", b'"\x01"']
 CREATE = b"batch as #3\nset(#3, \"name\", \"Wizard\")\nend\n"
 
 
 class Violation(Exception):
-    pass
+    """What an edit showed that it may not show."""
 
 
 class Edits:
-    def __init__(self, program, folder):
+    """A world, a copy of it that is edited, and how often each thing was said of a copy."""
+
+    def __init__(self, program: str, folder: str) -> None:
         self.program, self.folder = program, folder
         self.world, self.copy = os.path.join(folder, "world.db"), os.path.join(folder, "copy.db")
-        self.said = collections.Counter()
+        self.said: collections.Counter[str] = collections.Counter()
         if self.run("init", self.world)[0] or self.run("apply", self.world, "-", text=WORLD.encode())[1].count(b"accepted") != 3:
             raise Violation("the world was not made")
         self.with_rows(self.world, lambda connection: connection.execute("pragma wal_checkpoint(truncate)").fetchall())
         self.rows = self.rows_of(self.world)
 
-    def run(self, *words, text=b""):
+    def run(self, *words: str, text: bytes = b"") -> tuple[int, bytes]:
+        """The status of the program, and what it prints."""
         ran = subprocess.run([self.program, *words], input=text, stdout=subprocess.PIPE, stderr=subprocess.DEVNULL, timeout=60)
         return ran.returncode, ran.stdout
 
-    def with_rows(self, file, do):
+    def with_rows(self, file: str, do: Callable[[sqlite3.Connection], Found]) -> Found:
+        """What is done over a connection to a file."""
         connection = sqlite3.connect(file)
         connection.text_factory = bytes
         connection.execute("pragma synchronous = off")
@@ -108,10 +123,11 @@ class Edits:
         finally:
             connection.close()
 
-    def rows_of(self, file):
+    def rows_of(self, file: str) -> Rows:
+        """The rows of each table."""
         return self.with_rows(file, lambda c: {table: sorted(c.execute(f"select * from {table}"), key=repr) for table in TABLES})
 
-    def cell(self, chance, table, column):
+    def cell(self, chance: random.Random, table: str, column: str) -> tuple[Any, str]:
         """A value for a cell, and how it is written in a statement."""
         like = chance.choice(chance.choice(list(self.rows.values())) or [(0,)])
         if (table, column) not in TEXTS:
@@ -128,7 +144,7 @@ class Edits:
             text[at : at + chance.randrange(3)] = chance.choice([b"", b" ", b"{", b"}", b",", b'"', b"#", b"1", b"-", b"e", b"/", b"\\"])
         return bytes(text), "cast(? as text)"
 
-    def edit(self, chance):
+    def edit(self, chance: random.Random) -> Edit:
         """A statement, and its values."""
         table = chance.choice(["head", "object", "object", "prop", "slot2", "slot2", "verb", "petition", "petition_head"])
         columns = TABLES[table]
@@ -147,7 +163,7 @@ class Edits:
         value, mark = self.cell(chance, table, column)
         return f"update or replace {table} set {column} = {mark} where {where}", [value]
 
-    def edited(self, chance):
+    def edited(self, chance: random.Random) -> list[Edit]:
         """The statements of one to three edits that the tables took."""
         for end in ("", "-wal", "-shm"):
             if os.path.exists(self.copy + end):
@@ -155,7 +171,7 @@ class Edits:
         shutil.copyfile(self.world, self.copy)
         edits = [self.edit(chance) for _ in range(chance.choice([1, 1, 1, 1, 2, 3]))]
 
-        def make(connection):
+        def make(connection: sqlite3.Connection) -> None:
             for statement, values in edits:
                 try:
                     connection.execute(statement, values)
@@ -166,12 +182,14 @@ class Edits:
         self.with_rows(self.copy, make)
         return edits
 
-    def refused(self, status, line):
+    def refused(self, status: int, line: bytes) -> None:
+        """What `check` refuses with this line, `dump` and `apply` refuse with the same."""
         if status != 3 or self.run("dump", self.copy) != (3, line) or self.run("apply", self.copy, "-", text=CREATE) != (3, line):
             raise Violation(f"check says {line!r} with status {status}, and dump or apply something else")
         self.said[line.decode().split()[2] if b"damaged" in line else "newer version"] += 1
 
-    def accepted(self, rows, seq, objects):
+    def accepted(self, rows: Rows, seq: int, objects: int) -> None:
+        """What `check` accepts is dumped as these rows, and takes a batch."""
         status, dump = self.run("dump", self.copy)
         lines = dump.split(b"\n")
         head = rows["head"][0]
@@ -179,7 +197,8 @@ class Edits:
         told = (counts[b"object"], counts[b"property"], counts[b"slot"], counts[b"verb"], counts[b"petition"])
         if status or lines[-2:] != [b"end", b""] or lines[:2] != [b"seq %d" % seq, b"top #%d" % head[3]]:
             raise Violation(f"dump: status {status}, {dump[:200]!r} .. {dump[-200:]!r}")
-        if told != tuple(len(rows[table]) for table in ("object", "prop", "slot2", "verb", "petition")) or told[0] != objects or seq != head[2]:
+        held = tuple(len(rows[table]) for table in ("object", "prop", "slot2", "verb", "petition"))
+        if told != held or told[0] != objects or seq != head[2]:
             raise Violation(f"the dump has {told} objects, properties, slots, verbs and petitions, and check says {objects} objects")
         for line in lines[2:-2]:
             if not is_line(line):
@@ -190,18 +209,21 @@ class Edits:
         # Who isn't a wizard any more, an object that isn't there, and the last number are refusals.
         if replied[0] or not re.fullmatch(rb"accepted %d\n0\nend\n|refused 1 E_\w+\n|full 0\n" % (seq + 1), replied[1]):
             raise Violation(f"a batch: {replied}")
-        behind = seq + (1 if replied[1].startswith(b"accepted") else 0)
-        if self.run("check", self.copy) != (0, b"ok seq %d objects %d\n" % (behind, objects)):
-            raise Violation("the world isn't whole behind a batch")
+        last = seq + (1 if replied[1].startswith(b"accepted") else 0)
+        if self.run("check", self.copy) != (0, b"ok seq %d objects %d\n" % (last, objects)):
+            raise Violation("the world isn't whole after a batch")
         self.said["accepted"] += 1
 
-    def judge(self):
+    def judge(self) -> None:
+        """Looks at the edited copy."""
         rows = self.rows_of(self.copy)
         status, line = self.run("check", self.copy)
         found = re.fullmatch(rb"ok seq (\d+) objects (\d+)\n", line)
         if status == 0 and found:
             self.accepted(rows, int(found[1]), int(found[2]))
-        elif re.fullmatch(rb"moo: (damaged (%s) (head|#-?\d+|[pr]-?\d+|#-?\d+ [pv]-?\d+)|newer version)\n" % "|".join(KINDS).encode(), line):
+        elif re.fullmatch(
+            rb"moo: (damaged (%s) (head|#-?\d+|[pr]-?\d+|#-?\d+ [pv]-?\d+)|newer version)\n" % "|".join(KINDS).encode(), line
+        ):
             self.refused(status, line)
             if self.rows_of(self.copy) != rows:
                 raise Violation("a refusal changed a row")
@@ -209,7 +231,7 @@ class Edits:
             raise Violation(f"check: status {status}, {line!r}")
 
 
-def value_end(line, at):
+def value_end(line: bytes, at: int) -> Optional[int]:
     """The end of the literal that begins there, or None."""
     plain = re.compile(rb'-?\d+|#-?\d+|E_[A-Z]+|"(?:[^"\\]|\\.)*"', re.S).match(line, at)
     if plain:
@@ -218,9 +240,10 @@ def value_end(line, at):
         return None
     at += 1
     while line[at : at + 1] != b"}":
-        at = value_end(line, at)
-        if at is None:
+        end = value_end(line, at)
+        if end is None:
             return None
+        at = end
         if line[at : at + 2] == b", ":
             at += 2
         elif line[at : at + 1] != b"}":
@@ -228,13 +251,14 @@ def value_end(line, at):
     return at + 1
 
 
-def is_line(line):
+def is_line(line: bytes) -> bool:
     """Whether a line of a dump is a word and one list."""
     word, _, rest = line.partition(b" ")
     return word in (b"object", b"property", b"slot", b"verb", b"petition") and rest[:1] == b"{" and value_end(rest, 0) == len(rest)
 
 
-def main():
+def main() -> None:
+    """Makes the edits, and prints the seed and what was said of them."""
     program = os.path.abspath(sys.argv[1])
     count = int(sys.argv[2]) if len(sys.argv) > 2 else 2000
     seed = int(sys.argv[3]) if len(sys.argv) > 3 else random.randrange(1_000_000)

@@ -7,6 +7,8 @@ after a line of 300 bytes was appended to a file and synced, one at a time, as a
 one with a second folder. It also times the sync alone. A client is a loop in Python that connects, sends, and reads to the end, so its own
 time is in each figure. Prints the median of the rounds, with the least and the greatest, in batches a second.
 """
+from __future__ import annotations
+
 import concurrent.futures
 import fcntl
 import os
@@ -17,6 +19,7 @@ import subprocess
 import sys
 import tempfile
 import time
+from typing import Optional
 
 sys.dont_write_bytecode = True
 sys.path.insert(0, os.path.dirname(os.path.dirname(os.path.abspath(__file__))))
@@ -31,7 +34,7 @@ RENAME = '"calls":["set(#4, \\"name\\", \\"Lantern {number}\\")"]'
 KINDS = ("moo alone", "moo after one sync", "moo-web", "moo-web, two folders")
 
 
-def request_of(kind, number, token):
+def request_of(kind: str, number: int, token: str) -> bytes:
     """The bytes of one batch."""
     calls = RENAME.format(number=number)
     if kind.startswith("moo-web"):
@@ -40,7 +43,7 @@ def request_of(kind, number, token):
     return post("/batch", '{"as":"#3",' + calls + "}")
 
 
-def send_all(port, requests, synced):
+def send_all(port: int, requests: list[bytes], synced: Optional[pathlib.Path]) -> int:
     """Sends requests one after another, each after a synced line if there is a file for them; how many are answered 200."""
     good = 0
     for request in requests:
@@ -55,12 +58,12 @@ def send_all(port, requests, synced):
     return good
 
 
-def rate(program, folder, kind, count, clients):
+def rate(program: str, folder: Optional[str], kind: str, count: int, clients: int) -> float:
     """Batches a second of one kind."""
     with tempfile.TemporaryDirectory(dir=folder) as name:
         room = pathlib.Path(name)
         subprocess.run([program, "init", "w.db"], stdout=subprocess.DEVNULL, cwd=room, check=True)
-        service = Service(program, "w.db", 1_000_000, folder=room)
+        service = Service(program, "w.db", 1_000_000, folder=name)
         if not service.ask(post("/batch", FIRST)).startswith(b"HTTP/1.1 200 "):
             sys.exit("the service doesn't answer")
         port, token = service.port, ""
@@ -82,7 +85,7 @@ def rate(program, folder, kind, count, clients):
     return count / taken
 
 
-def syncs(folder, count):
+def syncs(folder: Optional[str], count: int) -> float:
     """Lines a second that are appended to a file, each synced."""
     with tempfile.TemporaryFile(dir=folder) as file:
         start = time.perf_counter()
@@ -92,13 +95,14 @@ def syncs(folder, count):
         return count / (time.perf_counter() - start)
 
 
-def main():
+def main() -> None:
+    """Measures the rounds, and prints the medians."""
     if why := lacking():
         sys.exit(why)
     program = os.path.abspath(sys.argv[1])
     count, rounds = (int(word) for word in (sys.argv[2:4] + ["1000", "3"][len(sys.argv[2:4]) :]))
     folder = sys.argv[4] if len(sys.argv) > 4 else None
-    rows = {}
+    rows: dict[str, list[float]] = {}
     for _ in range(rounds):
         rows.setdefault("a sync alone", []).append(syncs(folder, count))
         for clients in CLIENTS:

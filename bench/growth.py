@@ -16,6 +16,8 @@ but for a few in a thousand. With no option all three tables are printed.
 Every figure but those of the chains is a difference of two runs that differ in the number of the pieces alone, so what a run takes besides
 isn't in it.
 """
+from __future__ import annotations
+
 import argparse
 import math
 import os
@@ -35,6 +37,7 @@ TIMES = 10
 
 
 def batch(calls: Iterable[str], who: str = "#3") -> str:
+    """The text of a batch of these calls."""
     return f"batch as {who}\n" + "\n".join(calls) + "\nend\n"
 
 
@@ -51,6 +54,7 @@ class Machine:
         self.folder = folder
 
     def path(self, name: str) -> str:
+        """The path of a file in the folder."""
         return os.path.join(self.folder, name)
 
     def fresh(self, name: str) -> str:
@@ -127,7 +131,7 @@ def made(first: int, count: int) -> Iterator[str]:
 
 def pairs(count: int) -> list[str]:
     """The same in batches of 1,000 calls: of each 500 objects, these and their slots."""
-    calls = []
+    calls: list[str] = []
     for first in range(0, count, BATCH // 2):
         calls += made(first + 5, min(BATCH // 2, count - first))
     return calls
@@ -304,6 +308,7 @@ def chains(machine: Machine, sizes: list[int]) -> None:
 
 
 def main() -> None:
+    """Prints the tables that are asked for, or all."""
     parser = argparse.ArgumentParser(description=__doc__.split("\n")[0])
     parser.add_argument("program")
     for table in ("--bulk", "--calls", "--chains"):

@@ -7,6 +7,8 @@ its start, or after its first reply) and opens the file by `check` and `dump`. T
 was printed, or one more, and the dump has to be the world of that number. It ends with status 1 at the first round that shows anything
 else.
 """
+from __future__ import annotations
+
 import os
 import random
 import re
@@ -16,15 +18,17 @@ import sys
 import tempfile
 import threading
 import time
+from typing import IO
 
 FIRST = b"batch as #3\ncreate(#1)\nend\n"
 
 
-def renaming(number):
+def renaming(number: int) -> bytes:
+    """The batch that comes after so many others: it renames #4."""
     return f'batch as #3 at {number}\nset(#4, "name", "Lantern {number}")\nend\n'.encode()
 
 
-def feed(pipe):
+def feed(pipe: IO[bytes]) -> None:
     """Writes batches until nobody reads them."""
     try:
         pipe.write(FIRST)
@@ -36,15 +40,18 @@ def feed(pipe):
         pass
 
 
-def killed(program, room, moment, replied):
+def killed(program: str, room: str, moment: float, replied: bool) -> bytes:
     """Runs batches, kills the program after so many seconds, of its first reply if `replied`, and returns what it printed."""
     run = subprocess.Popen([program, "apply", "world.db", "-"], cwd=room, stdin=subprocess.PIPE, stdout=subprocess.PIPE)
+    assert run.stdin and run.stdout
     threading.Thread(target=feed, args=(run.stdin,), daemon=True).start()
+    output = run.stdout.fileno()
     printed = bytearray()
     first = threading.Event()
 
-    def take():
-        while piece := os.read(run.stdout.fileno(), 65536):
+    def take() -> None:
+        """Reads what the program prints until it is gone."""
+        while piece := os.read(output, 65536):
             printed.extend(piece)
             first.set()
 
@@ -59,18 +66,19 @@ def killed(program, room, moment, replied):
     return bytes(printed)
 
 
-def acknowledged(printed):
+def acknowledged(printed: bytes) -> int:
     """The number of the last batch whose reply was printed whole."""
     whole = re.findall(rb"^accepted (\d+)\n.*\nend\n", printed, re.M)
     return int(whole[-1]) if whole else 0
 
 
-def said(program, room, word):
+def said(program: str, room: str, word: str) -> tuple[int, str]:
+    """The status of a command on the world, and what it prints."""
     run = subprocess.run([program, word, "world.db"], cwd=room, stdout=subprocess.PIPE)
     return run.returncode, run.stdout.decode()
 
 
-def fits(number, dump):
+def fits(number: int, dump: str) -> bool:
     """Whether a dump is that of the world after so many of the batches."""
     if f"seq {number}\n" not in dump[:40]:
         return False
@@ -81,7 +89,8 @@ def fits(number, dump):
     return len(lines) == 1 and lines[0].startswith(f'object {{#4, "{name}",')
 
 
-def one_round(program, moment, replied):
+def one_round(program: str, moment: float, replied: bool) -> tuple[int, str]:
+    """The number of the last acknowledged batch, and what is wrong: nothing, or `more` if one more is there."""
     with tempfile.TemporaryDirectory(prefix="moo-kill-") as room:
         if subprocess.run([program, "init", "world.db"], cwd=room, stdout=subprocess.DEVNULL).returncode:
             sys.exit("init failed")
@@ -99,7 +108,8 @@ def one_round(program, moment, replied):
         return last, "" if number == last else "more"
 
 
-def main():
+def main() -> None:
+    """Runs the rounds, and prints the seed and what they showed."""
     program, rounds = os.path.abspath(sys.argv[1]), int(sys.argv[2])
     seed = int(sys.argv[3]) if len(sys.argv) > 3 else random.randrange(1_000_000)
     print(f"seed {seed}")

@@ -5,6 +5,8 @@
 The time of `apply` on a text whose first batch makes #4 and whose COUNT others each give it another name, less that of a text of the
 first batch alone. Each runs on a new world, in a file of FOLDER that `init` made before the clock started, or in memory.
 """
+from __future__ import annotations
+
 import os
 import subprocess
 import sys
@@ -14,15 +16,17 @@ import time
 FIRST = "batch as #3\ncreate(#1)\nend\n"
 
 
-def renamings(count):
+def renamings(count: int) -> str:
+    """The text of so many batches that each rename #4."""
     return "".join(f'batch as #3\nset(#4, "name", "Lantern {number}")\nend\n' for number in range(count))
 
 
-def replies(count):
+def replies(count: int) -> str:
+    """What the first batch and so many others are answered."""
     return "accepted 1\n#4\nend\n" + "".join(f"accepted {number + 2}\n0\nend\n" for number in range(count))
 
 
-def seconds(program, text, answers, folder, in_memory):
+def seconds(program: str, text: str, answers: str, folder: str, in_memory: bool) -> float:
     """Runs the text on a new world, compares what is answered, and returns how long it took."""
     with tempfile.TemporaryDirectory(dir=folder) as room:
         world = ":memory:" if in_memory else "world.db"
@@ -36,7 +40,8 @@ def seconds(program, text, answers, folder, in_memory):
     return taken
 
 
-def main():
+def main() -> None:
+    """Measures the batches, and prints their rate on standard error."""
     program, count, folder = os.path.abspath(sys.argv[1]), int(sys.argv[2]), sys.argv[3]
     in_memory = sys.argv[4:] == ["memory"]
     alone = seconds(program, FIRST, replies(0), folder, in_memory)

@@ -10,6 +10,8 @@ the whole process; that of SQLite begins after Python has started.
 SHAPE is `broad` (200 classes under #1, the objects under these, and 7 slots on each object) or `wide` (one object that defines
 half of the rows as properties).
 """
+from __future__ import annotations
+
 import collections
 import os
 import shutil
@@ -19,11 +21,15 @@ import subprocess
 import sys
 import tempfile
 import time
+from typing import Iterable, NamedTuple
 
 from tables import FIRST_TABLES, PRAGMAS, TABLES  # which also leads to tests
 
-from tests.support.columns import OPENING_OBJECTS, first_objects, thing
+from tests.support.columns import OPENING_OBJECTS, Row, first_objects, thing
+from tests.support.program import MOO
 
+# The rows of the tables but the head: objects, properties, slots and verbs.
+Rows = tuple[list[Row], list[Row], list[Row], list[Row]]
 CLASSES = 200
 VERBS_OF_CLASS = 50
 ROOT_NAMES = ["description", "aliases", "key", "weight"]
@@ -39,26 +45,27 @@ READS = [
 ]
 
 
-def object_row(number, parent, location, fertile):
+def object_row(number: int, parent: int, location: int, fertile: int) -> Row:
+    """The row of an object that everybody may read."""
     return thing(number, f"Thing {number}", parent=parent, location=location, r=1, f=fertile)
 
 
-def broad(rows):
+def broad(rows: int) -> Rows:
     """The rows of the four tables but the head: classes under #1, and objects under the classes."""
     each = 1 + len(ROOT_NAMES) + len(CLASS_NAMES)
     shared = 1 + CLASSES * (len(CLASS_NAMES) + VERBS_OF_CLASS) + len(ROOT_NAMES) + 4 + 3 * len(ROOT_NAMES) + len(ROOT_NAMES)
     count = max((rows - shared) // each, CLASSES)
-    props = [(1 + at, 1, name) for at, name in enumerate(ROOT_NAMES)]
+    props: list[Row] = [(1 + at, 1, name) for at, name in enumerate(ROOT_NAMES)]
     first = 4
     for kind in range(CLASSES):
         for name in CLASS_NAMES:
             props.append((len(props) + 1, first + kind, f"{name}_{kind}"))
     objects = list(OPENING_OBJECTS)
-    slots = []
+    slots: list[Row] = []
     for number, _, _, parent, *_ in OPENING_OBJECTS:
         for at in range(len(ROOT_NAMES)):
             slots.append((number, at + 1, 3, "rc", SETTING[at] if number == 1 else ""))
-    verbs = []
+    verbs: list[Row] = []
     for at in range(count):
         number = first + at
         kind = at % CLASSES
@@ -75,22 +82,22 @@ def broad(rows):
     return objects, props, slots, verbs
 
 
-def wide(rows):
+def wide(rows: int) -> Rows:
     """#4 defines half of the rows as properties."""
     count = (rows - 6) // 2
     objects = list(OPENING_OBJECTS) + [object_row(4, 1, 2, 0)]
-    props = [(at + 1, 4, f"Property_{at}") for at in range(count)]
-    slots = [(4, at + 1, 3, "r", str(at % LARGEST)) for at in range(count)]
+    props: list[Row] = [(at + 1, 4, f"Property_{at}") for at in range(count)]
+    slots: list[Row] = [(4, at + 1, 3, "r", str(at % LARGEST)) for at in range(count)]
     return objects, props, slots, []
 
 
-def numbered(slots):
+def numbered(slots: list[Row]) -> list[Row]:
     """The rows of slots in version 2, in which r is 4, w 2 and c 1."""
-    sums = {bits: sum({"r": 4, "w": 2, "c": 1}[letter] for letter in bits) for bits in {row[3] for row in slots}}
+    sums = {bits: sum({"r": 4, "w": 2, "c": 1}[letter] for letter in str(bits)) for bits in {row[3] for row in slots}}
     return [(*row[:3], sums[row[3]], row[4]) for row in slots]
 
 
-def make(path, rows, version=2):
+def make(path: str, rows: Rows, version: int = 2) -> None:
     """Writes the file, and prints how many rows it has in each table."""
     objects, props, slots, verbs = rows
     connection = sqlite3.connect(path, isolation_level=None)
@@ -101,9 +108,10 @@ def make(path, rows, version=2):
         connection.execute(table)
     held = ("slot2", numbered(slots)) if version == 2 else ("slot", slots)
     objects = objects if version == 2 else first_objects(objects)
-    petitions = [("petition_head", [(1, 1)])] if version == 2 else []
-    head = (1, version, 0, max(row[0] for row in objects), len(props) + 1, len(verbs) + 1)
-    for table, part in [("head", [head]), ("object", objects), ("prop", props), held, ("verb", verbs), *petitions]:
+    petitions: list[tuple[str, list[Row]]] = [("petition_head", [(1, 1)])] if version == 2 else []
+    head: Row = (1, version, 0, max(int(row[0]) for row in objects), len(props) + 1, len(verbs) + 1)
+    parts: list[tuple[str, list[Row]]] = [("head", [head]), ("object", objects), ("prop", props), held, ("verb", verbs), *petitions]
+    for table, part in parts:
         if part:
             marks = ", ".join("?" * len(part[0]))
             connection.executemany(f"INSERT INTO {table} VALUES ({marks})", part)
@@ -114,7 +122,7 @@ def make(path, rows, version=2):
     print(f"{sum(counts)} rows: head, object, prop, slot, verb {counts}, {os.path.getsize(path) / 2**20:.0f} MB", file=sys.stderr)
 
 
-def check(path):
+def check(path: str) -> None:
     """What C SQLite's own check says of the file."""
     start = time.perf_counter()
     connection = sqlite3.connect(path)
@@ -122,7 +130,7 @@ def check(path):
     print(said, time.perf_counter() - start)
 
 
-def read(path):
+def read(path: str) -> None:
     """Goes over all rows."""
     start = time.perf_counter()
     connection = sqlite3.connect(path)
@@ -131,39 +139,47 @@ def read(path):
     print("read", time.perf_counter() - start)
 
 
-def measured(command):
+class Run(NamedTuple):
     """The wall time of a process in seconds, its greatest memory in MB, and the last line that it wrote."""
+
+    seconds: float
+    memory: float
+    line: str
+
+
+def measured(command: list[str]) -> Run:
+    """What a process takes. It has to succeed."""
     start = time.perf_counter()
     process = subprocess.Popen(command, stdout=subprocess.PIPE)
+    assert process.stdout
     written = process.stdout.read().decode().splitlines()
     _, status, usage = os.wait4(process.pid, 0)
     taken = time.perf_counter() - start
     if status:
         sys.exit(f"{command[0]} ended with {status}: {written[-1:]}")
-    return taken, usage.ru_maxrss / 1024, written[-1] if written else ""
+    return Run(taken, usage.ru_maxrss / 1024, written[-1] if written else "")
 
 
-def timed_within(command):
+def timed_within(command: list[str]) -> Run:
     """The same of a process that writes its own time after what it says."""
     _, memory, line = measured(command)
     said, taken = line.rsplit(" ", 1)
-    return float(taken), memory, said
+    return Run(float(taken), memory, said)
 
 
-def told(name, runs):
+def told(name: str, runs: Iterable[Run]) -> float:
     """Prints the median of the times of these runs, the least and the most, and the greatest memory. Answers the median."""
-    times = [run[0] for run in runs]
+    times, memory = [run.seconds for run in runs], max(run.memory for run in runs)
     median = statistics.median(times)
-    print(f"{name}: {median:.2f} s ({min(times):.2f} to {max(times):.2f}), {max(run[1] for run in runs):.0f} MB")
+    print(f"{name}: {median:.2f} s ({min(times):.2f} to {max(times):.2f}), {memory:.0f} MB")
     return median
 
 
-def main():
+def main() -> None:
+    """Measures the rounds, and prints the medians and their ratio."""
     rows = int(sys.argv[1]) if len(sys.argv) > 1 else 1_000_000
     shape = sys.argv[2] if len(sys.argv) > 2 else "broad"
     rounds = int(sys.argv[3]) if len(sys.argv) > 3 else 3
-    here = os.path.dirname(os.path.abspath(__file__))
-    program = os.environ.get("MOO", os.path.join(here, "../crates/moo/out/moo"))
     folder = tempfile.mkdtemp(prefix="moo-opening.", dir=sys.argv[4] if len(sys.argv) > 4 else None)
     try:
         path = os.path.join(folder, "world")
@@ -171,12 +187,14 @@ def main():
         # in a process of its own: what this one holds would count as the memory of those that it starts
         measured(this + ["--make", path, str(rows), shape])
         # each may begin with the file in the page cache
-        ours, checks, reads = [], [], []
+        ours: list[Run] = []
+        checks: list[Run] = []
+        reads: list[Run] = []
         for _ in range(rounds):
-            ours.append(measured([program, "check", path]))
+            ours.append(measured([MOO, "check", path]))
             checks.append(timed_within(this + ["--integrity", path]))
             reads.append(timed_within(this + ["--read", path]))
-        print(f"moo check says: {ours[0][2]}; integrity_check says: {checks[0][2]}", file=sys.stderr)
+        print(f"moo check says: {ours[0].line}; integrity_check says: {checks[0].line}", file=sys.stderr)
         times = []
         for name, runs in [("moo check", ours), ("integrity_check", checks), ("plain read", reads)]:
             times.append(told(name, runs))

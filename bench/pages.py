@@ -6,6 +6,8 @@ Makes a world of so many objects (100,000), serves it by PROGRAM and by the fron
 first page; for each page the median of 20 on the clock, and the mean of the processor time of the front and of moo together; the same for
 the world's page after each of 20 batches; and the front's memory. The load of the machine is that of the last minute.
 """
+from __future__ import annotations
+
 import os
 import pathlib
 import sys
@@ -20,7 +22,7 @@ from tests.support.processes import end_all  # noqa: E402
 from tests.support.web import add_person  # noqa: E402
 
 
-def measured(folder, count):
+def measured(folder: pathlib.Path, count: int) -> tuple[Measured, tuple[float, float]]:
     """What is measured on a world of so many objects, and after batches."""
     make_large(folder / "world.db", count)
     moo = KeptService(folder / "world.db")
@@ -33,7 +35,8 @@ def measured(folder, count):
         end_all()
 
 
-def main():
+def main() -> None:
+    """Measures the pages, and prints a line for each."""
     count = int(sys.argv[2]) if len(sys.argv) > 2 else 100_000
     with tempfile.TemporaryDirectory() as name:
         print(f"{count:,} objects, load {os.getloadavg()[0]:.0f} on {os.cpu_count()} processors; in milliseconds")

@@ -7,6 +7,8 @@ once, each a process; and the same batches in one run of `apply`. The worlds are
 in Python that connects, sends, and reads to the end, so its own time is in each figure. Prints the median of the rounds, with the least
 and the greatest, in requests a second.
 """
+from __future__ import annotations
+
 import concurrent.futures
 import os
 import socket
@@ -15,6 +17,8 @@ import subprocess
 import sys
 import tempfile
 import time
+from functools import partial
+from typing import Callable, Optional
 
 sys.dont_write_bytecode = True
 sys.path.insert(0, os.path.dirname(os.path.dirname(os.path.abspath(__file__))))
@@ -25,7 +29,7 @@ MAKE = post("/batch", '{"as":"#3","calls":["create(#1)"]}')
 RENAME = '{{"as":"#3","calls":["set(#4, \\"name\\", \\"Lantern {number}\\")"]}}'
 
 
-def ask_all(port, requests):
+def ask_all(port: int, requests: list[bytes]) -> int:
     """Sends requests one after another; how many are answered 200."""
     good = 0
     for request in requests:
@@ -35,7 +39,7 @@ def ask_all(port, requests):
     return good
 
 
-def served(program, folder, world, requests, clients):
+def served(program: str, folder: Optional[str], world: str, requests: list[bytes], clients: int) -> float:
     """Requests a second, sent by so many clients at once to a new world with #4."""
     with tempfile.TemporaryDirectory(dir=folder) as room:
         if world != ":memory:":
@@ -55,7 +59,7 @@ def served(program, folder, world, requests, clients):
     return len(requests) / taken
 
 
-def applied(program, folder, world, count):
+def applied(program: str, folder: Optional[str], world: str, count: int) -> float:
     """Batches a second in one run of `apply`, less what a run of the first batch alone takes."""
     renamings = "".join(f'batch as #3\nset(#4, "name", "Lantern {number}")\nend\n' for number in range(count))
     times = []
@@ -71,19 +75,20 @@ def applied(program, folder, world, count):
     return count / (times[1] - times[0])
 
 
-def main():
+def main() -> None:
+    """Measures the rounds, and prints the medians."""
     program = os.path.abspath(sys.argv[1])
     count, clients, rounds = (int(word) for word in (sys.argv[2:5] + ["1000", "4", "5"][len(sys.argv[2:5]):]))
     folder = sys.argv[5] if len(sys.argv) > 5 else None
     looks = [get("/seq")] * count
     batches = [post("/batch", RENAME.format(number=number)) for number in range(count)]
-    rows = []
+    rows: list[tuple[str, Callable[[], float]]] = []
     for world, where in (("world.db", "a file"), (":memory:", "memory")):
-        rows.append((f"{where}: GET /seq, one client", lambda world=world: served(program, folder, world, looks, 1)))
-        rows.append((f"{where}: POST /batch, one client", lambda world=world: served(program, folder, world, batches, 1)))
-        rows.append((f"{where}: POST /batch, {clients} clients", lambda world=world: served(program, folder, world, batches, clients)))
-        rows.append((f"{where}: apply", lambda world=world: applied(program, folder, world, count)))
-    rates = {name: [] for name, _ in rows}
+        rows.append((f"{where}: GET /seq, one client", partial(served, program, folder, world, looks, 1)))
+        rows.append((f"{where}: POST /batch, one client", partial(served, program, folder, world, batches, 1)))
+        rows.append((f"{where}: POST /batch, {clients} clients", partial(served, program, folder, world, batches, clients)))
+        rows.append((f"{where}: apply", partial(applied, program, folder, world, count)))
+    rates: dict[str, list[float]] = {name: [] for name, _ in rows}
     for _ in range(rounds):
         for name, take in rows:
             rates[name].append(take())

@@ -4,7 +4,7 @@
 
 Round after round for SECONDS (60; at most 3,600), the program serves a world in a file to one to four clients at once, or runs texts on
 it by `apply`, and is killed with signal 9 at a random moment. The batches are random: some are refused, stale or malformed, and some
-clients break off. Behind each kill:
+clients break off. After each kill:
 
 - `check` has to find the world whole, at the number of the last batch that was acknowledged, or one more;
 - `dump` has to be that of a second file, on which the acknowledged batches were run without a kill, in their order; if one more is
@@ -14,6 +14,8 @@ clients break off. Behind each kill:
 It prints the seed first, and stops at the first round that shows anything else, with the seed, the round and the folder that it leaves:
 status 1. A new world is begun every 25 rounds.
 """
+from __future__ import annotations
+
 import json
 import os
 import random
@@ -25,21 +27,27 @@ import sys
 import tempfile
 import threading
 import time
+from typing import Optional
 
 sys.dont_write_bytecode = True
 sys.path.insert(0, os.path.dirname(os.path.dirname(os.path.abspath(__file__))))
 from tests.support.service import Service, get, post, reset  # noqa: E402
 
 ROUNDS_OF_A_WORLD = 25
+# A batch that was acknowledged: its number, its calls and its answers.
+Done = tuple[int, list[str], list[str]]
 
 
 class Violation(Exception):
-    pass
+    """What a round showed that it may not show."""
 
 
-def random_call(chance):
+def random_call(chance: random.Random) -> str:
     """A call of the wizard's on low numbers, so that many meet an object; some are refused."""
-    low = lambda: f"#{chance.choice([0, 1, 2, 3, 4, 4, 5, 5, 6, 7, 8, 9, 12, 15, 20])}"
+
+    def low() -> str:
+        return f"#{chance.choice([0, 1, 2, 3, 4, 4, 5, 5, 6, 7, 8, 9, 12, 15, 20])}"
+
     name = chance.choice(["light", "weight", "key", "Note", "a"])
     value = chance.choice(["0", "-12", '"text"', "{}", "{1, {2, #3}}", "#4", "E_PERM", '"' + "x" * chance.randrange(2000) + '"'])
     petition = chance.randrange(1, 12)
@@ -69,28 +77,36 @@ def random_call(chance):
     )
 
 
-def random_calls(chance):
+def random_calls(chance: random.Random) -> list[str]:
+    """The calls of a random batch."""
     return [random_call(chance) for _ in range(chance.choice([1, 1, 1, 2, 3, 8]))]
 
 
-def body_of(calls, at=None):
+def body_of(calls: list[str], at: Optional[int] = None) -> str:
+    """The body of a request with a batch."""
     return json.dumps({"as": "#3", "calls": calls} if at is None else {"as": "#3", "calls": calls, "at": at})
 
 
-def text_of(calls):
+def text_of(calls: list[str]) -> str:
+    """The text of a batch."""
     return "batch as #3\n" + "".join(call + "\n" for call in calls) + "end\n"
 
 
 class Client(threading.Thread):
-    """Sends random requests until the service is gone. `answered` are its acknowledged batches, each with its number and answers, and
-    `under_way` the calls of the one that wasn't answered."""
+    """Sends random requests until the service is gone.
 
-    def __init__(self, service, seed):
+    `answered` are its acknowledged batches, each with its number and answers, and `under_way` the calls of the one that wasn't answered.
+    """
+
+    def __init__(self, service: Service, seed: float) -> None:
         super().__init__(daemon=True)
         self.service, self.chance = service, random.Random(seed)
-        self.answered, self.under_way, self.wrong = [], None, None
+        self.answered: list[Done] = []
+        self.under_way: Optional[list[str]] = None
+        self.wrong: Optional[str] = None
 
-    def run(self):
+    def run(self) -> None:
+        """Sends requests until the service is gone."""
         try:
             while True:
                 self.one_request()
@@ -99,14 +115,17 @@ class Client(threading.Thread):
         except Exception as error:  # a thread's own failure is a violation too
             self.wrong = repr(error)
 
-    def one_request(self):
+    def one_request(self) -> None:
+        """Sends a random request: mostly a batch, and some that break off, are refused or only ask."""
         kind = self.chance.random()
         if kind < 0.05:
             peer = self.service.peer()
             peer.sendall(post("/batch", body_of(["create(#1)"]))[: self.chance.randrange(90)])
             reset(peer) if self.chance.random() < 0.5 else peer.close()
         elif kind < 0.10:
-            self.service.ask(self.chance.choice([get("/nothing"), get("/object/3"), post("/batch", "{"), post("/batch", body_of(["sing()"]))]))
+            self.service.ask(
+                self.chance.choice([get("/nothing"), get("/object/3"), post("/batch", "{"), post("/batch", body_of(["sing()"]))])
+            )
         elif kind < 0.15:
             self.service.ask(post("/ask", body_of(random_calls(self.chance))))
         elif kind < 0.20:
@@ -115,38 +134,43 @@ class Client(threading.Thread):
         else:
             self.one_batch()
 
-    def one_batch(self):
-        self.under_way = random_calls(self.chance)
-        said = self.service.ask(post("/batch", body_of(self.under_way)))
+    def one_batch(self) -> None:
+        """Sends a random batch, and notes what it is answered."""
+        calls = self.under_way = random_calls(self.chance)
+        said = self.service.ask(post("/batch", body_of(calls)))
         head, _, body = said.partition(b"\r\n\r\n")
         length = re.search(rb"content-length: (\d+)", head)
         if not length or len(body) != int(length[1]):
             raise OSError("an answer that is cut off")
         if head.startswith(b"HTTP/1.1 200 "):
             came = json.loads(body)
-            self.answered.append((came["seq"], self.under_way, came["answers"]))
+            self.answered.append((came["seq"], calls, came["answers"]))
         elif not head.startswith(b"HTTP/1.1 409 "):
-            raise ValueError(f"{said!r} to {self.under_way!r}")
+            raise ValueError(f"{said!r} to {calls!r}")
         self.under_way = None
 
 
-def replies(printed):
+def replies(printed: str) -> list[tuple[int, list[str]]]:
     """The whole replies of a text that are `accepted`: the number of each, and its answers."""
     return [(int(number), lines.splitlines()) for number, lines in re.findall(r"^accepted (\d+)\n((?:.+\n)*?)end\n", printed, re.M)]
 
 
 class Soak:
-    def __init__(self, program, folder, seed):
+    """The two files, and what the rounds so far have shown."""
+
+    def __init__(self, program: str, folder: str, seed: int) -> None:
         self.program, self.folder, self.chance = program, folder, random.Random(seed)
         self.last = self.rounds = self.batches = self.more = 0
         self.kills = {"service": 0, "text": 0}
         self.world, self.second = os.path.join(folder, "world.db"), os.path.join(folder, "second.db")
 
-    def run(self, *words, text=""):
+    def run(self, *words: str, text: str = "") -> tuple[int, str]:
+        """The status of the program, and what it prints."""
         ran = subprocess.run([self.program, *words], input=text.encode(), stdout=subprocess.PIPE, stderr=subprocess.PIPE, timeout=300)
         return ran.returncode, ran.stdout.decode()
 
-    def begin(self):
+    def begin(self) -> None:
+        """Begins a new world, in both files."""
         for file in (self.world, self.second):
             for end in ("", "-wal"):
                 if os.path.exists(file + end):
@@ -155,7 +179,7 @@ class Soak:
                 raise Violation("init failed")
         self.last = 0
 
-    def serve(self):
+    def serve(self) -> tuple[list[Done], list[list[str]]]:
         """The acknowledged batches of a service that is killed, and those under way."""
         service = Service(self.program, self.world, 1_000_000)
         if not service.is_listening():
@@ -172,15 +196,19 @@ class Soak:
         done = sorted(batch for client in clients for batch in client.answered)
         return done, [client.under_way for client in clients if client.under_way]
 
-    def apply(self):
+    def apply(self) -> tuple[list[Done], list[list[str]]]:
         """The same of a text."""
-        process = subprocess.Popen([self.program, "apply", self.world, "-"], stdin=subprocess.PIPE, stdout=subprocess.PIPE, stderr=subprocess.DEVNULL)
+        process = subprocess.Popen(
+            [self.program, "apply", self.world, "-"], stdin=subprocess.PIPE, stdout=subprocess.PIPE, stderr=subprocess.DEVNULL
+        )
+        assert process.stdin and process.stdout
+        given = process.stdin
         sent = [random_calls(self.chance) for _ in range(1000)]
 
-        def feed():
+        def feed() -> None:
             try:
-                process.stdin.write("".join(map(text_of, sent)).encode())
-                process.stdin.close()
+                given.write("".join(map(text_of, sent)).encode())
+                given.close()
             except OSError:
                 pass
 
@@ -194,28 +222,30 @@ class Soak:
         feeder.join(60)
         return self.told(printed, sent)
 
-    def told(self, printed, sent):
+    def told(self, printed: str, sent: list[list[str]]) -> tuple[list[Done], list[list[str]]]:
         """Which batches were acknowledged by what was printed, and the one after the last whole reply."""
-        done, place = [], 0
+        done: list[Done] = []
+        place = 0
         for reply in re.finditer(r"^(?:accepted (\d+)\n((?:.+\n)*?)end|refused \d+ E_\w+|full \d+)\n", printed, re.M):
             if reply[1]:
                 done.append((int(reply[1]), sent[place], reply[2].splitlines()))
             place += 1
         return done, sent[place : place + 1]
 
-    def same_again(self, done):
+    def same_again(self, done: list[Done]) -> None:
         """Runs the acknowledged batches on the second file, and compares the answers."""
         status, printed = self.run("apply", self.second, "-", text="".join(text_of(calls) for _, calls, _ in done))
         if status or replies(printed) != [(number, answers) for number, _, answers in done]:
             raise Violation(f"the acknowledged batches, run again, are answered otherwise (status {status})")
 
-    def dump(self, file):
+    def dump(self, file: str) -> str:
+        """The dump of a file."""
         status, dump = self.run("dump", file)
         if status:
             raise Violation(f"dump of {file}: status {status}")
         return dump
 
-    def takes_one_more(self, dump, under_way):
+    def takes_one_more(self, dump: str, under_way: list[list[str]]) -> bool:
         """Whether a batch under way makes the second file the world of this dump; if so, it has run on it."""
         for calls in under_way:
             kept = self.second + ".kept"
@@ -228,13 +258,14 @@ class Soak:
                 os.remove(self.second + "-wal")
         return False
 
-    def one_round(self):
+    def one_round(self) -> None:
+        """Serves or runs a text, kills the program, and compares what the file then holds."""
         if self.rounds % ROUNDS_OF_A_WORLD == 0:
             self.begin()
         kind = self.chance.choice(["service", "text"])
         done, under_way = self.serve() if kind == "service" else self.apply()
         if [number for number, _, _ in done] != list(range(self.last + 1, self.last + 1 + len(done))):
-            raise Violation(f"behind {self.last} these were acknowledged: {[number for number, _, _ in done]}")
+            raise Violation(f"after {self.last} these were acknowledged: {[number for number, _, _ in done]}")
         self.last += len(done)
         status, line = self.run("check", self.world)
         found = re.fullmatch(r"ok seq (\d+) objects \d+\n", line)
@@ -254,7 +285,8 @@ class Soak:
         self.batches += len(done)
 
 
-def main():
+def main() -> None:
+    """Runs rounds for the time that is given, and prints the seed and what they showed."""
     program = os.path.abspath(sys.argv[1])
     seconds = min(float(sys.argv[2]) if len(sys.argv) > 2 else 60, 3600)
     seed = int(sys.argv[3]) if len(sys.argv) > 3 else random.randrange(1_000_000)
@@ -270,7 +302,7 @@ def main():
             sys.exit(1)
     shutil.rmtree(folder)
     kills = f"{soak.kills['service']} kills of the service and {soak.kills['text']} of texts"
-    print(f"{kills}, behind {soak.batches} acknowledged batches: none lost, one more there {soak.more} times")
+    print(f"{kills}, after {soak.batches} acknowledged batches: none lost, one more there {soak.more} times")
 
 
 if __name__ == "__main__":

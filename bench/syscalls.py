@@ -9,11 +9,13 @@ that name FILE or FILE-wal, or an open file of these. Then, for each of them in 
 - it fails with ENOSPC, and so does each later call of its name, as on a disk that stays full;
 - the program is killed with signal 9 as it makes the call.
 
-Behind each run the program, now without faults, has to open the world: `check` has to say the number of the last batch that was
+After each run the program, now without faults, has to open the world: `check` has to say the number of the last batch that was
 acknowledged, or one more, and `dump` has to be the dump of the world of that number. The program itself has to end by a status of its
 own, and 0 only if it acknowledged all four. It prints how many runs there were, by the name of the call, and ends with status 1
 if one showed anything else.
 """
+from __future__ import annotations
+
 import collections
 import os
 import re
@@ -21,6 +23,7 @@ import shutil
 import subprocess
 import sys
 import tempfile
+from typing import Sequence
 
 BATCHES = [
     'create(#1)\nadd_property(#4, "light", 7, {#3, "rc"})\nset(#4, "name", "Lantern")',
@@ -32,14 +35,15 @@ WORLD = "world.db"
 STATUSES = (0, 1, 4)
 
 
-def text(count):
+def text(count: int) -> bytes:
+    """The text of the first so many batches."""
     return "".join(f"batch as #3\n{calls}\nend\n" for calls in BATCHES[:count]).encode()
 
 
 class Trial:
     """A folder with the world that each run begins with, and the dumps of the worlds that may come of it."""
 
-    def __init__(self, program, folder):
+    def __init__(self, program: str, folder: str) -> None:
         self.program, self.folder = program, folder
         self.begin = os.path.join(folder, "begin")
         os.mkdir(self.begin)
@@ -48,27 +52,32 @@ class Trial:
         if len(set(self.dumps)) != len(self.dumps):
             sys.exit("two of the worlds have the same dump")
 
-    def run(self, words, room, given=b"", before=()):
-        return subprocess.run([*before, self.program, *words], cwd=room, input=given, stdout=subprocess.PIPE, stderr=subprocess.DEVNULL)
+    def run(self, words: list[str], room: str, given: bytes = b"", before: Sequence[str] = ()) -> subprocess.CompletedProcess[bytes]:
+        """Runs the program in a folder, under a command if one is given before it."""
+        command = [*before, self.program, *words]
+        return subprocess.run(command, cwd=room, input=given, stdout=subprocess.PIPE, stderr=subprocess.DEVNULL)
 
-    def fresh(self):
+    def fresh(self) -> str:
+        """A folder with a copy of the world that each run begins with."""
         room = os.path.join(self.folder, "room")
         shutil.rmtree(room, ignore_errors=True)
         shutil.copytree(self.begin, room)
         return room
 
-    def dump_after(self, count):
+    def dump_after(self, count: int) -> bytes:
+        """The dump of the world after the first so many batches, without faults."""
         room = self.fresh()
         ran = self.run(["apply", WORLD, "-"], room, text(count))
         if ran.returncode or acknowledged(ran.stdout) != count:
             sys.exit(f"without faults {count} batches end with status {ran.returncode}: {ran.stdout!r}")
         return self.run(["dump", WORLD], room).stdout
 
-    def calls(self):
+    def calls(self) -> list[tuple[str, int]]:
         """The system calls on the two files, without faults: the name of each, and which of its name it is."""
         room, trace = self.fresh(), os.path.join(self.folder, "trace")
         self.run(["apply", WORLD, "-"], room, text(len(BATCHES)), ["strace", "-y", "-o", trace])
-        counts, found = collections.Counter(), []
+        counts: collections.Counter[str] = collections.Counter()
+        found: list[tuple[str, int]] = []
         with open(trace, encoding="utf-8", errors="replace") as lines:
             for line in lines:
                 called = re.match(r"(\w+)\((.*)", line)
@@ -78,7 +87,7 @@ class Trial:
                         found.append((called[1], counts[called[1]]))
         return found
 
-    def faulty(self, name, fault):
+    def faulty(self, name: str, fault: str) -> tuple[str, bool]:
         """What came of a run with a fault: what is wrong, or nothing; and whether one batch more is there than was acknowledged."""
         room = self.fresh()
         inject = ["strace", "-qq", "-o", "/dev/null", "-e", f"trace={name}", "-e", f"inject={name}:{fault}"]
@@ -102,13 +111,14 @@ class Trial:
         return "", number > last
 
 
-def acknowledged(printed):
+def acknowledged(printed: bytes) -> int:
     """How many batches were answered `accepted`, in replies that are whole."""
     whole = re.findall(rb"^accepted (\d+)\n(?:.+\n)*?end\n", printed, re.M)
     return int(whole[-1]) if whole else 0
 
 
-def main():
+def main() -> None:
+    """Lets each call fail in each way, and prints how many runs there were."""
     program = os.path.abspath(sys.argv[1])
     with tempfile.TemporaryDirectory(prefix="moo-calls-", dir=sys.argv[2] if len(sys.argv) > 2 else None) as folder:
         trial = Trial(program, folder)

@@ -86,7 +86,9 @@ def picture_of(text):
     height = top + MARGIN
     head = f'<svg xmlns="http://www.w3.org/2000/svg" viewBox="0 0 {WIDTH} {height}" width="{WIDTH}" height="{height}">'
     title = "<title>The crates of moo in layers; an arrow is read as 'uses'</title>"
-    return "\n".join([head, title, f"<style>{STYLE}</style>", f'<rect width="{WIDTH}" height="{height}" fill="#fff"/>', *shapes, "</svg>", ""])
+    return "\n".join(
+        [head, title, f"<style>{STYLE}</style>", f'<rect width="{WIDTH}" height="{height}" fill="#fff"/>', *shapes, "</svg>", ""]
+    )
 
 
 def main(words):

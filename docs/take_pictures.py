@@ -21,8 +21,8 @@ sys.path.insert(0, str(TOP))
 from tests.support.browser import browser, lacking, picture  # noqa: E402
 
 MAKING = "/do/create?parent=generic+lamp&names=lantern%0Atorch&place=Ada%27s+Hut"
-# The file, who looks, the path, the browser, and how many pixels of the page are kept from the top; None: all. If the path is that of a form
-# its button 'Preview' is pressed.
+# The file, who looks, the path, the browser, and how many pixels of the page are kept from the top; None: all. If the path is that of a
+# form its button 'Preview' is pressed.
 PICTURES = (
     ("page-world.png", "wizard", "/", {"width": 900, "height": 700}, 1040),
     ("page-object.png", "ada", "/o/24", {"width": 900, "height": 700}, 720),

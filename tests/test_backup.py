@@ -185,7 +185,8 @@ class AtRest(Copies):
             (self.folder / f"world.db-{moment}T120000.000000Z-seq1").mkdir()
         copy = self.copied("--keep", "2", "--weekly", "4", "--monthly", "3")
         left = [path.name[9:17] for path in sorted(self.folder.iterdir())]
-        # the two newest are 0317 and the one made now; the weeks are that of now and those of 0317, 0315, 0308; the months now's, March, February
+        # the two newest are 0317 and the one made now; the weeks are that of now and those of 0317, 0315, 0308;
+        # the months are now's, March and February
         self.assertEqual(left, ["20200228", "20200308", "20200315", "20200317", copy.name[9:17]])
 
     def test_the_command_after_a_copy(self):

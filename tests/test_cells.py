@@ -12,30 +12,40 @@ WHOLE = (0, "ok seq 3 objects 8\n")
 NONE = [b"\n", b"\r", b"\x00", b"\x7f", b"\x1f", b"caf\xc3\xa9", b"\xff"]
 WIDE = [2147483648, -2147483649, 2**63 - 1, -(2**63)]
 PREPOSITIONS = [
-    "none", "any", "with/using", "at/to", "in front of", "in/inside/into", "on top of/on/onto/upon", "out of/from inside/from", "over", "through",
+    "none", "any", "with/using", "at/to", "in front of", "in/inside/into", "on top of/on/onto/upon", "out of/from inside/from", "over",
+    "through",
     "under/underneath/beneath", "behind", "beside", "for/about", "is", "as", "off/off of",
 ]
 VALUES = [
-    "", "0", "-0", "007", " 7", "\t7", "9223372036854775807", "-9223372036854775808", "#-2147483648", "#2147483647", "E_PERM", "e_Float", '""', '"\\x\\\\\\""', "{}", "{ }",
+    "", "0", "-0", "007", " 7", "\t7", "9223372036854775807", "-9223372036854775808", "#-2147483648", "#2147483647", "E_PERM", "e_Float",
+    '""', '"\\x\\\\\\""', "{}", "{ }",
     "{1 ,2}", "{ 1,{ } }", "{" * 32 + "}" * 32, '"' + "x" * 65535 + '"', "{" + "0," * 5000 + "0}",
 ]
 NO_VALUES = [
-    " ", "+1", "-", "- 1", "7 ", "7x", "1 2", "0x10", "1.5", "9223372036854775808", "-9223372036854775809", "#", "# 1", "#2147483648", "E_", "E_NOPE", "E_PERMS", '"', '"a', '"\\"',
-    '"a" ', "{", "}", "{1", "{,}", "{1,}", "{,1}", "{1 2}", "{}}", "{" * 33 + "}" * 33, '"' + "x" * 65536 + '"', "'a'", "null", '"\u00e9"', '"\n"',
+    " ", "+1", "-", "- 1", "7 ", "7x", "1 2", "0x10", "1.5", "9223372036854775808", "-9223372036854775809", "#", "# 1", "#2147483648", "E_",
+    "E_NOPE", "E_PERMS", '"', '"a', '"\\"',
+    '"a" ', "{", "}", "{1", "{,}", "{1,}", "{,1}", "{1 2}", "{}}", "{" * 33 + "}" * 33, '"' + "x" * 65536 + '"', "'a'", "null", '"\u00e9"',
+    '"\n"',
 ]
 LISTS = ["", "{}", "{#1}", " {#1}", "{ #1 , #-1 }", "{#99, #2147483647, #99}", "{" + ",".join(["#1"] * 1000) + "}"]
 NO_LISTS = [" ", "0", "#1", "{1}", "{#1, 2}", "{{#1}}", "{#1", "{#1} ", "{#2147483648}", "x", "{" + ",".join(["#1"] * 1001) + "}"]
 # Calls that a petition may hold: each a list that begins with a string, whatever this names.
 ASKS = [
-    '{{"players"}}', ' {{"players"}}', '\t{ { "players" } ,{"PLAYERS",#01 , e_perm} }', '{{"sing"}}', '{{""}}', '{{"grant", 1}}', '{{"petition", {{"players"}}}}',
-    '{{"get", -9223372036854775808, #-2147483648, "\\"", E_FLOAT, {}}}', "{" + ",".join(['{"players"}'] * 64) + "}", '{{"get",' + "{" * 28 + "}" * 28 + "}}",
+    '{{"players"}}', ' {{"players"}}', '\t{ { "players" } ,{"PLAYERS",#01 , e_perm} }', '{{"sing"}}', '{{""}}', '{{"grant", 1}}',
+    '{{"petition", {{"players"}}}}',
+    '{{"get", -9223372036854775808, #-2147483648, "\\"", E_FLOAT, {}}}', "{" + ",".join(['{"players"}'] * 64) + "}",
+    '{{"get",' + "{" * 28 + "}" * 28 + "}}",
     '{{"players"},{"get",{1,' + "{" * 27 + "}" * 27 + "}}}", '{{"' + "x" * 65535 + '"}}', '{{"get",' + "0," * 5000 + "0}}",
 ]
 NO_ASKS = [
-    "", " ", "0", "#4", '"players"', "E_PERM", "{}", "{{}}", '{"players"}', '{"players", #1}', "{{1}}", '{{#1, "valid"}}', '{{{"players"}}}', '{{E_PERM}}', '{{"players"}, {}}',
-    '{{"players"}, "players"}', '{{"players"}, 1}', '{{"players"},}', '{{"players",}}', '{{"players"}} ', '{{"players"}}x', '{{"players"}', '{{"players}}', '{{players}}',
-    "{" + ",".join(['{"players"}'] * 65) + "}", '{{"get",' + "{" * 29 + "}" * 29 + "}}", '{{"get",' + "{" * 30 + "}" * 30 + "}}", '{{"get",' + "{" * 31 + "}" * 31 + "}}",
-    '{{"players"},{"get",{1,' + "{" * 28 + "}" * 28 + "}}}", '{{"' + "x" * 65536 + '"}}', '{{"get", 9223372036854775808}}', '{{"get", #2147483648}}', '{{"get", "\n"}}',
+    "", " ", "0", "#4", '"players"', "E_PERM", "{}", "{{}}", '{"players"}', '{"players", #1}', "{{1}}", '{{#1, "valid"}}',
+    '{{{"players"}}}', '{{E_PERM}}', '{{"players"}, {}}',
+    '{{"players"}, "players"}', '{{"players"}, 1}', '{{"players"},}', '{{"players",}}', '{{"players"}} ', '{{"players"}}x', '{{"players"}',
+    '{{"players}}', '{{players}}',
+    "{" + ",".join(['{"players"}'] * 65) + "}", '{{"get",' + "{" * 29 + "}" * 29 + "}}", '{{"get",' + "{" * 30 + "}" * 30 + "}}",
+    '{{"get",' + "{" * 31 + "}" * 31 + "}}",
+    '{{"players"},{"get",{1,' + "{" * 28 + "}" * 28 + "}}}", '{{"' + "x" * 65536 + '"}}', '{{"get", 9223372036854775808}}',
+    '{{"get", #2147483648}}', '{{"get", "\n"}}',
 ]
 # The table, the column, the row as SQL and as it is told; values that can be read there, and values that can't.
 CELLS = [
@@ -59,11 +69,21 @@ CELLS = [
     ("slot2", "owner", "object = 6 and prop = 2", "#6 p2", [3, -1, 99, -2147483648], WIDE),
     ("slot2", "bits", "object = 6 and prop = 2", "#6 p2", [0, 1, 2, 3, 4, 5, 6, 7], [-1, 8, 2147483648, 2**63 - 1, -(2**63)]),
     ("slot2", "value", "object = 6 and prop = 2", "#6 p2", VALUES, [*NO_VALUES, *NONE]),
-    ("verb", "names", "object = 4 and id = 1", "#4 v1", ["x", "\t", " x ", "*", "get take", "x" * 65535], ["", " ", "   ", "x" * 65536, *NONE]),
+    (
+        "verb", "names", "object = 4 and id = 1", "#4 v1", ["x", "\t", " x ", "*", "get take", "x" * 65535],
+        ["", " ", "   ", "x" * 65536, *NONE]
+    ),
     ("verb", "owner", "object = 4 and id = 1", "#4 v1", [3, -1, 99, -2147483648], WIDE),
     ("verb", "bits", "object = 4 and id = 1", "#4 v1", ["", "r", "w", "x", "d", "rwxd", "DXWR", "ddd"], ["c", "rw ", " ", *NONE]),
-    *(("verb", place, "object = 4 and id = 1", "#4 v1", ["this", "any", "none"], ["", "This", "this ", "it", "in"]) for place in ("dobj", "iobj")),
-    ("verb", "prep", "object = 4 and id = 1", "#4 v1", PREPOSITIONS, ["", "in", "None", "any ", "using/with", "In/inside/into", "with/using/", "this"]),
+    *(
+        ("verb", place, "object = 4 and id = 1", "#4 v1", ["this", "any", "none"], ["", "This", "this ", "it", "in"]) for place in (
+            "dobj", "iobj"
+        )
+    ),
+    (
+        "verb", "prep", "object = 4 and id = 1", "#4 v1", PREPOSITIONS,
+        ["", "in", "None", "any ", "using/with", "In/inside/into", "with/using/", "this"]
+    ),
     ("petition", "who", "id = 2", "r2", [4, -1, 99, 2147483647, -2147483648], WIDE),
     ("petition", "calls", "id = 2", "r2", ASKS, [*NO_ASKS, *NONE]),
     ("petition_head", "id", "1", "head", [1], [0, 2, -1]),
@@ -105,7 +125,10 @@ KEYS = [
     ("parent-loop #0", "update object set parent = 5 where n = 0", "update object set parent = 6 where n = 5"),
     ("no-place #0", "update object set location = -2 where n in (0, 7)"),
     ("place-loop #0", "update object set location = 0 where n = 0"),
-    ("place-loop #3", "update object set location = 6 where n = 3", "update object set location = 7 where n = 6", "update object set location = 6 where n = 7"),
+    (
+        "place-loop #3", "update object set location = 6 where n = 3", "update object set location = 7 where n = 6",
+        "update object set location = 6 where n = 7"
+    ),
     ("no-definer p2", "update prop set definer = -1 where id in (2, 3)"),
     ("no-definer p3", "update prop set definer = -2147483648 where id = 3"),
     ("double-name p2", "update prop set definer = 4, name = 'a' where id = 2"),
@@ -145,7 +168,10 @@ IN_ORDER = [
 ]
 # What is told if several rows have the same kind of damage, or an edit has something of several kinds.
 SEVERAL = [
-    ("bad-cell #2", "update object set player = 2 where n in (2, 7)", "update prop set name = ''", "update slot2 set bits = 8", "update verb set bits = 'c'"),
+    (
+        "bad-cell #2", "update object set player = 2 where n in (2, 7)", "update prop set name = ''", "update slot2 set bits = 8",
+        "update verb set bits = 'c'"
+    ),
     ("bad-cell p1", "update prop set name = ''", "update slot2 set bits = 8", "update verb set bits = 'c'"),
     ("bad-cell #4 p1", "update slot2 set bits = 8", "update verb set bits = 'c'"),
     ("bad-cell #4 v2", "update verb set bits = 'c' where id in (2, 3)"),
@@ -183,7 +209,10 @@ HARMLESS = [
     ("no petition, and the first number", 3, 8, "delete from petition", "update petition_head set next_petition = 1"),
     ("the last petition alone", 3, 8, "delete from petition where id = 1"),
     ("a petition more", 3, 8, "update petition_head set next_petition = 10", "insert into petition values (9, 99, '{{\"sing\"}}')"),
-    ("the greatest number of a petition", 3, 8, "update petition_head set next_petition = 4294967295", "update petition set id = 4294967294 where id = 2"),
+    (
+        "the greatest number of a petition", 3, 8, "update petition_head set next_petition = 4294967295",
+        "update petition set id = 4294967294 where id = 2"
+    ),
     (
         "the greatest numbers", 3, 8,
         "update head set top = 2147483647, next_prop = 4294967295, next_verb = 4294967295", "update prop set id = 4294967294 where id = 3",
@@ -194,7 +223,10 @@ NEWER = [
     ("a newer version whose counters are none", "update head set version = 3, seq = -1, top = -2, next_prop = 0, next_verb = 0"),
     ("the newest version", "update head set version = 9223372036854775807"),
     ("a newer version of other rows", "update head set version = 3", "delete from object", "update slot2 set bits = 8"),
-    ("a newer version without the number of the next petition", "update head set version = 3", "delete from petition_head", "update petition set calls = ''"),
+    (
+        "a newer version without the number of the next petition", "update head set version = 3", "delete from petition_head",
+        "update petition set calls = ''"
+    ),
 ]
 
 

@@ -117,6 +117,26 @@ class Answers(WithService):
         self.assertEqual(world.ask([("create", Obj(1))], as_=3), [Obj(4 + CLIENTS)])
         self.assertEqual(world.seq(), 1)
 
+    def test_each_alone(self):
+        world = Moo(self.port)
+        new = Obj(4 + CLIENTS)
+        calls = [("create", Obj(1)), "sing()", ("valid", new), ("recycle", Obj(99)), 'get(#3, "name")']
+        first, second, third, fourth, fifth = world.each(calls, as_=3)
+        self.assertEqual((first, third, fifth), (new, 0, "Wizard"))
+        self.assertEqual((type(second), second.call, second.why), (moo_client.Malformed, 2, "'sing' names no call"))
+        self.assertEqual((type(fourth), fourth.call, fourth.why), (moo_client.E_INVARG, 4, "recycle(#99): E_INVARG, #99 isn't an object"))
+        self.assertEqual((world.each([], as_=3), world.seq()), ([], 1))
+        with self.assertRaises(moo_client.Stale) as raised:
+            world.each(["sing()"], as_=3, at=7)
+        self.assertEqual(raised.exception.seq, 1)
+
+    def test_a_dump(self):
+        world = Moo(self.port)
+        text = world.dump()
+        self.assertEqual(text.split("\n")[:2], ["seq 1", f"top #{3 + CLIENTS}"])
+        self.assertTrue(text.endswith("\nend\n"))
+        self.assertEqual(sum(line.startswith("object ") for line in text.splitlines()), 4 + CLIENTS)
+
     def test_an_object(self):
         world = Moo(self.port)
         world.run([("set", Obj(4), "name", "#3")], as_=3)
@@ -239,7 +259,9 @@ class BrokenConnections(WithService):
         return Moo(self.port).object(4)["children"]
 
     def test_a_batch_acts_once(self):
-        plans = [("request",), ("answer",), ("part",), ("request", "answer", "answer"), ("other",), ("before",), ("before", "other", "answer")]
+        plans = [
+            ("request",), ("answer",), ("part",), ("request", "answer", "answer"), ("other",), ("before",), ("before", "other", "answer")
+        ]
         for plan in plans:
             with self.subTest(plan):
                 world = self.through(*plan, mark=(Obj(4), "mark"))

@@ -23,7 +23,10 @@ DAMAGED = [
     ("damaged strange-slot #7 p1", "insert into slot2 values (7, 1, 3, 4, '')"),
     ("damaged missing-slot #6 p1", "delete from slot2 where object = 6 and prop = 1"),
     ("damaged clear-definer #7 p3", "update slot2 set value = '' where object = 7 and prop = 3"),
-    ("damaged strange-verb #9 v1", "update head set next_verb = 2", "insert into verb values (9, 1, 'look', 3, 'rx', 'this', 'none', 'none')"),
+    (
+        "damaged strange-verb #9 v1", "update head set next_verb = 2",
+        "insert into verb values (9, 1, 'look', 3, 'rx', 'this', 'none', 'none')"
+    ),
     ("newer version", "update head set version = 3"),
     ("damaged bad-head head", "update head set version = 1"),
     ("damaged bad-cell #6 p2", "update slot2 set bits = 8 where object = 6 and prop = 2"),

@@ -76,7 +76,10 @@ CHANGES = [
         (3, 3, 1),
     ),
     ("another name of a property is one change", SMALL_TREE, 'set_property_info(#4, "a", {#3, "r", "aa"})', "~prop 1", (7, 4, 1)),
-    ("a new property comes with its slots", SMALL_TREE, 'add_property(#5, "d", 1, {#3, "r"})', "+prop 4, +slot2 5 4, +slot2 6 4", (7, 5, 1)),
+    (
+        "a new property comes with its slots", SMALL_TREE, 'add_property(#5, "d", 1, {#3, "r"})', "+prop 4, +slot2 5 4, +slot2 6 4",
+        (7, 5, 1)
+    ),
     ("a value that is set is one change", SMALL_TREE, 'set(#6, "a", 12)', "~slot2 6 1", (7, 4, 1)),
     ("one that is put back is none", SMALL_TREE, 'set(#6, "b", 5); set(#6, "b", 21)', "", (7, 4, 1)),
     ("an equal list is the same value", SMALL_TREE + VALUED, 'set(#6, "b", {}); set(#6, "b", {1, #2, "x"})', "", (7, 4, 1)),
@@ -250,7 +253,9 @@ class Dumps(ProgramTest):
         self.case("a question changes nothing", rows("same.db"), before)
 
     def test_petitions_dumped(self):
-        self.case("petitions are dumped behind the objects, by their numbers", dumped(ELEVEN), f"seq 1\ntop #3\n{OPENING}{ELEVEN_LINES}end\n")
+        self.case(
+            "petitions are dumped behind the objects, by their numbers", dumped(ELEVEN), f"seq 1\ntop #3\n{OPENING}{ELEVEN_LINES}end\n"
+        )
         self.case("with their calls as literals", dumped(SPELLED), f"seq 1\ntop #4\n{OPENING}{SPELLED_LINES}")
         run_bytes("apply", "dump.db", "-", text=text_of('petition({{"players"}})', "#4"))
         run_bytes("apply", "dump.db", "-", text=text_of("recycle(#4)"))

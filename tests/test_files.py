@@ -24,6 +24,16 @@ class Files(ProgramTest):
         self.case("a new world is whole", run("check", "world.db"), (0, "ok seq 0 objects 4\n"))
         self.case("the opening world is dumped", run("dump", "world.db"), (0, f"seq 0\ntop #3\n{dumped.OPENING}end\n"))
 
+    def test_who_may_read_a_new_world(self):
+        """Both files have mode 0644, less what the umask takes: OPERATING says so."""
+        self.addCleanup(os.umask, os.umask(0))
+        for mask, mode in ((0, 0o644), (0o077, 0o600)):
+            os.umask(mask)
+            name = f"{mask}.db"
+            run("init", name)
+            modes = [Path(name + end).stat().st_mode & 0o777 for end in ("", "-wal")]
+            self.case(f"with the umask {mask:03o}", modes, [mode, mode])
+
     def test_batches(self):
         make("world.db")
         answers = ["#4", "0", "#5", "0", "#6", "0", "#7", "0"]
@@ -56,7 +66,8 @@ class Files(ProgramTest):
         self.case("a batch with its number acts once", twice, (0, accepted(4, "#9") + "stale 4\n"))
         self.case("and not again when the file is opened again", run("apply", "world.db", "-", text=AT_3), (0, "stale 4\n"))
         before = tables_of("world.db")
-        text = text_of(["create(#1)", "create(#99)"]) + text_of(["creat(#1)"]) + text_of(["create(#1)"], "#3 at 1") + "batch as #3\ncreate(#1)\n"
+        text = text_of(["create(#1)", "create(#99)"]) + text_of(["creat(#1)"])
+        text += text_of(["create(#1)"], "#3 at 1") + "batch as #3\ncreate(#1)\n"
         ran = run("apply", "world.db", "-", text=text)
         self.case("what is refused, malformed or truncated", ran, (0, "refused 2 E_PERM\nmalformed 2\nstale 4\ntruncated\n"))
         self.case("changes no row", tables_of("world.db"), before)

@@ -8,6 +8,7 @@ import json
 import os
 import pathlib
 import re
+import shlex
 import shutil
 import signal
 import stat
@@ -69,7 +70,11 @@ INSTALLED_WEB = {
     "lib/tmpfiles.d/moo-web.conf": 0o644,
     "share/doc/moo-web/examples/Caddyfile": 0o644,
     "share/doc/moo-web/examples/nginx.conf": 0o644,
-    **{f"lib/moo-web/moo_web/{path.relative_to(MODULES)}": 0o644 for path in MODULES.rglob("*") if path.is_file() and "__pycache__" not in path.parts},
+    **{
+        f"lib/moo-web/moo_web/{path.relative_to(MODULES)}": 0o644
+        for path in MODULES.rglob("*")
+        if path.is_file() and "__pycache__" not in path.parts
+    },
 }
 # A link to the client that packaging/install puts there.
 CLIENT_LINK = {"lib/moo-web/moo_client.py": 0o644}
@@ -183,7 +188,9 @@ class Install(InFolder):
     def test_the_shell_runs(self):
         """With the program that is installed beside it."""
         prefix = self.install()
-        told = ran(sys.executable, "-B", prefix / "bin/moo-shell", ":memory:", input="$a = create(#1)\n\\help e_args\n", env={"PATH": "/nowhere"})
+        told = ran(
+            sys.executable, "-B", prefix / "bin/moo-shell", ":memory:", input="$a = create(#1)\n\\help e_args\n", env={"PATH": "/nowhere"}
+        )
         self.assertEqual(told, "$a = #4\n  E_ARGS  too many values, or too few\n")
 
     def served(self, prefix, world, port):
@@ -229,7 +236,8 @@ class Units(InFolder):
         """The line goes to the log, and to the command that the settings name."""
         for command, told in (("", ""), (f"cat >{self.room}/told", "the unit moo-backup@world.service of ")):
             done = subprocess.run(
-                [self.prefix / "lib/moo/moo-tell", "moo-backup@world.service"], env={**os.environ, "TELL": command}, stdout=subprocess.PIPE, text=True
+                [self.prefix / "lib/moo/moo-tell", "moo-backup@world.service"], env={**os.environ, "TELL": command}, stdout=subprocess.PIPE,
+                text=True
             )
             self.assertEqual(done.returncode, 0)
             self.assertRegex(done.stdout, r"^<3>the unit moo-backup@world\.service of \S+ failed: ")
@@ -241,6 +249,19 @@ class Units(InFolder):
         for unit in ("moo-backup@", "moo-watch@", "moo-offsite@", "moo-web@", "moo-follow@", "moo-keep@"):
             with self.subTest(unit):
                 self.assertIn("\nOnFailure=moo-tell@%n.service\n", (self.units / f"{unit}.service").read_text())
+
+    def test_the_command_that_brings_copies_away(self):
+        """It is run whole by the shell, and isn't run if the settings name none. systemd would split `$OFFSITE`, in quotes too."""
+        text = (self.units / "moo-offsite@.service").read_text()
+        condition, start = (shlex.split(re.search(f"^{key}=(.*)$", text, re.M)[1]) for key in ("ExecCondition", "ExecStart"))
+        self.assertEqual(start, ["/bin/sh", "-c", "${OFFSITE}"])
+        away = self.room / "away and on"
+        for command, is_there in (("", False), (f"echo copies >'{away}'", True)):
+            done = subprocess.run(condition, env={**os.environ, "OFFSITE": command})
+            self.assertEqual(done.returncode == 0, is_there)
+            if is_there:
+                subprocess.run([*start[:2], command], check=True)
+            self.assertEqual(away.exists(), is_there)
 
     def test_a_world_with_a_front_is_alone_with_it(self):
         """The world, its front and its watch name each other, so that whichever starts first, all are in one network."""
@@ -444,7 +465,8 @@ class Completion(InFolder):
         paths = {**os.environ, "PATH": f"{programs}:{os.environ['PATH']}"}
         given = " ".join(f"'{word}'" for word in words)
         source = f"source {TOP}/packaging/{words[0]}.bash; COMP_WORDS=({given}); COMP_CWORD={len(words) - 1}"
-        return ran("bash", "-c", f"{source}; _{words[0].replace('-', '_')}; printf '%s\\n' \"${{COMPREPLY[@]}}\"", cwd=self.room, env=paths).split()
+        shown = f"{source}; _{words[0].replace('-', '_')}; printf '%s\\n' \"${{COMPREPLY[@]}}\""
+        return ran("bash", "-c", shown, cwd=self.room, env=paths).split()
 
     def test_what_is_offered(self):
         cases = (
@@ -455,6 +477,13 @@ class Completion(InFolder):
             (["moo", "check", "world.db", "w"], []),
             (["moo", "serve", "world.db", "8"], []),
             (["moo", "dump", "--"], ["--help"]),
+            (["moo", "apply", "--"], ["--stop", "--help"]),
+            (["moo", "rehearse", "--s"], ["--stop"]),
+            (["moo", "rehearse", "--stop", "w"], ["world.db"]),
+            (["moo", "apply", "--stop", "world.db", "w"], ["world.db"]),
+            (["moo", "apply", "world.db", "--stop", "w"], ["world.db"]),
+            (["moo", "apply", "--stop", "world.db", "text", "w"], []),
+            (["moo", "r"], ["rehearse"]),
             (["moo", "help", "d"], ["dump"]),
             (["moo", "nothing", ""], []),
             (["moo-shell", "w"], ["world.db"]),
@@ -486,7 +515,9 @@ class Package(InFolder):
         """It has whole folders of the modules, and what it needs is said."""
         self.assertEqual(self.web.name, f"moo-web_{ran(MOO, '--version').split()[1]}_all.deb")
         said = ran("dpkg-deb", "--field", self.web, "Depends").strip().split(", ")
-        self.assertEqual(said[1:], [f"moo (>= {ran(MOO, '--version').split()[1]})", "python3 (>= 3.11)", "python3-jinja2", "python3-waitress"])
+        self.assertEqual(
+            said[1:], [f"moo (>= {ran(MOO, '--version').split()[1]})", "python3 (>= 3.11)", "python3-jinja2", "python3-waitress"]
+        )
         ran("dpkg-deb", "-x", self.web, self.room / "top")
         held = modes(self.room / "top")
         for name, mode in INSTALLED_WEB.items():
@@ -522,7 +553,8 @@ class Package(InFolder):
     @wants("lintian")
     def test_lintian_finds_no_error(self):
         done = subprocess.run(
-            ["lintian", "--fail-on", "error", self.package, self.web], stdout=subprocess.PIPE, stderr=subprocess.STDOUT, text=True, timeout=10 * SECONDS
+            ["lintian", "--fail-on", "error", self.package, self.web], stdout=subprocess.PIPE, stderr=subprocess.STDOUT, text=True,
+            timeout=10 * SECONDS
         )
         self.assertEqual(done.returncode, 0, done.stdout)
 

@@ -1,8 +1,8 @@
 """The converters from and to database files of LambdaMOO.
 
 What they write is compared with texts that tests/support/lambdamoo_worlds.py writes and reads by itself. Dumps go through moo: it loads
-them, and what it dumps then goes back. The variable MOO names the program. LAMBDAMOO_OBJECTS is how many objects the large world has, and LAMBDAMOO_WORLDS how many random worlds are
-tried: 100000 and 1000 are the full sizes.
+them, and what it dumps then goes back. The variable MOO names the program. LAMBDAMOO_OBJECTS is how many objects the large world has, and
+LAMBDAMOO_WORLDS how many random worlds are tried: 100000 and 1000 are the full sizes.
 """
 
 import contextlib
@@ -92,7 +92,9 @@ def run_moo(*words, text=""):
 
 def moo_load(text, file=":memory:"):
     """The status of moo when it loads a text, and what it writes."""
-    ended = subprocess.run([MOO, "load", file, "-"], input=text.encode("latin-1"), timeout=SECONDS, stdout=subprocess.PIPE, stderr=subprocess.DEVNULL)
+    ended = subprocess.run(
+        [MOO, "load", file, "-"], input=text.encode("latin-1"), timeout=SECONDS, stdout=subprocess.PIPE, stderr=subprocess.DEVNULL
+    )
     return ended.returncode, ended.stdout.decode()
 
 
@@ -264,7 +266,9 @@ class Restored(Temporary):
         return back
 
     def test_values(self):
-        for lines in (["9", "2.5"], ["9", "1e+50"], ["2", "caf\xe9 ~"], ["4", "3", "9", "-0.1", "2", "\x01", "4", "1", "9", "0.0"], ["2", "x" * 65536]):
+        for lines in (
+            ["9", "2.5"], ["9", "1e+50"], ["2", "caf\xe9 ~"], ["4", "3", "9", "-0.1", "2", "\x01", "4", "1", "9", "0.0"], ["2", "x" * 65536]
+        ):
             with self.subTest(lines[-1][:9]):
                 self.assertEqual(self.both_ways(of_value(*lines)), of_value(*lines))
         deep = of_value(*nested(40)[0])
@@ -706,7 +710,10 @@ class Broken(Temporary):
         self.broken(to_database(inserted(EXAMPLE_DUMP, 3, petition)), 4)
 
     def test_any_line_changed(self):
-        """Whatever is changed, the text is converted or refused with a line. What is written loads and goes back, and moo judges a dump alike."""
+        """Whatever is changed, the text is converted or refused with a line.
+
+        What is written loads and goes back, and moo judges a dump alike.
+        """
         for seed in range(4 * WORLDS):
             chance = random.Random(seed)
             world = random_world(chance, chance.choice([1, 3, 6]))

@@ -143,9 +143,13 @@ class Literals(ProgramTest):
 
     def test_all_bytes(self):
         text, wanted = bytes_told(b"\\", is_of_string)
-        self.case("behind a backslash stands each of the 256 bytes that a string may hold", run_bytes("apply", ":memory:", "-", text=text), wanted)
+        self.case(
+            "behind a backslash stands each of the 256 bytes that a string may hold", run_bytes("apply", ":memory:", "-", text=text), wanted
+        )
         text, wanted = bytes_told(b"", lambda byte: is_of_string(byte) and byte not in b'"\\')
-        self.case("a tab and 32 to 126 stand for themselves but a quote and a backslash", run_bytes("apply", ":memory:", "-", text=text), wanted)
+        self.case(
+            "a tab and 32 to 126 stand for themselves but a quote and a backslash", run_bytes("apply", ":memory:", "-", text=text), wanted
+        )
 
     def test_bytes_over_http(self):
         """JSON can hold bytes up to 127, which are characters too."""

@@ -16,8 +16,12 @@ READ = (1, "moo: read fault\n")
 REFUSALS = re.compile(r"moo: (not a dump, line [1-9][0-9]*|damaged [a-z_ ]+.*)\n")
 # What standard error says of it: a line and a cause.
 CAUSES = re.compile(r"moo: line ([1-9][0-9]*): not a dump: .+\n")
-VALUES = '; '.join(['add_property(#1, "v", {}, {#3, "r"})', *(f'set(#{n}, "v", {value})' for n, value in enumerate(['{1, {#2, "x"}, E_PERM}', '"a \\\\ \\" \t b"', "-9223372036854775808", "E_INVARG"]))])
-OTHER_LETTERS = {"seq": "sep", "top": "tip", "object": "objekt", "slot": "slit", "verb": "herb", "property": "Property", "petition": "partition", "end": "and"}
+SET = ['{1, {#2, "x"}, E_PERM}', '"a \\\\ \\" \t b"', "-9223372036854775808", "E_INVARG"]
+VALUES = "; ".join(['add_property(#1, "v", {}, {#3, "r"})', *(f'set(#{n}, "v", {value})' for n, value in enumerate(SET))])
+OTHER_LETTERS = {
+    "seq": "sep", "top": "tip", "object": "objekt", "slot": "slit", "verb": "herb", "property": "Property", "petition": "partition",
+    "end": "and"
+}
 
 
 def objects_in(dump):

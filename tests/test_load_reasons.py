@@ -38,7 +38,10 @@ EDITS = [
     ("a state 2", '"r", 1, 10}', '"r", 2, 10}', 9, "the letters of a slot are followed by 0, or by 1 and a value"),
     ("no accept list", "{#1}}", "#1}", 5, "the accept list isn't 0 or a list of at most 1000 objects"),
     ("an accept list of others", "{#1}}", "{1}}", 5, "the accepted object isn't an object, as #4 is"),
-    ("a built-in name", 'property {#4, "a"}', 'property {#4, "Owner"}', 8, '"Owner" can\'t name a property: it is built in, or hasn\'t 1 to 255 bytes'),
+    (
+        "a built-in name", 'property {#4, "a"}', 'property {#4, "Owner"}', 8,
+        '"Owner" can\'t name a property: it is built in, or hasn\'t 1 to 255 bytes'
+    ),
     ("a verb without a name", '"put"', '"  "', 16, "a verb needs a name"),
     ("letters in another order", '"rwx"', '"xrw"', 11, 'a dump writes "rwx" for "xrw"'),
     ("letters in capitals", '"r", 1, 10', '"R", 1, 10', 9, 'a dump writes "r" for "R"'),
@@ -51,12 +54,18 @@ EDITS = [
     ("that of what an ancestor defines", 'slot {#5, #4, "a", #3, "r", 0}\n', "", 15, 'the slot of #4\'s property "a" is wanted here'),
     ("the last one of an object", 'slot {#7, #7, "c", #3, "r", 1, 30}\n', "", 22, 'the slot of #7\'s property "c" is wanted here'),
     ("a slot of another name", '{#4, #4, "a"', '{#4, #4, "z"', 9, 'the slot of #4\'s property "a" is wanted here'),
-    ("a slot twice", 'slot {#4, #4, "a", #3, "r", 1, 10}\n', 'slot {#4, #4, "a", #3, "r", 1, 10}\n' * 2, 10, '#4 has no property "a" whose slot isn\'t written yet'),
+    (
+        "a slot twice", 'slot {#4, #4, "a", #3, "r", 1, 10}\n', 'slot {#4, #4, "a", #3, "r", 1, 10}\n' * 2, 10,
+        '#4 has no property "a" whose slot isn\'t written yet'
+    ),
     ("a slot of no definer", '{#4, #4, "a"', '{#4, #9, "a"', 9, "#9 isn't an object of the dump"),
     ("a slot too many", 'object {#7,', 'slot {#1, #4, "a", #3, "r", 0}\nobject {#7,', 20, '#1 has no property "a" of #4'),
     ("a clear slot of a definer", '"r", 1, 10}', '"r", 0}', 9, "#4 defines this property, so its slot can't be clear"),
     ("an object's line gone", 'object {#6, "", #3, #5, #-1, 0, 0, 0, 0, 0, 0, 0}\n', "", 18, "#6 isn't an object of the dump"),
-    ("that of a parent", 'object {#5, "", #3, #4, #-1, 0, 0, 0, 0, 0, 0, 0}\n', "", 16, "the parent of #6, #5, isn't an object of the dump"),
+    (
+        "that of a parent", 'object {#5, "", #3, #4, #-1, 0, 0, 0, 0, 0, 0, 0}\n', "", 16,
+        "the parent of #6, #5, isn't an object of the dump"
+    ),
     ("that of a definer", 'object {#7, "", #3, #1, #-1, 0, 0, 0, 0, 0, 0, 0}\n', "", 20, "#7 isn't an object of the dump"),
     ("no location", '"Wizard", #3, #1, #2,', '"Wizard", #3, #1, #99,', 6, "the location of #3, #99, isn't an object of the dump"),
     ("parents in a circle", '{#4, "", #3, #1,', '{#4, "", #3, #6,', 7, "the parents of #4 go in a circle"),
@@ -66,7 +75,10 @@ EDITS = [
     ("a name that an ancestor has", '#5, "b"', '#5, "a"', 13, '#5 or an object above or under it defines another property "a"'),
     ("two blanks", 'property {#4, "a"}', 'property {#4,  "a"}', 8, "a dump writes the line in another way after its first 14 bytes"),
     ("a zero before a number", "1, 20}", "1, 020}", 14, "a dump writes the line in another way after its first 31 bytes"),
-    ("slots in another order", 'slot {#5, #5, "b", #3, "r", 1, 20}\nslot {#5, #4, "a", #3, "r", 0}\n', 'slot {#5, #4, "a", #3, "r", 0}\nslot {#5, #5, "b", #3, "r", 1, 20}\n', 14, "line 15 is wanted here"),
+    (
+        "slots in another order", 'slot {#5, #5, "b", #3, "r", 1, 20}\nslot {#5, #4, "a", #3, "r", 0}\n',
+        'slot {#5, #4, "a", #3, "r", 0}\nslot {#5, #5, "b", #3, "r", 1, 20}\n', 14, "line 15 is wanted here"
+    ),
     ("an object twice", 'object {#1, ', 'object {#1, "Root", #3, #-1, #-1, 0, 0, 0, 0, 0, 1, 0}\nobject {#1, ', 4, "line 5 is wanted here"),
     ("a line after the end", "end\n", "end\nend\n", 24, "the dump has ended before it"),
     ("no end", "end\n", "", 23, "the text ends before the line 'end'"),

@@ -90,7 +90,11 @@ class Migration(ProgramTest):
         self.case("six slots, of which each may be read by all", [row[3] for row in found["slot2"]], [4] * 6)
         self.case("none is left where they were", found["slot"], [])
         self.case("its version is 2", found["head"][0][1], 2)
-        self.case("nobody has asked for anything, and the first petition will have the number 1", (found["petition"], found["petition_head"]), ([], [(1, 1)]))
+        self.case(
+            "nobody has asked for anything, and the first petition will have the number 1",
+            (found["petition"], found["petition_head"]),
+            ([], [(1, 1)]),
+        )
         self.case("it is dumped the same again", run("dump", "tree.db"), (0, TREE))
         self.case("and is whole", run("check", "tree.db"), (0, "ok seq 1 objects 8\n"))
         last = text_of(["chparent(#5, #7)", 'get(#6, "b")', 'get(#6, "c")', 'is_clear_property(#6, "c")'], "#3 at 1")
@@ -109,7 +113,9 @@ class Migration(ProgramTest):
         """Behind a file's migration residents may ask."""
         make_first("old.db", first_rows(OF_TREE))
         self.case("there is no petition at first", run("ask", "old.db", "-", text=text_of(["petitions()"])), (0, accepted(1, "{}")))
-        ran = run("apply", "old.db", "-", text=text_of(['petition({{"create", #1}})', 'petition({{"players"}})'], "#4") + text_of(["grant(1)"]))
+        ran = run(
+            "apply", "old.db", "-", text=text_of(['petition({{"create", #1}})', 'petition({{"players"}})'], "#4") + text_of(["grant(1)"])
+        )
         self.case("then two are asked for, and one is granted", ran, (0, accepted(2, "1", "2") + accepted(3, "0")))
         found = rows_of("old.db")
         self.case("and they stand in the new tables", (found["petition"], found["petition_head"]), ([(2, 4, '{{"players"}}')], [(1, 3)]))
@@ -122,7 +128,11 @@ class Migration(ProgramTest):
             make("own.db", text)
             make_first("old.db", first_rows(rows))
             wanted = run("dump", "own.db")
-            self.case(f"the world {name} that was taken over is dumped as the one that was made", (run("dump", "old.db"), rows_of("old.db")), (wanted, rows))
+            self.case(
+                f"the world {name} that was taken over is dumped as the one that was made",
+                (run("dump", "old.db"), rows_of("old.db")),
+                (wanted, rows),
+            )
 
     def test_each_command(self):
         rows = first_rows(OF_VERBS)
@@ -133,7 +143,10 @@ class Migration(ProgramTest):
             ("ask", lambda: run("ask", "old.db", "-", text=asked), (0, accepted(2, "21", "#7"))),
             ("dump", lambda: run("dump", "old.db")[0], 0),
             ("apply without a batch", lambda: run("apply", "old.db", "-"), (0, "")),
-            ("apply of a batch that is refused", lambda: run("apply", "old.db", "-", text=text_of(["create(#9)"])), (0, "refused 1 E_PERM\n")),
+            (
+                "apply of a batch that is refused", lambda: run("apply", "old.db", "-", text=text_of(["create(#9)"])),
+                (0, "refused 1 E_PERM\n")
+            ),
         ]:
             make_first("old.db", rows)
             self.case(f"{name} opens a file of the first version", command(), said)
@@ -181,14 +194,23 @@ class Migration(ProgramTest):
             make_first("old.db", first_rows(OF_TREE))
             edit("old.db", statement)
             before, line = tables_of("old.db"), (3, f"moo: {said}\n")
-            came = [run("check", "old.db"), run("dump", "old.db"), run("apply", "old.db", "-", text="batch as #3\nend\n"), tables_of("old.db")]
+            came = [
+                run("check", "old.db"), run("dump", "old.db"), run("apply", "old.db", "-", text="batch as #3\nend\n"), tables_of("old.db")
+            ]
             self.case(f"{statement}: it is refused, and stays of the first version", came, [line, line, line, before])
-        for name, statement in [("a table more", "create table other (n integer primary key, m integer) strict"), ("another index", "create index owners on slot (owner)")]:
+        for name, statement in [
+            ("a table more", "create table other (n integer primary key, m integer) strict"),
+            ("another index", "create index owners on slot (owner)")
+        ]:
             rows = first_rows(OF_TREE)
             make_first("old.db", rows)
             edit("old.db", statement)
             before = tables_of("old.db")
-            self.case(f"with {name} it is a store fault, and stays", (run("check", "old.db"), tables_of("old.db")), ((1, "moo: store fault\n"), before))
+            self.case(
+                f"with {name} it is a store fault, and stays",
+                (run("check", "old.db"), tables_of("old.db")),
+                ((1, "moo: store fault\n"), before),
+            )
 
     def test_full_disks(self):
         """Behind each limit the file is of the first version, or of the second; whichever it is, it is dumped the same."""

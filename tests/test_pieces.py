@@ -31,14 +31,20 @@ TEXTS = [
     ("carriage returns at the ends of lines", 0, "batch as #3\r\nmax_object()\r\nend\r\n", accepted(1, "#3")),
     ("blanks round the words", 7, "\t batch \t as  #3  at\t7 \n end\t\n", accepted(8)),
     ("numbers of programmers", 0, "batch as #007\nend\nbatch as #-1\nend\n", accepted(1) + accepted(2)),
-    ("zeros before a number count for nothing", 0, text_of(["set_player_flag(#3, 1)"], "#003") + text_of(["max_object()"], "#-3"), accepted(1, "0") + "refused 1 E_PERM\n"),
+    (
+        "zeros before a number count for nothing", 0, text_of(["set_player_flag(#3, 1)"], "#003") + text_of(["max_object()"], "#-3"),
+        accepted(1, "0") + "refused 1 E_PERM\n"
+    ),
     ("an end in a header's place is a malformed batch by itself", 0, " end \nbatch as #3\nend\n", "malformed 1\n" + accepted(1)),
     ("an end alone", 0, "end", "malformed 1\n"),
     ("a carriage return that no line end follows", 0, "batch as #3\nend\r", "truncated\n"),
     ("of two carriage returns one is dropped", 0, "batch as #3\nend\r\r\n", "truncated\n"),
     ("a carriage return inside a line", 0, "batch as #3\nmax_\robject()\nend\n", "malformed 2\n"),
     ("a batch sent twice with its number", 0, text_of(["create(#1)"], "#3 at 0") * 2, accepted(1, "#4") + "stale 1\n"),
-    ("behind a malformed batch the next one goes on", 0, text_of(["creat(#1)"]) + text_of(["max_object()"]), "malformed 2\n" + accepted(1, "#3")),
+    (
+        "behind a malformed batch the next one goes on", 0, text_of(["creat(#1)"]) + text_of(["max_object()"]),
+        "malformed 2\n" + accepted(1, "#3")
+    ),
     ("a batch without its end", 0, "batch as #3\ncreate(#1)\n", "truncated\n"),
     (
         "the first bad line is told, and blank lines are counted", 0,
@@ -47,12 +53,18 @@ TEXTS = [
     *(
         (f"no header: {header}", 0, f"{header}\nend\n", "malformed 1\n")
         for header in [
-            "Batch as #3", "batch #3", "batch as 3", "batch as # 3", "batch as #2147483648", "batch as #3 at", "batch as #3 at -1", "batch as #3 at 1 x",
-            "batch as #3 at 9223372036854775808", "batch as #3 at 00000000000000000007", "batch as", "batch As #3", "batch as #3 At 1", "batchas #3",
-            "batch as #3at 1", "batch as #3 at +1", "batch as #3 at 0x1", "batch as E_PERM", "batch as #3, at 1", "batch as #-2147483649", "batch as #",
+            "Batch as #3", "batch #3", "batch as 3", "batch as # 3", "batch as #2147483648", "batch as #3 at", "batch as #3 at -1",
+            "batch as #3 at 1 x",
+            "batch as #3 at 9223372036854775808", "batch as #3 at 00000000000000000007", "batch as", "batch As #3", "batch as #3 At 1",
+            "batchas #3",
+            "batch as #3at 1", "batch as #3 at +1", "batch as #3 at 0x1", "batch as E_PERM", "batch as #3, at 1", "batch as #-2147483649",
+            "batch as #",
         ]
     ),
-    ("the greatest number", GREATEST, f"batch as #3 at {GREATEST}\nend\nbatch as #3 at {GREATEST - 1}\nend\n", f"full 0\nstale {GREATEST}\n"),
+    (
+        "the greatest number", GREATEST, f"batch as #3 at {GREATEST}\nend\nbatch as #3 at {GREATEST - 1}\nend\n",
+        f"full 0\nstale {GREATEST}\n"
+    ),
     ("the one before it", GREATEST - 1, f"batch as #3 at {GREATEST - 1}\nend\n", accepted(GREATEST)),
     ("a number of nineteen digits with zeros", 7, "batch as #3 at 0000000000000000007\nend\n", accepted(8)),
     ("no call may be END", 0, "batch as #3\nEND\nend\n", "malformed 2\n"),
@@ -61,7 +73,10 @@ TEXTS = [
     ("a form feed is no blank", 0, "batch as #3\n\f\nend\n\f\nend\n", "malformed 2\nmalformed 1\n"),
     ("a line of zero bytes", 0, "batch as #3\n\0\nend\nbatch as #3\0\nend\n", "malformed 2\nmalformed 1\n"),
     ("what is no ASCII", 0, "batch as #3\nget(#1, \"n\u00e4me\")\nend\n", "malformed 2\n"),
-    ("all of these at once", 0, "\nbatch as #3\r\nmax_object()\r\nend\nx\nend\nbatch as #2 at 1\nend", accepted(1, "#3") + "malformed 1\n" + accepted(2)),
+    (
+        "all of these at once", 0, "\nbatch as #3\r\nmax_object()\r\nend\nx\nend\nbatch as #2 at 1\nend",
+        accepted(1, "#3") + "malformed 1\n" + accepted(2)
+    ),
 ]
 # What is shown, the front of a text, what it repeats so many times, its back, and the replies.
 LIMITS = [
@@ -90,11 +105,13 @@ ENDS = [
 ]
 # A call, and what comes of it for the wizard in a new world: the count of its arguments, and then their types, are looked at first.
 CALLS = [
-    ("max_object()", "#3"), ('\tCreate ( #1 ,{1, {"a)"}} ) ', "E_TYPE"), ('get(#1,"a\\"b,c")', "E_PROPNF"), ("set(#-1, E_PERM, 007)", "E_TYPE"),
+    ("max_object()", "#3"), ('\tCreate ( #1 ,{1, {"a)"}} ) ', "E_TYPE"), ('get(#1,"a\\"b,c")', "E_PROPNF"),
+    ("set(#-1, E_PERM, 007)", "E_TYPE"),
     ("max_object(1)", "E_ARGS"), ("get(#1)", "E_ARGS"), ("MAX_OBJECT ( )", "#3"),
 ]
 NO_CALLS = [
-    "", "max_object", "max_object(", "max_object() x", "max object()", "create(#1,)", "create(,#1)", "create(#1 #2)", "create(# 1)", "max_objects()", "(#1)",
+    "", "max_object", "max_object(", "max_object() x", "max object()", "create(#1,)", "create(,#1)", "create(#1 #2)", "create(# 1)",
+    "max_objects()", "(#1)",
     "max_object)", "max_object())", "create(#1", "create{#1}", "create(#1))", "create(#1);", "create(x)",
 ]
 NO_OBJECTS = ["", "7", "# 7", "#7 ", " #7", "#2147483648", "#", "#-", "#7x", "{#7}"]
@@ -203,7 +220,9 @@ class Pieces(ProgramTest):
             ours.close()
             with theirs:
                 ran = subprocess.run([MOO], stdin=theirs, stdout=subprocess.PIPE, stderr=subprocess.DEVNULL, timeout=PATIENCE)
-            self.case(f"a reading that fails behind {len(text)} bytes", (ran.returncode, ran.stdout.decode()), (1, replies + "moo: read fault\n"))
+            self.case(
+                f"a reading that fails behind {len(text)} bytes", (ran.returncode, ran.stdout.decode()), (1, replies + "moo: read fault\n")
+            )
 
     def test_line_by_line(self):
         """Each reply comes when its batch ends, and not only when the text does."""
@@ -287,6 +306,12 @@ class Pieces(ProgramTest):
         self.case("a programmer of a number below 0", run(text=text_of(["max_object()"], "#-7")), (0, "refused 1 E_PERM\n"))
         self.case("the same over HTTP", asked(service, "#-7", ["max_object()"]), refused)
         for word in NO_OBJECTS:
-            self.case(f"no programmer is {word!r} over HTTP", asked(service, word, []), answer("400 Bad Request", '{"error":"bad request"}'))
+            self.case(
+                f"no programmer is {word!r} over HTTP", asked(service, word, []), answer("400 Bad Request", '{"error":"bad request"}')
+            )
             # In a text blanks may surround the word.
-            self.case(f"the word {word!r} as the programmer of a text", run(text=text_of([], word)), (0, accepted(1) if word.strip() == "#7" else "malformed 1\n"))
+            self.case(
+                f"the word {word!r} as the programmer of a text",
+                run(text=text_of([], word)),
+                (0, accepted(1) if word.strip() == "#7" else "malformed 1\n"),
+            )

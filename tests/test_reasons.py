@@ -1,11 +1,12 @@
 """What standard error says of batches that aren't accepted: the line of the text, and why."""
 import json
 import re
+import subprocess
 from pathlib import Path
 
 from tests.support.cases import ProgramTest
 from tests.support.program import MOO, TOP, ended
-from tests.support.service import Service, post
+from tests.support.service import PATIENCE, Service, post
 from tests.support.worlds import make, run, text_of
 
 HEADER_FORM = "a batch begins with a line `batch as #N`, in small letters"
@@ -24,12 +25,24 @@ HEADERS = [
     ("batch as #3 at 9223372036854775808", "`at` is followed by one number, at most 9223372036854775807, and nothing more"),
     ("batch as #3 at 4 5", "`at` is followed by one number, at most 9223372036854775807, and nothing more"),
     ("x" * 262145, "a line of over 262144 bytes"),
+    ("batch as #3\rcreate(#1)\rend\r", "the line has carriage returns inside: end lines with line feeds, and not as on an old Mac"),
+    ("b\0a\0t\0c\0h\0", "the text is in UTF-16: save it as plain ASCII"),
+]
+# The first bytes of a text that no line may have, before `batch as #3`, and what is said of them.
+MARKS = [
+    (b"\xef\xbb\xbf", "the text begins with a byte order mark: save it as plain ASCII, without one"),
+    (b"\xff\xfe", "the text is in UTF-16: save it as plain ASCII"),
+    (b"\xfe\xff", "the text is in UTF-16: save it as plain ASCII"),
 ]
 # A line in place of a call, and what is said of it.
 CALLS = [
     ("creat(#1)", "'creat' names no call (did you mean create?)"),
     ("chaprent(#1, #2)", "'chaprent' names no call (did you mean chparent?)"),
     ("set_parent(#1, #2)", "'set_parent' names no call"),
+    ('notify(#3, "hi")', "'notify' names no call (see LAMBDAMOO)"),
+    ("PASS()", "'PASS' names no call (see LAMBDAMOO)"),
+    ("tostr(#1)", "'tostr' names no call (see LAMBDAMOO)"),
+    ("shutdown()", "'shutdown' names no call (see LAMBDAMOO)"),
     ("# a comment", "'# a comment' isn't a call: each line of a batch is one, and there are no comments"),
     ("create", "'create' is followed by its values in brackets, as in get(#2, \"name\")"),
     ("create #1", "'create' is followed by its values in brackets, as in get(#2, \"name\")"),
@@ -38,6 +51,14 @@ CALLS = [
     ("create(#1", "a comma or `)` is missing before ''"),
     ("set(#1 #2)", "a comma or `)` is missing before '#2)'"),
     ("create(#1) // one more", "'// one more' after the call: a line holds one call, and no comment"),
+    ("END", "`end` is in small letters"),
+    ("End  ", "`end` is in small letters"),
+    ("end # of the batch", "`end` is alone on its line, and no comment follows it"),
+    ("BATCH as #3", "`batch` inside a batch: the line `end` before it is missing"),
+    ("set(#1, \"a\", {1, 2)", "a list without its closing `}`"),
+    ("set(#1, \"a\", {1, {2, \"}\"}", "a list without its closing `}`"),
+    ("set(#1, \"a\", {1 2})", "a comma or `}` is missing before '2})'"),
+    ("set(#1, \"a\", {1, {2, x}})", "'x}})' isn't a value: 12, #4, \"a text\", E_PERM or {1, #2}"),
     ("create(foo)", "'foo)' isn't a value: 12, #4, \"a text\", E_PERM or {1, #2}"),
     ("set(#1, \"name\", \"caf\u00e9\")", "byte 195 in a text: only tabs, spaces and printing ASCII"),
     ("set(#1, \"name\", \"x)", "a text without its closing quote"),
@@ -135,7 +156,10 @@ REFUSED = [
     ("set_property_info(#5, \"hidden\", {#3, \"\"})", "E_PERM, \"hidden\" has no w on #5, and #4 neither owns it there nor is a wizard"),
     ("set_property_info(#4, \"shade\", {#3, \"\"})", "E_PERM, only a wizard may give \"shade\" on #4 to #3"),
     ("set_property_info(#6, \"shade\", {#4, \"\", \"hue\"})", "E_INVARG, #6 itself doesn't define \"shade\""),
-    ("set_property_info(#4, \"shade\", {#4, \"\", \"r\"})", "E_INVARG, \"r\" can't name a property: it is built in, or hasn't 1 to 255 bytes"),
+    (
+        "set_property_info(#4, \"shade\", {#4, \"\", \"r\"})",
+        "E_INVARG, \"r\" can't name a property: it is built in, or hasn't 1 to 255 bytes"
+    ),
     ("set_property_info(#4, \"shade\", {#4, \"\", \"color\"})", "E_INVARG, #6 defines \"color\" already"),
     ("clear_property(#9, \"hidden\")", "E_INVARG, #9 isn't an object"),
     ("clear_property(#4, \"none\")", "E_PROPNF, #4 has no property \"none\""),
@@ -185,8 +209,14 @@ REFUSED_TO_WIZARDS = [
     (["grant(9)"], "E_INVARG, there is no petition 9"),
     (["grant(1)"], "E_INVARG, recycle(#9) of petition 1: #9 isn't an object"),
     (["grant(2)"], "E_ARGS, create() of petition 2: it is written create(PARENT) or create(PARENT, OWNER)"),
-    (["petition({{\"recycle\", #7}, {\"get\", #7, \"name\"}})", "grant(3)"], "E_INVIND, get(#7, \"name\") of petition 3: #7 isn't an object"),
-    (["petition({{\"max_object\"}, {\"recycle\", #3}, {\"players\"}})", "grant(3)"], "E_PERM, players() of petition 3: the programmer #3 isn't an object"),
+    (
+        ["petition({{\"recycle\", #7}, {\"get\", #7, \"name\"}})", "grant(3)"],
+        "E_INVIND, get(#7, \"name\") of petition 3: #7 isn't an object"
+    ),
+    (
+        ["petition({{\"max_object\"}, {\"recycle\", #3}, {\"players\"}})", "grant(3)"],
+        "E_PERM, players() of petition 3: the programmer #3 isn't an object"
+    ),
 ]
 # #4, #6 and #7 are #4's, and #6 is under #4; #7 is a fertile player, which accepts itself. #5 is #3's, hides a property and a verb, and
 # accepts nothing; its second verb may be changed by all.
@@ -220,6 +250,12 @@ def shown(call):
     return f"{name}({', '.join(part if len(part) <= 60 else part[:60] + '..' for part in parts)})"
 
 
+def run_bytes_and_complaint(text):
+    """What standard error says of the bytes of a text, a line each."""
+    ran = subprocess.run([MOO, "ask", "world.db", "-"], input=text, capture_output=True, timeout=PATIENCE)
+    return ran.stderr.decode().splitlines()
+
+
 def posted(path, programmer, calls):
     return post(path, json.dumps({"as": programmer, "calls": calls}))
 
@@ -241,6 +277,9 @@ class Reasons(ProgramTest):
     def test_headers(self):
         for line, why in HEADERS:
             self.case(f"header {line[:40]}", self.said(f"\n{line}\nend\n"), [f"moo: line 2: malformed: {why}"])
+        for mark, why in MARKS:
+            came = run_bytes_and_complaint(mark + b"batch as #3\nend\n")
+            self.case(f"mark {mark!r}", came, [f"moo: line 1: malformed: {why}"])
         self.case("an end without a batch", self.said("end\n"), ["moo: line 1: malformed: `end` outside a batch"])
 
     def test_calls(self):
@@ -258,11 +297,21 @@ class Reasons(ProgramTest):
             line = 1 + len(calls)
             self.case(f"refused to a wizard {calls[-1]}", self.said(text_of(calls)), [f"moo: line {line}: refused: {calls[-1]}: {why}"])
         many = f"set_accept(#4, {{{', '.join(['#1'] * 1001)}}})"
-        self.case("an accept list that is too long", self.said(text_of([many], "#4")), [f"moo: line 2: refused: {shown(many)}: E_INVARG, the list has over 1000 entries"])
+        self.case(
+            "an accept list that is too long",
+            self.said(text_of([many], "#4")),
+            [f"moo: line 2: refused: {shown(many)}: E_INVARG, the list has over 1000 entries"],
+        )
         long = f"get(#4, \"{'x' * 100}\")"
-        self.case("a long name is cut", self.said(text_of([long])), [f"moo: line 2: refused: {shown(long)}: E_PROPNF, #4 has no property \"{'x' * 59}.."])
+        self.case(
+            "a long name is cut",
+            self.said(text_of([long])),
+            [f"moo: line 2: refused: {shown(long)}: E_PROPNF, #4 has no property \"{'x' * 59}.."],
+        )
         nobody = self.said(text_of(["max_object()"], "#99"))
-        self.case("a programmer that isn't an object", nobody, ["moo: line 2: refused: max_object(): E_PERM, the programmer #99 isn't an object"])
+        self.case(
+            "a programmer that isn't an object", nobody, ["moo: line 2: refused: max_object(): E_PERM, the programmer #99 isn't an object"]
+        )
 
     def test_over_http(self):
         """The same sentences, asked with `?why`."""
@@ -300,6 +349,39 @@ class Reasons(ProgramTest):
         listed = self.said(text_of(["chparent(#4, #9)"], "#4"))
         self.case("all may", listed, [shared])
 
+    def test_properties_that_were_meant(self):
+        """A reason names a property that is nearly as the call writes it, but only one that the programmer may list."""
+        run("apply", "world.db", "-", text=text_of([
+            "create(#7)",
+            'set(#8, "owner", #4)',
+            'add_property(#1, "description", "", {#3, "r"})',
+            'add_property(#8, "weight", 1, {#3, "r"})',
+            'add_property(#7, "height", 1, {#3, "r"})',
+        ]))
+        # What #4 calls, and what is said after the sentence. #7 is #4's; r of #1 is 0, and #1 is #3's.
+        meant = [
+            ('get(#8, "wieght")', '#8 has no property "wieght" (did you mean "weight"?)'),
+            ('get(#8, "Heigh")', '#8 has no property "Heigh" (did you mean "height"?)'),
+            ('set(#8, "heigth", 1)', '#8 has no property "heigth" (did you mean "height"?)'),
+            ('delete_property(#8, "weigh")', '#8 itself doesn\'t define "weigh" (did you mean "weight"?)'),
+            ('delete_property(#8, "heigth")', '#8 itself doesn\'t define "heigth"'),
+            ('get(#8, "descripton")', '#8 has no property "descripton"'),
+            ('get(#8, "we")', '#8 has no property "we"'),
+        ]
+        for call, why in meant:
+            self.case(call, self.said(text_of([call], "#4")), [f"moo: line 2: refused: {call}: E_PROPNF, {why}"])
+        call = 'get(#8, "descripton")'
+        wizard = f'moo: line 2: refused: {call}: E_PROPNF, #8 has no property "descripton" (did you mean "description"?)'
+        self.case("a wizard may list all", self.said(text_of([call])), [wizard])
+        run("apply", "world.db", "-", text=text_of(['set(#1, "r", 1)']))
+        self.case("all may list it", self.said(text_of([call], "#4")), [wizard])
+
+    def test_the_first_200_names_are_looked_at(self):
+        run("apply", "world.db", "-", text=text_of([f'add_property(#7, "first{number:03}", 1, {{#3, "r"}})' for number in range(250)]))
+        for name, more in (("furst000", ' (did you mean "first000"?)'), ("fi_st249", "")):
+            call = f'get(#7, "{name}")'
+            self.case(call, self.said(text_of([call])), [f'moo: line 2: refused: {call}: E_PROPNF, #7 has no property "{name}"{more}'])
+
     def test_every_call_is_refused(self):
         names = set(re.findall(r"^\| `(\w+)\(", (TOP / "docs/CALLS.md").read_text(), re.M))
         self.case("each call of docs/CALLS.md", names - {call.split("(")[0] for call, _ in REFUSED}, set())
@@ -309,6 +391,38 @@ class Reasons(ProgramTest):
         self.case("stale", stale, ["moo: line 1: stale: the batch names another number than 1, the world's"])
         cut = self.said(text_of([]) + "batch as #3\nmax_object()\n")
         self.case("truncated", cut, ["moo: line 3: truncated: the text ends inside the batch that begins here"])
+        bad = self.said("batch as #3\n\ncreat(#1)\n")
+        why = "'creat' names no call (did you mean create?)"
+        self.case(
+            "after a bad line",
+            bad,
+            [f"moo: line 1: truncated: the text ends inside the batch that begins here; line 3 is malformed: {why}"],
+        )
+        note = self.said(text_of([]) + "\n# the end\n")
+        self.case(
+            "a line that is no header",
+            note,
+            [f"moo: line 4: truncated: the text ends inside the batch that begins here; line 4 is malformed: {HEADER_FORM}"],
+        )
+
+    def test_batches_that_are_swallowed(self):
+        """A bad line takes all lines up to the next `end` with it, and a batch that begins there isn't run."""
+        lost = ", and the batch after it wasn't run"
+        stray = self.said(text_of([]) + "# next\n" + text_of(["max_object()"]) * 2)
+        self.case("a stray line between batches", stray, [f"moo: line 3: malformed: {HEADER_FORM}{lost}"])
+        blank = self.said("# one\n# two\n\n" + text_of([]))
+        self.case("two of them", blank, [f"moo: line 1: malformed: {HEADER_FORM}{lost}"])
+        endless = self.said("batch as #3\ncreat(#1)\n" + text_of([]))
+        self.case("a batch without its end", endless, [f"moo: line 2: malformed: 'creat' names no call (did you mean create?){lost}"])
+        cut = self.said("# next\nbatch as #3\n")
+        self.case(
+            "at the end of the text",
+            cut,
+            [f"moo: line 1: truncated: the text ends inside the batch that begins here; line 1 is malformed: {HEADER_FORM}{lost}"],
+        )
+        alone = self.said("batch as #3\ncreat(#1)\nend\n" + text_of(["creat(#1)"]))
+        wanted = [f"moo: line {line}: malformed: 'creat' names no call (did you mean create?)" for line in (2, 5)]
+        self.case("each has its end", alone, wanted)
 
     def test_the_file_is_named(self):
         Path("batches.txt").write_text("batch as #3\ncreat(#1)\nend\n")
@@ -322,4 +436,8 @@ class Reasons(ProgramTest):
 
     def test_how_many(self):
         said = self.said("end\n" * 250)
-        self.case("a hundred lines and one more", (len(said), said[99:]), (101, ["moo: line 100: malformed: `end` outside a batch", "moo: 150 more batches weren't accepted"]))
+        self.case(
+            "a hundred lines and one more",
+            (len(said), said[99:]),
+            (101, ["moo: line 100: malformed: `end` outside a batch", "moo: 150 more batches weren't accepted"]),
+        )

@@ -5,7 +5,7 @@ from subprocess import PIPE
 
 from tests.support.cases import ProgramTest
 from tests.support.processes import start
-from tests.support.program import MOO, edit, ended
+from tests.support.program import MOO, TOP, edit, ended
 from tests.support.service import PATIENCE, line_of
 from tests.support.worlds import accepted, make, run, tables_of, text_of
 
@@ -32,8 +32,28 @@ class Refusals(ProgramTest):
             self.case(name, ended(*words, text=text, output=full).status, 1)
 
     def test_a_file_with_a_world(self):
-        self.refused("a file with a world is none to make one in", ended("init", "world.db"), STORE, "moo: store fault: it has tables already")
+        self.refused(
+            "a file with a world is none to make one in", ended("init", "world.db"), STORE, "moo: store fault: it has tables already"
+        )
         self.case("its rows are as they were", tables_of("world.db"), self.before)
+
+    def test_a_lambdamoo_database(self):
+        """It is told from other files by its first line, and nothing is made beside it."""
+        held = (TOP / "examples/minimal.db").read_bytes()
+        Path("lambda.db").write_bytes(held)
+        cause = "moo: lambda.db: a LambdaMOO database: tools/from_lambdamoo.py makes a dump of it for `moo load`"
+        Path("dump.txt").write_text(ended("dump", "world.db").written)
+        for words in ("check", "dump", "ask -", "rehearse -", "apply -", "init", "load dump.txt", "serve 8099 1"):
+            word, *others = words.split()
+            self.refused(f"{word} on a LambdaMOO database", ended(word, "lambda.db", *others), STORE, cause)
+            self.case(
+                f"{word} leaves nothing beside it",
+                (sorted(Path().glob("lambda*")), Path("lambda.db").read_bytes()),
+                ([Path("lambda.db")], held),
+            )
+        self.refused("it is no dump", ended("load", "new.db", "lambda.db"), (3, "moo: not a dump, line 1\n"), cause)
+        piped = ended("load", ":memory:", "-", text=held.decode("latin-1"))
+        self.refused("nor on standard input", piped, (3, "moo: not a dump, line 1\n"), cause.replace("lambda.db: ", ""))
 
     def test_no_file(self):
         for words in ("apply nothing.db -", "ask nothing.db -", "dump nothing.db", "check nothing.db", "serve nothing.db 8099 1"):

@@ -174,12 +174,16 @@ class Refuse(ProgramTest):
     def test_streams(self):
         words, text, whole = ["apply", "w.db", "-"], BATCH + BATCH, ONE + TWO
         ends = {(whole, 0): {1}, (READ, 1): {0}, (ONE + READ, 1): {1}, (whole + READ, 1): {1}}
-        self.refused("two batches, byte by byte, of a reader that fails", Task("new.db", words, text, ends), Fault("input", errno.EIO, piece=1))
+        self.refused(
+            "two batches, byte by byte, of a reader that fails", Task("new.db", words, text, ends), Fault("input", errno.EIO, piece=1)
+        )
         task = Task("new.db", words, text, {(whole, 0): {1}}, fronts(whole, {1}))
         self.refused("two batches, byte by byte, to a writer that fails", task, Fault("output", errno.EIO, piece=1))
         self.refused("and to a disk that stays full", task, Fault("output", errno.ENOSPC, True, 1))
         ends = {(CREATED + SERVED, 0): {1}, (FAILED, 0): {0}}
-        self.refused("a POST, byte by byte, of a peer that fails", Post("new.db", [], REQUEST, ends), Fault("receive", errno.ECONNRESET, piece=1))
+        self.refused(
+            "a POST, byte by byte, of a peer that fails", Post("new.db", [], REQUEST, ends), Fault("receive", errno.ECONNRESET, piece=1)
+        )
         task = Post("new.db", [], REQUEST, {(CREATED + SERVED, 0): {1}}, sent_front)
         self.refused("a POST, answered byte by byte to a peer that fails", task, Fault("send", errno.ECONNRESET, piece=1))
 
@@ -191,8 +195,14 @@ class Refuse(ProgramTest):
         self.refused("killed at each call of the files", Task("new.db", words, text, ends, killed(ONE, whole)), Fault("file", KILL))
         whole = GRANTED + AGAIN
         ends = {(whole, 0): {1}, (STORE, 1): {0}, ("fault\nclosed\n", 1): {0, 1}}
-        self.refused("a grant that is sent twice, on a disk that fails once", Task("asked.db", words, GRANT + GRANT, ends), Fault("file", errno.EIO))
-        self.refused("a grant, killed at each call of the files", Task("asked.db", words, GRANT + GRANT, ends, killed(GRANTED, whole)), Fault("file", KILL))
+        self.refused(
+            "a grant that is sent twice, on a disk that fails once", Task("asked.db", words, GRANT + GRANT, ends), Fault("file", errno.EIO)
+        )
+        self.refused(
+            "a grant, killed at each call of the files",
+            Task("asked.db", words, GRANT + GRANT, ends, killed(GRANTED, whole)),
+            Fault("file", KILL),
+        )
         ends = {(CREATED + SERVED, 0): {1}, (STORE, 1): {0}, (unavailable("fault") + SERVED, 0): {0, 1}}
         self.refused("a POST, on a disk that fails once", Post("new.db", [], REQUEST, ends), Fault("file", errno.EIO))
         self.refused("on one that stays full", Post("new.db", [], REQUEST, ends), Fault("file", errno.ENOSPC, True))

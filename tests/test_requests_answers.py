@@ -1,5 +1,7 @@
 """Answers to the byte: what batches, questions and objects are answered, in turn on new worlds."""
-from tests.support.exchange import BAD_REQUEST, BATCH, BATCH_ANSWER, NO_OBJECT, NOT_FOUND, SEQ_QUESTION, TOO_LARGE, RequestTest, allow, answer, posted, seq
+from tests.support.exchange import (
+    BAD_REQUEST, BATCH, BATCH_ANSWER, NO_OBJECT, NOT_FOUND, SEQ_QUESTION, TOO_LARGE, RequestTest, allow, answer, posted, seq
+)
 
 OK, BAD, CONFLICT = "200 OK", "400 Bad Request", "409 Conflict"
 
@@ -21,7 +23,10 @@ BATCHES = [
         CONFLICT,
         r'{"error":"stale","seq":2}',
     ),
-    ("the second call is refused", r'{"as":"#3","at":null,"calls":["valid(#0)","recycle(#9)"]}', CONFLICT, r'{"call":2,"error":"E_INVARG"}'),
+    (
+        "the second call is refused", r'{"as":"#3","at":null,"calls":["valid(#0)","recycle(#9)"]}', CONFLICT,
+        r'{"call":2,"error":"E_INVARG"}'
+    ),
     # Nothing acts of what is refused, or isn't read.
     ("nothing acts of what is refused", r'{"as":"#3","calls":["create(#1)","recycle(#9)"]}', CONFLICT, r'{"call":2,"error":"E_INVARG"}'),
     ("nor of what is no call", r'{"as":"#3","calls":["create(#1)","sing(#1)"]}', BAD, r'{"call":2,"error":"malformed"}'),
@@ -76,8 +81,14 @@ PETITIONS = [
     ("no number", r'{"as":"#3","calls":["grant(\"1\")"]}', CONFLICT, r'{"call":1,"error":"E_TYPE"}'),
     ("no such petition", r'{"as":"#3","calls":["grant(2)"]}', CONFLICT, r'{"call":1,"error":"E_INVARG"}'),
     ("a petition for a grant", r'{"as":"#4","calls":["petition({{\"grant\", 1}})"]}', CONFLICT, r'{"call":1,"error":"E_INVARG"}'),
-    ("a petition for nothing that is a call", r'{"as":"#4","calls":["petition({{\"sing\"}})"]}', CONFLICT, r'{"call":1,"error":"E_INVARG"}'),
-    ("a petition that is no value", r'{"as":"#4","calls":["max_object()","petition({{\"create\", #1},})"]}', BAD, r'{"call":2,"error":"malformed"}'),
+    (
+        "a petition for nothing that is a call", r'{"as":"#4","calls":["petition({{\"sing\"}})"]}', CONFLICT,
+        r'{"call":1,"error":"E_INVARG"}'
+    ),
+    (
+        "a petition that is no value", r'{"as":"#4","calls":["max_object()","petition({{\"create\", #1},})"]}', BAD,
+        r'{"call":2,"error":"malformed"}'
+    ),
     (
         "its grant, sent with its number",
         r'{"as":"#3","at":4,"calls":["grant(1)","get(#5, \"name\")","get(#5, \"owner\")"]}',
@@ -86,14 +97,20 @@ PETITIONS = [
     ),
     ("sent again it doesn't act again", r'{"as":"#3","at":4,"calls":["grant(1)"]}', CONFLICT, r'{"error":"stale","seq":5}'),
     ("it is gone", r'{"as":"#3","calls":["petitions()"]}', OK, r'{"answers":["{}"],"seq":6}'),
-    ("another, whose second call will fail", r'{"as":"#4","calls":["petition({{\"create\", #1}, {\"recycle\", #99}})"]}', OK, r'{"answers":["2"],"seq":7}'),
+    (
+        "another, whose second call will fail", r'{"as":"#4","calls":["petition({{\"create\", #1}, {\"recycle\", #99}})"]}', OK,
+        r'{"answers":["2"],"seq":7}'
+    ),
     ("the grant is what is refused", r'{"as":"#3","calls":["max_object()","grant(2)"]}', CONFLICT, r'{"call":2,"error":"E_INVARG"}'),
     ("nothing of it acted", r'{"as":"#3","calls":["max_object()","decline(2)","petitions()"]}', OK, r'{"answers":["#5","0","{}"],"seq":8}'),
     ("the next number is another", r'{"as":"#4","calls":["petition({{\"players\"}})"]}', OK, r'{"answers":["3"],"seq":9}'),
 ]
 # As questions, which keep nothing.
 ASKED = [
-    ("a petition", r'{"as":"#3","calls":["petition({{\"create\", #1}})","grant(1)","max_object()"]}', OK, r'{"answers":["1","0","#4"],"seq":0}'),
+    (
+        "a petition", r'{"as":"#3","calls":["petition({{\"create\", #1}})","grant(1)","max_object()"]}', OK,
+        r'{"answers":["1","0","#4"],"seq":0}'
+    ),
     ("which isn't there then", r'{"as":"#3","calls":["grant(1)"]}', CONFLICT, r'{"call":1,"error":"E_INVARG"}'),
 ]
 

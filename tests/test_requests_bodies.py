@@ -4,16 +4,25 @@ from tests.support.service import Service
 
 # In turn, so that the numbers rise. #4 to #7 are made first. What a programmer makes is its own, which tells who asked.
 SHAPES = [
-    ("four objects are made", rb'{"as":"#3","calls":["create(#1)","create(#1)","create(#1)","create(#1)"]}', accepted(1, "#4", "#5", "#6", "#7")),
+    (
+        "four objects are made", rb'{"as":"#3","calls":["create(#1)","create(#1)","create(#1)","create(#1)"]}',
+        accepted(1, "#4", "#5", "#6", "#7")
+    ),
     ("no calls", rb'{"as":"#3","calls":[]}', accepted(2)),
     ("one call", rb'{"as":"#3","calls":["create(#1)"]}', accepted(3, "#8")),
     ("what it made is the programmer's", rb'{"as":"#3","calls":["get(#8,\"owner\")"]}', accepted(4, "#3")),
     ("a number below zero, and no calls", rb'{"as":"#-1","calls":[]}', accepted(5)),
     ("a number below zero is nobody", rb'{"as":"#-1","calls":["max_object()"]}', refused(1, "E_PERM")),
-    ("blanks, another order, an escape, and a number that isn't the present one", b' {"calls" : ["create( #1 )", "\\tMAX_OBJECT()"],\n"at":7, "as":"#3"} ', stale(5)),
+    (
+        "blanks, another order, an escape, and a number that isn't the present one",
+        b' {"calls" : ["create( #1 )", "\\tMAX_OBJECT()"],\n"at":7, "as":"#3"} ', stale(5)
+    ),
     ("zeros before the programmer's number", rb'{"as":"#007","calls":[]}', accepted(6)),
     ("they change nobody", rb'{"as":"#007","calls":["create(#1)","get(#9,\"owner\")"]}', accepted(7, "#9", "#7")),
-    ("blanks, another order, an escape, and the present number", b' {"calls" : ["create( #1 )", "\\tMAX_OBJECT()"],\n"at":7, "as":"#3"} ', accepted(8, "#10", "#10")),
+    (
+        "blanks, another order, an escape, and the present number",
+        b' {"calls" : ["create( #1 )", "\\tMAX_OBJECT()"],\n"at":7, "as":"#3"} ', accepted(8, "#10", "#10")
+    ),
     ("an escape in the programmer", rb'{"as":"\u00233","calls":[]}', accepted(9)),
     ("it is who it says", rb'{"as":"\u00233","calls":["create(#1)","get(#11,\"owner\")"]}', accepted(10, "#11", "#3")),
     ("null for a number", rb'{"as":"#3","at":null,"calls":[]}', accepted(11)),

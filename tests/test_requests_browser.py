@@ -28,7 +28,7 @@ class InABrowser(ProgramTest):
         self.service = Service(MOO, ":memory:", None)
         self.addCleanup(self.service.kill)
         self.url = f"http://127.0.0.1:{self.service.port}"
-        self.pages = Pages({f"/form{path}": FORM.format(url=f"{self.url}{path}") for path in ("/batch", "/ask")} | {"/blank": BLANK})
+        self.pages = Pages({f"/form{path}": FORM.format(url=f"{self.url}{path}") for path in ("/batch", "/ask", "/each")} | {"/blank": BLANK})
         self.addCleanup(self.pages.close)
         try:
             self.browser = Browser()
@@ -36,14 +36,14 @@ class InABrowser(ProgramTest):
             print(f"the browser is started once more: {error}")
             self.browser = Browser()
         self.addCleanup(self.browser.close)
-        self.before = said(self.service, get("/objects/0"))
+        self.before = said(self.service, get("/dump"))
 
     def unchanged(self, name):
-        self.case(f"{name}: nothing changed", said(self.service, get("/objects/0")) == self.before, True)
+        self.case(f"{name}: nothing changed", said(self.service, get("/dump")) == self.before, True)
 
     @once_more
     def test_a_form(self):
-        for path in ("/batch", "/ask"):
+        for path in ("/batch", "/ask", "/each"):
             self.browser.open(f"http://127.0.0.1:{self.pages.port}/form{path}")
             self.case(f"a form to {path}", self.browser.text_of(f"{self.url}{path}"), FORBIDDEN)
             self.unchanged(f"a form to {path}")
@@ -54,13 +54,13 @@ class InABrowser(ProgramTest):
     def test_a_fetch(self):
         self.browser.open(f"http://127.0.0.1:{self.pages.port}/blank")
         post = {"method": "POST", "body": CREATE}
-        for path in ("/batch", "/batch?why", "/ask"):
+        for path in ("/batch", "/batch?why", "/ask", "/each"):
             # In this mode the request is sent, and the page doesn't see its answer.
             unseen = self.browser.run(FETCH, f"{self.url}{path}", {**post, "mode": "no-cors"})
             self.case(f"unseen, to {path}", unseen, ["opaque", 0, ""])
             self.case(f"seen, to {path}", self.browser.run(FETCH, f"{self.url}{path}", post), ["TypeError", 0, ""])
             self.unchanged(f"a fetch to {path}")
-        for path in ("/seq", "/objects/0"):
+        for path in ("/seq", "/objects/0", "/dump"):
             self.case(f"GET {path}", self.browser.run(FETCH, f"{self.url}{path}", {}), ["TypeError", 0, ""])
         self.case("the service goes on", said(self.service, get("/seq")), seq(0))
 
@@ -70,12 +70,13 @@ class InABrowser(ProgramTest):
         here = f"http://{STRANGER}:{self.service.port}"
         self.browser.open(f"{here}/seq")
         self.case("it reaches the service", self.browser.text(), '{"seq":0}')
-        self.case("GET /objects/0", self.browser.run(FETCH, f"{here}/objects/0", {}), ["basic", 403, FORBIDDEN])
-        for path in ("/batch", "/ask"):
+        for path in ("/objects/0", "/dump"):
+            self.case(f"GET {path}", self.browser.run(FETCH, f"{here}{path}", {}), ["basic", 403, FORBIDDEN])
+        for path in ("/batch", "/ask", "/each"):
             answer = self.browser.run(FETCH, f"{here}{path}", {"method": "POST", "body": CREATE})
             self.case(f"POST {path}", answer, ["basic", 403, FORBIDDEN])
             self.unchanged(f"POST {path}")
-        self.browser.open(f"{here}/objects/0")
-        self.case("it opens no list", self.browser.text(), FORBIDDEN)
-        self.browser.open(f"{self.url}/objects/0")
-        self.case("a person who opens it here reads it", self.browser.text().startswith('{"next":null,"objects":['), True)
+        self.browser.open(f"{here}/dump")
+        self.case("it opens no dump", self.browser.text(), FORBIDDEN)
+        self.browser.open(f"{self.url}/dump")
+        self.case("a person who opens it here reads it", self.browser.text().startswith("seq 0\ntop #3\n"), True)

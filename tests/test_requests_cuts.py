@@ -49,7 +49,10 @@ SILENT = [
 
 # More follows these than is wanted. The service reads what is left before it closes, so that the connection is not reset.
 LEFT = [
-    ("a second request behind a body", posted("/ask", b'{"as":"#3","at":7,"calls":["create(#1)"]}' + b" " * 3000) + SEQ_QUESTION, accepted(7, "#4")),
+    (
+        "a second request behind a body", posted("/ask", b'{"as":"#3","at":7,"calls":["create(#1)"]}' + b" " * 3000) + SEQ_QUESTION,
+        accepted(7, "#4")
+    ),
     ("one byte behind a body", posted("/ask", b'{"as":"#3","at":7,"calls":["create(#1)"]}' + b" " * 3000) + b"x", accepted(7, "#4")),
     ("a body that is too large", b"POST /batch HTTP/1.1\r\ncontent-length: 1048577\r\n\r\n" + b" " * 4000, TOO_LARGE),
     ("one byte behind 8,192 of a head without an end", b"GET /" + b"x" * 8188, BAD_REQUEST),
@@ -111,7 +114,9 @@ class RequestCuts(RequestTest):
         service = world_of(7, len(AT_7) + 2)
         for end in range(len(AT_7)):
             break_off(service, AT_7[:end], most)
-        self.case(f"in pieces of {most}: behind peers that reset at each length the number is as before", said(service, SEQ_QUESTION), seq(7))
+        self.case(
+            f"in pieces of {most}: behind peers that reset at each length the number is as before", said(service, SEQ_QUESTION), seq(7)
+        )
         self.case(f"in pieces of {most}: whole it acts behind them", said(service, AT_7, most), accepted(8, "#4"))
         self.case(f"in pieces of {most}: each of these peers has failed", service.end(), (0, f"served 9 failed {len(AT_7)}\n"))
 

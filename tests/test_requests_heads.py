@@ -4,7 +4,11 @@ from tests.support.exchange import object_body, posted, said, seq
 from tests.support.service import Service
 
 # The world of the heads: #4 to #7, the first and the last of which have a name.
-MADE = posted("/batch", b'{"as":"#3","calls":["create(#1)","create(#1)","create(#1)","create(#1)","set(#4,\\"name\\",\\"Four\\")","set(#7,\\"name\\",\\"Seven\\")"]}')
+MADE = posted(
+    "/batch",
+    b'{"as":"#3","calls":["create(#1)","create(#1)","create(#1)","create(#1)",'
+    b'"set(#4,\\"name\\",\\"Four\\")","set(#7,\\"name\\",\\"Seven\\")"]}',
+)
 FOUR = answer("200 OK", object_body("Four"))
 SEVEN = answer("200 OK", object_body("Seven"))
 ZERO = answer("200 OK", object_body("System Object"))

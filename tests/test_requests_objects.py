@@ -1,5 +1,7 @@
 """`GET /objects/N`: the objects from a number on, a page at a time, to the byte."""
 import json
+import os
+from pathlib import Path
 
 from tests.support.exchange import MOO, NOT_FOUND, RequestTest, accepted, allow, answer, error, posted, said
 from tests.support.service import Service, get
@@ -28,6 +30,12 @@ OPENING = [
     entry(2, "The First Room"),
     entry(3, "Wizard", location="#2", marks=(1, 1, 1)),
 ]
+
+
+def seconds_of(pid):
+    """The processor time that a process has taken, its own and the system's for it."""
+    fields = Path(f"/proc/{pid}/stat").read_text().rsplit(") ", 1)[1].split()
+    return (int(fields[11]) + int(fields[12])) / os.sysconf("SC_CLK_TCK")
 
 
 class Objects(RequestTest):
@@ -81,3 +89,20 @@ class Objects(RequestTest):
         self.case("page after page they are all", found, entries)
         self.case("no object", said(service, get("/object/4")), answer("404 Not Found", error("E_INVARG")))
         self.case("all are served", service.end(), (0, f"served {len(firsts) + 3} failed 0\n"))
+
+    def test_many(self):
+        """100,000 objects in 100 requests, for which the service takes 2 seconds of a processor at most."""
+        make("many.db", text_of(["create(#1)"] * 1000) * 99 + text_of(["create(#1)"] * 996))
+        service = Service(MOO, "many.db", 100)
+        before, first, count, requests = seconds_of(service.process.pid), 0, 0, 0
+        while first is not None:
+            body = json.loads(service.ask(get(f"/objects/{first}")).split(b"\r\n\r\n", 1)[1])
+            numbers = [int(one["number"][1:]) for one in body["objects"]]
+            if numbers != list(range(count, count + len(numbers))):
+                raise AssertionError(f"from {first} on come {numbers[:3]} and so on")
+            count, requests = count + len(numbers), requests + 1
+            taken = seconds_of(service.process.pid) - before
+            first = int(body["next"][1:]) if body["next"] else None
+        self.case("each once, in their order", (count, requests), (100_000, 100))
+        self.case(f"in 2 seconds: {taken}", taken <= 2, True)
+        self.case("all are served", service.end(), (0, "served 100 failed 0\n"))

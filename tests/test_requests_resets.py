@@ -93,7 +93,7 @@ class Resets(ProgramTest):
         self.case("all of them are served", service.end(), (0, f"served {COUNT} failed 0\n"))
 
     def waits(self, name, peer_of, sends):
-        """A refused peer that goes on after its answer: the next one is served within the second that the service reads on, or little more.
+        """After a refused peer that goes on sending, the next one is served within the second that the service reads on, or little more.
 
         On a busy machine it may be more, so that it is tried some times; the wait for a silent peer is ten seconds each time.
         """

@@ -1,4 +1,4 @@
-"""Worked batches and their replies: each scene of tests/scenes, played as a text and over HTTP."""
+"""Worked batches and their replies: each scene of tests/scenes, played as a text, rehearsed, up to its first mistake, and over HTTP."""
 import itertools
 from pathlib import Path
 
@@ -37,6 +37,14 @@ def as_text(world, batches):
     return run_bytes("apply", world, "-", text=b"".join(batch.text() for batch in batches))
 
 
+def as_rehearsal(world, batches):
+    return run_bytes("rehearse", world, "-", text=b"".join(batch.text() for batch in batches))
+
+
+def up_to_a_mistake(world, batches):
+    return run_bytes("apply", "--stop", world, "-", text=b"".join(batch.text() for batch in batches))
+
+
 def over_http(world, batches):
     service = Service(MOO, world, len(batches))
     responses = [service.ask(post("/batch", batch.body())) for batch in batches] if service.is_listening() else []
@@ -45,6 +53,16 @@ def over_http(world, batches):
 
 def replies(batches):
     return 0, b"".join(batch.reply_text() for batch in batches)
+
+
+def first_replies(batches):
+    """The replies up to and with the first that isn't `accepted`, and status 1 if there is one."""
+    front = []
+    for batch in batches:
+        front.append(batch.reply_text())
+        if not batch.reply.startswith("accepted"):
+            return 1, b"".join(front)
+    return 0, b"".join(front)
 
 
 def responses(batches):
@@ -66,6 +84,21 @@ class Scenes(ProgramTest):
     def test_as_texts(self):
         for name, scene in scenes():
             self.case(f"{name}, as a text", play(scene, as_text), wanted(scene, replies))
+
+    def test_rehearsed(self):
+        """Each stretch that is rehearsed is run then, for the one after it."""
+        def told(world, batches):
+            came = as_rehearsal(world, batches)
+            as_text(world, batches)
+            return came
+
+        for name, scene in scenes():
+            self.case(f"{name}, rehearsed", play(scene, told), wanted(scene, replies))
+
+    def test_up_to_a_mistake(self):
+        for name, scene in scenes():
+            if not scene.is_on_file():
+                self.case(f"{name}, up to a mistake", play(scene, up_to_a_mistake), wanted(scene, first_replies))
 
     def test_over_http(self):
         for name, scene in scenes():

@@ -1,17 +1,19 @@
 """The service, over sockets of this machine: what it says, what it answers, and what becomes of peers that don't do their part."""
 import errno
+import json
 import re
 import shutil
 import socket
 import threading
 import time
 import unittest
+from pathlib import Path
 
 from tests.support.cases import ProgramTest
 from tests.support.program import MOO, edit, ended
 from tests.support.refusing import Fault, build_refuser
 from tests.support.service import Service, answer, free_port, get, heard, post, reset
-from tests.support.worlds import run
+from tests.support.worlds import run, text_of
 
 # A line to the operator: its time, route and cause.
 TOLD = r"moo: (\w{3}, \d\d \w{3} \d{4} \d\d:\d\d:\d\d GMT): (\S+): (.+)"
@@ -92,7 +94,11 @@ class Serve(ProgramTest):
     def test_answers(self):
         run("init", "world.db")
         service = Service(MOO, "world.db", len(ANSWERS) + 1)
-        self.case("it says that it listens, into a pipe and at once", (service.first, service.process.poll()), (f"listening 127.0.0.1:{service.port}\n", None))
+        self.case(
+            "it says that it listens, into a pipe and at once",
+            (service.first, service.process.poll()),
+            (f"listening 127.0.0.1:{service.port}\n", None),
+        )
         for name, request, wanted in ANSWERS:
             self.case(name, service.ask(request), wanted)
         with service.peer() as peer:
@@ -173,6 +179,26 @@ class Serve(ProgramTest):
         silent.close()
         self.case("and has failed", service.end(), (0, "served 1 failed 1\n"))
 
+    def test_a_bound_on_memory(self):
+        """What would take more than a run may have, as by LimitAS of the unit, is refused, and the next is served."""
+        run("init", "many.db")
+        run("apply", "many.db", "-", text=text_of(["create(#1)"] * 999))
+        service = Service(MOO, "many.db", 1)
+        taken = re.search(r"VmPeak:\s+(\d+) kB", Path(f"/proc/{service.process.pid}/status").read_text())
+        service.ask(get("/seq"))
+        service.end()
+        # The answer below has 6 MB, and its values take 40 more.
+        Path("bounded").write_text(f'#!/bin/sh\nulimit -v {int(taken[1]) + 12_000}\nexec {MOO} "$@"\n')
+        Path("bounded").chmod(0o755)
+        service = Service("./bounded", "many.db", 3)
+        long = json.dumps({"as": "#3", "calls": ["children(#1)"] * 1000})
+        self.case("a long answer", service.ask(post("/ask", long)), answer("503 Service Unavailable", error("nomemory")))
+        self.case("the next one", service.ask(get("/seq")), answer("200 OK", '{"seq":1}'))
+        self.case("a batch", service.ask(post("/batch", CREATE)), answer("200 OK", '{"answers":["#1003"],"seq":2}'))
+        self.case("it goes on to its end", service.end(), (0, "served 3 failed 0\n"))
+        told = [re.sub(r"^moo: .* GMT: ", "", line) for line in service.told.splitlines()]
+        self.case("the operator is told", told, ["/ask: 503: out of memory"])
+
     def test_lines_to_the_operator(self):
         service = Service(MOO, ":memory:", 24)
         self.case("an answer has none", service.ask(get("/seq")), answer("200 OK", '{"seq":0}'))
@@ -189,7 +215,9 @@ class Serve(ProgramTest):
         told = [re.fullmatch(TOLD, line) for line in lines]
         left_out = [re.fullmatch(r"moo: (\d+) more connections failed or were answered 503", line) for line in lines]
         self.case("each line has its form", [line for line, first, second in zip(lines, told, left_out) if not first and not second], [])
-        self.case("each that failed has a line or is counted", sum(1 for it in told if it) + sum(int(it[1]) for it in left_out if it), failed)
+        self.case(
+            "each that failed has a line or is counted", sum(1 for it in told if it) + sum(int(it[1]) for it in left_out if it), failed
+        )
         times = [it[1] for it in told if it]
         self.case("a second has ten lines at most", max(times.count(time) for time in times) <= 10, True)
 

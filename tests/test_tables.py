@@ -58,7 +58,7 @@ SPELLINGS = [
 
 
 def made_anew(tables, old="", new=""):
-    """A copy of a world in which tables were dropped and made again with their rows, the first by its text or one with another word in it."""
+    """A copy of a world in which tables were dropped and made again with their rows, the first by its text or one with another word."""
     file = copy_of("verbs")
     made = []
     for table in tables:
@@ -179,7 +179,9 @@ class Tables(ProgramTest):
         three = at_0 + at_0 + text_of(["create(#9)"])
         wanted = accepted(1, "#4") + "stale 1\nrefused 1 E_PERM\n"
         self.case("a batch that is accepted, one sent again, and one that is refused", run("apply", file, "-", text=three), (0, wanted))
-        self.case("behind them a question at the number", run("ask", file, "-", text=text_of(["create(#4)"], "#3 at 1")), (0, accepted(1, "#5")))
+        self.case(
+            "behind them a question at the number", run("ask", file, "-", text=text_of(["create(#4)"], "#3 at 1")), (0, accepted(1, "#5"))
+        )
         self.case("the number is the same behind it", run("check", file), (0, "ok seq 1 objects 5\n"))
         self.case("and so is the greatest object", run("ask", file, "-", text=text_of(["max_object()"])), (0, accepted(1, "#4")))
 
@@ -238,7 +240,11 @@ class Tables(ProgramTest):
         text = text_of(["create(#1)", 'petition({{"players"}})', "decline(2)"])
         self.case("a batch beside it", run("apply", file, "-", text=text), (0, accepted(3, "#8", "3", "0")))
         self.case("leaves it as it stands", rows_of(file)["petition"], [(1, 4, calls), (3, 3, '{{"players"}}')])
-        self.case("and it is granted as it is read", run("apply", file, "-", text=text_of(["grant(1)", "is_player(#4)"])), (0, accepted(4, "0", "1")))
+        self.case(
+            "and it is granted as it is read",
+            run("apply", file, "-", text=text_of(["grant(1)", "is_player(#4)"])),
+            (0, accepted(4, "0", "1")),
+        )
         self.case("then its row is gone", rows_of(file)["petition"], [(3, 3, '{{"players"}}')])
 
     def test_strange_tables(self):
@@ -254,4 +260,6 @@ class Tables(ProgramTest):
             after = sorted(read(file, "select type, name, sql from sqlite_schema")[0], key=repr)
             came.append((after, read(file, *(f"select * from {table}" for table in held))))
             self.case(f"a file {name} is a store fault, and stays as it is", came, [(1, "moo: store fault\n")] * 3 + [(there, before)])
-        self.case("one whose last tables were made anew as they were opens", run("check", made_anew(FROM_VERB)), (0, "ok seq 2 objects 8\n"))
+        self.case(
+            "one whose last tables were made anew as they were opens", run("check", made_anew(FROM_VERB)), (0, "ok seq 2 objects 8\n")
+        )

@@ -20,9 +20,18 @@ TEXTS = [
     ("a text that ends before the batch does is truncated", b"batch as #3\ncreate(#1)\n", b"truncated\n"),
     ("so is one that ends before a line that is none", b"batch as #3\ncreat(#1)\n", b"truncated\n"),
     ("so is one without a header", b"x\n\n", b"truncated\n"),
-    ("an unknown call makes its batch malformed, and no other", b"batch as #3\ncreat(#1)\nend\nbatch as #3\nmax_object()\nend\n", b"malformed 2\n" + THIRD),
-    ("a refused batch changes nothing", b"batch as #3\ncreate(#1)\ncreate(#9)\nend\nbatch as #3\nmax_object()\nend\n", b"refused 2 E_PERM\n" + THIRD),
-    ("a name is set and read in any case", b'batch as #3\nset(#1, "name", "Root")\nget(#1, "Name")\nend\n', b'accepted 1\n0\n"Root"\nend\n'),
+    (
+        "an unknown call makes its batch malformed, and no other", b"batch as #3\ncreat(#1)\nend\nbatch as #3\nmax_object()\nend\n",
+        b"malformed 2\n" + THIRD
+    ),
+    (
+        "a refused batch changes nothing", b"batch as #3\ncreate(#1)\ncreate(#9)\nend\nbatch as #3\nmax_object()\nend\n",
+        b"refused 2 E_PERM\n" + THIRD
+    ),
+    (
+        "a name is set and read in any case", b'batch as #3\nset(#1, "name", "Root")\nget(#1, "Name")\nend\n',
+        b'accepted 1\n0\n"Root"\nend\n'
+    ),
     ("lines end with or without a carriage return", b"\r\n \t\r\nbatch as #3\r\nmax_object()\r\nend\r\n", THIRD),
     (
         "blanks may stand round every word",
@@ -184,6 +193,8 @@ class Texts(ProgramTest):
     def test_words(self):
         for line, status, written in WORDS:
             came = run_bytes(*line.split())
-            self.case(f"moo {line}", (came[0], came[1] if written is not None else bool(came[1])), (status, True if written is None else written))
+            self.case(
+                f"moo {line}", (came[0], came[1] if written is not None else bool(came[1])), (status, True if written is None else written)
+            )
         batch = b"batch as #3\ncreate(#1)\nend\n"
         self.case("a question changes nothing", run_bytes("ask", ":memory:", "-", text=batch * 2), (0, b"accepted 0\n#4\nend\n" * 2))

@@ -97,12 +97,16 @@ class Answers(Watch):
         self.addCleanup(server.server_close)
         self.addCleanup(server.shutdown)
         threading.Thread(target=server.serve_forever, daemon=True).start()
-        for status, body in ((200, b"{}"), (200, b"[1]"), (200, b'{"seq":"1"}'), (503, b"7"), (503, b"{}"), (404, b"null")):
+        answers = [(200, body) for body in (b"{}", b"[1]", b'{"seq":"1"}', b'{"seq":true}', b'{"seq":-1}', b'{"seq":1.5}')]
+        for status, body in (*answers, (503, b"7"), (503, b"{}"), (404, b"null")):
             with self.subTest(status=status, body=body):
                 Stranger.status, Stranger.body = status, body
                 self.assert_wrong(f"another program than moo answers at port {server.server_port}", server.server_port)
-        Stranger.body = b"<html>"
-        self.assert_wrong("moo-watch: no answer: ", server.server_port)
+        Stranger.status = 200
+        for name, body in (("no JSON", b"<html>"), ("lists in lists", b"[" * 60_000), ("without end", b'{"seq":1' + b" " * 100_000)):
+            with self.subTest(name):
+                Stranger.body = body
+                self.assert_wrong("moo-watch: no answer: ", server.server_port)
 
 
 if __name__ == "__main__":

@@ -59,7 +59,9 @@ class Alone(unittest.TestCase):
 
     def inside(self, words, **how):
         """A process in the network."""
-        return processes.start(["ip", "netns", "exec", NETWORK, *map(str, words)], stdout=subprocess.DEVNULL, stderr=subprocess.DEVNULL, **how)
+        return processes.start(
+            ["ip", "netns", "exec", NETWORK, *map(str, words)], stdout=subprocess.DEVNULL, stderr=subprocess.DEVNULL, **how
+        )
 
     def moo(self):
         return self.inside([MOO, "serve", self.room / "world.db", self.port])

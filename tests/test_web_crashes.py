@@ -1,8 +1,10 @@
 """The journal's protocol over thousands of stops, in one process: no front is started, so that each stop takes milliseconds.
 
-A front ends at a random step: before a line, in the middle of one, before its sync, after it, before a batch is sent, after that, before the
-answer is read. Some of the stops take the power too: then each disk keeps what was synced, and of the rest some beginning. The world loses
-answers, fails, is closed, has no memory, and takes copies of requests late. At the end the journal has to tell just what the world has done.
+A front ends at a random step: before a line, in the middle of one, before its sync, after it, before a batch is sent, after that, before
+the answer is read. Some of the stops take the power too: then each disk keeps what was synced, and of the rest some beginning. The world
+loses answers, fails, is closed, has no memory, and takes copies of requests late. At the end the journal has to tell just what the world
+has done.
+
 `STOPS` in the environment is another number of stops (2,000), `SEED` the seed. test_web_kills does the same to real processes.
 """
 

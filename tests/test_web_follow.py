@@ -1,8 +1,8 @@
 """A standby: moo-replay --follow of a live journal, or of a copy of it that moo-send brings up.
 
-`Kills` kills the front and moo on one side and two standbys and the way to one of them on the other, while four clients write. Both standbys
-have to end with the same dump as the world that was served, byte for byte, and one of them becomes a world with a front of its own. `KILLS`
-in the environment is how many kills of each side (100), `SEED` the seed.
+`Kills` kills the front and moo on one side and two standbys and the way to one of them on the other, while four clients write. Both
+standbys have to end with the same dump as the world that was served, byte for byte, and one of them becomes a world with a front of its
+own. `KILLS` in the environment is how many kills of each side (100), `SEED` the seed.
 """
 
 import contextlib
@@ -200,7 +200,9 @@ class Follows(FollowTest):
         """While another program has the world, and when it goes on."""
         self.write(*[["create(#1)"]] * 30)
         slow = self.room / "slow"
-        slow.write_text(f'#!/bin/sh\n[ "$1" = apply ] || exec {MOO} "$@"\nwhile read -r line; do sleep 0.05; echo "$line"; done | {MOO} "$@"\n')
+        slow.write_text(
+            f'#!/bin/sh\n[ "$1" = apply ] || exec {MOO} "$@"\nwhile read -r line; do sleep 0.05; echo "$line"; done | {MOO} "$@"\n'
+        )
         slow.chmod(0o755)
         standby = self.standby("--moo", slow)
         standby.wait_for("seq 30")

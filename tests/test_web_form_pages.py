@@ -82,7 +82,10 @@ class Forms(FormsTest):
             ("powers", {"object": "#5", "wizard": "on"}, 'get(#5, "wizard")', "1"),
             ("powers", {"object": "#5", "player": None}, "is_player(#5)", "0"),
             ("add-property", {"object": "#8", "name": "size", "value": "big"}, 'property_info(#8, "size")', '{#3, "rc"}'),
-            ("property-rights", {"object": "#8", "name": "size", "renamed": "width", "owner": "ada"}, 'property_info(#8, "width")', '{#4, "rc"}'),
+            (
+                "property-rights", {"object": "#8", "name": "size", "renamed": "width", "owner": "ada"}, 'property_info(#8, "width")',
+                '{#4, "rc"}'
+            ),
             ("delete-property", {"object": "#8", "name": "width"}, "properties(#8)", "{}"),
             ("add-verb", {"object": "#8", "names": "get take", "dobj": "this"}, "verb_info(#8, 2)", '{#3, "rx", "get take"}'),
             ("verb-rights", {"object": "#8", "verb": "2", "names": "hold", "owner": "#3"}, "verbs(#8)", '{"light", "hold"}'),

@@ -258,7 +258,9 @@ class Mistakes(unittest.TestCase):
 
     def test_a_name_of_several_objects_gives_a_choice(self):
         mistake = read_form(FORMS["recycle"], {"object": "lamp"}, WORLD, ADA).mistakes["object"]
-        self.assertEqual((mistake.reason, mistake.choices), ("2 objects are named “lamp”. Choose one:", (("#5", "Lamp #5"), ("#6", "Lamp #6"))))
+        self.assertEqual(
+            (mistake.reason, mistake.choices), ("2 objects are named “lamp”. Choose one:", (("#5", "Lamp #5"), ("#6", "Lamp #6")))
+        )
         mistake = read_form(FORMS["recycle"], {"object": "oil"}, WORLD, ADA).mistakes["object"]
         self.assertEqual(mistake.choices, (("#7", "Oil lamp #7"),))
 

@@ -306,7 +306,8 @@ class Program(unittest.TestCase):
 
     def test_what_cannot_be_done(self):
         for words, text, wanted in (
-            (("token", "ada"), "", 1), (("disable", "ada"), "", 1), (("list",), "", 1), (("sing",), "", 2), ((), "", 2), (("add", "ada"), "", 2),
+            (("token", "ada"), "", 1), (("disable", "ada"), "", 1), (("list",), "", 1), (("sing",), "", 2), ((), "", 2),
+            (("add", "ada"), "", 2),
             (("add", "ada", "x"), "", 2), (("add", "ada", "4"), "", 1), (("add", "ada", "4"), "\n", 1), (("add", "a b", "4"), "x\n", 1),
         ):  # fmt: skip
             status, printed, told = self.people(*words, text=text)
@@ -329,7 +330,9 @@ class Program(unittest.TestCase):
         for name, number in (("ben", 5), ("cas", 99)):
             self.people("add", name, number, text="pw\n")
         status, printed, told = self.people("check", service.port)
-        self.assertEqual((status, printed), (1, "ada #4 Ada player\nben #5  is not a player\ncas #99 isn't there\nwizard #3 Wizard wizard\n"))
+        self.assertEqual(
+            (status, printed), (1, "ada #4 Ada player\nben #5  is not a player\ncas #99 isn't there\nwizard #3 Wizard wizard\n")
+        )
         self.assertIn("2 of 4 accounts have no player", told)
         for name in ("ben", "cas"):
             self.people("disable", name)

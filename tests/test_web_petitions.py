@@ -19,7 +19,9 @@ class Petitions(FormsTest):
         self.has(page, "petition 1", "petition 2", "Take it back")
         self.assertNotIn("Grant", page.text)
         page = wizard.get("/petitions")
-        self.has(page, "Bram #5 asks for 1 call petition 1", "Lamp #8 is called “Bram's lamp”.", 'name now: "Lamp"', "It can be granted whole.")
+        self.has(
+            page, "Bram #5 asks for 1 call petition 1", "Lamp #8 is called “Bram's lamp”.", 'name now: "Lamp"', "It can be granted whole."
+        )
         page = wizard.send("Grant petition 1")
         self.has(page, "The petition is granted", status=200)
         self.assertNotIn("petition 1", page.text)
@@ -53,7 +55,9 @@ class Petitions(FormsTest):
         page = wizard.get("/petitions")
         self.has(page, "It can’t be granted as it is", "chparent(#6, #8)", "Bram #5 becomes a wizard, who has every right.")
         self.assertEqual(len(re.findall(r'<li class="grave">', page.html)), 3)
-        self.assertEqual([button[2].split()[0] for form in page.forms for button in form.buttons if button[0] == "go"], ["Decline", "Grant", "Decline"])
+        self.assertEqual(
+            [button[2].split()[0] for form in page.forms for button in form.buttons if button[0] == "go"], ["Decline", "Grant", "Decline"]
+        )
 
     def test_one_takes_ones_own_back(self):
         bram = self.somebody("bram")
@@ -101,7 +105,10 @@ class Batches(FormsTest):
     def test_a_batch_with_names_and_remarks(self):
         ada = self.somebody("ada")
         ada.get("/batch")
-        page = ada.send("Preview", text='batch as #4\n$key = create(#6) // a key\n\n$name = "Small key"\nset($key, "name", $name)\nmove($key, #2)\nend\n')
+        page = ada.send(
+            "Preview",
+            text='batch as #4\n$key = create(#6) // a key\n\n$name = "Small key"\nset($key, "name", $name)\nmove($key, #2)\nend\n',
+        )
         self.has(page, "This would be done", 'set(#9, "name", "Small key")', status=200)
         page = ada.send("Do it")
         self.has(page, "Made: Small key #9")

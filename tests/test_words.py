@@ -8,7 +8,7 @@ from tests.support.program import MOO, TOP, ended
 from tests.support.service import Service
 from tests.support.worlds import accepted, make, run, text_of
 
-COMMANDS = ["init", "apply", "ask", "dump", "load", "check", "serve"]
+COMMANDS = ["init", "apply", "rehearse", "ask", "dump", "load", "check", "serve"]
 REPLIES = "accepted refused full stale malformed truncated nomemory fault closed".split()
 REASONS = "E_PERM E_INVARG E_INVIND E_PROPNF E_VERBNF E_ARGS E_TYPE E_QUOTA E_RECMOVE E_NACC".split()
 LONGEST_LINE = 109
@@ -44,6 +44,11 @@ class Words(ProgramTest):
         for word in COMMANDS:
             self.says(f"{word} wants its file", 2, "FILE", word)
         self.says("apply wants its batches", 2, "BATCHES", "apply", "world.db")
+        self.says("rehearse wants its batches", 2, "BATCHES", "rehearse", "--stop", "world.db")
+        self.says("ask never stops", 2, "--stop", "ask", "--stop", "world.db", "-")
+        self.says("a flag that is none", 2, "--halt", "apply", "--halt", "world.db", "-")
+        self.says("the flag has no value", 2, "--stop", "apply", "--stop=yes", "world.db", "-")
+        self.says("once is enough", 2, "--stop", "apply", "--stop", "--stop", "world.db", "-")
         self.says("load wants its dump", 2, "DUMP", "load", "world.db")
         self.says("serve wants its port", 2, "PORT", "serve", "world.db")
         self.says("serve needs no count, but a file", 1, "moo: store fault", "serve", "world.db", "8080")
@@ -60,6 +65,9 @@ class Words(ProgramTest):
         empty = text_of([])
         self.case("init has one word behind it", run("init", "world.db"), (0, "created\n"))
         self.case("apply has two", run("apply", "world.db", "-", text=empty), (0, accepted(1)))
+        self.case("so has rehearse", run("rehearse", "world.db", "-", text=empty), (0, accepted(2)))
+        for words in (["--stop", "world.db", "-"], ["world.db", "--stop", "-"], ["world.db", "-", "--stop"]):
+            self.case(f"the flag comes anywhere: {words}", run("rehearse", *words, text=empty), (0, accepted(2)))
         self.case("so has ask", run("ask", "world.db", "-", text=empty), (0, accepted(1)))
         self.case("check has one", run("check", "world.db"), (0, "ok seq 1 objects 4\n"))
         self.says("so has dump", 0, "seq 1", "dump", "world.db")

@@ -283,7 +283,7 @@ def quoted(text: str) -> str:
 
 
 class Verb:
-    """A verb's header. Its names are as a dump has them, and spelled as in the file. Its rights, places and preposition are as in the file."""
+    """A verb's header. Its names are as a dump has them, and spelled as in the file. So are its rights, places and preposition."""
 
     __slots__ = ("names", "spelled", "owner", "rights", "preposition", "line")
 

@@ -33,7 +33,7 @@ import re
 import secrets
 import threading
 import time
-from typing import Any, Iterable, Iterator, NoReturn, Union
+from typing import Any, Callable, Iterable, Iterator, NoReturn, Union
 
 __all__ = (
     "Moo Obj ErrorValue MooError Refused Full Stale Malformed BadRequest NoMemory Unreachable Unsure "
@@ -313,7 +313,8 @@ class Moo:
     """
 
     def __init__(
-        self, port: int, mark: tuple[Obj, str] | None = None, alone: bool = False, patience: float = 60, wait: float = 30, host: str = "127.0.0.1"
+        self, port: int, mark: tuple[Obj, str] | None = None, alone: bool = False, patience: float = 60, wait: float = 30,
+        host: str = "127.0.0.1"
     ) -> None:  # fmt: skip
         self.port, self.host = port, host
         self.mark, self.alone = mark, alone
@@ -332,6 +333,20 @@ class Moo:
         """What a batch would be answered; nothing changes."""
         answers, _ = self.asked([written_call(call) for call in calls], as_, at, Deadline(self.patience))
         return [read(answer) for answer in answers]
+
+    def each(self, calls: Iterable[Call], as_: int | Obj, at: int | None = None) -> list[Any]:
+        """What each call alone would be answered, as a batch of its own on the present world; nothing changes, and none sees another.
+
+        For a call that would fail there is the exception that `ask` would raise: `E_PERM` and the other kinds of `Refused`, with `call`
+        (its place from 1 on) and `why`. `Stale` is raised if the world has another number than `at`.
+        """
+        said = self.tried("POST", "/each?why", body_of([written_call(call) for call in calls], as_, at), Deadline(self.patience))
+        return [alone(place, entry) for place, entry in enumerate(said["each"], 1)]
+
+    def dump(self) -> str:
+        """All that the world holds, as `moo dump` writes it. `NoMemory` is raised if the service can't hold it in memory."""
+        text: str = self.tried("GET", "/dump", None, Deadline(self.patience), bytes.decode)
+        return text
 
     def seq(self) -> int:
         """The number of accepted batches."""
@@ -404,18 +419,20 @@ class Moo:
         said = self.tried("POST", "/ask?why", body_of(calls, as_, at), deadline)
         return said["answers"], said["seq"]
 
-    def tried(self, method: str, path: str, body: bytes | None, deadline: Deadline) -> dict[str, Any]:
+    def tried(
+        self, method: str, path: str, body: bytes | None, deadline: Deadline, reading: Callable[[bytes], Any] = json.loads
+    ) -> Any:  # fmt: skip
         """A request that changes nothing, sent until an answer comes."""
         while True:
             try:
-                return self.sent(method, path, body)
+                return self.sent(method, path, body, reading)
             except (NoService, LostAnswer):
                 if deadline.is_over():
                     raise Unreachable("the service can't be reached") from None
                 deadline.rest()
 
-    def sent(self, method: str, path: str, body: bytes | None) -> dict[str, Any]:
-        """The good answer to one request. Any other one is raised, and so is a missing one."""
+    def sent(self, method: str, path: str, body: bytes | None, reading: Callable[[bytes], Any] = json.loads) -> Any:
+        """The good answer to one request, as `reading` reads it. Any other one is raised, and so is a missing one."""
         connection = http.client.HTTPConnection(self.host, self.port, timeout=self.wait)
         try:
             try:
@@ -425,7 +442,8 @@ class Moo:
             try:
                 connection.request(method, path, body)
                 answer = connection.getresponse()
-                status, said = answer.status, json.loads(answer.read())
+                status, bytes_said = answer.status, answer.read()
+                said = reading(bytes_said) if status == 200 else json.loads(bytes_said)
             except (OSError, http.client.HTTPException, ValueError) as error:
                 raise LostAnswer from error
         finally:
@@ -437,6 +455,16 @@ class Moo:
         if said.get("error") == "closed":
             raise NoService
         return raise_refusal(status, said)
+
+
+def alone(place: int, entry: dict[str, Any]) -> Any:
+    """What the call at this place was answered alone: a value, or why it fails."""
+    if "answer" in entry:
+        return read(entry["answer"])
+    kind = REFUSALS.get(entry["error"])
+    if kind is None:
+        raise BadRequest(f"call {place}: {entry['error']}", entry.get("why"))
+    return kind(place, entry.get("why"))
 
 
 def body_of(calls: list[str], as_: int | Obj, at: int | None) -> bytes:

@@ -480,7 +480,8 @@ class Writer:
         """The texts of an object."""
         inside = self.first_inside.get(number, NOTHING), self.next_inside.get(number, NOTHING)
         below = self.first_child.get(number, NOTHING), self.next_child.get(number, NOTHING)
-        yield f"#{number}\n{self.origin.objects.get((number, item.name), item.name)}\n\n{item.flags}\n{item.owner}\n{item.location}\n{inside[0]}\n{inside[1]}\n"
+        yield f"#{number}\n{self.origin.objects.get((number, item.name), item.name)}\n\n{item.flags}\n{item.owner}\n"
+        yield f"{item.location}\n{inside[0]}\n{inside[1]}\n"
         yield f"{item.parent}\n{below[0]}\n{below[1]}\n{len(item.verbs)}\n"
         for names, text in item.verbs:
             yield self.origin.verbs.get((number, names), names) + text

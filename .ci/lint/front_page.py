@@ -1,4 +1,4 @@
-"""That the pages agree with the repository: the front page's demo, the picture and its crates, links, and the mutants that REFUSED lists."""
+"""That the pages agree with the repository: the front page's demo, the picture and its crates, links, and the mutants of REFUSED."""
 import re
 import subprocess
 import sys

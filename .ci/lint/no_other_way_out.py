@@ -7,7 +7,7 @@ from pathlib import Path
 
 TOP = Path(__file__).resolve().parents[2]
 # None of these opens a file, a socket or a process without the host's runtime. Nor does any of the crates of SQLite.
-HARMLESS = set("clap http httparse httpdate matchit serde_json thiserror".split())
+HARMLESS = set("clap http httparse httpdate itoa matchit serde_json thiserror".split())
 SQLITE = re.compile(r"sqlite(_[a-z]+)*")
 UNSAFE = re.compile(r"^(?!\s*//).*\bunsafe\b", re.MULTILINE)
 HISTORY = re.compile(r"sqlite_std_file\.\S*\b(Record|Host)\b")
@@ -28,4 +28,6 @@ def cases():
         yield f"{crate} uses", [name for name in used if name not in HARMLESS and not SQLITE.fullmatch(name)]
         yield f"{crate} is safe", [file.name for file in sorted(folder.glob("src/**/*.rt")) if UNSAFE.search(file.read_text())]
         # A proof by hand could claim which calls a file has seen.
-        yield f"{crate} claims no history", [file.name for file in sorted(folder.glob("proofs/**/*.antt")) if HISTORY.search(file.read_text())]
+        yield f"{crate} claims no history", [
+            file.name for file in sorted(folder.glob("proofs/**/*.antt")) if HISTORY.search(file.read_text())
+        ]

@@ -3,7 +3,8 @@
     python3 .ci/lint/plain_english.py [FILE..]     prints the slips in these files, or in all, those of the crates included
 
 Only what is a slip at every place can be looked for. 'Where' for a place is right, and so is 'behind a proxy'; a slip that looks like these
-is for a reader to find. Code, and what is between backquotes, isn't looked at. The crates are counted and not tested yet (CRATES_ARE_TESTED).
+is for a reader to find. Code, and what is between backquotes, isn't looked at. The crates are counted and not tested yet
+(CRATES_ARE_TESTED).
 """
 import ast
 import io
@@ -44,9 +45,10 @@ SLIPS = [
     (r"\bwhere (?:memory|room|space) (?!goes\b)", "'if'"),
     (r"\bwhere (?:nothing|none|no \w+) (?:is|are|was|has|comes|fails)\b", "'if'"),
     (r"\bwhere the (?:store|writer|reader|disk|output|input) (?:fails|failed|is refused)\b", "'if'"),
-    (r"\bwhere (?:it|they|that|one) (?:isn't|aren't|wasn't|hasn't|haven't|doesn't|don't|didn't|can't|fails|failed|has no|has none|is none)\b", "'if'"),
+    (r"\bwhere (?:it|they|that|one) (?:isn't|aren't|wasn't|hasn't|haven't|doesn't|don't|didn't|can't)\b", "'if'"),
+    (r"\bwhere (?:it|they|that|one) (?:fails|failed|has no|has none|is none)\b", "'if'"),
     (r"\b(?:0|1|[Nn]one|Err|Ok|None|false|true|E_[A-Z]+|AllocError|OutOfMemory) where\b", "'if'"),
-    (r"(?<!here )\b(?:is|are|was|were) no (?!longer\b|more\b|less\b|better\b|worse\b|faster\b|slower\b|greater\b|further\b|wonder\b)[a-z]", "'isn't a'"),
+    (r"(?<!here )\b(?:is|are|was|were) no (?!(?:longer|more|less|better|worse|faster|slower|greater|further|wonder)\b)[a-z]", "'isn't a'"),
     (r"(?<!here )\b(?:is|are|was|were) none\b(?! of\b| the\b)", "'isn't one'"),
     (r"\bwants? of (?:memory|room|space|one)\b|\bfor want of\b", "'out of memory', 'a lack of'"),
     (r"\btake?n? (?:\w+ ){0,3}over to\b|\btakes (?:\w+ ){0,3}over to version\b", "'migrated to'"),

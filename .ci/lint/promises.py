@@ -93,7 +93,9 @@ def wrong_in(row: Row, clauses: dict[str, set[str]], words: set[str], proofs: se
             if word[0].isupper() or word in clauses:
                 if word not in words and word not in clauses:
                     return f"`{word}` isn't in specs/"
-            elif word not in ensured and not (is_of_any and any(word in each for each in clauses.values())) and not (is_field and word in words):
+            elif word not in ensured and not (is_of_any and any(word in each for each in clauses.values())) and not (
+                is_field and word in words
+            ):
                 return f"`{word}` isn't a clause of {row.calls}"
     missing = [word for quoted in QUOTED.findall(inside) for word in WORD.findall(quoted) if word not in words and word not in clauses]
     return f"`{missing[0]}` isn't a word of specs/" if missing else None

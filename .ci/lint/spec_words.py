@@ -38,5 +38,7 @@ def words_told():
 def cases():
     """The name of each case, and what is wrong with it."""
     files, declared = words_defined(), words_declared()
-    yield "a word of specs/ means one thing", {word: sorted(named) for word, named in files.items() if len(named) > 1 and word not in TWO_THINGS}
+    yield "a word of specs/ means one thing", {
+        word: sorted(named) for word, named in files.items() if len(named) > 1 and word not in TWO_THINGS
+    }
     yield "DEFINITIONS has words that there are", [word for word in words_told() if word not in files and word not in declared]

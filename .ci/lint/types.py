@@ -1,4 +1,4 @@
-"""That the types of tools/, tests/support/ and web/ agree, by Debian's mypy. Without it this is left out."""
+"""That the types of tools/, bench/, packaging/, tests/support/ and web/ agree, by Debian's mypy. Without it this is left out."""
 from __future__ import annotations
 
 import shutil
@@ -9,17 +9,28 @@ from typing import Iterator, Optional
 
 TOP = Path(__file__).resolve().parents[2]
 MYPY = "/usr/bin/mypy"
-WHAT = ("tools", "tests/support", "web/moo_web")
+WHAT = ("tools", "bench", "packaging", "tests/support", "web", "web/moo_web")
 
 
-def modules(folder: str) -> list[str]:
-    """The modules and packages right in a folder."""
-    return [str(path) for path in sorted((TOP / folder).glob("*.py"))] + [str(path.parent) for path in sorted((TOP / folder).glob("*/__init__.py"))]
+def is_script(path: Path) -> bool:
+    """Whether a file is a script of Python, whatever its name."""
+    if path.suffix or not path.is_file():
+        return False
+    with path.open("rb") as file:
+        first = file.readline()
+    return first.startswith(b"#!") and b"python" in first
+
+
+def modules(folder: Path) -> list[str]:
+    """The modules, packages and scripts right in a folder."""
+    packages = [path.parent for path in folder.glob("*/__init__.py")]
+    return [str(path) for path in sorted([*folder.glob("*.py"), *packages, *filter(is_script, folder.iterdir())])]
 
 
 def complaint(folder: str) -> Optional[str]:
     """What mypy says of a folder, or nothing."""
-    words = [MYPY, "--config-file", ".ci/mypy.ini", "--cache-dir", "/dev/null", "--no-error-summary", *modules(folder)]
+    flags = ["--config-file", ".ci/mypy.ini", "--cache-dir", "/dev/null", "--no-error-summary", "--scripts-are-modules"]
+    words = [MYPY, *flags, *modules(TOP / folder)]
     ran = subprocess.run(words, cwd=TOP, stdout=subprocess.PIPE, stderr=subprocess.STDOUT, text=True)
     return None if ran.returncode == 0 else "; ".join(ran.stdout.splitlines()[:5])
 

@@ -34,7 +34,7 @@ def group_for(name: str) -> Path | None:
 
 
 class Machine:
-    """A new machine. `other` plays another machine: there the sources are, and there copies are kept. `disk2` is a disk that outlives it."""
+    """A new machine. `other` plays another machine, with the sources and with copies. `disk2` is a disk that outlives it."""
 
     def __init__(self, folder: Path, name: str) -> None:
         self.root, self.name, self.log = folder / name, name, folder / f"{name}.log"
@@ -95,7 +95,9 @@ class Machine:
 
     def start(self, lines: list[str]) -> subprocess.Popen[str]:
         """Lines of a shell that go on while others run."""
-        return subprocess.Popen(self.words(lines), env=HOME, stdin=subprocess.DEVNULL, stdout=subprocess.PIPE, stderr=subprocess.DEVNULL, text=True)
+        return subprocess.Popen(
+            self.words(lines), env=HOME, stdin=subprocess.DEVNULL, stdout=subprocess.PIPE, stderr=subprocess.DEVNULL, text=True
+        )
 
     def kill(self) -> None:
         """Ends all that runs on it, at once."""
@@ -112,7 +114,7 @@ class Machine:
 def make_base(folder: Path) -> None:
     """What each machine begins as, the sources for them, and the disk that outlives them."""
     if not (folder / "base").exists():
-        words = ["debootstrap", "--include=dbus,systemd-sysv", "bookworm", folder / "unfinished", MIRROR]
+        words = ["debootstrap", "--include=dbus,systemd-sysv", "bookworm", str(folder / "unfinished"), MIRROR]
         subprocess.run(words, stdout=subprocess.DEVNULL, check=True)
         (folder / "unfinished/etc/apt/apt.conf.d/yes").write_text('APT::Get::Assume-Yes "true";\n')
         # Debian's own packages needn't be synced file by file.

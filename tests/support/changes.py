@@ -42,7 +42,8 @@ OF_QUOTA: Tables = OPENING | {
 }
 # The worlds that batches begin with: the text that makes one, and its rows.
 WORLDS: dict[str, tuple[str, Tables]] = {
-    "new": ("", OPENING), "tree": (TREE, OF_TREE), "verbs": (VERBS, OF_VERBS), "quota": (QUOTA, OF_QUOTA), "petitions": (PETITIONS, OF_PETITIONS),
+    "new": ("", OPENING), "tree": (TREE, OF_TREE), "verbs": (VERBS, OF_VERBS), "quota": (QUOTA, OF_QUOTA),
+    "petitions": (PETITIONS, OF_PETITIONS),
 }
 
 FOUR, FIVE, SIX, SEVEN = OF_TREE["object"][4:]
@@ -95,16 +96,25 @@ CHANGES: list[tuple[str, str, list[str], str, tuple[int, int, int], Tables, Tabl
         "quota", ["create(#1)", "create(#4)"], "#4 #5", (5, 2, 1),
         {"slot2": [(3, 1, 3, 0, "2")]}, {"object": [thing(4), thing(5, parent=4)], "slot2": [(3, 1, 3, 0, "0")]},
     ),
-    ("a name is set", "tree", ['set(#4, "name", "Lan\ttern \\"x\\"")'], "0", (7, 4, 1), {"object": [FOUR]}, {"object": [thing(4, 'Lan\ttern "x"')]}),
+    (
+        "a name is set", "tree", ['set(#4, "name", "Lan\ttern \\"x\\"")'], "0", (7, 4, 1), {"object": [FOUR]},
+        {"object": [thing(4, 'Lan\ttern "x"')]}
+    ),
     ("a name that it has changes the head alone", "tree", ['set(#4, "name", "")', 'set(#6, "b", 21)'], "0 0", (7, 4, 1), {}, {}),
     ("an owner is set", "tree", ['set(#4, "owner", #5)'], "0", (7, 4, 1), {"object": [FOUR]}, {"object": [thing(4, owner=5)]}),
     ("a place is changed", "tree", ["move(#4, #2)"], "0", (7, 4, 1), {"object": [FOUR]}, {"object": [thing(4, location=2)]}),
     ("a player is marked", "tree", ["set_player_flag(#4, 1)"], "0", (7, 4, 1), {"object": [FOUR]}, {"object": [thing(4, player=1)]}),
     *(
-        (f"the mark {flag} is set", "tree", [f'set(#4, "{flag}", 1)'], "0", (7, 4, 1), {"object": [FOUR]}, {"object": [thing(4, "", **{flag: 1})]})
+        (
+            f"the mark {flag} is set", "tree", [f'set(#4, "{flag}", 1)'], "0", (7, 4, 1), {"object": [FOUR]},
+            {"object": [thing(4, "", **{flag: 1})]}
+        )
         for flag in ("programmer", "wizard", "r", "w", "f")
     ),
-    ("an accept list is set", "tree", ["set_accept(#4, {#1,#5})"], "0", (7, 4, 1), {"object": [FOUR]}, {"object": [thing(4, accept="{#1, #5}")]}),
+    (
+        "an accept list is set", "tree", ["set_accept(#4, {#1,#5})"], "0", (7, 4, 1), {"object": [FOUR]},
+        {"object": [thing(4, accept="{#1, #5}")]}
+    ),
     ("an empty one is a list too", "tree", ["set_accept(#4, {})"], "0", (7, 4, 1), {"object": [FOUR]}, {"object": [thing(4, accept="{}")]}),
     (
         "an accept list is taken away",
@@ -124,7 +134,8 @@ CHANGES: list[tuple[str, str, list[str], str, tuple[int, int, int], Tables, Tabl
     ),
     (
         "a verb that is there changes after a new one",
-        "verbs", ['add_verb(#4, {#3, "", "drop"}, {"none", "none", "none"})', 'set_verb_args(#5, 1, {"this", "any", "any"})'], "0 0", (7, 4, 5),
+        "verbs", ['add_verb(#4, {#3, "", "drop"}, {"none", "none", "none"})', 'set_verb_args(#5, 1, {"this", "any", "any"})'], "0 0",
+        (7, 4, 5),
         {"verb": [PUT]}, {"verb": [(4, 4, "drop", 3, "", "none", "none", "none"), (5, 3, "put", 3, "", "this", "any", "any")]},
     ),
     ("a slot is cleared", "tree", ['clear_property(#6, "b")'], "0", (7, 4, 1), {"slot2": [B6]}, {"slot2": [(6, 2, 3, 4, "")]}),
@@ -142,7 +153,10 @@ CHANGES: list[tuple[str, str, list[str], str, tuple[int, int, int], Tables, Tabl
         "tree", ['add_property(#5, "d", 0, {#7, ""})'], "0", (7, 5, 1),
         {}, {"prop": [(4, 5, "d")], "slot2": [(5, 4, 7, 0, "0"), (6, 4, 7, 0, "")]},
     ),
-    ("a property that came and went leaves its number", "tree", ['add_property(#4, "d", 1, {#3, ""})', 'delete_property(#4, "d")'], "0 0", (7, 5, 1), {}, {}),
+    (
+        "a property that came and went leaves its number", "tree", ['add_property(#4, "d", 1, {#3, ""})', 'delete_property(#4, "d")'],
+        "0 0", (7, 5, 1), {}, {}
+    ),
     (
         "a property that goes takes its slots",
         "tree", ['delete_property(#5, "B")'], "0", (7, 4, 1), {"prop": [(2, 5, "b")], "slot2": [B5, B6]}, {},
@@ -161,7 +175,10 @@ CHANGES: list[tuple[str, str, list[str], str, tuple[int, int, int], Tables, Tabl
         "tree", ['add_verb(#4, {#3, "dr", "get take"}, {"any", "in", "this"})'], "0", (7, 4, 2),
         {}, {"verb": [(4, 1, "get take", 3, "rd", "any", "in/inside/into", "this")]},
     ),
-    ("a verb that came and went leaves its number", "verbs", ['add_verb(#6, {#3, "", "x"}, {"none", "none", "none"})', "delete_verb(#6, 1)"], "0 0", (7, 4, 5), {}, {}),
+    (
+        "a verb that came and went leaves its number", "verbs",
+        ['add_verb(#6, {#3, "", "x"}, {"none", "none", "none"})', "delete_verb(#6, 1)"], "0 0", (7, 4, 5), {}, {}
+    ),
     (
         "the names, the owner and the letters of a verb are set",
         "verbs", ['set_verb_info(#4, 1, {#5, "xw", "give"})'], "0", (7, 4, 4),
@@ -201,7 +218,10 @@ CHANGES: list[tuple[str, str, list[str], str, tuple[int, int, int], Tables, Tabl
         },
     ),
     ("a petition that is declined goes alone", "petitions", ["decline(1)"], "0", (7, 4, 1), {"petition": [TO_CREATE]}, {}),
-    ("the last of them leaves its number too", "petitions", ["decline(2)", "decline(1)"], "0 0", (7, 4, 1), {"petition": [TO_CREATE, TO_SET]}, {}),
+    (
+        "the last of them leaves its number too", "petitions", ["decline(2)", "decline(1)"], "0 0", (7, 4, 1),
+        {"petition": [TO_CREATE, TO_SET]}, {}
+    ),
     (
         "a petition that came and went leaves its number",
         "tree", ['petition({{"players"}})', "decline(1)"], "1 0", (7, 4, 1), {"petition_head": [(1, 1)]}, {"petition_head": [(1, 2)]},
@@ -218,8 +238,10 @@ CHANGES: list[tuple[str, str, list[str], str, tuple[int, int, int], Tables, Tabl
         "of each table a row goes, one is replaced and one comes",
         "verbs",
         [
-            'set(#4, "name", "Origin")', "recycle(#7)", "create(#4)", 'set_property_info(#4, "a", {#3, "r", "hue"})', 'add_property(#6, "d", {}, {#3, "w"})',
-            'set(#6, "b", 22)', 'set_verb_info(#4, 2, {#3, "rx", "drop"})', "delete_verb(#4, 1)", 'add_verb(#8, {#3, "r", "light"}, {"this", "none", "any"})',
+            'set(#4, "name", "Origin")', "recycle(#7)", "create(#4)", 'set_property_info(#4, "a", {#3, "r", "hue"})',
+            'add_property(#6, "d", {}, {#3, "w"})',
+            'set(#6, "b", 22)', 'set_verb_info(#4, 2, {#3, "rx", "drop"})', "delete_verb(#4, 1)",
+            'add_verb(#8, {#3, "r", "light"}, {"this", "none", "any"})',
         ],
         "0 0 #8 0 0 0 0 0 0", (8, 5, 5),
         {"object": [FOUR, SEVEN], "prop": [(1, 4, "a"), (3, 7, "c")], "slot2": [B6, C7], "verb": [GET_TAKE, LOOK]},
@@ -238,21 +260,38 @@ KEPT = [
         "a batch that is refused, on a new world",
         "new", "apply", 'batch as #3\ncreate(#1)\nset(#4, "name", "Lantern")\ncreate(#9)\nend\n', "refused 3 E_PERM\n",
     ),
-    ("a batch that is refused after calls that changed all", "tree", "apply", "\n".join(["batch as #3", *FIVE_CALLS, "create(#99)", "end\n"]), "refused 5 E_PERM\n"),
-    ("a question of the same", "tree", "ask", "\n".join(["batch as #3", *FIVE_CALLS, "max_object()", "end\n"]), "accepted 1\n#8\n0\n0\n0\n#8\nend\n"),
+    (
+        "a batch that is refused after calls that changed all", "tree", "apply",
+        "\n".join(["batch as #3", *FIVE_CALLS, "create(#99)", "end\n"]), "refused 5 E_PERM\n"
+    ),
+    (
+        "a question of the same", "tree", "ask", "\n".join(["batch as #3", *FIVE_CALLS, "max_object()", "end\n"]),
+        "accepted 1\n#8\n0\n0\n0\n#8\nend\n"
+    ),
     (
         "a grant that is refused after calls that changed all",
-        "petitions", "apply", 'batch as #3\npetition({{"create", #6}, {"chparent", #5, #7}, {"recycle", #6}, {"recycle", #6}})\ngrant(2)\ngrant(3)\nend\n',
+        "petitions", "apply",
+        'batch as #3\npetition({{"create", #6}, {"chparent", #5, #7}, {"recycle", #6}, {"recycle", #6}})\ngrant(2)\ngrant(3)\nend\n',
         "refused 3 E_INVARG\n",
     ),
-    ("a question of grants", "petitions", "ask", "batch as #3\ngrant(2)\ngrant(1)\npetitions()\nmax_object()\nend\n", "accepted 2\n0\n0\n{}\n#8\nend\n"),
-    ("a petition that is refused", "petitions", "apply", 'batch as #4\npetition({{"players"}})\npetition({{"grant", 1}})\nend\n', "refused 2 E_INVARG\n"),
+    (
+        "a question of grants", "petitions", "ask", "batch as #3\ngrant(2)\ngrant(1)\npetitions()\nmax_object()\nend\n",
+        "accepted 2\n0\n0\n{}\n#8\nend\n"
+    ),
+    (
+        "a petition that is refused", "petitions", "apply", 'batch as #4\npetition({{"players"}})\npetition({{"grant", 1}})\nend\n',
+        "refused 2 E_INVARG\n"
+    ),
     (
         "two questions, of which none sees the other's petition",
-        "tree", "ask", 'batch as #3\npetition({{"players"}})\nend\nbatch as #3\ngrant(1)\nend\n', "accepted 1\n1\nend\nrefused 1 E_INVARG\n",
+        "tree", "ask", 'batch as #3\npetition({{"players"}})\nend\nbatch as #3\ngrant(1)\nend\n',
+        "accepted 1\n1\nend\nrefused 1 E_INVARG\n",
     ),
     ("a question of one", "petitions", "ask", 'batch as #4\npetition({{"players"}})\nend\n', "accepted 2\n3\nend\n"),
-    ("a batch of another number", "tree", "apply", "batch as #3 at 0\ncreate(#1)\nend\nbatch as #3 at 2\ncreate(#1)\nend\n", "stale 1\nstale 1\n"),
+    (
+        "a batch of another number", "tree", "apply", "batch as #3 at 0\ncreate(#1)\nend\nbatch as #3 at 2\ncreate(#1)\nend\n",
+        "stale 1\nstale 1\n"
+    ),
     ("a batch that can't be read", "tree", "apply", "batch as #3\ncreate(#1)\ncreat(#1)\nend\n", "malformed 3\n"),
     ("a batch without its end", "tree", "apply", "batch as #3\ncreate(#1)\n", "truncated\n"),
     ("no text", "tree", "apply", "", ""),

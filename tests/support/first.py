@@ -16,7 +16,9 @@ def first_rows(rows: Tables) -> Tables:
     """The rows of the first version for those of the second."""
     ((number, _, *head),) = rows["head"]
     slots = [(*row[:3], letters(int(row[3])), row[4]) for row in rows["slot2"]]
-    return {"head": [(number, 1, *head)], "object": first_objects(rows["object"]), "prop": rows["prop"], "slot": slots, "verb": rows["verb"]}
+    return {
+        "head": [(number, 1, *head)], "object": first_objects(rows["object"]), "prop": rows["prop"], "slot": slots, "verb": rows["verb"]
+    }
 
 
 def make_first(file: str, rows: Tables) -> None:

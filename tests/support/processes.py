@@ -25,7 +25,8 @@ def start(words: Sequence[Any], **how: Any) -> subprocess.Popen[bytes]:
 def run_script(words: Sequence[Any], seconds: float, **variables: str) -> tuple[int, str]:
     """The status of a script, and all that it says. What it started itself ends with it, and all of it after so many seconds."""
     script = start(
-        words, env=dict(os.environ, **variables), start_new_session=True, stdin=subprocess.DEVNULL, stdout=subprocess.PIPE, stderr=subprocess.STDOUT
+        words, env=dict(os.environ, **variables), start_new_session=True, stdin=subprocess.DEVNULL, stdout=subprocess.PIPE,
+        stderr=subprocess.STDOUT
     )
     try:
         said, _ = script.communicate(timeout=seconds)

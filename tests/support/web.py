@@ -150,7 +150,8 @@ class Kept:
 
 
 def ask(
-    port: int, method: str, path: str, body: Any = None, token: Optional[str] = None, head: Optional[dict[str, str]] = None, wait: float = SECONDS
+    port: int, method: str, path: str, body: Any = None, token: Optional[str] = None, head: Optional[dict[str, str]] = None,
+    wait: float = SECONDS
 ) -> tuple[int, Any]:  # fmt: skip
     """The status of an answer, and its body: an object if it is JSON. `OSError` or `HTTPException`: no answer came."""
     connection = http.client.HTTPConnection("127.0.0.1", port, timeout=wait)

@@ -69,7 +69,9 @@ class Preview:
     def seen(self) -> str:
         """A sum of all that is shown of it, but for the world's number."""
         rows = [
-            [change.call, change.answer, [[before.call, *said] for before, said in change.before]] for change in (*self.changes, *self.inner)
+            [change.call, change.answer, [[before.call, *said] for before, said in change.before]] for change in (
+                *self.changes, *self.inner
+            )
         ]
         return sum_of([rows, dataclasses.astuple(self.refusal) if self.refusal else None])
 

@@ -9,7 +9,9 @@ PROPERTY_LETTERS = (
     ("w", "everybody may write it"),
     ("c", "on what is under the object, the owner of that owns it"),
 )
-VERB_LETTERS = (("r", "everybody may read it"), ("w", "everybody may change it"), ("x", "kept, and not looked at"), ("d", "kept, and not looked at"))
+VERB_LETTERS = (
+    ("r", "everybody may read it"), ("w", "everybody may change it"), ("x", "kept, and not looked at"), ("d", "kept, and not looked at")
+)
 OBJECT_WORDS = (("this", "this object"), ("any", "any object"), ("none", "nothing"))
 PHRASES = (
     "with/using", "at/to", "in front of", "in/inside/into", "on top of/on/onto/upon", "out of/from inside/from", "over", "through",
@@ -104,7 +106,8 @@ CHANGING = (
         (Step("chparent(<object>, <parent>)"),), blame={"chparent": "parent"},
     ),
     Form(
-        "owner", "Give to another owner", "Whose the object is. Only a wizard may do this. The properties and verbs on it keep their owners.",
+        "owner", "Give to another owner",
+        "Whose the object is. Only a wizard may do this. The properties and verbs on it keep their owners.",
         (OBJECT, Field("owner", "Owner", "object", "Who gets it.", now='get(<object>, "owner")')),
         (Step('set(<object>, "owner", <owner>)'),), who="wizards", blame={"set E_INVARG": "owner", "set": "object"},
     ),
@@ -179,7 +182,13 @@ PROPERTIES = (
         "property-rights", "Rights of a property", "Who may read and write it on this object, and whose it is there.",
         (
             OBJECT, NAME, letters(PROPERTY_LETTERS, "property_info(<object>, <name>)"), owner("property_info(<object>, <name>)"),
-            Field("renamed", "New name", "name", "Empty: it keeps its name. Only the object that defines it can give it another.", is_needed=False),
+            Field(
+                "renamed",
+                "New name",
+                "name",
+                "Empty: it keeps its name. Only the object that defines it can give it another.",
+                is_needed=False,
+            ),
         ),
         (
             Step("set_property_info(<object>, <name>, {<owner>, <perms>})", unless="renamed"),

@@ -1,7 +1,7 @@
 """The pages of forms: each shows what is there, previews what would be done, and does it, once.
 
-A form is sent with `go`: `preview`, `apply`, `ask` (what a petition of it would be), `petition` (makes it) or `edit` (shows the form again).
-Whatever is answered, the page has all that was typed.
+A form is sent with `go`: `preview`, `apply`, `ask` (what a petition of it would be), `petition` (makes it) or `edit` (shows the form
+again). Whatever is answered, the page has all that was typed.
 """
 
 from __future__ import annotations
@@ -39,10 +39,11 @@ NOT_THERE = ("E_INVARG", "E_INVIND")
 SIBLINGS = ("set", "clear", "property-rights", "delete-property", "verb-rights", "verb-args", "delete-verb")
 TROUBLES = {
     "busy": "The world didn’t answer in time, and nothing was sent to it. What you typed is still here: try again in a moment.",
-    "gap": "Nothing can be changed now: the world isn’t where its journal says, and an operator has to look at it. What you typed is still here.",
+    "gap": "Nothing can be changed now: the world isn’t where its journal says, and an operator has to look at it. "
+    "What you typed is still here.",
     "too long": "The answer would be too long to be shown. Nothing was done.",
-    "unknown": "It was sent for number {at}, and the world hasn’t answered. It will be decided once: if batch {next} of the journal is yours "
-    "it was done, and otherwise it wasn’t. ‘Look again’ tells which; it never does it twice.",
+    "unknown": "It was sent for number {at}, and the world hasn’t answered. It will be decided once: if batch {next} of the journal is "
+    "yours it was done, and otherwise it wasn’t. ‘Look again’ tells which; it never does it twice.",
     "moved": "Others have changed the world since you looked. Below is what it would do now: look at it once more.",
     "signed in": "You are signed in again. Nothing of this was sent: look at it, and go on.",
 }
@@ -273,7 +274,10 @@ def sentence_of(why: Excuse) -> str:
 
 
 def values_before(change: Change) -> list[tuple[str, Any, str]]:
-    """What is there before a change: what it is, its value, and the error in place of one that can't be read. Of a new object nothing is."""
+    """What is there before a change: what it is, its value, and the error in place of one that can't be read.
+
+    Of a new object nothing is there.
+    """
     there = [(before.what, said) for before, said in change.before if said.text not in NOT_THERE]
     return [(what, said.value, "" if said.is_good else said.text) for what, said in there]
 

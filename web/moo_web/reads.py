@@ -117,7 +117,9 @@ def reads_before(call: str) -> list[Before]:
     if not parts or not parts[1] or not isinstance(parts[1][0], Obj):
         return []
     name, given = parts
-    if len(given) > 1 and isinstance(given[1], str) and "property" in name or name == "set" and len(given) > 1 and isinstance(given[1], str):
+    if len(given) > 1 and isinstance(given[1], str) and "property" in name or name == "set" and len(given) > 1 and isinstance(
+        given[1], str
+    ):
         return of_property(name, given)
     if name in ("set_verb_info", "set_verb_args", "delete_verb") and len(given) > 1 and isinstance(given[1], (int, str)):
         return of_verb(name, given)

@@ -92,7 +92,9 @@ def number_value(text: str) -> str:
     typed = re.sub(r"(?<=\d)[,_ '](?=\d{3}\b)", "", text.strip().replace("−", "-"))
     if not re.fullmatch(r"[+-]?[0-9]{1,30}", typed):
         is_fraction = re.fullmatch(r"[+-]?\d*[.,]\d+", typed)
-        raise Mistyped(f"“{clipped(text)}” isn’t a whole number." if is_fraction else f"“{clipped(text)}” isn’t a number, such as 12 or -5.")
+        raise Mistyped(
+            f"“{clipped(text)}” isn’t a whole number." if is_fraction else f"“{clipped(text)}” isn’t a number, such as 12 or -5."
+        )
     if not LEAST_INTEGER <= int(typed) <= GREATEST_INTEGER:
         raise Mistyped("A number has 64 bits: from -9,223,372,036,854,775,808 to 9,223,372,036,854,775,807.")
     return str(int(typed))

@@ -33,7 +33,8 @@ pub record HaveKept (p : ObjNo) (calls : List Call) (old new : Held) : Type 0 wh
 -- one after another, each keeping numbers. A lack of memory is answered only if a call is run
 abbrev pub IsVerdict : Maps → Batch → Verdict → Type 0
 IsVerdict base batch (Accepted answers changes) =
-    (next : Maps) × AreChanges base next changes × IsGood next × (model.judge (state_of base) batch ≡ model.Accepted answers (state_of next)) × BatchLeads batch base next
+    (next : Maps) × AreChanges base next changes × IsGood next
+    × (model.judge (state_of base) batch ≡ model.Accepted answers (state_of next)) × BatchLeads batch base next
 IsVerdict base batch (Refused call code) = model.judge (state_of base) batch ≡ model.Refused call code
 IsVerdict base batch (Full call) = model.judge (state_of base) batch ≡ model.NoRoom call
 IsVerdict base batch (Stale seq) = model.judge (state_of base) batch ≡ model.Stale seq

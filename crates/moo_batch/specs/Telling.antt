@@ -10,7 +10,8 @@ use Rattle.moo_rows.specs.declared.row.PetitionRow.{PetitionRow}
 use Rattle.moo_rows.specs.Maps.{Maps}
 use Rattle.moo_world.specs.declared.call.Call.{Call}
 use Rattle.moo_world.specs.declared.name.PetitionCall.{PetitionCall}
-use Rattle.moo_world.specs.declared.name.PetitionCall.TheVariants.{Petition as to_petition, Petitions as to_list, Grant as to_grant, Decline as to_decline}
+use Rattle.moo_world.specs.declared.name.PetitionCall.TheVariants.{Petition as to_petition, Petitions as to_list}
+use Rattle.moo_world.specs.declared.name.PetitionCall.TheVariants.{Grant as to_grant, Decline as to_decline}
 use Rattle.moo_world.specs.Arguments.{no_values}
 use Rattle.moo_world.specs.Names.{petition_call}
 use Rattle.moo_world.specs.Outcomes.{Done}

@@ -80,8 +80,8 @@ fn held_steps<R: Rows>(
 
 /// `grant(number)`: takes a petition away and makes its calls, one after another, on the wizard's authority. It answers 0.
 ///
-/// E_PERM if the programmer isn't a wizard; then E_INVARG if there is no petition of this number; then the first error or Full of its calls,
-/// each of which asks first, as any call does, that the wizard is an object. The rows may then be half changed, and the caller drops
+/// E_PERM if the programmer isn't a wizard; then E_INVARG if there is no petition of this number; then the first error or Full of its
+/// calls, each of which asks first, as any call does, that the wizard is an object. The rows may then be half changed, and the caller drops
 /// them. This server's own.
 pub(crate) fn grant<R: Rows>(
     rows: &mut R,

@@ -43,7 +43,8 @@ fn all_listed<R: Rows>(
     all: bool,
     programmer: ObjNo,
 ) -> Result<Vec<Value>, AllocError>
-    ensures { IfOk result (λ found. found.items ≡ map listed (filter (λ e. all || same_object e.1.who programmer) (entries (R.held rows.now).maps.petitions))) }
+    ensures { IfOk result (λ found. found.items ≡ map listed (filter (λ e. all
+        || same_object e.1.who programmer) (entries (R.held rows.now).maps.petitions))) }
 {
     let mut found = Vec::new(alloc);
     for (id, row) in each_petition(rows) {
@@ -63,9 +64,11 @@ pub(crate) fn petitions<R: Rows>(
     args: &[Value],
 ) -> Result<Value, Fault>
     requires good { IsGood (R.held rows.now).maps }
-    ensures reaches { Reaches (given (no_values args.now) (λ _. petitions (state_in (R.held rows.now)) programmer)) (R.held rows.now) result }
+    ensures reaches { Reaches (given (no_values args.now) (λ _. petitions (state_in (R.held rows.now)) programmer))
+        (R.held rows.now) result }
     ensures kept { OnOk result (KeepsGoodRows KeepsNumbers (R.held rows.now) (R.held rows.now)) }
-    ensures told { IfErr result (IsTrueFault (R.held rows.now).maps programmer (about_given (no_values args.now) (λ _. about_nothing)) args.now) }
+    ensures told { IfErr result (IsTrueFault (R.held rows.now).maps programmer (about_given (no_values args.now)
+        (λ _. about_nothing)) args.now) }
 {
     no_values(args)?;
     let found = all_listed(rows, alloc, is_wizard(rows, programmer), programmer)?;

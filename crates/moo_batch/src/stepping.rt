@@ -60,7 +60,8 @@ pub fn step<R: Rows>(
     requires good { IsGood (R.held rows.old).maps }
     ensures reaches { Reaches (batch_call (state_in (R.held rows.old)) programmer call.now) (R.held rows.new) result }
     ensures stays { is_grant call.now.name ≡ false → Stays (R.held rows.old) (R.held rows.new) result }
-    ensures kept { OnOk result (KeepsGoodRows (CallKeepsNumbers (is_grant call.now.name) programmer call.now.args) (R.held rows.old) (R.held rows.new)) }
+    ensures kept { OnOk result (KeepsGoodRows (CallKeepsNumbers (is_grant call.now.name) programmer call.now.args) (R.held rows.old)
+        (R.held rows.new)) }
     ensures told { IfErr result (IsTrueFault (R.held rows.old).maps programmer (about_request programmer call.now) call.now.args) }
 {
     let Some(of_petitions) = call.name.petition_call() else {

@@ -6,8 +6,14 @@ use Rattle.moo_value.specs.declared.value.Value.{Value}
 use Rattle.moo_value.specs.Values.{Values}
 use Rattle.moo_world.specs.declared.descriptor.Desc.{Desc}
 use Rattle.moo_world.specs.declared.name.CallName.{CallName}
-use Rattle.moo_world.specs.declared.name.CallName.TheVariants.{Valid, Parent, Children, IsPlayer, Players, MaxObject, Get, Properties, PropertyInfo, IsClearProperty, Verbs, VerbInfo, VerbArgs, AcceptList, Create, Chparent, Recycle, Move, SetPlayerFlag, Set, AddProperty, DeleteProperty, SetPropertyInfo, ClearProperty, AddVerb, DeleteVerb, SetVerbInfo, SetVerbArgs, SetAccept, Petition, Petitions, Grant, Decline}
-use Rattle.moo_world.specs.Arguments.{no_values, one_object, two_objects, object_and_text, object_and_value, object_text_and_value, parent_and_owner, object_and_accept, new_property, new_property_info, object_and_desc, new_verb, new_verb_info, new_verb_args}
+use Rattle.moo_world.specs.declared.name.CallName.TheVariants.{Valid, Parent, Children, IsPlayer, Players, MaxObject, Get, Properties}
+use Rattle.moo_world.specs.declared.name.CallName.TheVariants.{PropertyInfo, IsClearProperty, Verbs, VerbInfo, VerbArgs, AcceptList}
+use Rattle.moo_world.specs.declared.name.CallName.TheVariants.{Create, Chparent, Recycle, Move, SetPlayerFlag, Set, AddProperty}
+use Rattle.moo_world.specs.declared.name.CallName.TheVariants.{DeleteProperty, SetPropertyInfo, ClearProperty, AddVerb, DeleteVerb}
+use Rattle.moo_world.specs.declared.name.CallName.TheVariants.{SetVerbInfo, SetVerbArgs, SetAccept, Petition, Petitions, Grant, Decline}
+use Rattle.moo_world.specs.Arguments.{no_values, one_object, two_objects, object_and_text, object_and_value}
+use Rattle.moo_world.specs.Arguments.{object_text_and_value, parent_and_owner, object_and_accept, new_property}
+use Rattle.moo_world.specs.Arguments.{new_property_info, object_and_desc, new_verb, new_verb_info, new_verb_args}
 use Rattle.moo_world.specs.Objects.{Name}
 
 -- Each part is `None` in a call that isn't given one.
@@ -48,16 +54,19 @@ abbrev pub about_new_property : ObjNo → Name → Name → About
 about_new_property object name letters = record about_nothing { object = Some object; new_name = Some name; letters = Some letters }
 
 abbrev pub about_info : ObjNo → Name → Name → Option Name → About
-about_info object name letters new_name = record about_nothing { object = Some object; name = Some name; letters = Some letters; new_name = new_name }
+about_info object name letters new_name =
+    record about_nothing { object = Some object; name = Some name; letters = Some letters; new_name = new_name }
 
 abbrev pub about_verb : ObjNo → Desc → About
 about_verb object verb = record about_nothing { object = Some object; verb = Some verb }
 
 abbrev pub about_new_verb : ObjNo → Name → Name → Name × Name × Name → About
-about_new_verb object letters names args = record about_nothing { object = Some object; letters = Some letters; verb_names = Some names; verb_args = Some args }
+about_new_verb object letters names args =
+    record about_nothing { object = Some object; letters = Some letters; verb_names = Some names; verb_args = Some args }
 
 abbrev pub about_verb_info : ObjNo → Desc → Name → Name → About
-about_verb_info object verb letters names = record about_nothing { object = Some object; verb = Some verb; letters = Some letters; verb_names = Some names }
+about_verb_info object verb letters names =
+    record about_nothing { object = Some object; verb = Some verb; letters = Some letters; verb_names = Some names }
 
 abbrev pub about_verb_args : ObjNo → Desc → Name × Name × Name → About
 about_verb_args object verb args = record about_nothing { object = Some object; verb = Some verb; verb_args = Some args }
@@ -96,14 +105,19 @@ about_call programmer Recycle args = about_given (one_object args) about_object
 about_call programmer Move args = about_given (two_objects args) λ (object, place). about_place object place
 about_call programmer SetPlayerFlag args = about_given (object_and_value args) λ (object, value). about_object object
 about_call programmer Set args = about_given (object_text_and_value args) λ (object, name, value). about_property object name
-about_call programmer AddProperty args = about_given (new_property args) λ (object, (name, value, (owner, letters))). about_new_property object name letters
+about_call programmer AddProperty args =
+    about_given (new_property args) λ (object, (name, value, (owner, letters))). about_new_property object name letters
 about_call programmer DeleteProperty args = about_given (object_and_text args) λ (object, name). about_property object name
-about_call programmer SetPropertyInfo args = about_given (new_property_info args) λ read. about_info read.object read.name read.info.1 read.new_name
+about_call programmer SetPropertyInfo args =
+    about_given (new_property_info args) λ read. about_info read.object read.name read.info.1 read.new_name
 about_call programmer ClearProperty args = about_given (object_and_text args) λ (object, name). about_property object name
-about_call programmer AddVerb args = about_given (new_verb args) λ (object, (((owner, letters), names), verb_args)). about_new_verb object letters names verb_args
+about_call programmer AddVerb args =
+    about_given (new_verb args) λ (object, (((owner, letters), names), verb_args)). about_new_verb object letters names verb_args
 about_call programmer DeleteVerb args = about_given (object_and_desc args) λ (object, verb). about_verb object verb
-about_call programmer SetVerbInfo args = about_given (new_verb_info args) λ (object, (verb, ((owner, letters), names))). about_verb_info object verb letters names
-about_call programmer SetVerbArgs args = about_given (new_verb_args args) λ (object, (verb, verb_args)). about_verb_args object verb verb_args
+about_call programmer SetVerbInfo args =
+    about_given (new_verb_info args) λ (object, (verb, ((owner, letters), names))). about_verb_info object verb letters names
+about_call programmer SetVerbArgs args =
+    about_given (new_verb_args args) λ (object, (verb, verb_args)). about_verb_args object verb verb_args
 about_call programmer SetAccept args = about_given (object_and_accept args) λ (object, accept). about_accept object accept
 -- the calls of petitions aren't calls on the world
 about_call programmer Petition args = about_unasked

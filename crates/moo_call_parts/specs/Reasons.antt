@@ -2,7 +2,13 @@
 use Rattle.moo_value.specs.declared.code.Code.{Code}
 use Rattle.moo_world.specs.Codes.{E_TYPE, E_PERM, E_PROPNF, E_VERBNF, E_INVIND, E_RECMOVE, E_NACC, E_INVARG, E_QUOTA}
 use Rattle.moo_call_parts.specs.declared.reason.Reason.{Reason}
-use Rattle.moo_call_parts.specs.declared.reason.Reason.TheVariants.{Given, NoProgrammer, NoWizard, NoObject, NoTarget, NoPlace, NoParent, NotControlled, NotFertile, NoOwner, NoObjectR, NoObjectW, ParentBelow, NameShared, NotAccepted, PlaceInside, NoQuota, NeverSet, NotTaken, NamesPlayer, NoProperty, NotDefined, NotRenamed, NotInherited, NoPropertyName, NameTaken, NoPropertyR, NoPropertyW, NotGiven, PropertyPerms, NoVerb, NoVerbR, NoVerbW, VerbPerms, VerbNames, VerbArgs, LongList, Unnamed, NotFew, Unasked, Deep, NoPetition, NotAsker}
+use Rattle.moo_call_parts.specs.declared.reason.Reason.TheVariants.{Given, NoProgrammer, NoWizard, NoObject, NoTarget, NoPlace, NoParent}
+use Rattle.moo_call_parts.specs.declared.reason.Reason.TheVariants.{NotControlled, NotFertile, NoOwner, NoObjectR, NoObjectW, ParentBelow}
+use Rattle.moo_call_parts.specs.declared.reason.Reason.TheVariants.{NameShared, NotAccepted, PlaceInside, NoQuota, NeverSet, NotTaken}
+use Rattle.moo_call_parts.specs.declared.reason.Reason.TheVariants.{NamesPlayer, NoProperty, NotDefined, NotRenamed, NotInherited}
+use Rattle.moo_call_parts.specs.declared.reason.Reason.TheVariants.{NoPropertyName, NameTaken, NoPropertyR, NoPropertyW, NotGiven}
+use Rattle.moo_call_parts.specs.declared.reason.Reason.TheVariants.{PropertyPerms, NoVerb, NoVerbR, NoVerbW, VerbPerms, VerbNames, VerbArgs}
+use Rattle.moo_call_parts.specs.declared.reason.Reason.TheVariants.{LongList, Unnamed, NotFew, Unasked, Deep, NoPetition, NotAsker}
 
 abbrev pub error_of : Reason → Code
 error_of (Given code) = code

@@ -20,7 +20,8 @@ use Rattle.moo_world.specs.Petitions.{is_named, are_few, are_shallow}
 use Rattle.moo_world.specs.PropertyCalls.{change_of, defines_name}
 use Rattle.moo_world.specs.Quota.{may_afford}
 use Rattle.moo_world.specs.Requests.{petition_at, state_of}
-use Rattle.moo_world.specs.Rights.{accepts, controls, is_fertile, is_wizard, is_within, may_make_owner, may_read_object, may_read_slot, may_read_verb, may_write_object, may_write_slot, may_write_verb}
+use Rattle.moo_world.specs.Rights.{accepts, controls, is_fertile, is_wizard, is_within, may_make_owner, may_read_object}
+use Rattle.moo_world.specs.Rights.{may_read_slot, may_read_verb, may_write_object, may_write_slot, may_write_verb}
 use Rattle.moo_world.specs.Rows.{world_of}
 use Rattle.moo_world.specs.VerbReading.{args_of}
 use Rattle.moo_world.specs.World.{Slot, chain, has_word, is_object, is_property_name, row_passes, slot_of}
@@ -28,7 +29,13 @@ use Rattle.moo_call_parts.specs.About.{About}
 use Rattle.moo_call_parts.specs.declared.fault.Fault.{Fault}
 use Rattle.moo_call_parts.specs.declared.fault.Fault.TheVariants.{Moo, Held as of_held, Full as NoneLeft, OutOfMemory}
 use Rattle.moo_call_parts.specs.declared.reason.Reason.{Reason}
-use Rattle.moo_call_parts.specs.declared.reason.Reason.TheVariants.{Given, NoProgrammer, NoWizard, NoObject, NoTarget, NoPlace, NoParent, NotControlled, NotFertile, NoOwner, NoObjectR, NoObjectW, ParentBelow, NameShared, NotAccepted, PlaceInside, NoQuota, NeverSet, NotTaken, NamesPlayer, NoProperty, NotDefined, NotRenamed, NotInherited, NoPropertyName, NameTaken, NoPropertyR, NoPropertyW, NotGiven, PropertyPerms, NoVerb, NoVerbR, NoVerbW, VerbPerms, VerbNames, VerbArgs, LongList, Unnamed, NotFew, Unasked, Deep, NoPetition, NotAsker}
+use Rattle.moo_call_parts.specs.declared.reason.Reason.TheVariants.{Given, NoProgrammer, NoWizard, NoObject, NoTarget, NoPlace, NoParent}
+use Rattle.moo_call_parts.specs.declared.reason.Reason.TheVariants.{NotControlled, NotFertile, NoOwner, NoObjectR, NoObjectW, ParentBelow}
+use Rattle.moo_call_parts.specs.declared.reason.Reason.TheVariants.{NameShared, NotAccepted, PlaceInside, NoQuota, NeverSet, NotTaken}
+use Rattle.moo_call_parts.specs.declared.reason.Reason.TheVariants.{NamesPlayer, NoProperty, NotDefined, NotRenamed, NotInherited}
+use Rattle.moo_call_parts.specs.declared.reason.Reason.TheVariants.{NoPropertyName, NameTaken, NoPropertyR, NoPropertyW, NotGiven}
+use Rattle.moo_call_parts.specs.declared.reason.Reason.TheVariants.{PropertyPerms, NoVerb, NoVerbR, NoVerbW, VerbPerms, VerbNames, VerbArgs}
+use Rattle.moo_call_parts.specs.declared.reason.Reason.TheVariants.{LongList, Unnamed, NotFew, Unasked, Deep, NoPetition, NotAsker}
 
 -- the call is given such a part, and this holds of it
 abbrev pub IfAbout : {A : Type 0} → Option A → (A → Type 0) → Type 0
@@ -52,13 +59,17 @@ IsTrueOf maps programmer about (NoObjectW x) = may_write_object (world_of maps) 
 IsTrueOf maps programmer about (ParentBelow parent) = IfAbout about.object (λ object. is_among object (chain (world_of maps) parent) ≡ true)
 IsTrueOf maps programmer about (NameShared definer property) = IfAbout about.object λ object. IfAbout about.place λ parent.
     (is_among object (chain (world_of maps) definer) ≡ true)
-    × (row : PropRow) × (get maps.props property ≡ Some row) × (row.definer ≡ definer) × (is_some (slot_of (world_of maps) parent (folded row.name)) ≡ true)
+    × (row : PropRow) × (get maps.props property ≡ Some row) × (row.definer ≡ definer)
+    × (is_some (slot_of (world_of maps) parent (folded row.name)) ≡ true)
 IsTrueOf maps programmer about (NotAccepted place) = IfAbout about.object (λ object. accepts (world_of maps) place object ≡ false)
 IsTrueOf maps programmer about (PlaceInside place) = IfAbout about.object (λ object. is_within (world_of maps) place object ≡ true)
 IsTrueOf maps programmer about (NoQuota owner) = may_afford (world_of maps) owner ≡ false
-IsTrueOf maps programmer about NeverSet = IfAbout (option_and_then built_in about.name) (λ field. (value : Value) → change_of field value ≡ Err E_PERM)
-IsTrueOf maps programmer about NotTaken = IfAbout (option_and_then built_in about.name) (λ field. (value : Value) × (change_of field value ≡ Err E_TYPE))
-IsTrueOf maps programmer about (NamesPlayer x) = (row_passes (λ row. row.player) (world_of maps) x ≡ true) × (is_wizard (world_of maps) programmer ≡ false)
+IsTrueOf maps programmer about NeverSet =
+    IfAbout (option_and_then built_in about.name) (λ field. (value : Value) → change_of field value ≡ Err E_PERM)
+IsTrueOf maps programmer about NotTaken =
+    IfAbout (option_and_then built_in about.name) (λ field. (value : Value) × (change_of field value ≡ Err E_TYPE))
+IsTrueOf maps programmer about (NamesPlayer x) =
+    (row_passes (λ row. row.player) (world_of maps) x ≡ true) × (is_wizard (world_of maps) programmer ≡ false)
 IsTrueOf maps programmer about (NoProperty x) = IfAbout about.name (λ name. is_some (slot_of (world_of maps) x (folded name)) ≡ false)
 IsTrueOf maps programmer about (NotDefined x) = IfAbout about.name (λ name. defines_name (world_of maps) x name ≡ false)
 IsTrueOf maps programmer about (NotRenamed x) = IfAbout about.name (λ name. defines_name (world_of maps) x name ≡ false)
@@ -72,7 +83,8 @@ IsTrueOf maps programmer about (NoPropertyR x) = IfAbout about.name λ name.
 IsTrueOf maps programmer about (NoPropertyW x) = IfAbout about.name λ name.
     (slot : Slot) × (slot_of (world_of maps) x (folded name) ≡ Some slot) × (may_write_slot (world_of maps) programmer slot ≡ false)
 IsTrueOf maps programmer about (NotGiven owner) = IfAbout about.object λ object. IfAbout about.name λ name.
-    (slot : Slot) × (slot_of (world_of maps) object (folded name) ≡ Some slot) × ((same_object owner slot.owner || is_wizard (world_of maps) programmer) ≡ false)
+    (slot : Slot) × (slot_of (world_of maps) object (folded name) ≡ Some slot)
+    × ((same_object owner slot.owner || is_wizard (world_of maps) programmer) ≡ false)
 IsTrueOf maps programmer about PropertyPerms = IfAbout about.letters (λ letters. bits_of letters ≡ None)
 IsTrueOf maps programmer about (NoVerb x) = IfAbout about.verb (λ verb. found_verb (world_of maps) x verb ≡ None)
 IsTrueOf maps programmer about (NoVerbR x) = IfAbout about.verb λ verb.
@@ -89,7 +101,8 @@ IsTrueOf maps programmer about Unasked = about.on_world ≡ false
 IsTrueOf maps programmer about Deep = IfAbout about.calls (λ calls. are_shallow calls ≡ false)
 IsTrueOf maps programmer about NoPetition = IfAbout about.number (λ number. petition_at (state_of maps) number ≡ None)
 IsTrueOf maps programmer about NotAsker = IfAbout about.number λ number.
-    (found : PetitionId × PetitionRow) × (petition_at (state_of maps) number ≡ Some found) × ((same_object found.1.who programmer || is_wizard (world_of maps) programmer) ≡ false)
+    (found : PetitionId × PetitionRow) × (petition_at (state_of maps) number ≡ Some found)
+    × ((same_object found.1.who programmer || is_wizard (world_of maps) programmer) ≡ false)
 
 -- the same of why a call fails, which isn't always a check
 abbrev pub IsTrueOfFault : Maps → ObjNo → About → Fault → Type 0

@@ -34,7 +34,8 @@ fn objects_among(alloc: Global, values: &[Value]) -> Result<Option<ObjList>, All
 /// then E_TYPE for anything else. OutOfMemory means out of memory and nothing else.
 pub fn object_and_accept(alloc: Global, args: &[Value]) -> Result<(ObjNo, Option<ObjList>), Fault>
     ensures given { GivenOrNot (object_and_accept args.now) result }
-    ensures told { (maps : Maps) (programmer : ObjNo) (about : ObjNo × Option (List ObjNo) → About) → IsTold maps programmer (about_given (object_and_accept args.now) about) result }
+    ensures told { (maps : Maps) (programmer : ObjNo) (about : ObjNo × Option (List ObjNo) → About) →
+        IsTold maps programmer (about_given (object_and_accept args.now) about) result }
 {
     match args {
         [Value::Obj(x), Value::List(list)] => match objects_among(alloc, list.items())? {

@@ -2,7 +2,8 @@
 
 ghost use Rattle.std.specs.Prelude.{◌≡◌, true, IfOk, IfErr, Ok, Err};
 ghost use Rattle.std.specs.List.{list_all};
-ghost use Rattle.moo_world.specs.Arguments.{fits, no_values, one_object, two_objects, object_and_text, object_and_value, object_text_and_value, parent_and_owner};
+ghost use Rattle.moo_world.specs.Arguments.{fits, no_values, one_object, two_objects, object_and_text};
+ghost use Rattle.moo_world.specs.Arguments.{object_and_value, object_text_and_value, parent_and_owner};
 
 use moo_value::{Code, MooStr, ObjNo, Value};
 

@@ -5,7 +5,8 @@ ghost use Rattle.moo_world.specs.Objects.{nothing, same_object};
 ghost use Rattle.moo_value.specs.declared.value.ObjNo.{ObjNo};
 ghost use Rattle.moo_world.specs.World.{is_object, row_passes};
 ghost use Rattle.moo_world.specs.Rows.{slot_seen};
-ghost use Rattle.moo_world.specs.Rights.{is_wizard, controls, may_be_parent, may_make_owner, may_set_name, may_read_object, may_write_object, may_read_slot, may_write_slot, may_read_verb, may_write_verb};
+ghost use Rattle.moo_world.specs.Rights.{is_wizard, controls, may_be_parent, may_make_owner, may_set_name, may_read_object};
+ghost use Rattle.moo_world.specs.Rights.{may_write_object, may_read_slot, may_write_slot, may_read_verb, may_write_verb};
 ghost use Rattle.moo_call_parts.specs.Outcomes.{world_in};
 
 use moo_rows::{Rows, SlotRow, VerbRow};

@@ -33,7 +33,8 @@ fn desc_of(alloc: Global, value: &Value) -> Result<Option<Desc>, AllocError>
 /// What `verb_info`, `verb_args` and `delete_verb` take: an object and a descriptor.
 pub fn object_and_desc(alloc: Global, args: &[Value]) -> Result<(ObjNo, Desc), Fault>
     ensures given { GivenOrNot (object_and_desc args.now) result }
-    ensures told { (maps : Maps) (programmer : ObjNo) (about : ObjNo × Desc → About) → IsTold maps programmer (about_given (object_and_desc args.now) about) result }
+    ensures told { (maps : Maps) (programmer : ObjNo) (about : ObjNo × Desc → About) →
+        IsTold maps programmer (about_given (object_and_desc args.now) about) result }
 {
     match args {
         [Value::Obj(x), desc] => match desc_of(alloc, desc)? {
@@ -132,8 +133,10 @@ pub struct NewVerbInfo<'a> {
 /// What `set_verb_info` takes.
 pub fn new_verb_info(alloc: Global, args: &[Value]) -> Result<NewVerbInfo<'_>, Fault>
     ensures given { GivenOrNot (new_verb_info args.now)
-        (result_map_both (λ p. (p.object, (p.desc, ((p.verb.info.owner, p.verb.info.perms.now), p.verb.names.now)))) (λ fault. fault) result) }
-    ensures told { (maps : Maps) (programmer : ObjNo) (about : ObjNo × (Desc × ((ObjNo × Name) × Name)) → About) → IsTold maps programmer (about_given (new_verb_info args.now) about) result }
+        (result_map_both (λ p. (p.object, (p.desc, ((p.verb.info.owner, p.verb.info.perms.now), p.verb.names.now))))
+        (λ fault. fault) result) }
+    ensures told { (maps : Maps) (programmer : ObjNo) (about : ObjNo × (Desc × ((ObjNo × Name) × Name)) → About) →
+        IsTold maps programmer (about_given (new_verb_info args.now) about) result }
 {
     match args {
         [Value::Obj(object), desc, Value::List(info)] => {
@@ -167,7 +170,8 @@ pub struct NewVerbArgs<'a> {
 pub fn new_verb_args(alloc: Global, args: &[Value]) -> Result<NewVerbArgs<'_>, Fault>
     ensures given { GivenOrNot (new_verb_args args.now)
         (result_map_both (λ p. (p.object, (p.desc, (p.args.dobj.now, p.args.prep.now, p.args.iobj.now)))) (λ fault. fault) result) }
-    ensures told { (maps : Maps) (programmer : ObjNo) (about : ObjNo × (Desc × (Name × Name × Name)) → About) → IsTold maps programmer (about_given (new_verb_args args.now) about) result }
+    ensures told { (maps : Maps) (programmer : ObjNo) (about : ObjNo × (Desc × (Name × Name × Name)) → About) →
+        IsTold maps programmer (about_given (new_verb_args args.now) about) result }
 {
     match args {
         [Value::Obj(object), desc, Value::List(texts)] => {

@@ -43,7 +43,7 @@ pub fn move_into<R: Rows>(
     if !rights::controls(rows, programmer, x) {
         return Err(Fault::Moo(Reason::NotControlled(x)));
     }
-    if !rights::is_wizard(rows, programmer) && !accepts(rows, destination, x) {
+    if !rights::is_wizard(rows, programmer) && !accepts(alloc, rows, destination, x) {
         return Err(Fault::Moo(Reason::NotAccepted(destination)));
     }
     if inside(rows, destination, x) {

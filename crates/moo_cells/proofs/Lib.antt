@@ -9,6 +9,7 @@ pub mod Keys
 pub mod Ranks
 pub mod HeadLemmas
 pub mod RowsLemmas
+pub mod TakenLemmas
 pub mod Compared
 pub mod OneCells
 pub mod ObjectLemmas

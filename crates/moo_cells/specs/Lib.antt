@@ -9,3 +9,4 @@ pub mod Compared
 pub mod Head
 pub mod HeadCells
 pub mod Damage
+pub mod Taken

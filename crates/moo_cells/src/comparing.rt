@@ -23,7 +23,7 @@ use sqlite::Row;
 use std::alloc::{AllocError, Global};
 
 /// Whether the table of the head, in tables of this version, and that of the number of the next petition show this one.
-fn shows_head(version: Version, rows: &[Row], counters: &[Row], head: Head) -> bool
+pub(crate) fn shows_head(version: Version, rows: &[Row], counters: &[Row], head: Head) -> bool
     requires head { AreKeyed rows.now }
     requires counter { AreKeyed counters.now }
     ensures counter { result ≡ true → ReadsCounter version (λ n. find (has_rowid n) counters.now) head.next_petition }

@@ -20,7 +20,7 @@ use moo_tables::CellLists as Cells;
 use std::alloc::Global;
 
 /// No rows under this head.
-fn under(alloc: Global, head: Head) -> Flat
+pub(crate) fn under(alloc: Global, head: Head) -> Flat
     ensures { result.maps ≡ record no_maps { head = head } }
 {
     let mut rows = Flat::new(alloc);

@@ -1,5 +1,5 @@
 -- From what a crash left of a run to the next run.
-use Rattle.moo_commands.{proofs.Words.{◌≡◌, ◌≢◌, ◌⊎◌, inl, inr, ℕ, zero, suc, Bool, true, false, List, length, Option, codes, refl, sym, ap, subst, true≢false, false_from_ne_true, ◌||◌, bytes_eq, Ghosts, Image, HasCleanDisk, Held, file_state, Maps, Batch, IsGood, State, state_of, LeavesLed, LeavesRows, LeavesState, Task, Given, Run, makes_world, begins_anew, HoldsRows, RunsRows, RanOver, RefusedOver, EndsWith, RunsOver, IsClosedEnd, RunsClosed}, specs.Again.{Started, StartedRows, LeadTo, RanFrom, TakesUp, TakesRows, IsLeftAfter, CrashesTo, LeadsOn, ClosesOn, IsFoundIn, ClosesTo}, proofs.Connections.{runs_when, unled}, specs.declared.ends.Ends.{Ends}}
+use Rattle.moo_commands.{proofs.Words.{◌≡◌, ◌≢◌, ◌⊎◌, inl, inr, ℕ, zero, suc, Bool, true, false, List, length, Option, codes, refl, sym, ap, subst, true≢false, false_from_ne_true, ◌||◌, bytes_eq, Ghosts, Image, HasCleanDisk, Held, file_state, Maps, Batch, IsGood, State, state_of, LeavesLed, LeavesRows, LeavesState, Task, Given, Run, makes_world, begins_anew, HoldsRows, RunsRows, RanFrom, RanOver, RefusedOver, EndsWith, RunsOver, IsClosedEnd, RunsClosed}, specs.Again.{Started, StartedRows, LeadTo, TakesUp, TakesRows, IsLeftAfter, CrashesTo, LeadsOn, ClosesOn, IsFoundIn, ClosesTo}, proofs.Connections.{runs_when, unled}, specs.declared.ends.Ends.{Ends}}
 use Rattle.moo_commands.specs.declared.ends.Ends.TheVariants as variant
 use Rattle.sqlite_store.specs.declared.store.FileStore.{FileStore}
 use Rattle.sqlite.{specs.State.{State as Database}, specs.Schema.{Schema}, specs.Tree.{Trees}, specs.declared.file.Leftover.{Leftover}}
@@ -26,7 +26,7 @@ started_rows_map task image given From Then on it = ((λ other rows holds. on ro
 
 module _ {D : Type 0} {g : Ghosts D} where
   -- what is found after a connection was closed is what a crash might have left before
-  found_left : (T : Type 0) (store : Database) (left_over : Leftover D g) (next : Image) → IsLeftOf store left_over → IsFoundIn {T = T} (remains.Leftover left_over) next → IsLeftBy store next
+  pub found_left : (T : Type 0) (store : Database) (left_over : Leftover D g) (next : Image) → IsLeftOf store left_over → IsFoundIn {T = T} (remains.Leftover left_over) next → IsLeftBy store next
   found_left T store (left.Files now) next of (inl is) = subst (IsLeftBy store) (sym is) of.0
   found_left T store (left.Files now) next of (inr out) = of.1 next out
   found_left T store (left.Unopened now) next of found = absurd of
@@ -74,7 +74,7 @@ module _ {D : Type 0} {g : Ghosts D} where
 
 module _ {T D : Type 0} {g : Ghosts D} where
   -- a task that ran over a file is on a file, and this is its run
-  ran_file : (task : Task) (image : Image) (conn : Held (FileStore D g)) (run : Run)
+  pub ran_file : (task : Task) (image : Image) (conn : Held (FileStore D g)) (run : Run)
       → EndsWith {T = T} task image (variant.Ran conn) run → RanOver task image conn run
   ran_file task image conn run it = it.file (false_from_ne_true _ it.memory)
 
@@ -99,7 +99,7 @@ module _ {T D : Type 0} {g : Ghosts D} where
   takes_up words image ends run (inr (some, rests, usage, none)) s holds = inr (some, usage, none)
 
   -- what a crash left of files that kept such a database holds such a one
-  still_such : (P : Trees → Type 0) (image : Image) (rest : Remains T D g) (next : Image) → KeepsSuch P image rest → HoldsSuch P image → IsLeftAfter image rest next → HoldsSuch P next
+  pub still_such : (P : Trees → Type 0) (image : Image) (rest : Remains T D g) (next : Image) → KeepsSuch P image rest → HoldsSuch P image → IsLeftAfter image rest next → HoldsSuch P next
   still_such P image (remains.Untouched start) next keeps holds is = subst (HoldsSuch P) (sym is) holds
   still_such P image (remains.NotOpened seal) next keeps holds is = subst (HoldsSuch P) (sym is) holds
   still_such P image (remains.Leftover (left.Files now)) next keeps holds left = keeps next left
@@ -108,7 +108,7 @@ module _ {T D : Type 0} {g : Ghosts D} where
   still_such P image (remains.Connection conn) next keeps holds left = record { trees = left.trees; holds = left.holds; such = keeps left.trees left.such }
 
   -- files whose words were refused keep their state
-  refused_left : (words : List (List ℕ)) (image : Image) (rest : Remains T D g) (run : Run)
+  pub refused_left : (words : List (List ℕ)) (image : Image) (rest : Remains T D g) (run : Run)
       → RunsOver words image (variant.Refused rest) run → (s : State) → HoldsState image s → IsCleanRemains rest → StillHolds image rest s
   refused_left words image rest run (inl (task, named, alone, runs, it)) s holds clean = (refused_file task image rest run it).left s holds clean
   refused_left words image rest run (inr (some, rests, usage, none)) s holds clean = absurd none
@@ -135,7 +135,7 @@ module _ {T D : Type 0} {g : Ghosts D} where
       (still, goes s still)
 
   -- files whose words were refused keep their rows
-  refused_rows : (words : List (List ℕ)) (image : Image) (rest : Remains T D g) (run : Run)
+  pub refused_rows : (words : List (List ℕ)) (image : Image) (rest : Remains T D g) (run : Run)
       → RunsOver words image (variant.Refused rest) run → (rows : Maps) (holds : HoldsRows image rows) → IsCleanRemains rest → KeepsSuch (IsKept holds.1.trees) image rest
   refused_rows words image rest run (inl (task, named, alone, runs, it)) rows holds clean = elim (begins_or_not (begins_anew task)) [
     | inl anew ↦
@@ -146,7 +146,7 @@ module _ {T D : Type 0} {g : Ghosts D} where
   refused_rows words image rest run (inr (some, rests, usage, none)) rows holds clean = absurd none
 
   -- what a crash left of files that kept their database holds the rows
-  still_rows : (image : Image) (rest : Remains T D g) (next : Image) (rows : Maps) (holds : HoldsRows image rows) → KeepsSuch (IsKept holds.1.trees) image rest → IsLeftAfter image rest next → HoldsRows next rows
+  pub still_rows : (image : Image) (rest : Remains T D g) (next : Image) (rows : Maps) (holds : HoldsRows image rows) → KeepsSuch (IsKept holds.1.trees) image rest → IsLeftAfter image rest next → HoldsRows next rows
   still_rows image rest next rows holds keeps left =
       let still = still_such (IsKept holds.1.trees) image rest next keeps (record { trees = holds.1.trees; holds = holds.1.holds; such = inl refl }) left in
       (holds.0, record { trees = still.trees; holds = still.holds; such = kept_rows rows holds.0 holds.1.trees still.trees holds.1.such still.such })
@@ -168,7 +168,7 @@ module _ {T D : Type 0} {g : Ghosts D} where
       (still, goes rows still)
 
   -- what is closed keeps what it kept
-  kept_closed : (P : Trees → Type 0) (image : Image) (was now : Remains T D g) → IsClosedFrom was now → IsCleanRemains now → (IsCleanRemains was → KeepsSuch P image was) → KeepsSuch P image now
+  pub kept_closed : (P : Trees → Type 0) (image : Image) (was now : Remains T D g) → IsClosedFrom was now → IsCleanRemains now → (IsCleanRemains was → KeepsSuch P image was) → KeepsSuch P image now
   kept_closed P image (remains.Untouched start) now is clean keeps = subst (KeepsSuch P image) (sym is) (keeps tt)
   kept_closed P image (remains.NotOpened seal) now is clean keeps = subst (KeepsSuch P image) (sym is) (keeps tt)
   kept_closed P image (remains.Leftover rest) now is clean keeps = subst (KeepsSuch P image) (sym is) (keeps (subst IsCleanRemains is clean))

@@ -1,7 +1,7 @@
 -- A task over a connection.
-use Rattle.moo_commands.proofs.Words.{◌≡◌, ◌⊎◌, inl, inr, ℕ, List, [], Option, Result, Ok, Err, IfOk, IfErr, refl, sym, subst, subst₂, ap, ◌∙◌, Bool, true, false, IsTrue, MatchResult, ⊤, HasCleanDisk, Survives, Held, state, Task, Stand, Failure, Store, Damaged, NewerVersion, Reports, store_failure, Given, Run, Leads, MayLead, Done, StopsTask, ShowsTables, EndsTask, RunsFrom, RunsUnseen, IsOpening, MayRefuse, LeavesAsBefore, LeavesNothingNew, only_reads, serves, Batch, State, LeavesLed, World, store_of, CrashLeaves, ShowsState}
+use Rattle.moo_commands.proofs.Words.{◌≡◌, ◌⊎◌, inl, inr, ℕ, List, [], Option, Result, Ok, Err, refl, sym, subst, subst₂, ap, ◌∙◌, Bool, true, false, IsTrue, MatchResult, ⊤, HasCleanDisk, Survives, Held, state, Task, Stand, Failure, Store, Damaged, NewerVersion, Reports, store_failure, Given, Run, Leads, MayLead, Done, StopsTask, ShowsTables, EndsTask, RunsAction, RunsIn, RunsFrom, RunsUnseen, IsOpening, MayRefuse, LeavesAsBefore, LeavesNothingNew, only_reads, serves, Batch, State, LeavesLed, World, store_of, CrashLeaves, ShowsState}
 use Rattle.sqlite.{specs.State.{State as Database}, specs.Store.{Ghosts}, specs.declared.error.Error.{Error}}
-use Rattle.moo_words.{specs.declared.task.Action.{Action}, specs.declared.task.Action.TheVariants.{Apply, Check, Serve}}
+use Rattle.moo_words.{specs.declared.task.Action.{Action}, specs.declared.task.Action.TheVariants.{Init, Apply, Rehearse, Ask, Dump, Load, Check, Serve}}
 use Rattle.moo_store.{specs.declared.fault.StoreFault.{StoreFault}, specs.Opening.{IsOfStore, Adopts}}
 use Rattle.moo_store.specs.declared.fault.StoreFault.TheVariants as store_fault
 
@@ -20,9 +20,30 @@ of_store store_fault.Closed it = absurd it
 pub of_opening : (fault : StoreFault) (failure : Failure) → failure ≡ store_failure fault → IsOfStore fault → IsOpening failure
 of_opening fault failure of it = subst IsOpening (sym of) (of_store fault it)
 
-module _ {S : Type 0} (g : Ghosts S) (known : Bool) (was world : World S) (conn : Held S) (is : conn ≡ world.connection) (task : Task) (s : State) (given : Given) (old : Option (List ℕ)) where
+-- what stops a task says nothing of a status
+stops_as : (action : Action) (s : State) (end : Stand) (failure : Failure) (Led : Leads) (Clean : Type 0) (run : Run) (other : ℕ)
+    → StopsTask action s end failure Led Clean run → StopsTask action s end failure Led Clean (record run { status = other })
+stops_as Init s end failure Led Clean run other it = it
+stops_as (Apply texts) s end failure Led Clean run other it = it
+stops_as (Rehearse texts) s end failure Led Clean run other it = it
+stops_as (Ask texts) s end failure Led Clean run other it = it
+stops_as Dump s end failure Led Clean run other it = it
+stops_as (Load dump) s end failure Led Clean run other it = it
+stops_as Check s end failure Led Clean run other it = it
+stops_as (Serve service) s end failure Led Clean run other it = it
+
+module _ {S : Type 0} (g : Ghosts S) (known : Bool) (was world : World S) (conn : Held S) (is : conn ≡ world.connection) (task : Task) (s : State)
+    (given : Given) (old : Option (List ℕ)) where
+  -- its run
+  abbrev pub Wrote : Option (List ℕ) → ℕ → Run
+  Wrote new status = record { given = given; before = old; after = new; status = status }
+
   abbrev pub RunsTo : Option (List ℕ) → ℕ → Type 0
-  RunsTo new status = RunsFrom task s (record { given = given; before = old; after = new; status = status }) (IsTrue known × HasCleanDisk (state g conn)) (CrashLeaves (state g conn)) (LeavesLed (state g conn) was.rows.maps) (ShowsTables g was (state g conn))
+  RunsTo new status = RunsIn g known was conn task s (Wrote new status)
+
+  -- what the batches lead to, if the disk is clean, by a connection
+  abbrev pub LedIn : Held S → Leads
+  LedIn h batches others = IsTrue known × HasCleanDisk (state g h) → LeavesLed (state g h) was.rows.maps batches others
 
   -- what a task that only reads leaves, and whether the ports rest
   pub record Keeps : Type 0 where
@@ -37,57 +58,64 @@ module _ {S : Type 0} (g : Ghosts S) (known : Bool) (was world : World S) (conn 
   still_led End it keeps reads both trees may =
       keeps.before (both.0, late_clean End it both.1) trees (subst (λ h. LeavesNothingNew (store_of g was) (state g h)) (sym is) (keeps.quiet reads) both.1 trees may)
 
-  pub runs_done : (new : Option (List ℕ)) (status : ℕ) → Keeps → EndsTask g known was world (λ end. Done task.action s end (MayLead g known was world) (ShowsTables g was (store_of g world)) given old new status) → RunsTo new status
+  abbrev pub IsDone : Option (List ℕ) → ℕ → Stand → Type 0
+  IsDone new status end = Done task.action s end (MayLead g known was world) (ShowsTables g was (store_of g world)) (Wrote new status)
+
+  abbrev pub IsStopped : Option (List ℕ) → ℕ → Failure → Stand → Type 0
+  IsStopped new status failure end = StopsTask task.action s end failure (MayLead g known was world) (IsTrue known × HasCleanDisk (store_of g world)) (Wrote new status)
+
+  pub runs_done : (new : Option (List ℕ)) (status : ℕ) → Keeps → EndsTask g known was world (IsDone new status) → RunsTo new status
   runs_done new status keeps it = record {
     end = it.end;
     rests = keeps.rests;
-    still = still_led (λ end. Done task.action s end (MayLead g known was world) (ShowsTables g was (store_of g world)) given old new status) it keeps;
+    still = still_led (IsDone new status) it keeps;
     crash = λ both. subst (λ h. HasCleanDisk (state g h) → CrashLeaves (state g h) it.end) (sym is) (it.crash both.0) both.1;
-    writes = inl (subst (λ h. Done task.action s it.end (λ batches others. IsTrue known × HasCleanDisk (state g h) → LeavesLed (state g h) was.rows.maps batches others) (ShowsTables g was (state g h)) given old new status) (sym is) it.ends);
+    writes = inl (subst (λ h. Done task.action s it.end (LedIn h) (ShowsTables g was (state g h)) (Wrote new status)) (sym is) it.ends);
   }
 
-  pub runs_stops : (between new : Option (List ℕ)) (failure : Failure) (status : ℕ) → Keeps → EndsTask g known was world (λ end. StopsTask task.action s end failure (MayLead g known was world) (IsTrue known × HasCleanDisk (store_of g world)) given old between) → Reports failure between new status
+  pub runs_stops : (between new : Option (List ℕ)) (failure : Failure) (first status : ℕ) → Keeps → EndsTask g known was world (IsStopped between first failure) → Reports failure between new status
       → RunsTo new status
-  runs_stops between new failure status keeps it reports = record {
+  runs_stops between new failure first status keeps it reports = record {
     end = it.end;
     rests = keeps.rests;
-    still = still_led (λ end. StopsTask task.action s end failure (MayLead g known was world) (IsTrue known × HasCleanDisk (store_of g world)) given old between) it keeps;
+    still = still_led (IsStopped between first failure) it keeps;
     crash = λ both. subst (λ h. HasCleanDisk (state g h) → CrashLeaves (state g h) it.end) (sym is) (it.crash both.0) both.1;
     writes = inr (
       failure,
       between,
-      subst (λ h. StopsTask task.action s it.end failure (λ batches others. IsTrue known × HasCleanDisk (state g h) → LeavesLed (state g h) was.rows.maps batches others) (IsTrue known × HasCleanDisk (state g h)) given old between) (sym is) it.ends,
+      subst (λ h. StopsTask task.action s it.end failure (LedIn h) (IsTrue known × HasCleanDisk (state g h)) (Wrote between status)) (sym is)
+          (stops_as task.action s it.end failure (MayLead g known was world) (IsTrue known × HasCleanDisk (store_of g world)) (Wrote between first) status it.ends),
       reports,
     );
   }
 
-  pub runs_to : (r : Result ℕ Failure) (mid new : Option (List ℕ)) (status : ℕ) → Keeps → IfOk r (λ value. EndsTask g known was world (λ end. Done task.action s end (MayLead g known was world) (ShowsTables g was (store_of g world)) given old mid value))
-      → IfErr r (λ failure. EndsTask g known was world (λ end. StopsTask task.action s end failure (MayLead g known was world) (IsTrue known × HasCleanDisk (store_of g world)) given old mid))
+  -- after the task of this run the status was that of what was done, or its failure was reported
+  pub runs_to : (r : Result ℕ Failure) (mid new : Option (List ℕ)) (first status : ℕ) → Keeps → RunsAction g known was world task.action s (Wrote mid first) r
       → MatchResult r (λ value. (status ≡ value) × (new ≡ mid)) (λ failure. Reports failure mid new status) → RunsTo new status
-  runs_to (Ok value) mid new status keeps done stops (same, unwritten) = subst₂ RunsTo (sym unwritten) (sym same) (runs_done mid value keeps done)
-  runs_to (Err failure) mid new status keeps done stops reports = runs_stops mid new failure status keeps stops reports
+  runs_to (Ok value) mid new first status keeps ends (same, unwritten) = subst₂ RunsTo (sym unwritten) (sym same) (runs_done mid value keeps ends)
+  runs_to (Err failure) mid new first status keeps ends reports = runs_stops mid new failure first status keeps ends reports
 
-  pub late_clean_of : (r : Result ℕ Failure) (mid : Option (List ℕ)) → IfOk r (λ value. EndsTask g known was world (λ end. Done task.action s end (MayLead g known was world) (ShowsTables g was (store_of g world)) given old mid value))
-      → IfErr r (λ failure. EndsTask g known was world (λ end. StopsTask task.action s end failure (MayLead g known was world) (IsTrue known × HasCleanDisk (store_of g world)) given old mid)) → HasCleanDisk (state g conn) → HasCleanDisk (store_of g was)
-  late_clean_of (Ok value) mid done stops = late_clean (λ end. Done task.action s end (MayLead g known was world) (ShowsTables g was (store_of g world)) given old mid value) done
-  late_clean_of (Err failure) mid done stops = late_clean (λ end. StopsTask task.action s end failure (MayLead g known was world) (IsTrue known × HasCleanDisk (store_of g world)) given old mid) stops
+  pub late_clean_of : (r : Result ℕ Failure) (mid : Option (List ℕ)) (first : ℕ) → RunsAction g known was world task.action s (Wrote mid first) r → HasCleanDisk (state g conn) → HasCleanDisk (store_of g was)
+  late_clean_of (Ok value) mid first ends = late_clean (IsDone mid value) ends
+  late_clean_of (Err failure) mid first ends = late_clean (IsStopped mid first failure) ends
 
 -- what is known if more is known of the disk, and less is said of the batches
-stops_when : (action : Action) (s : State) (end : Stand) (failure : Failure) (Led Then : Leads) → ((batches others : List Batch) → Led batches others → Then batches others) → (Clean More : Type 0) → (More → Clean) → (given : Given) (old new : Option (List ℕ))
-    → StopsTask action s end failure Led Clean given old new → StopsTask action s end failure Then More given old new
-stops_when (Apply texts) s end failure Led Then lead Clean More on given old new (inl (fault, is, run, led)) = inl (fault, is, run, lead _ _ led)
-stops_when (Apply texts) s end failure Led Then lead Clean More on given old new (inr (is, same, unwritten, led)) = inr (is, same, unwritten, lead _ _ led)
-stops_when Check s end failure Led Then lead Clean More on given old new (e, inl (fault, is, of_store, same)) = (e, inl (fault, is, (λ more. of_store (on more)), same))
-stops_when Check s end failure Led Then lead Clean More on given old new (e, inr front) = (e, inr front)
-stops_when (Serve service) s end failure Led Then lead Clean More on given old new (stops, (batches, others, led)) = (stops, (batches, others, lead batches others led))
-stops_when action s end failure Led Then lead Clean More on given old new it = it
+stops_when : (action : Action) (s : State) (end : Stand) (failure : Failure) (Led Then : Leads) → ((batches others : List Batch) → Led batches others → Then batches others) → (Clean More : Type 0) → (More → Clean) → (run : Run)
+    → StopsTask action s end failure Led Clean run → StopsTask action s end failure Then More run
+stops_when (Apply texts) s end failure Led Then lead Clean More on run (inl (fault, is, ran, led)) = inl (fault, is, ran, lead _ _ led)
+stops_when (Apply texts) s end failure Led Then lead Clean More on run (inr (is, same, unwritten, led)) = inr (is, same, unwritten, lead _ _ led)
+stops_when Check s end failure Led Then lead Clean More on run (e, inl (fault, is, of_store, same)) = (e, inl (fault, is, (λ more. of_store (on more)), same))
+stops_when Check s end failure Led Then lead Clean More on run (e, inr front) = (e, inr front)
+stops_when (Serve service) s end failure Led Then lead Clean More on run (stops, (batches, others, led)) = (stops, (batches, others, lead batches others led))
+stops_when action s end failure Led Then lead Clean More on run it = it
 
-done_when : (action : Action) (s : State) (end : Stand) (Led Then : Leads) → ((batches others : List Batch) → Led batches others → Then batches others) → (Shown Less : Type 0) → (Shown → Less) → (given : Given) (old new : Option (List ℕ)) (status : ℕ)
-    → Done action s end Led Shown given old new status → Done action s end Then Less given old new status
-done_when (Apply texts) s end Led Then lead Shown Less on given old new status (count, lost, run, is, led) = (count, lost, run, is, lead _ _ led)
-done_when Check s end Led Then lead Shown Less on given old new status (e, shown, written, zero) = (e, on shown, written, zero)
-done_when (Serve service) s end Led Then lead Shown Less on given old new status (serving, (batches, others, led)) = (serving, (batches, others, lead batches others led))
-done_when action s end Led Then lead Shown Less on given old new status it = it
+done_when : (action : Action) (s : State) (end : Stand) (Led Then : Leads) → ((batches others : List Batch) → Led batches others → Then batches others) → (Shown Less : Type 0) → (Shown → Less) → (run : Run)
+    → Done action s end Led Shown run → Done action s end Then Less run
+done_when (Apply texts) s end Led Then lead Shown Less on run (inl (count, lost, ran, is, led)) = inl (count, lost, ran, is, lead _ _ led)
+done_when (Apply texts) s end Led Then lead Shown Less on run (inr (stop, count, lost, ran, is, led)) = inr (stop, count, lost, ran, is, lead _ _ led)
+done_when Check s end Led Then lead Shown Less on run (e, shown, written, zero) = (e, on shown, written, zero)
+done_when (Serve service) s end Led Then lead Shown Less on run (serving, (batches, others, led)) = (serving, (batches, others, lead batches others led))
+done_when action s end Led Then lead Shown Less on run it = it
 
 -- what is known if less is known of the disk, and nothing of what a check found
 pub runs_when : (task : Task) (s : State) (run : Run) (Clean More : Type 0) (Crash Then : Stand → Type 0) (Led Lead : Leads) (Shown : Type 0) → (More → Clean) → ((end : Stand) → More → Crash end → Then end)
@@ -100,11 +128,11 @@ runs_when task s run Clean More Crash Then Led Lead Shown on leaves leads it =
       still = λ reads. lead [] [] (it.still reads);
       crash = λ more. leaves it.end more (it.crash (on more));
       writes = elim it.writes [
-        | inl done ↦ inl (done_when task.action s it.end (λ batches others. Clean → Led batches others) (λ batches others. More → Lead batches others) lead Shown ⊤ (λ _. tt) run.given run.before run.after run.status done)
+        | inl done ↦ inl (done_when task.action s it.end (λ batches others. Clean → Led batches others) (λ batches others. More → Lead batches others) lead Shown ⊤ (λ _. tt) run done)
         | inr stops ↦ inr (
           stops.0,
           stops.1,
-          stops_when task.action s it.end stops.0 (λ batches others. Clean → Led batches others) (λ batches others. More → Lead batches others) lead Clean More on run.given run.before stops.1 stops.2,
+          stops_when task.action s it.end stops.0 (λ batches others. Clean → Led batches others) (λ batches others. More → Lead batches others) lead Clean More on (record run { after = stops.1 }) stops.2,
           stops.3,
         )
       ];

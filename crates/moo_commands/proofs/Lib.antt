@@ -4,6 +4,8 @@ mod Beginning
 mod Connections
 mod Dumps
 mod Held
+mod LawLemmas
+mod Making
 mod Refusals
 mod Reporting
 mod Stopped

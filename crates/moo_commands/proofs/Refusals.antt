@@ -1,7 +1,7 @@
 -- What is reported of a file that is refused.
-use Rattle.moo_commands.{proofs.Words.{inl, inr, ℕ, List, Option, refl, sym, subst, Ghosts, Image, state_of, Task, Reports, Tells, store_failure, Run, RunsTask, FailsAtOnce, RefusesFile, RunsFile, Failure}, specs.declared.ends.Ends.{Ends}, proofs.Connections.{of_opening, of_refusal, unseen}}
+use Rattle.moo_commands.{proofs.Words.{◌≡◌, inl, inr, ℕ, List, Err, true, false, true≢false, ◌∙◌, State, begins_anew, Option, refl, sym, subst, Ghosts, Image, state_of, Task, Reports, Tells, store_failure, Run, RunsTask, FailsAtOnce, RefusesFile, RunsFile, Failure}, specs.declared.ends.Ends.{Ends}, proofs.Connections.{of_opening, of_refusal, unseen}}
 use Rattle.moo_commands.specs.declared.ends.Ends.TheVariants as variant
-use Rattle.moo_files.{specs.Opened.{Contents, Nothing, Database, Unfit, Refuses}, specs.declared.remains.Remains.{Remains}}
+use Rattle.moo_files.{specs.Opened.{Contents, Nothing, Database, Unfit, Hold, Refuses}, specs.Contents.{HoldsState}, specs.Remains.{IsCleanRemains, StillHolds}, specs.declared.remains.Remains.{Remains}, proofs.OpenedLemmas.{still_holds}}
 use Rattle.moo_commands.specs.Ends.{RefusedOnto}
 use Rattle.moo_store.{specs.Opening.{IsOfStore}, specs.declared.fault.StoreFault.{StoreFault}}
 
@@ -35,3 +35,12 @@ refused_onto image fault rest run (Database trees) it reports = record {
   kept = it.kept;
 }
 refused_onto image fault rest run Unfit it reports = fails_at_once fault run it reports
+
+-- and a state that the files held is there still
+pub still_held : {T D : Type 0} {g : Ghosts D} (image : Image) (fault : StoreFault) (rest : Remains T D g)
+    → ((held : Contents) → Hold image held → IsCleanRemains rest → Refuses held image fault rest) → (s : State) → HoldsState image s → IsCleanRemains rest → StillHolds image rest s
+still_held image fault rest it s holds = still_holds image (Err (fault, rest)) it s holds
+
+-- a task that takes up its file isn't one that begins with a new world
+pub never_anew : {A : Type 0} (task : Task) → begins_anew task ≡ false → begins_anew task ≡ true → A
+never_anew task other anew = absurd (true≢false (sym anew ∙ other))

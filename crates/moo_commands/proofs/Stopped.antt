@@ -7,12 +7,12 @@ use Rattle.moo_files.specs.declared.remains.Remains.TheVariants as remains
 
 module _ {D : Type 0} {g : Ghosts D} where
   -- what the disk leaves of a connection whose end is known is a database that it may leave
-  left_at_end : (conn : Held (FileStore D g)) (end : Stand) (next : Image) → HasCleanDisk (file_state conn) → HasNumberedTrees conn → CrashLeaves (file_state conn) end → DiskLeaves conn next → IsLeftBy (file_state conn) next
+  pub left_at_end : (conn : Held (FileStore D g)) (end : Stand) (next : Image) → HasCleanDisk (file_state conn) → HasNumberedTrees conn → CrashLeaves (file_state conn) end → DiskLeaves conn next → IsLeftBy (file_state conn) next
   left_at_end conn end next clean numbered leaves lies = left_by_disk conn next clean numbered (states_are_databases (file_state conn) end leaves) lies
 
 module _ {T D : Type 0} {g : Ghosts D} where
   -- the disk was clean before the closing, if it is after it
-  early_clean : (was now : Remains T D g) → IsClosedFrom was now → IsCleanRemains now → IsCleanRemains was
+  pub early_clean : (was now : Remains T D g) → IsClosedFrom was now → IsCleanRemains now → IsCleanRemains was
   early_clean (remains.Untouched start) now is clean = tt
   early_clean (remains.NotOpened seal) now is clean = tt
   early_clean (remains.Leftover rest) now is clean = subst IsCleanRemains is clean

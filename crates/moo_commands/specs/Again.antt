@@ -25,7 +25,7 @@ use Rattle.moo_words.specs.declared.task.Task.{Task}
 use Rattle.moo_words.specs.Tasks.{NamesTask, mistakes}
 use Rattle.moo_commands.specs.Given.{Given, Run}
 use Rattle.moo_commands.specs.Run.{begins_anew, BeginsWith, BeginsFrom, RunsFrom, FailsAtOnce, EndsUsage}
-use Rattle.moo_commands.specs.Ends.{MatchFile, HasNoFile, HoldsRows, RunsRows, RunsOver, IsClosedEnd}
+use Rattle.moo_commands.specs.Ends.{MatchFile, HasNoFile, HoldsRows, RunsRows, RanFrom, RunsOver, IsClosedEnd}
 use Rattle.moo_commands.specs.declared.ends.Ends.{Ends}
 use Rattle.moo_commands.specs.declared.ends.Ends.TheVariants as variant
 
@@ -44,11 +44,6 @@ StartedRows task image given From =
 -- these batches lead from rows to those, or these and one of the others
 abbrev pub LeadTo : Maps → Maps → List Batch → List Batch → Type 0
 LeadTo rows end batches others = (more : ℕ) × (more ≤ 1) × BatchesLead (batches ++ take more others) rows end
-
-module _ {D : Type 0} {g : Ghosts D} where
-  -- the task ran over its file from s, with what a crash then leaves
-  abbrev pub RanFrom : Task → State → Held (FileStore D g) → Run → Type 0
-  RanFrom task s conn run = RunsFrom task s run (HasCleanDisk (file_state conn)) (CrashLeaves (file_state conn)) (λ _ _. ⊤) ⊤
 
 module _ {T D : Type 0} {g : Ghosts D} where
   -- The words name a task, and if it takes up its file, it runs from s. Or the store fails or memory runs out, and no damage is told.
@@ -102,8 +97,10 @@ module _ {T D : Type 0} {g : Ghosts D} where
   LeadsOn words image ends run next Next = IfRan ends
       (λ conn. HasCleanDisk (file_state conn) → (task : Task) × NamesTask words task × StartedRows task image run.given (λ rows.
       RunsFrom task (state_of rows) run (HasCleanDisk (file_state conn)) (CrashLeaves (file_state conn))
-      (λ batches others. IsLeftBy (file_state conn) next → (end : Maps) × LeadTo rows end batches others × HoldsRows next end × Next end) ⊤))
-      (λ remains. IsCleanRemains remains → (rows : Maps) → HoldsRows image rows → IsLeftAfter image remains next → HoldsRows next rows × Next rows)
+      (λ batches others. IsLeftBy (file_state conn) next →
+      (end : Maps) × LeadTo rows end batches others × HoldsRows next end × Next end) ⊤))
+      (λ remains. IsCleanRemains remains → (rows : Maps) → HoldsRows image rows → IsLeftAfter image remains next →
+      HoldsRows next rows × Next rows)
 
   -- the image is what the files hold once their connection is closed, or what a crash leaves of them, or of their log if closing failed
   abbrev pub IsFoundIn : Remains T D g → Image → Type 0
@@ -124,7 +121,8 @@ module _ {T D : Type 0} {g : Ghosts D} where
       (λ conn. IsCleanRemains closed → (task : Task) × NamesTask words task × StartedRows task image run.given (λ rows.
       RunsFrom task (state_of rows) run (HasCleanDisk (file_state conn)) (CrashLeaves (file_state conn))
       (λ batches others. IsFoundIn closed next → (end : Maps) × LeadTo rows end batches others × HoldsRows next end × Next end) ⊤))
-      (λ remains. IsCleanRemains closed → (rows : Maps) → HoldsRows image rows → IsLeftAfter image closed next → HoldsRows next rows × Next rows)
+      (λ remains. IsCleanRemains closed → (rows : Maps) → HoldsRows image rows → IsLeftAfter image closed next →
+      HoldsRows next rows × Next rows)
 
   -- As `CrashesTo`, from the bytes on the disk: if a task ran over the file, the process stopped before it was closed, and the next image
   -- is any that the disk may then leave of the bytes of the two files.
@@ -140,4 +138,5 @@ module _ {T D : Type 0} {g : Ghosts D} where
       (λ conn. IsCleanRemains closed → (task : Task) × NamesTask words task × StartedRows task image run.given (λ rows.
       RunsFrom task (state_of rows) run (HasCleanDisk (file_state conn)) (CrashLeaves (file_state conn))
       (λ batches others. DiskLeaves conn next → (end : Maps) × LeadTo rows end batches others × HoldsRows next end × Next end) ⊤))
-      (λ remains. IsCleanRemains closed → (rows : Maps) → HoldsRows image rows → IsLeftAfter image remains next → HoldsRows next rows × Next rows)
+      (λ remains. IsCleanRemains closed → (rows : Maps) → HoldsRows image rows → IsLeftAfter image remains next →
+      HoldsRows next rows × Next rows)

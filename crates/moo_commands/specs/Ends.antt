@@ -20,7 +20,7 @@ use Rattle.moo_files.specs.Opened.{Contents, Nothing, Database, Unfit, Hold}
 use Rattle.moo_store.specs.Led.{LeavesLed}
 use Rattle.moo_store.specs.World.{CrashLeaves}
 use Rattle.moo_store.specs.declared.fault.StoreFault.{StoreFault}
-use Rattle.moo_files.specs.Contents.{HoldsSuch, HoldsTrees, HoldsTables, HoldsState, HasOtherTables, HasAnyTable, IsKept, ReadsAsOurs, HoldsNoTable}
+use Rattle.moo_files.specs.Contents.{HoldsSuch, HoldsTrees, HoldsState, HoldsNoTable, HasOtherTables, HasAnyTable, IsKept, ReadsAsOurs}
 use Rattle.moo_files.specs.Remains.{IsCleanRemains, MayStopAs, Spares, KeepsSuch, KeepsNothingBut, StillHolds, StillHoldsTrees}
 use Rattle.moo_files.specs.Blank.{IsBlank}
 use Rattle.moo_files.specs.Closing.{IsClosedFrom}
@@ -30,7 +30,8 @@ use Rattle.moo_words.specs.declared.task.Task.{Task}
 use Rattle.moo_words.specs.Tasks.{NamesTask, NamesAlone, mistakes}
 use Rattle.moo_commands.specs.Lines.{Reports, store_failure}
 use Rattle.moo_commands.specs.Given.{Run}
-use Rattle.moo_commands.specs.Run.{begins_anew, only_reads, is_load, dump_word, RefusesDump, BeginsWith, BeginsFrom, FailsToBegin, RunsFrom, RunsUnseen, RunsTask, FailsAtOnce, RefusesFile, EndsUsage}
+use Rattle.moo_commands.specs.Run.{begins_anew, only_reads, is_load, dump_word, RefusesDump, BeginsWith, BeginsFrom, FailsToBegin}
+use Rattle.moo_commands.specs.Run.{RunsFrom, RunsUnseen, RunsTask, FailsAtOnce, RefusesFile, EndsUsage}
 use Rattle.moo_commands.specs.declared.failure.Failure.{Failure}
 use Rattle.moo_commands.specs.declared.ends.Ends.{Ends}
 use Rattle.moo_commands.specs.declared.ends.Ends.TheVariants as variant
@@ -39,20 +40,29 @@ use Rattle.moo_commands.specs.declared.ends.Ends.TheVariants as variant
 abbrev pub HoldsRows : Image → Maps → Type 0
 HoldsRows image rows = IsGood rows × HoldsSuch (λ trees. LeavesRows trees rows) image
 
+-- a database of the new world that the task begins with
+abbrev pub LeavesNew : Task → Run → Trees → Type 0
+LeavesNew task run trees = (s : State) × BeginsWith task.action run.given s × LeavesState trees s
+
 module _ {D : Type 0} {g : Ghosts D} where
   -- A task ran over its file from these rows. If the disk is clean, a crash leaves rows to which its batches lead, with all numbers kept.
   abbrev pub RunsRows : Task → Maps → Held (FileStore D g) → Run → Type 0
-  RunsRows task rows conn run =
-      RunsFrom task (state_of rows) run (HasCleanDisk (file_state conn)) (CrashLeaves (file_state conn)) (LeavesLed (file_state conn) rows) ⊤
+  RunsRows task rows conn run = RunsFrom task (state_of rows) run (HasCleanDisk (file_state conn)) (CrashLeaves (file_state conn))
+      (LeavesLed (file_state conn) rows) ⊤
+
+  -- the task ran over its file from s, with what a crash then leaves
+  abbrev pub RanFrom : Task → State → Held (FileStore D g) → Run → Type 0
+  RanFrom task s conn run = RunsFrom task s run (HasCleanDisk (file_state conn)) (CrashLeaves (file_state conn)) (λ _ _. ⊤) ⊤
 
 module _ {D : Type 0} {g : Ghosts D} where
   -- A task ran over this database: its tables are ours, and it ran from the state, the rows and the world that they show. After one that
   -- only reads, a crash leaves the database, each cell as it was; or what that was migrated to.
   pub record RanOn (task : Task) (trees : Trees) (conn : Held (FileStore D g)) (run : Run) : Type 0 where
     pub ours : ¬ HasOtherTables trees
-    pub state : (s : State) → LeavesState trees s → RunsFrom task s run (HasCleanDisk (file_state conn)) (CrashLeaves (file_state conn)) (λ _ _. ⊤) ⊤
+    pub state : (s : State) → LeavesState trees s → RanFrom task s conn run
     pub rows : (rows : Maps) → IsGood rows → LeavesRows trees rows → RunsRows task rows conn run
-    pub tables : (tables : Tables) → Leaves trees tables → (rows : Maps) × IsGood rows × ShowsRows tables rows × RunsUnseen task (state_of rows) run
+    pub tables : (tables : Tables) → Leaves trees tables →
+        (rows : Maps) × IsGood rows × ShowsRows tables rows × RunsUnseen task (state_of rows) run
     pub still : only_reads task.action ≡ true → (found : Trees) → (file_state conn).may_leave found → IsKept trees found
 
   -- a task that takes up its file runs over a database of ours, and over nothing else
@@ -67,7 +77,8 @@ module _ {D : Type 0} {g : Ghosts D} where
     pub anew : begins_anew task ≡ true → (rows : Maps) × BeginsFrom task.action run.given rows × RunsRows task rows conn run
     pub room : begins_anew task ≡ true → HasCleanDisk (file_state conn) → HoldsNoTable image
     pub taken : (s : State) → begins_anew task ≡ true → HoldsState image s → HasCleanDisk (file_state conn) → ⊥
-    pub occupied : (trees : Trees) → begins_anew task ≡ true → HoldsTrees image trees → HasAnyTable trees → HasCleanDisk (file_state conn) → ⊥
+    pub occupied : (trees : Trees) → begins_anew task ≡ true → HoldsTrees image trees → HasAnyTable trees →
+        HasCleanDisk (file_state conn) → ⊥
     -- or it takes up what the file holds, and runs from a well formed world whatever that is
     pub over : begins_anew task ≡ false → (held : Contents) → Hold image held → HasCleanDisk (file_state conn) → RanOnto task held conn run
     pub sound : begins_anew task ≡ false → HasCleanDisk (file_state conn) → ReadsAsOurs image
@@ -94,7 +105,8 @@ module _ {T D : Type 0} {g : Ghosts D} where
   -- kept, damaged or of other tables as it is, or migrated.
   pub record RefusedOn (trees : Trees) (image : Image) (rest : Remains T D g) (run : Run) : Type 0 where
     pub state : (s : State) → LeavesState trees s → FailsAtOnce run
-    pub tables : (tables : Tables) → Leaves trees tables → (fault : StoreFault) × Says tables fault × Reports (store_failure fault) run.before run.after run.status
+    pub tables : (tables : Tables) → Leaves trees tables →
+        (fault : StoreFault) × Says tables fault × Reports (store_failure fault) run.before run.after run.status
     pub other : HasOtherTables trees → FailsAtOnce run
     pub kept : StillHoldsTrees image rest trees
 
@@ -115,17 +127,20 @@ module _ {T D : Type 0} {g : Ghosts D} where
     pub left : (s : State) → HoldsState image s → IsCleanRemains rest → StillHolds image rest s
     pub spares : ¬ IsNothing image → (begins_anew task ≡ true → ¬ IsBlank image) → IsCleanRemains rest → Spares image rest
     -- No new world is put in place of a table, but into a database without any, and then whole or not at all.
-    pub spared : (trees : Trees) → begins_anew task ≡ true → HoldsTrees image trees → HasAnyTable trees → IsCleanRemains rest → KeepsSuch (λ found. found ≡ trees) image rest
-    pub unmade : (trees : Trees) → begins_anew task ≡ true → HoldsTrees image trees → IsCleanRemains rest → KeepsSuch (λ found. (found ≡ trees) ⊎ ((s : State) × BeginsWith task.action run.given s × LeavesState found s)) image rest
+    pub spared : (trees : Trees) → begins_anew task ≡ true → HoldsTrees image trees → HasAnyTable trees → IsCleanRemains rest →
+        KeepsSuch (λ found. found ≡ trees) image rest
+    pub unmade : (trees : Trees) → begins_anew task ≡ true → HoldsTrees image trees → IsCleanRemains rest →
+        KeepsSuch (λ found. (found ≡ trees) ⊎ LeavesNew task run found) image rest
     -- Of files that held nothing, or half a first page, a new world that can't be made leaves no more than they held, a database without
     -- rows, or that world, whole.
-    pub fresh : begins_anew task ≡ true → IsNothing image → IsCleanRemains rest → KeepsNothingBut (λ found. (s : State) × BeginsWith task.action run.given s × LeavesState found s) image rest
-    pub begun : begins_anew task ≡ true → IsBlank image → IsCleanRemains rest → KeepsNothingBut (λ found. (s : State) × BeginsWith task.action run.given s × LeavesState found s) image rest
+    pub fresh : begins_anew task ≡ true → IsNothing image → IsCleanRemains rest → KeepsNothingBut (LeavesNew task run) image rest
+    pub begun : begins_anew task ≡ true → IsBlank image → IsCleanRemains rest → KeepsNothingBut (LeavesNew task run) image rest
     -- nothing is asked of the ports
     pub rests : run.given.ports.rests
     -- if no file was opened, the line tells why; or the start is unspent, and the line tells why a dump gives no world
     pub told : ((fault : StoreFault) × MayStopAs fault rest × Reports (store_failure fault) run.before run.after run.status)
-        ⊎ (IsTrue (is_load task.action) × IsUntouched rest × (failure : Failure) × RefusesDump (run.given.text (dump_word task.action)) failure × Reports failure run.before run.after run.status)
+        ⊎ (IsTrue (is_load task.action) × IsUntouched rest × (failure : Failure)
+        × RefusesDump (run.given.text (dump_word task.action)) failure × Reports failure run.before run.after run.status)
 
   -- a task over the file that held this image
   abbrev pub RunsFile : Task → Image → Ends T D g → Run → Type 0

@@ -32,12 +32,15 @@ pub record Run : Type 1 where
 abbrev pub given_by : Option (List ℕ) → Texts → Attendance → Given
 given_by input files ports = record { text = texts_by input files; ports = ports }
 
-module _ {H A R W : Type 0} (ports : Ports.Ghosts H A R W) (source : Arrivals.Ghosts A R W) (reader : Reading.Ghosts R) (writer : Writing.Ghosts W) where
+module _ {H A R W : Type 0} (ports : Ports.Ghosts H A R W) (source : Arrivals.Ghosts A R W)
+    (reader : Reading.Ghosts R) (writer : Writing.Ghosts W) where
   -- what came of the ports of a host, from what it was to what it is
   abbrev pub attended : H → H → Attendance
-  attended before after = attended_between source.hands_out source.takes_back reader.remaining writer.contents ports.listens ports.closes before after
+  attended before after =
+      attended_between source.hands_out source.takes_back reader.remaining writer.contents ports.listens ports.closes before after
 
-module _ {I H T A R W : Type 0} (input : Reading.Ghosts I) (files : BatchFiles.Ghosts H T) (ports : Ports.Ghosts H A R W) (source : Arrivals.Ghosts A R W) (reader : Reading.Ghosts R) (writer : Writing.Ghosts W) where
+module _ {I H T A R W : Type 0} (input : Reading.Ghosts I) (files : BatchFiles.Ghosts H T) (ports : Ports.Ghosts H A R W)
+    (source : Arrivals.Ghosts A R W) (reader : Reading.Ghosts R) (writer : Writing.Ghosts W) where
   -- what a run is given by an input and a host, from what this was to what it is
   abbrev pub given_to : I → H → H → Given
   given_to from before after = given_by (input.remaining from) (files.text before) (attended ports source reader writer before after)

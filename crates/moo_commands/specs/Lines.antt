@@ -20,7 +20,8 @@ use Rattle.moo_load.specs.declared.input.InputFault.TheVariants as read_fault
 use Rattle.moo_load.specs.declared.fault.LoadFault.{LoadFault}
 use Rattle.moo_load.specs.declared.fault.LoadFault.TheVariants as load_fault
 use Rattle.moo_commands.specs.declared.failure.Failure.{Failure}
-use Rattle.moo_commands.specs.declared.failure.Failure.TheVariants.{Usage, NoFile, Store, Damaged, NewerVersion, NotADump, NoBatches, Read, Write, TooLong, Port, NoMemory}
+use Rattle.moo_commands.specs.declared.failure.Failure.TheVariants.{Usage, NoFile, Store, Damaged, NewerVersion, NotADump, NoBatches}
+use Rattle.moo_commands.specs.declared.failure.Failure.TheVariants.{Read, Write, TooLong, Port, NoMemory}
 
 -- ---- failures
 

@@ -1,11 +1,13 @@
 -- What a run of the program writes, the status that it ends with, and what a crash then leaves.
-use Rattle.std.specs.Prelude.{◌≡◌, ◌<◌, ◌≤◌, ◌⊎◌, ◌==◌, ◌||◌, ℕ, Bool, true, List, [], take, length, Option, Some, None, ◌++◌, IfSome, codes, if◌then◌else◌, ⊤, IsTrue, false}
+use Rattle.std.specs.Prelude.{◌≡◌, ◌<◌, ◌≤◌, ◌⊎◌, ◌==◌, ◌||◌, ℕ, Bool, true, false, IsTrue, ⊤, if◌then◌else◌}
+use Rattle.std.specs.Prelude.{List, [], ◌++◌, take, length, Option, Some, None, IfSome, Result, MatchResult, codes}
 use Rattle.std.specs.Str.{bytes_eq}
 use Rattle.std.specs.Io.KnownBytes.{Appends}
 use Rattle.clap.specs.Kinds.{Kinds, IsAmong}
 use Rattle.clap.specs.declared.error.kind.ErrorKind.{ErrorKind}
 use Rattle.clap.specs.declared.error.kind.ErrorKind.TheVariants.{DisplayHelp, DisplayVersion}
 use Rattle.sqlite.specs.State.{State as Database, HasCleanDisk}
+use Rattle.sqlite.specs.Held.{Held, state}
 use Rattle.sqlite.specs.Tree.{Trees}
 use Rattle.sqlite.specs.Store.{Ghosts}
 use Rattle.moo_world.specs.declared.call.Batch.{Batch}
@@ -23,8 +25,12 @@ use Rattle.moo_dump.specs.Dump.{dump as dump_of}
 use Rattle.moo_load.specs.OneState.{IsHeld}
 use Rattle.moo_load.specs.RowsOf.{AreRowsOf}
 use Rattle.moo_store.specs.declared.fault.StoreFault.{StoreFault}
+use Rattle.moo_store.specs.declared.course.Course.{Course}
 use Rattle.moo_store.specs.Stand.{Stand, Works, RunsBatch, AsksBatch}
+use Rattle.moo_text.specs.declared.reply.Answer.{Answer}
 use Rattle.moo_store.specs.Turns.{Completes, Halts}
+use Rattle.moo_store.specs.Stopping.{CompletesUntil, HaltsUntil, EndsEarly}
+use Rattle.moo_store.specs.Rehearsed.{RehearsesBatch}
 use Rattle.moo_store.specs.Text.{accepted, faulted}
 use Rattle.moo_store.specs.Led.{LeavesLed}
 use Rattle.moo_store.specs.Opening.{Says, IsOfStore}
@@ -33,14 +39,15 @@ use Rattle.moo_store.specs.Kept.{World}
 use Rattle.moo_store.specs.World.{store_of, CrashLeaves}
 use Rattle.moo_words.specs.declared.task.Task.{Task}
 use Rattle.moo_words.specs.declared.task.Action.{Action}
-use Rattle.moo_words.specs.declared.task.Action.TheVariants.{Init, Apply, Ask, Dump, Load, Check, Serve}
+use Rattle.moo_words.specs.declared.task.Action.TheVariants.{Init, Apply, Rehearse, Ask, Dump, Load, Check, Serve}
 use Rattle.moo_http.specs.Lines.{listening_line}
 use Rattle.moo_http.specs.Turns.{Attendance, SaysAttended}
 use Rattle.moo_commands.specs.Given.{Given, Run}
 use Rattle.moo_words.specs.Tasks.{NamesTask, NamesAlone, text_word, mistakes}
 use Rattle.moo_commands.specs.Lines.{Reports, WritesLine, text_failure, store_failure, created_line, loaded_line, checked_line}
 use Rattle.moo_commands.specs.declared.failure.Failure.{Failure}
-use Rattle.moo_commands.specs.declared.failure.Failure.TheVariants.{Usage, NoFile, Store, Damaged, NewerVersion, NotADump, NoBatches, Read, TooLong, Write, Port, NoMemory}
+use Rattle.moo_commands.specs.declared.failure.Failure.TheVariants.{Usage, NoFile, Store, Damaged, NewerVersion, NotADump, NoBatches}
+use Rattle.moo_commands.specs.declared.failure.Failure.TheVariants.{Read, TooLong, Write, Port, NoMemory}
 
 -- ---- tasks
 
@@ -81,7 +88,7 @@ ReadsFile task path = (text_word task.action ≡ Some path) × (bytes_eq path (c
 abbrev pub KeepsInput : {R : Type 0} → List (List ℕ) → R → R → Type 0
 KeepsInput words old new = ((task : Task) → NamesTask words task → reads_input task ≡ false) → new ≡ old
 
--- Once its world is open or made, the task only reads it: all but `apply` and `serve`.
+-- Once its world is open or made, the task only reads it: all but `apply` and `serve`. A rehearsal changes it in memory alone.
 abbrev pub only_reads : Action → Bool
 only_reads (Apply batches) = false
 only_reads (Serve service) = false
@@ -117,24 +124,50 @@ pub record BeginsFrom (action : Action) (given : Given) (rows : Maps) : Type 0 w
 abbrev pub lost_status : ℕ → ℕ
 lost_status lost = if lost == 0 then 0 else 1
 
+-- the status of a text that was answered so far: 1 if it stopped
+abbrev pub course_status : Course → ℕ
+course_status course = if course.stopped then 1 else lost_status course.tally.lost
+
 -- ---- a task over a world
 
 -- what is said of the batches that were acknowledged, and of those in which the store failed
 abbrev pub Leads : Type 1
 Leads = List Batch → List Batch → Type 0
 
--- a text of batches is run to its end
-abbrev pub AppliesText : Leads → State → Stand → Option (List ℕ) → Option (List ℕ) → Option (List ℕ) → ℕ → Type 0
-AppliesText Led s end text old new status =
-    (batches lost : ℕ) × (run : Completes RunsBatch (Works s) end text old new batches lost) × (status ≡ lost_status lost)
-    × Led (accepted (items run.given) run.answers) (faulted (items run.given) run.answers)
+-- what is said of one batch: where it began, its answer, and where it left off
+abbrev pub Steps : Type 1
+Steps = Stand → Batch → Answer → Stand → Type 0
 
--- it stops; or its file can't be opened, and nothing is done
-abbrev pub StopsApplying : Leads → State → Stand → Failure → Option (List ℕ) → Option (List ℕ) → Option (List ℕ) → Type 0
-StopsApplying Led s end failure text old new =
-    ((fault : TextFault) × (failure ≡ text_failure fault) × (run : Halts RunsBatch (Works s) end text old new fault)
-    × Led (accepted run.done run.answers ++ accepted run.hand run.last) (faulted run.done run.answers ++ faulted run.hand run.last))
+-- A text of batches is answered to its end. Or it ends after the first answer that isn't `accepted`, if it was to stop there, and the
+-- status is 1.
+abbrev pub AnswersText : Steps → Leads → Bool → State → Stand → Option (List ℕ) → Option (List ℕ) → Option (List ℕ) → ℕ → Type 0
+AnswersText step Led stop s end text old new status =
+    ((batches lost : ℕ) × (run : CompletesUntil step stop (Works s) end text old new batches lost) × (status ≡ lost_status lost)
+    × Led (accepted (items run.0.given) run.0.answers) (faulted (items run.0.given) run.0.answers))
+    ⊎ ((stop ≡ true) × (batches lost : ℕ) × (run : EndsEarly step (Works s) end text old new batches lost) × (status ≡ 1)
+    × Led (accepted run.done run.answers) (faulted run.done run.answers))
+
+-- a fault stops it; or its file can't be opened, and nothing is done
+abbrev pub StopsText : Steps → Leads → Bool → State → Stand → Failure → Option (List ℕ) → Option (List ℕ) → Option (List ℕ) → Type 0
+StopsText step Led stop s end failure text old new =
+    ((fault : TextFault) × (failure ≡ text_failure fault) × (run : HaltsUntil step stop (Works s) end text old new fault)
+    × Led (accepted run.0.done run.0.answers ++ accepted run.0.hand run.0.last)
+    (faulted run.0.done run.0.answers ++ faulted run.0.hand run.0.last))
     ⊎ ((failure ≡ NoBatches) × (end ≡ Works s) × (new ≡ old) × Led [] [])
+
+-- a text of batches is run
+abbrev pub AppliesText : Leads → Bool → State → Stand → Option (List ℕ) → Option (List ℕ) → Option (List ℕ) → ℕ → Type 0
+AppliesText Led = AnswersText RunsBatch Led
+
+abbrev pub StopsApplying : Leads → Bool → State → Stand → Failure → Option (List ℕ) → Option (List ℕ) → Option (List ℕ) → Type 0
+StopsApplying Led = StopsText RunsBatch Led
+
+-- A text of batches is rehearsed: what is written and the status are those of a run of it, which ends somewhere.
+abbrev pub RehearsesText : Bool → State → Option (List ℕ) → Option (List ℕ) → Option (List ℕ) → ℕ → Type 0
+RehearsesText stop s text old new status = (end : Stand) × AnswersText RehearsesBatch (λ _ _. ⊤) stop s end text old new status
+
+abbrev pub StopsRehearsing : Bool → State → Failure → Option (List ℕ) → Option (List ℕ) → Option (List ℕ) → Type 0
+StopsRehearsing stop s failure text old new = (end : Stand) × StopsText RehearsesBatch (λ _ _. ⊤) stop s end failure text old new
 
 -- a text of batches is asked to its end
 abbrev pub AsksText : State → Option (List ℕ) → Option (List ℕ) → Option (List ℕ) → ℕ → Type 0
@@ -150,19 +183,25 @@ StopsAsking s failure text old new =
 -- The connections that came to a port were served, so many of them, and what is said of them is written. The world moved by what they
 -- asked, and by nothing else.
 abbrev pub Serving : Attendance → ℕ → ℕ → State → Stand → Option (List ℕ) → Option (List ℕ) → ℕ → Type 0
-Serving ports port count s end old new status = (text : List ℕ) × SaysAttended ports port count (Works s) end text × Appends old new text × (status ≡ 0)
+Serving ports port count s end old new status =
+    (text : List ℕ) × SaysAttended ports port count (Works s) end text × Appends old new text × (status ≡ 0)
 
--- The task is done. `Led` is true of the batches that it ran, and a check found the tables as `Shown` says.
-abbrev pub Done : Action → State → Stand → Leads → Type 0 → Given → Option (List ℕ) → Option (List ℕ) → ℕ → Type 0
-Done Init s end Led Shown given old new status = (end ≡ Works s) × Appends old new created_line × (status ≡ 0)
-Done (Apply batches) s end Led Shown given old new status = AppliesText Led s end (given.text batches.now) old new status
-Done (Ask batches) s end Led Shown given old new status = (end ≡ Works s) × AsksText s (given.text batches.now) old new status
-Done Dump s end Led Shown given old new status = (end ≡ Works s) × Appends old new (dump_of s) × (status ≡ 0)
-Done (Load dump) s end Led Shown given old new status = (end ≡ Works s) × Appends old new (loaded_line s.seq (length (objects_of s.world))) × (status ≡ 0)
-Done Check s end Led Shown given old new status =
-    (end ≡ Works s) × Shown × Appends old new (checked_line s.seq (length (objects_of s.world))) × (status ≡ 0)
-Done (Serve service) s end Led Shown given old new status =
-    Serving given.ports service.port service.count s end old new status × ((batches others : List Batch) × Led batches others)
+-- The task is done, and this is its run. `Led` is true of the batches that it ran, and a check found the tables as `Shown` says.
+abbrev pub Done : Action → State → Stand → Leads → Type 0 → Run → Type 0
+Done Init s end Led Shown run = (end ≡ Works s) × Appends run.before run.after created_line × (run.status ≡ 0)
+Done (Apply batches) s end Led Shown run =
+    AppliesText Led batches.options.stop s end (run.given.text batches.path.now) run.before run.after run.status
+Done (Rehearse batches) s end Led Shown run =
+    (end ≡ Works s) × RehearsesText batches.options.stop s (run.given.text batches.path.now) run.before run.after run.status
+Done (Ask batches) s end Led Shown run = (end ≡ Works s) × AsksText s (run.given.text batches.now) run.before run.after run.status
+Done Dump s end Led Shown run = (end ≡ Works s) × Appends run.before run.after (dump_of s) × (run.status ≡ 0)
+Done (Load dump) s end Led Shown run =
+    (end ≡ Works s) × Appends run.before run.after (loaded_line s.seq (length (objects_of s.world))) × (run.status ≡ 0)
+Done Check s end Led Shown run =
+    (end ≡ Works s) × Shown × Appends run.before run.after (checked_line s.seq (length (objects_of s.world))) × (run.status ≡ 0)
+Done (Serve service) s end Led Shown run =
+    Serving run.given.ports service.port service.count s end run.before run.after run.status
+    × ((batches others : List Batch) × Led batches others)
 
 -- a front of a text is written, since the writer failed or memory ran out
 abbrev pub StopsIn : List ℕ → Failure → Option (List ℕ) → Option (List ℕ) → Type 0
@@ -177,18 +216,24 @@ StopsServing ports port count s end failure old new =
     ⊎ ((text : List ℕ) × SaysAttended ports port count (Works s) end text × StopsIn text failure old new)
 
 -- It stops with this failure, and so much is written. On a clean disk no check of a World that stands for a state finds a damage.
-abbrev pub StopsTask : Action → State → Stand → Failure → Leads → Type 0 → Given → Option (List ℕ) → Option (List ℕ) → Type 0
-StopsTask Init s end failure Led Clean given old new = (end ≡ Works s) × StopsIn created_line failure old new
-StopsTask (Apply batches) s end failure Led Clean given old new = StopsApplying Led s end failure (given.text batches.now) old new
-StopsTask (Ask batches) s end failure Led Clean given old new = (end ≡ Works s) × StopsAsking s failure (given.text batches.now) old new
-StopsTask Dump s end failure Led Clean given old new = (end ≡ Works s) × StopsIn (dump_of s) failure old new
-StopsTask (Load dump) s end failure Led Clean given old new = (end ≡ Works s) × StopsIn (loaded_line s.seq (length (objects_of s.world))) failure old new
-StopsTask Check s end failure Led Clean given old new =
+abbrev pub StopsTask : Action → State → Stand → Failure → Leads → Type 0 → Run → Type 0
+StopsTask Init s end failure Led Clean run = (end ≡ Works s) × StopsIn created_line failure run.before run.after
+StopsTask (Apply batches) s end failure Led Clean run =
+    StopsApplying Led batches.options.stop s end failure (run.given.text batches.path.now) run.before run.after
+StopsTask (Rehearse batches) s end failure Led Clean run =
+    (end ≡ Works s) × StopsRehearsing batches.options.stop s failure (run.given.text batches.path.now) run.before run.after
+StopsTask (Ask batches) s end failure Led Clean run =
+    (end ≡ Works s) × StopsAsking s failure (run.given.text batches.now) run.before run.after
+StopsTask Dump s end failure Led Clean run = (end ≡ Works s) × StopsIn (dump_of s) failure run.before run.after
+StopsTask (Load dump) s end failure Led Clean run =
+    (end ≡ Works s) × StopsIn (loaded_line s.seq (length (objects_of s.world))) failure run.before run.after
+StopsTask Check s end failure Led Clean run =
     (end ≡ Works s)
-    × (((fault : StoreFault) × (failure ≡ store_failure fault) × (Clean → IsOfStore fault) × (new ≡ old))
-    ⊎ StopsIn (checked_line s.seq (length (objects_of s.world))) failure old new)
-StopsTask (Serve service) s end failure Led Clean given old new =
-    StopsServing given.ports service.port service.count s end failure old new × ((batches others : List Batch) × Led batches others)
+    × (((fault : StoreFault) × (failure ≡ store_failure fault) × (Clean → IsOfStore fault) × (run.after ≡ run.before))
+    ⊎ StopsIn (checked_line s.seq (length (objects_of s.world))) failure run.before run.after)
+StopsTask (Serve service) s end failure Led Clean run =
+    StopsServing run.given.ports service.port service.count s end failure run.before run.after
+    × ((batches others : List Batch) × Led batches others)
 
 -- a crash leaves nothing that it couldn't leave before
 abbrev pub LeavesNothingNew : Database → Database → Type 0
@@ -203,11 +248,36 @@ pub record EndsTask {S : Type 0} (g : Ghosts S) (known : Bool) (was world : Worl
 
 -- whatever a crash leaves shows rows that these batches lead to from those of the World before, or these and one of the others
 abbrev pub MayLead : {S : Type 0} → Ghosts S → Bool → World S → World S → Leads
-MayLead g known was world batches others = IsTrue known × HasCleanDisk (store_of g world) → LeavesLed (store_of g world) was.rows.maps batches others
+MayLead g known was world batches others =
+    IsTrue known × HasCleanDisk (store_of g world) → LeavesLed (store_of g world) was.rows.maps batches others
 
 -- If the disk returned what was written, any tables that were at rest in the store of this World show its rows.
 abbrev pub ShowsTables : {S : Type 0} → Ghosts S → World S → Database → Type 0
 ShowsTables g world after = HasCleanDisk after → (tables : Tables) → Rests (store_of g world) tables → ShowsRows tables world.rows.maps
+
+module _ {S : Type 0} (g : Ghosts S) (known : Bool) (was world : World S) where
+  -- A text of batches was run over the World, which stood for a state, to its end or until it stopped; by its course.
+  abbrev pub RunsText : Bool → State → Option (List ℕ) → Option (List ℕ) → Option (List ℕ) → Result Course Failure → Type 0
+  RunsText stop s text old new r = MatchResult r
+      (λ course. EndsTask g known was world (λ end. AppliesText (MayLead g known was world) stop s end text old new (course_status course)))
+      (λ failure. EndsTask g known was world (λ end. StopsApplying (MayLead g known was world) stop s end failure text old new))
+
+  -- A task was done over the World, which stood for a state, or it stopped; by its status.
+  abbrev pub RunsAction : Action → State → Run → Result ℕ Failure → Type 0
+  RunsAction action s run r = MatchResult r
+      (λ status. EndsTask g known was world (λ end.
+      Done action s end (MayLead g known was world) (ShowsTables g was (store_of g world)) (record run { status = status })))
+      (λ failure. EndsTask g known was world (λ end.
+      StopsTask action s end failure (MayLead g known was world) (IsTrue known × HasCleanDisk (store_of g world)) run))
+
+-- A text of batches was rehearsed to its end, or stopped; by its status.
+abbrev pub RehearsesBy : Bool → State → Option (List ℕ) → Option (List ℕ) → Option (List ℕ) → Result ℕ Failure → Type 0
+RehearsesBy stop s text old new r =
+    MatchResult r (RehearsesText stop s text old new) (λ failure. StopsRehearsing stop s failure text old new)
+
+-- A text of batches was asked to its end, or stopped; by its status.
+abbrev pub AsksBy : State → Option (List ℕ) → Option (List ℕ) → Option (List ℕ) → Result ℕ Failure → Type 0
+AsksBy s text old new r = MatchResult r (AsksText s text old new) (λ failure. StopsAsking s failure text old new)
 
 -- ---- a task over a connection
 
@@ -215,19 +285,32 @@ ShowsTables g world after = HasCleanDisk after → (tables : Tables) → Rests (
 -- leaves what its end tells: the state after the last acknowledged batch, or if the store failed in a batch, that or the one after it.
 -- And `Led` is true of the batches that it ran: a task that only reads runs none. If it is a check that is done, it found the tables as
 -- `Shown` says.
-pub record RunsFrom (task : Task) (s : State) (run : Run) (Clean : Type 0) (Crash : Stand → Type 0) (Led : Leads) (Shown : Type 0) : Type 0 where
+pub record RunsFrom (task : Task) (s : State) (run : Run) (Clean : Type 0) (Crash : Stand → Type 0) (Led : Leads) (Shown : Type 0)
+    : Type 0 where
   pub end : Stand
   pub crash : Clean → Crash end
   pub still : only_reads task.action ≡ true → Clean → Led [] []
   -- only a task that serves asks anything of the ports
   pub rests : serves task.action ≡ false → run.given.ports.rests
   pub writes :
-      Done task.action s end (λ batches others. Clean → Led batches others) Shown run.given run.before run.after run.status
-      ⊎ ((failure : Failure) × (between : Option (List ℕ)) × StopsTask task.action s end failure (λ batches others. Clean → Led batches others) Clean run.given run.before between × Reports failure between run.after run.status)
+      Done task.action s end (λ batches others. Clean → Led batches others) Shown run
+      ⊎ ((failure : Failure) × (between : Option (List ℕ))
+      × StopsTask task.action s end failure (λ batches others. Clean → Led batches others) Clean (record run { after = between })
+      × Reports failure between run.after run.status)
 
 -- the same, if nothing is known of the disk and the tables
 abbrev pub RunsUnseen : Task → State → Run → Type 0
 RunsUnseen task s run = RunsFrom task s run ⊥ (λ _. ⊥) (λ _ _. ⊥) ⊤
+
+module _ {S : Type 0} (g : Ghosts S) where
+  -- A task ran over this World from a state, and left this connection. Its batches led on from the rows of the World.
+  abbrev pub RunsIn : Bool → World S → Held S → Task → State → Run → Type 0
+  RunsIn known world conn task s run = RunsFrom task s run (IsTrue known × HasCleanDisk (state g conn)) (CrashLeaves (state g conn))
+      (LeavesLed (state g conn) world.rows.maps) (ShowsTables g world (state g conn))
+
+  -- A task ran from a state, and left this connection. Nothing is said of the rows.
+  abbrev pub RunsOn : Held S → Task → State → Run → Type 0
+  RunsOn conn task s run = RunsFrom task s run (HasCleanDisk (state g conn)) (CrashLeaves (state g conn)) (λ _ _. ⊤) ⊤
 
 -- a failure of the store, or memory ran out
 abbrev pub IsOpening : Failure → Type 0
@@ -269,22 +352,39 @@ GivesNoText failure = ⊥
 -- Why the dump of this text gives no world, if the text is known. That of a well formed state, of at most 1,073,741,824 bytes, is refused
 -- only if it gives no text.
 abbrev pub RefusesDump : Option (List ℕ) → Failure → Type 0
-RefusesDump text failure = IsOfDump failure × IfSome text (λ bytes. (s : State) → IsHeld s → dump_of s ≡ bytes → length bytes ≤ 1073741824 → GivesNoText failure)
+RefusesDump text failure =
+    IsOfDump failure
+    × IfSome text (λ bytes. (s : State) → IsHeld s → dump_of s ≡ bytes → length bytes ≤ 1073741824 → GivesNoText failure)
 
 -- why a new world can't be made: a failure of opening, or the dump gives no world
 abbrev pub MayNotBegin : Task → Given → Failure → Type 0
-MayNotBegin task given failure = IsOpening failure ⊎ (IsTrue (is_load task.action) × RefusesDump (given.text (dump_word task.action)) failure)
+MayNotBegin task given failure =
+    IsOpening failure ⊎ (IsTrue (is_load task.action) × RefusesDump (given.text (dump_word task.action)) failure)
 
 abbrev pub FailsToBegin : Task → Run → Type 0
 FailsToBegin task run = (failure : Failure) × MayNotBegin task run.given failure × Reports failure run.before run.after run.status
 
 -- a new world can't be made, and nothing is asked of the ports; or the task runs from the one that it begins with
 abbrev pub RunsNew : Task → Run → Type 0
-RunsNew task run = (run.given.ports.rests × FailsToBegin task run) ⊎ ((s : State) × BeginsWith task.action run.given s × RunsUnseen task s run)
+RunsNew task run =
+    (run.given.ports.rests × FailsToBegin task run) ⊎ ((s : State) × BeginsWith task.action run.given s × RunsUnseen task s run)
 
 -- a crash leaves nothing that it couldn't leave before, but tables that show this state
 abbrev pub LeavesAsBefore : State → Database → Database → Type 0
 LeavesAsBefore s old new = (trees : Trees) → new.may_leave trees → old.may_leave trees ⊎ LeavesState trees s
+
+module _ {S : Type 0} (g : Ghosts S) (task : Task) (run : Run) where
+  -- A new world can't be made, and nothing is asked of the ports; or the task runs from the one that it begins with, and leaves this
+  -- connection.
+  abbrev pub RunsAnew : Held S → Type 0
+  RunsAnew conn =
+      (run.given.ports.rests × FailsToBegin task run) ⊎ ((s : State) × BeginsWith task.action run.given s × RunsOn g conn task s run)
+
+  -- It fails at once, nothing is asked of the ports, and a crash leaves what it left before; or the task runs from this state of the first
+  -- connection, and leaves the second.
+  abbrev pub RunsKept : State → Held S → Held S → Type 0
+  RunsKept s was conn =
+      (run.given.ports.rests × FailsAtOnce run × LeavesAsBefore s (state g was) (state g conn)) ⊎ RunsOn g conn task s run
 
 -- the status of a mistake in the words; asking for help or the version is 0
 abbrev pub mistake_status : ErrorKind → ℕ

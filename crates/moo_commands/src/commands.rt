@@ -2,34 +2,32 @@
 
 ghost use Rattle.std.specs.Prelude.{◌≡◌, ◌⊎◌, ℕ, List, true, false, codes, length, IfOk, IfErr, OnOk, Bool, IsTrue};
 ghost use Rattle.std.specs.Str.{bytes_eq};
-ghost use Rattle.sqlite.specs.State.{HasCleanDisk, Survives};
 ghost use Rattle.std.specs.Io.KnownBytes.{Appends};
-ghost use Rattle.moo_world.specs.declared.call.Batch.{Batch};
+ghost use Rattle.sqlite.specs.State.{HasCleanDisk, Survives};
 ghost use Rattle.moo_world.specs.Judge.{State};
 ghost use Rattle.moo_world.specs.ObjectLists.{objects_of};
-ghost use Rattle.moo_text.specs.declared.fault.TextFault.{TextFault};
 ghost use Rattle.moo_dump.specs.Dump.{dump};
 ghost use Rattle.moo_store.specs.declared.fault.StoreFault.{StoreFault};
 ghost use Rattle.moo_store.specs.Opening.{IsOfStore};
-ghost use Rattle.moo_store.specs.Stand.{Works, AsksBatch};
-ghost use Rattle.moo_store.specs.Turns.{Halts};
 ghost use Rattle.moo_store.specs.World.{store_of, StandsFor};
-ghost use Rattle.moo_commands.specs.Given.{texts_by, given_to, attended};
-ghost use Rattle.moo_commands.specs.Lines.{text_failure, store_failure, checked_line, loaded_line};
-ghost use Rattle.moo_commands.specs.Run.{lost_status, AppliesText, StopsApplying, AsksText, StopsAsking, MayLead, StopsIn, Serving, StopsServing, ShowsTables, Done, StopsTask, EndsTask, LeavesNothingNew, only_reads, serves, reads_input, ReadsFile};
+ghost use Rattle.moo_commands.specs.Texts.{OpenedBy};
+ghost use Rattle.moo_commands.specs.Lines.{store_failure, checked_line, loaded_line};
+ghost use Rattle.moo_commands.specs.Run.{lost_status, course_status, RunsText, RehearsesBy, RunsAction, AsksBy, StopsIn, ShowsTables};
+ghost use Rattle.moo_commands.specs.Run.{LeavesNothingNew};
+ghost use Rattle.moo_commands.specs.Run.{only_reads, serves, reads_input, ReadsFile};
 
 use crate::failure::Failure;
 use crate::host::BatchFiles;
 use crate::output::{checked_text, explain_lost, loaded_text};
+use crate::session::{Runs, Session, Streams};
 use moo_dump::put_all;
-use moo_http::{Ports, serve_port};
+use moo_http::serve_port;
 use moo_reasons::StandardNotes;
-use moo_store::{Tally, World, apply_text, ask_text};
-use moo_words::{Action, Service, Task};
+use moo_store::{Course, Tally, World, apply_until, ask_text, rehearse_text};
+use moo_words::{Action, Batches, Options, Service, Task};
 use sqlite::Alter;
 use std::alloc::Global;
-use std::io::{Eprint, Read, Write};
-use std::time::Clock;
+use std::io::{self, Eprint, Read, Write};
 
 /// The status of a text with this tally.
 fn status_after(tally: Tally) -> u8
@@ -38,115 +36,239 @@ fn status_after(tally: Tally) -> u8
     if tally.lost == 0 { 0 } else { 1 }
 }
 
-/// Runs the batches of a text. The path is that of its file; the input has no path. Standard error says why a batch isn't accepted, and what
-/// to do if the store failed in one.
-fn run_text<C: Eprint, R: Read + Drop, W: Write, S: Alter + Drop>(
-    alloc: Global,
-    console: &C,
-    world: &mut World<S>,
-    path: Option<&str>,
-    text: R,
-    output: &mut W,
-) -> Result<u8, Failure>
-    ensures done { (known : Bool) (s : State) → StandsFor S.Store known world.old s → IfOk result (λ status. EndsTask S.Store known world.old world.new (λ end. AppliesText (MayLead S.Store known world.old world.new) s end (R.remaining text) (W.contents output.old) (W.contents output.new) status)) }
-    ensures stops { (known : Bool) (s : State) → StandsFor S.Store known world.old s → IfErr result (λ failure. EndsTask S.Store known world.old world.new (λ end.
-        StopsApplying (MayLead S.Store known world.old world.new) s end failure (R.remaining text) (W.contents output.old) (W.contents output.new))) }
+/// The status of a text with this course.
+fn course_status(course: Course) -> u8
+    ensures { result ≡ course_status course }
 {
-    let mut notes = StandardNotes::new(console, alloc, path);
-    match apply_text(alloc, text, output, world, &mut notes) {
-        Ok(tally) => {
-            notes.finish();
-            explain_lost(console, tally);
-            Ok(status_after(tally))
-        }
-        Err(fault) => {
-            notes.finish();
-            Err(Failure::from(fault))
-        }
+    if course.stopped {
+        1
+    } else {
+        status_after(course.tally)
     }
 }
 
-/// Runs the batches of a file, or of the input for `-`.
-fn apply<H: BatchFiles, C: Eprint, R: Read + Drop, W: Write, S: Alter + Drop>(
+/// Runs the batches of a text. The notes say on standard error why a batch isn't accepted.
+fn run_text<C: Eprint, R: Read + Drop, W: Write, B: Alter + Drop>(
     alloc: Global,
-    console: &C,
-    world: &mut World<S>,
-    batches: &str,
-    host: &H,
-    input: &mut R,
+    world: &mut World<B>,
+    text: R,
+    stop: bool,
     output: &mut W,
-) -> Result<u8, Failure>
-    requires read { bytes_eq batches.now (codes "-") ≡ false → H.may_read host.now batches.now }
-    ensures done { (known : Bool) (s : State) → StandsFor S.Store known world.old s → IfOk result (λ status. EndsTask S.Store known world.old world.new (λ end. AppliesText (MayLead S.Store known world.old world.new) s end (texts_by (R.remaining input.old) (H.text host.now) batches.now) (W.contents output.old) (W.contents output.new) status)) }
-    ensures stops { (known : Bool) (s : State) → StandsFor S.Store known world.old s → IfErr result (λ failure. EndsTask S.Store known world.old world.new (λ end. StopsApplying (MayLead S.Store known world.old world.new) s end failure (texts_by (R.remaining input.old) (H.text host.now) batches.now) (W.contents output.old) (W.contents output.new))) }
-    ensures input { bytes_eq batches.now (codes "-") ≡ false → input.new ≡ input.old }
+    mut notes: StandardNotes<'_, C>,
+) -> Result<Course, Failure>
+    ensures ran { (known : Bool) (s : State) → StandsFor B.Store known world.old s →
+        RunsText B.Store known world.old world.new stop s (R.remaining text) (W.contents output.old) (W.contents output.new) result }
 {
+    let done = apply_until(alloc, text, output, world, stop, &mut notes);
+    notes.finish();
+    match done {
+        Ok(course) => Ok(course),
+        Err(fault) => Err(Failure::from(fault)),
+    }
+}
+
+/// The file of batches of this path, if it can be opened; or none for `-`, which is the input.
+fn open_batches<H: BatchFiles>(host: &H, batches: &str) -> Option<io::Result<H::Text>>
+    requires { bytes_eq batches.now (codes "-") ≡ false → H.may_read host.now batches.now }
+    ensures { OpenedBy H.Text.remaining (H.text host.now) batches.now result }
+{
+    if batches == "-" {
+        None
+    } else {
+        Some(host.open(batches))
+    }
+}
+
+/// Runs the batches of a file that was opened, or of the input if none was.
+fn apply_batches<'s, S: Streams, B: Alter + Drop>(
+    session: &mut Session<'s, S>,
+    world: &mut World<B>,
+    batches: Batches<'_>,
+    text: Option<io::Result<<S::Host as BatchFiles>::Text>>,
+) -> Result<Course, Failure>
+    ensures ran { OpenedBy S.Host.Text.remaining (S.Host.text session.old.host) batches.entry.path.now text →
+        (known : Bool) (s : State) → StandsFor B.Store known world.old s →
+        let run = ⟦<Session<'s, S> as Runs>⟧.run session.old session.new in
+        RunsText B.Store known world.old world.new batches.entry.options.stop s
+        (run.given.text batches.entry.path.now) run.before run.after result }
+    ensures rests { session.new.host ≡ session.old.host }
+    ensures input { OpenedBy S.Host.Text.remaining (S.Host.text session.old.host) batches.entry.path.now text →
+        bytes_eq batches.entry.path.now (codes "-") ≡ false → session.new.input ≡ session.old.input }
+{
+    let Batches { path, options } = batches;
+    let Options { stop } = options;
     world.leaves();
     world.has_good_rows();
-    if batches == "-" {
-        return run_text(alloc, console, world, None, input, output);
-    }
-    match host.open(batches) {
-        Ok(file) => run_text(alloc, console, world, Some(batches), file, output),
-        Err(_) => Err(Failure::NoBatches),
+    match text {
+        None => {
+            let notes = StandardNotes::new(session.console, session.alloc, None);
+            run_text(
+                session.alloc,
+                world,
+                &mut session.input,
+                stop,
+                &mut session.output,
+                notes,
+            )
+        }
+        Some(opened) => match opened {
+            Ok(file) => {
+                let notes = StandardNotes::new(session.console, session.alloc, Some(path));
+                run_text(session.alloc, world, file, stop, &mut session.output, notes)
+            }
+            Err(_) => Err(Failure::NoBatches),
+        },
     }
 }
 
-/// Says what the batches of a text would answer. The path is that of its file; the input has no path. Standard error says why a batch isn't
-/// accepted.
-fn ask_batches<C: Eprint, R: Read + Drop, W: Write, S: Alter + Drop>(
+/// Runs the batches of a file that was opened, or of the input if none was. Standard error says why a batch isn't accepted, and what to do
+/// if the store failed in one.
+fn apply<'s, S: Streams, B: Alter + Drop>(
+    session: &mut Session<'s, S>,
+    world: &mut World<B>,
+    batches: Batches<'_>,
+    text: Option<io::Result<<S::Host as BatchFiles>::Text>>,
+) -> Result<u8, Failure>
+    ensures applies { OpenedBy S.Host.Text.remaining (S.Host.text session.old.host) batches.entry.path.now text →
+        (known : Bool) (s : State) → StandsFor B.Store known world.old s →
+        let run = ⟦<Session<'s, S> as Runs>⟧.run session.old session.new in
+        RunsAction B.Store known world.old world.new (Action.Apply batches.entry) s run result }
+    ensures rests { session.new.host ≡ session.old.host }
+    ensures input { OpenedBy S.Host.Text.remaining (S.Host.text session.old.host) batches.entry.path.now text →
+        bytes_eq batches.entry.path.now (codes "-") ≡ false → session.new.input ≡ session.old.input }
+{
+    match apply_batches(session, world, batches, text) {
+        Ok(course) => {
+            explain_lost(session.console, course.tally);
+            Ok(course_status(course))
+        }
+        Err(failure) => Err(failure),
+    }
+}
+
+/// Rehearses the batches of a text. The notes say on standard error why a batch isn't accepted.
+fn rehearse_batches<C: Eprint, R: Read + Drop, W: Write, B: Alter + Drop>(
     alloc: Global,
-    console: &C,
-    world: &World<S>,
-    path: Option<&str>,
+    world: &mut World<B>,
+    text: R,
+    stop: bool,
+    output: &mut W,
+    mut notes: StandardNotes<'_, C>,
+) -> Result<u8, Failure>
+    ensures rehearses { (known : Bool) (s : State) → StandsFor B.Store known world.old s →
+        RehearsesBy stop s (R.remaining text) (W.contents output.old) (W.contents output.new) result }
+    ensures still { world.new.connection ≡ world.old.connection }
+{
+    let done = rehearse_text(alloc, text, output, world, stop, &mut notes);
+    notes.finish();
+    match done {
+        Ok(course) => Ok(course_status(course)),
+        Err(fault) => Err(Failure::from(fault)),
+    }
+}
+
+/// Rehearses the batches of a file that was opened, or of the input if none was. Standard error says why a batch isn't accepted.
+fn rehearse<'s, S: Streams, B: Alter + Drop>(
+    session: &mut Session<'s, S>,
+    world: &mut World<B>,
+    batches: Batches<'_>,
+    text: Option<io::Result<<S::Host as BatchFiles>::Text>>,
+) -> Result<u8, Failure>
+    ensures rehearses { OpenedBy S.Host.Text.remaining (S.Host.text session.old.host) batches.entry.path.now text →
+        (known : Bool) (s : State) → StandsFor B.Store known world.old s →
+        let run = ⟦<Session<'s, S> as Runs>⟧.run session.old session.new in
+        RehearsesBy batches.entry.options.stop s (run.given.text batches.entry.path.now) run.before run.after result }
+    ensures still { world.new.connection ≡ world.old.connection }
+    ensures rests { session.new.host ≡ session.old.host }
+    ensures input { OpenedBy S.Host.Text.remaining (S.Host.text session.old.host) batches.entry.path.now text →
+        bytes_eq batches.entry.path.now (codes "-") ≡ false → session.new.input ≡ session.old.input }
+{
+    let Batches { path, options } = batches;
+    let Options { stop } = options;
+    match text {
+        None => {
+            let notes = StandardNotes::new(session.console, session.alloc, None);
+            rehearse_batches(
+                session.alloc,
+                world,
+                &mut session.input,
+                stop,
+                &mut session.output,
+                notes,
+            )
+        }
+        Some(opened) => match opened {
+            Ok(file) => {
+                let notes = StandardNotes::new(session.console, session.alloc, Some(path));
+                rehearse_batches(session.alloc, world, file, stop, &mut session.output, notes)
+            }
+            Err(_) => Err(Failure::NoBatches),
+        },
+    }
+}
+
+/// Says what the batches of a text would answer. The notes say on standard error why a batch isn't accepted.
+fn ask_batches<C: Eprint, R: Read + Drop, W: Write, B: Alter + Drop>(
+    alloc: Global,
+    world: &World<B>,
     text: R,
     output: &mut W,
+    mut notes: StandardNotes<'_, C>,
 ) -> Result<u8, Failure>
-    ensures done { (known : Bool) (s : State) → StandsFor S.Store known world.now s → IfOk result (AsksText s (R.remaining text) (W.contents output.old) (W.contents output.new)) }
-    ensures stops { (known : Bool) (s : State) → StandsFor S.Store known world.now s → IfErr result (λ failure.
-        (fault : TextFault) × (failure ≡ text_failure fault) × Halts AsksBatch (Works s) (Works s) (R.remaining text) (W.contents output.old) (W.contents output.new) fault) }
+    ensures asks { (known : Bool) (s : State) → StandsFor B.Store known world.now s →
+        AsksBy s (R.remaining text) (W.contents output.old) (W.contents output.new) result }
 {
-    let mut notes = StandardNotes::new(console, alloc, path);
-    match ask_text(alloc, text, output, world, &mut notes) {
-        Ok(tally) => {
-            notes.finish();
-            Ok(status_after(tally))
-        }
-        Err(fault) => {
-            notes.finish();
-            Err(Failure::from(fault))
-        }
+    let done = ask_text(alloc, text, output, world, &mut notes);
+    notes.finish();
+    match done {
+        Ok(tally) => Ok(status_after(tally)),
+        Err(fault) => Err(Failure::from(fault)),
     }
 }
 
-/// Says what the batches of a file, or of the input for `-`, would answer.
-fn ask<H: BatchFiles, C: Eprint, R: Read + Drop, W: Write, S: Alter + Drop>(
-    alloc: Global,
-    console: &C,
-    world: &World<S>,
+/// Says what the batches of a file that was opened, or of the input if none was, would answer. Standard error says why a batch isn't
+/// accepted.
+fn ask<'s, S: Streams, B: Alter + Drop>(
+    session: &mut Session<'s, S>,
+    world: &World<B>,
     batches: &str,
-    host: &H,
-    input: &mut R,
-    output: &mut W,
+    text: Option<io::Result<<S::Host as BatchFiles>::Text>>,
 ) -> Result<u8, Failure>
-    requires read { bytes_eq batches.now (codes "-") ≡ false → H.may_read host.now batches.now }
-    ensures done { (known : Bool) (s : State) → StandsFor S.Store known world.now s → IfOk result (AsksText s (texts_by (R.remaining input.old) (H.text host.now) batches.now) (W.contents output.old) (W.contents output.new)) }
-    ensures stops { (known : Bool) (s : State) → StandsFor S.Store known world.now s → IfErr result (λ failure. StopsAsking s failure (texts_by (R.remaining input.old) (H.text host.now) batches.now) (W.contents output.old) (W.contents output.new)) }
-    ensures input { bytes_eq batches.now (codes "-") ≡ false → input.new ≡ input.old }
+    ensures asks { OpenedBy S.Host.Text.remaining (S.Host.text session.old.host) batches.now text →
+        (known : Bool) (s : State) → StandsFor B.Store known world.now s →
+        let run = ⟦<Session<'s, S> as Runs>⟧.run session.old session.new in
+        AsksBy s (run.given.text batches.now) run.before run.after result }
+    ensures rests { session.new.host ≡ session.old.host }
+    ensures input { OpenedBy S.Host.Text.remaining (S.Host.text session.old.host) batches.now text →
+        bytes_eq batches.now (codes "-") ≡ false → session.new.input ≡ session.old.input }
 {
-    if batches == "-" {
-        return ask_batches(alloc, console, world, None, input, output);
-    }
-    match host.open(batches) {
-        Ok(file) => ask_batches(alloc, console, world, Some(batches), file, output),
-        Err(_) => Err(Failure::NoBatches),
+    match text {
+        None => {
+            let notes = StandardNotes::new(session.console, session.alloc, None);
+            ask_batches(
+                session.alloc,
+                world,
+                &mut session.input,
+                &mut session.output,
+                notes,
+            )
+        }
+        Some(opened) => match opened {
+            Ok(file) => {
+                let notes = StandardNotes::new(session.console, session.alloc, Some(batches));
+                ask_batches(session.alloc, world, file, &mut session.output, notes)
+            }
+            Err(_) => Err(Failure::NoBatches),
+        },
     }
 }
 
 /// Writes what the world holds.
-fn show<W: Write, S: Alter + Drop>(world: &World<S>, output: &mut W) -> Result<u8, Failure>
-    ensures done { (known : Bool) (s : State) → StandsFor S.Store known world.now s → IfOk result (λ status. Appends (W.contents output.old) (W.contents output.new) (dump s) × (status ≡ 0)) }
-    ensures stops { (known : Bool) (s : State) → StandsFor S.Store known world.now s → IfErr result (λ failure. StopsIn (dump s) failure (W.contents output.old) (W.contents output.new)) }
+fn show<W: Write, B: Alter + Drop>(world: &World<B>, output: &mut W) -> Result<u8, Failure>
+    ensures done { (known : Bool) (s : State) → StandsFor B.Store known world.now s →
+        IfOk result (λ status. Appends (W.contents output.old) (W.contents output.new) (dump s) × (status ≡ 0)) }
+    ensures stops { (known : Bool) (s : State) → StandsFor B.Store known world.now s →
+        IfErr result (λ failure. StopsIn (dump s) failure (W.contents output.old) (W.contents output.new)) }
 {
     world.dump(output)?;
     Ok(0)
@@ -164,18 +286,21 @@ fn put_text<W: Write>(line: &str, output: &mut W) -> Result<u8, Failure>
 }
 
 /// Tests the tables, and writes what they hold.
-fn check<W: Write, S: Alter + Drop>(
+fn check<W: Write, B: Alter + Drop>(
     alloc: Global,
-    world: &mut World<S>,
+    world: &mut World<B>,
     output: &mut W,
 ) -> Result<u8, Failure>
-    ensures done { (known : Bool) (s : State) → StandsFor S.Store known world.old s → IfOk result (λ status. Appends (W.contents output.old) (W.contents output.new) (checked_line s.seq (length (objects_of s.world))) × (status ≡ 0)) }
-    ensures stops { (known : Bool) (s : State) → StandsFor S.Store known world.old s → IfErr result (λ failure.
-        ((fault : StoreFault) × (failure ≡ store_failure fault) × (IsTrue known × HasCleanDisk (store_of S.Store world.new) → IsOfStore fault) × (W.contents output.new ≡ W.contents output.old))
+    ensures done { (known : Bool) (s : State) → StandsFor B.Store known world.old s →
+        let line = checked_line s.seq (length (objects_of s.world)) in
+        IfOk result (λ status. Appends (W.contents output.old) (W.contents output.new) line × (status ≡ 0)) }
+    ensures stops { (known : Bool) (s : State) → StandsFor B.Store known world.old s → IfErr result (λ failure.
+        ((fault : StoreFault) × (failure ≡ store_failure fault)
+        × (IsTrue known × HasCleanDisk (store_of B.Store world.new) → IsOfStore fault) × (W.contents output.new ≡ W.contents output.old))
         ⊎ StopsIn (checked_line s.seq (length (objects_of s.world))) failure (W.contents output.old) (W.contents output.new)) }
     // It is done only if the tables show the rows of the World.
-    ensures shown { OnOk result (ShowsTables S.Store world.old (store_of S.Store world.new)) }
-    ensures crash { Survives (store_of S.Store world.old) (store_of S.Store world.new) (λ _. ⊥) }
+    ensures shown { OnOk result (ShowsTables B.Store world.old (store_of B.Store world.new)) }
+    ensures crash { Survives (store_of B.Store world.old) (store_of B.Store world.new) (λ _. ⊥) }
 {
     let seq = world.seq()?;
     let objects = world.check()?;
@@ -192,8 +317,10 @@ fn put_loaded<W: Write>(
     objects: u64,
     output: &mut W,
 ) -> Result<u8, Failure>
-    ensures done { IfOk result (λ status. Appends (W.contents output.old) (W.contents output.new) (loaded_line seq objects) × (status ≡ 0)) }
-    ensures stops { IfErr result (λ failure. StopsIn (loaded_line seq objects) failure (W.contents output.old) (W.contents output.new)) }
+    ensures done { let line = loaded_line seq objects in
+        IfOk result (λ status. Appends (W.contents output.old) (W.contents output.new) line × (status ≡ 0)) }
+    ensures stops { let line = loaded_line seq objects in
+        IfErr result (λ failure. StopsIn line failure (W.contents output.old) (W.contents output.new)) }
 {
     match loaded_text(alloc, seq, objects) {
         Ok(line) => put_text(line.as_str(), output),
@@ -202,13 +329,17 @@ fn put_loaded<W: Write>(
 }
 
 /// Says how much was loaded.
-fn show_loaded<W: Write, S: Alter + Drop>(
+fn show_loaded<W: Write, B: Alter + Drop>(
     alloc: Global,
-    world: &World<S>,
+    world: &World<B>,
     output: &mut W,
 ) -> Result<u8, Failure>
-    ensures done { (known : Bool) (s : State) → StandsFor S.Store known world.now s → IfOk result (λ status. Appends (W.contents output.old) (W.contents output.new) (loaded_line s.seq (length (objects_of s.world))) × (status ≡ 0)) }
-    ensures stops { (known : Bool) (s : State) → StandsFor S.Store known world.now s → IfErr result (λ failure. StopsIn (loaded_line s.seq (length (objects_of s.world))) failure (W.contents output.old) (W.contents output.new)) }
+    ensures done { (known : Bool) (s : State) → StandsFor B.Store known world.now s →
+        let line = loaded_line s.seq (length (objects_of s.world)) in
+        IfOk result (λ status. Appends (W.contents output.old) (W.contents output.new) line × (status ≡ 0)) }
+    ensures stops { (known : Bool) (s : State) → StandsFor B.Store known world.now s →
+        let line = loaded_line s.seq (length (objects_of s.world)) in
+        IfErr result (λ failure. StopsIn line failure (W.contents output.old) (W.contents output.new)) }
 {
     let seq = world.seq()?;
     let objects = world.object_count()?;
@@ -216,61 +347,67 @@ fn show_loaded<W: Write, S: Alter + Drop>(
 }
 
 /// Serves so many connections on a port.
-fn serve<P: Ports, C: Clock + Eprint, W: Write, S: Alter + Drop>(
-    alloc: Global,
-    console: &C,
-    ports: &mut P,
-    world: &mut World<S>,
+fn serve<'s, S: Streams, B: Alter + Drop>(
+    session: &mut Session<'s, S>,
+    world: &mut World<B>,
     service: Service,
-    output: &mut W,
 ) -> Result<u8, Failure>
-    ensures done { (known : Bool) (s : State) → StandsFor S.Store known world.old s → IfOk result (λ status. EndsTask S.Store known world.old world.new (λ end. Serving (attended P.Ports P.Source.Arrivals P.Source.Reader.Read P.Source.Writer.Write ports.old ports.new) service.port service.count s end (W.contents output.old) (W.contents output.new) status × ((batches others : List Batch) × (MayLead S.Store known world.old world.new) batches others))) }
-    ensures stops { (known : Bool) (s : State) → StandsFor S.Store known world.old s → IfErr result (λ failure. EndsTask S.Store known world.old world.new (λ end. StopsServing (attended P.Ports P.Source.Arrivals P.Source.Reader.Read P.Source.Writer.Write ports.old ports.new) service.port service.count s end failure (W.contents output.old) (W.contents output.new) × ((batches others : List Batch) × (MayLead S.Store known world.old world.new) batches others))) }
+    ensures serves { (known : Bool) (s : State) → StandsFor B.Store known world.old s →
+        let run = ⟦<Session<'s, S> as Runs>⟧.run session.old session.new in
+        RunsAction B.Store known world.old world.new (Action.Serve service) s run result }
+    ensures input { session.new.input ≡ session.old.input }
 {
     let Service { port, count } = service;
     world.has_good_rows();
-    match serve_port(alloc, console, ports, world, port, count, output) {
+    match serve_port(
+        session.alloc,
+        session.console,
+        &mut session.host,
+        world,
+        port,
+        count,
+        &mut session.output,
+    ) {
         Ok(()) => Ok(0),
         Err(fault) => Err(Failure::from(fault)),
     }
 }
 
 /// Does what a task says over its world.
-pub(crate) fn do_task<
-    H: BatchFiles + Ports,
-    C: Clock + Eprint,
-    R: Read + Drop,
-    W: Write,
-    S: Alter + Drop,
->(
-    alloc: Global,
-    console: &C,
-    world: &mut World<S>,
+pub(crate) fn do_task<'s, S: Streams, B: Alter + Drop>(
+    session: &mut Session<'s, S>,
+    world: &mut World<B>,
     task: Task<'_>,
-    host: &mut H,
-    input: &mut R,
-    output: &mut W,
 ) -> Result<u8, Failure>
-    requires read { (path : List ℕ) → ReadsFile task path → H.may_read host.old path }
-    ensures done { (known : Bool) (s : State) → StandsFor S.Store known world.old s → IfOk result (λ status. EndsTask S.Store known world.old world.new (λ end.
-        Done task.entry.action s end (MayLead S.Store known world.old world.new) (ShowsTables S.Store world.old (store_of S.Store world.new)) (given_to R.Read H.BatchFiles H.Ports H.Source.Arrivals H.Source.Reader.Read H.Source.Writer.Write input.old host.old host.new) (W.contents output.old) (W.contents output.new) status)) }
-    ensures stops { (known : Bool) (s : State) → StandsFor S.Store known world.old s → IfErr result (λ failure. EndsTask S.Store known world.old world.new (λ end.
-        StopsTask task.entry.action s end failure (MayLead S.Store known world.old world.new) (IsTrue known × HasCleanDisk (store_of S.Store world.new)) (given_to R.Read H.BatchFiles H.Ports H.Source.Arrivals H.Source.Reader.Read H.Source.Writer.Write input.old host.old host.new) (W.contents output.old) (W.contents output.new))) }
+    requires read { (path : List ℕ) → ReadsFile task path → S.Host.may_read session.old.host path }
+    ensures ends { (known : Bool) (s : State) → StandsFor B.Store known world.old s →
+        let run = ⟦<Session<'s, S> as Runs>⟧.run session.old session.new in
+        RunsAction B.Store known world.old world.new task.entry.action s run result }
     // Only a task that serves asks anything of the ports.
-    ensures rests { serves task.entry.action ≡ false → host.new ≡ host.old }
+    ensures rests { serves task.entry.action ≡ false → session.new.host ≡ session.old.host }
     // A task that only reads commits nothing.
-    ensures still { only_reads task.entry.action ≡ true → LeavesNothingNew (store_of S.Store world.old) (store_of S.Store world.new) }
+    ensures still { only_reads task.entry.action ≡ true → LeavesNothingNew (store_of B.Store world.old) (store_of B.Store world.new) }
     // Only a task whose text is `-` reads the input.
-    ensures input { reads_input task.entry ≡ false → input.new ≡ input.old }
+    ensures input { reads_input task.entry ≡ false → session.new.input ≡ session.old.input }
 {
     world.leaves();
     match task.action {
-        Action::Init => put_text("created\n", output),
-        Action::Apply { batches } => apply(alloc, console, world, batches, host, input, output),
-        Action::Ask { batches } => ask(alloc, console, world, batches, host, input, output),
-        Action::Dump => show(world, output),
-        Action::Load { .. } => show_loaded(alloc, world, output),
-        Action::Check => check(alloc, world, output),
-        Action::Serve(service) => serve(alloc, console, host, world, service, output),
+        Action::Init => put_text("created\n", &mut session.output),
+        Action::Apply(batches) => {
+            let text = open_batches(&session.host, batches.path);
+            apply(session, world, batches, text)
+        }
+        Action::Rehearse(batches) => {
+            let text = open_batches(&session.host, batches.path);
+            rehearse(session, world, batches, text)
+        }
+        Action::Ask { batches } => {
+            let text = open_batches(&session.host, batches);
+            ask(session, world, batches, text)
+        }
+        Action::Dump => show(world, &mut session.output),
+        Action::Load { .. } => show_loaded(session.alloc, world, &mut session.output),
+        Action::Check => check(session.alloc, world, &mut session.output),
+        Action::Serve(service) => serve(session, world, service),
     }
 }

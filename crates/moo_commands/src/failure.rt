@@ -1,7 +1,8 @@
 //! How a run of the program fails.
 
 ghost use Rattle.std.specs.Prelude.{◌≡◌};
-ghost use Rattle.moo_commands.specs.Lines.{word_of, status_of, text_failure, store_failure, dump_failure, service_failure, read_failure, load_failure};
+ghost use Rattle.moo_commands.specs.Lines.{word_of, status_of, text_failure, store_failure, dump_failure, service_failure};
+ghost use Rattle.moo_commands.specs.Lines.{read_failure, load_failure};
 
 use moo_damage::{Key, Kind};
 use moo_http::ServiceFault;

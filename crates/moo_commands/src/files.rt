@@ -1,25 +1,15 @@
 //! The file of a task.
 
-ghost use Rattle.std.specs.Prelude.{◌≡◌, ℕ, List, Bool, IsTrue, ◌⊎◌, true, false, IfOk, IfErr};
+ghost use Rattle.std.specs.Prelude.{◌≡◌, ℕ, List, Bool, true, false};
 ghost use Rattle.sqlite.specs.State.{HasCleanDisk};
-ghost use Rattle.sqlite.specs.Tree.{Trees};
-ghost use Rattle.sqlite.specs.Files.{over_files, file_state, IsNothing};
+ghost use Rattle.sqlite.specs.Files.{over_files, file_state};
 ghost use Rattle.sqlite.specs.WalFiles.{image_at};
-ghost use Rattle.moo_rows.specs.Opening.{opening_maps};
 ghost use Rattle.moo_world.specs.Rows.{IsGood};
-ghost use Rattle.moo_world.specs.Judge.{State, state_of};
-ghost use Rattle.moo_tables.specs.Tables.{Tables};
-ghost use Rattle.moo_cells.specs.Shows.{ShowsRows};
-ghost use Rattle.moo_store.specs.Opening.{Says, IsOfStore};
-ghost use Rattle.moo_store.specs.Led.{LeavesLed};
-ghost use Rattle.moo_store.specs.States.{LeavesState};
-ghost use Rattle.moo_store.specs.World.{store_of, CrashLeaves, StandsFor};
-ghost use Rattle.moo_files.specs.Contents.{HoldsTrees, HoldsTables, HoldsState, HasOtherTables, HasAnyTable, IsKept, ReadsAsOurs, HoldsNoTable};
-ghost use Rattle.moo_files.specs.Remains.{IsCleanRemains, MayStopAs, Spares, KeepsSuch, KeepsNothingBut, StillHolds, StillHoldsTrees};
-ghost use Rattle.moo_files.specs.Blank.{IsBlank};
-ghost use Rattle.moo_files.specs.Opened.{Contents, Hold, IsOpenedOver, Opens, Refuses};
+ghost use Rattle.moo_world.specs.Judge.{State};
+ghost use Rattle.moo_store.specs.World.{store_of, StandsFor};
 ghost use Rattle.moo_commands.specs.Lines.{Tells, store_failure};
-ghost use Rattle.moo_commands.specs.Run.{begins_anew, is_load, dump_word, reads_input, ReadsFile, only_reads, LeavesNothingNew, RunsFrom, RunsTask, ShowsTables};
+ghost use Rattle.moo_commands.specs.Run.{begins_anew, is_load, dump_word, reads_input, ReadsFile, only_reads};
+ghost use Rattle.moo_commands.specs.Run.{LeavesNothingNew, RunsIn, RunsTask};
 ghost use Rattle.moo_commands.specs.Ends.{RunsFile, EndsWith};
 
 use crate::ends::Ends;
@@ -43,8 +33,10 @@ fn run_in_files<'s, S: Streams, D: Disk + Drop>(
     task: Task<'_>,
 ) -> Connection<FileStore<D>>
     requires read { (path : List ℕ) → ReadsFile task path → S.Host.may_read session.old.host path }
-    ensures runs { (known : Bool) (s : State) → StandsFor over_files known world s → RunsFrom task.entry s (⟦<Session<'s, S> as Runs>⟧.run session.old session.new) (IsTrue known × HasCleanDisk (file_state result)) (CrashLeaves (file_state result)) (LeavesLed (file_state result) world.rows.maps) (ShowsTables over_files world (file_state result)) }
-    ensures clean { (known : Bool) (s : State) → StandsFor over_files known world s → HasCleanDisk (file_state result) → HasCleanDisk (store_of over_files world) }
+    ensures runs { (known : Bool) (s : State) → StandsFor over_files known world s →
+        RunsIn over_files known world result task.entry s (⟦<Session<'s, S> as Runs>⟧.run session.old session.new) }
+    ensures clean { (known : Bool) (s : State) → StandsFor over_files known world s →
+        HasCleanDisk (file_state result) → HasCleanDisk (store_of over_files world) }
     ensures good { world.failed ≡ false → IsGood world.rows.maps }
     ensures still { only_reads task.entry.action ≡ true → LeavesNothingNew (store_of over_files world) (file_state result) }
     ensures input { reads_input task.entry ≡ false → session.new.input ≡ session.old.input }
@@ -60,12 +52,7 @@ fn refusal(fault: StoreFault) -> Failure
 }
 
 /// Why a file isn't opened. A missing file is told apart, for what is said of it on standard error.
-fn refusal_of<T: Start, H: WorldFiles<T>>(
-    host: &H,
-    file: &str,
-    task: Task<'_>,
-    fault: StoreFault,
-) -> Failure
+fn refusal_of<T: Start, H: WorldFiles<T>>(host: &H, file: &str, fault: StoreFault) -> Failure
     requires may { H.may_open host.now file.now }
     ensures { Tells fault result }
 {
@@ -74,43 +61,10 @@ fn refusal_of<T: Start, H: WorldFiles<T>>(
         failure,
         Failure::Store(Error::SqliteFailure(ErrorCode::CannotOpen))
     );
-    if is_unopened && !begins_anew(task) && host.metadata(file).is_err() {
+    if is_unopened && host.metadata(file).is_err() {
         return Failure::NoFile;
     }
     failure
-}
-
-/// The world that a task begins with. Only `init` makes a file.
-fn world_of<T: Start, H: WorldFiles<T>>(
-    alloc: Global,
-    host: &H,
-    file: &str,
-    start: T,
-    task: Task<'_>,
-) -> Result<World<FileStore<H::Disk>>, (StoreFault, Remains<T, H::Disk>)>
-    requires may { H.may_open host.now file.now }
-    ensures anew { begins_anew task.entry ≡ true → IfOk result (λ world. StandsFor over_files true world (state_of opening_maps)) }
-    ensures rows { begins_anew task.entry ≡ true → IfOk result (λ world. world.rows.maps ≡ opening_maps) }
-    ensures made { begins_anew task.entry ≡ true → IfErr result (λ e. IsOfStore e.0) }
-    ensures taken { begins_anew task.entry ≡ true → (s : State) → HoldsState (image_at T.Start) s → IfOk result (λ world. HasCleanDisk (store_of over_files world) → ⊥) }
-    ensures opened { begins_anew task.entry ≡ false → IfOk result (IsOpenedOver (image_at T.Start)) }
-    ensures opens { begins_anew task.entry ≡ false → (held : Contents) → Hold (image_at T.Start) held → IfOk result (λ world. HasCleanDisk (store_of over_files world) → Opens held world) }
-    ensures refuses { begins_anew task.entry ≡ false → (held : Contents) → Hold (image_at T.Start) held → IfErr result (λ e. IsCleanRemains e.1 → Refuses held (image_at T.Start) e.0 e.1) }
-    ensures spared { begins_anew task.entry ≡ true → (trees : Trees) → HoldsTrees (image_at T.Start) trees → HasAnyTable trees → IfErr result (λ e. IsCleanRemains e.1 → KeepsSuch (λ found. found ≡ trees) (image_at T.Start) e.1) }
-    ensures unmade { begins_anew task.entry ≡ true → (trees : Trees) → HoldsTrees (image_at T.Start) trees → IfErr result (λ e. IsCleanRemains e.1 → KeepsSuch (λ found. (found ≡ trees) ⊎ LeavesState found (state_of opening_maps)) (image_at T.Start) e.1) }
-    ensures fresh { begins_anew task.entry ≡ true → IsNothing (image_at T.Start) → IfErr result (λ e. IsCleanRemains e.1 → KeepsNothingBut (λ found. LeavesState found (state_of opening_maps)) (image_at T.Start) e.1) }
-    ensures begun { begins_anew task.entry ≡ true → IsBlank (image_at T.Start) → IfErr result (λ e. IsCleanRemains e.1 → KeepsNothingBut (λ found. LeavesState found (state_of opening_maps)) (image_at T.Start) e.1) }
-    ensures room { begins_anew task.entry ≡ true → IfOk result (λ world. HasCleanDisk (store_of over_files world) → HoldsNoTable (image_at T.Start)) }
-    ensures occupied { begins_anew task.entry ≡ true → (trees : Trees) → HoldsTrees (image_at T.Start) trees → HasAnyTable trees → IfOk result (λ world. HasCleanDisk (store_of over_files world) → ⊥) }
-    ensures spares { ¬ IsNothing (image_at T.Start) → (begins_anew task.entry ≡ true → ¬ IsBlank (image_at T.Start)) → IfErr result (λ e. IsCleanRemains e.1 → Spares (image_at T.Start) e.1) }
-    ensures stopped { IfErr result (λ e. MayStopAs e.0 e.1) }
-    ensures left { (s : State) → HoldsState (image_at T.Start) s → IfErr result (λ e. IsCleanRemains e.1 → StillHolds (image_at T.Start) e.1 s) }
-{
-    if begins_anew(task) {
-        create_from(alloc, host, file, start)
-    } else {
-        open_from(alloc, host, file, start)
-    }
 }
 
 /// Makes the world of a dump in a file, does what the task says over it, and hands back what is left of the file.
@@ -155,8 +109,8 @@ fn run_loaded<'s, S: Streams>(
     }
 }
 
-/// Does what a task says over the world of its file or over the opening world, and hands back what is left of the file.
-fn run_begun<'s, S: Streams>(
+/// Makes the opening world in a file, does what the task says over it, and hands back what is left of the file.
+fn run_created<'s, S: Streams>(
     session: &mut Session<'s, S>,
     file: &str,
     start: S::File,
@@ -165,13 +119,41 @@ fn run_begun<'s, S: Streams>(
     requires may { S.Host.may_open session.old.host file.now }
     requires read { (path : List ℕ) → ReadsFile task path → S.Host.may_read session.old.host path }
     requires load { is_load task.action ≡ false }
+    requires anew { begins_anew task ≡ true }
     ensures runs { RunsFile task.entry (image_at S.File.Start) result (⟦<Session<'s, S> as Runs>⟧.run session.old session.new) }
     ensures input { reads_input task.entry ≡ false → session.new.input ≡ session.old.input }
 {
-    match world_of(session.alloc, &session.host, file, start, task) {
+    match create_from(session.alloc, &session.host, file, start) {
         Ok(world) => Ends::Ran(run_in_files(session, world, task)),
         Err((fault, remains)) => {
-            let failure = refusal_of(&session.host, file, task, fault);
+            session.status = report(
+                session.alloc,
+                session.console,
+                refusal(fault),
+                &mut session.output,
+            );
+            Ends::Refused(remains)
+        }
+    }
+}
+
+/// Opens the world of a file, does what the task says over it, and hands back what is left of the file.
+fn run_found<'s, S: Streams>(
+    session: &mut Session<'s, S>,
+    file: &str,
+    start: S::File,
+    task: Task<'_>,
+) -> Ends<S::File, <S::Host as WorldFiles<S::File>>::Disk>
+    requires may { S.Host.may_open session.old.host file.now }
+    requires read { (path : List ℕ) → ReadsFile task path → S.Host.may_read session.old.host path }
+    requires other { begins_anew task ≡ false }
+    ensures runs { RunsFile task.entry (image_at S.File.Start) result (⟦<Session<'s, S> as Runs>⟧.run session.old session.new) }
+    ensures input { reads_input task.entry ≡ false → session.new.input ≡ session.old.input }
+{
+    match open_from(session.alloc, &session.host, file, start) {
+        Ok(world) => Ends::Ran(run_in_files(session, world, task)),
+        Err((fault, remains)) => {
+            let failure = refusal_of(&session.host, file, fault);
             session.status = report(session.alloc, session.console, failure, &mut session.output);
             Ends::Refused(remains)
         }
@@ -181,8 +163,10 @@ fn run_begun<'s, S: Streams>(
 /// Does what a task says over its file, writes the line of a failure, and hands back what is left of the file. The status is that
 /// of `run_words`.
 ///
-/// `T` is what the file of the words holds, and `H` the host, with its files and its ports: it is proved for all contents and all connections, and
-/// no code looks at them. No other path is looked at or opened. The program calls it for files that nobody has read.
+/// `S::File` is what the file of the words holds, and `S::Host` the host, with its files and its ports: it is proved for all contents and
+/// all connections, and no code looks at them. No other path is looked at or opened. The program calls it for files that nobody has read.
+///
+/// Only `init` and `load` make a file.
 pub fn run_from<'s, S: Streams>(
     session: &mut Session<'s, S>,
     file: &str,
@@ -196,7 +180,13 @@ pub fn run_from<'s, S: Streams>(
 {
     match dump_word(task) {
         Some(dump) => run_loaded(session, file, start, dump, task),
-        None => run_begun(session, file, start, task),
+        None => {
+            if begins_anew(task) {
+                run_created(session, file, start, task)
+            } else {
+                run_found(session, file, start, task)
+            }
+        }
     }
 }
 
@@ -218,7 +208,8 @@ fn run_in_memory<'s, S: Streams>(session: &mut Session<'s, S>, task: Task<'_>)
     let _conn = run_over(session, conn, task);
 }
 
-/// Does what a task says, and hands back what is left of its file. On `:memory:` that is the unspent start. The status is that of `run_words`.
+/// Does what a task says, and hands back what is left of its file. On `:memory:` that is the unspent start. The status is that of
+/// `run_words`.
 pub(crate) fn run_task<'s, S: Streams>(
     session: &mut Session<'s, S>,
     task: Task<'_>,

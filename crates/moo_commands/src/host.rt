@@ -2,6 +2,7 @@
 
 ghost use Rattle.std.specs.Prelude.{◌≡◌, IfOk, ℕ, List, Option, None, ⊤};
 
+use crate::lambdamoo::{WHAT_TO_DO, holds_lambdamoo};
 use moo_disk::{DiskChanges, Telling, telling_files};
 use moo_files::{WorldFiles, fresh_files_hold_start};
 use moo_http::{Ports, Sockets};
@@ -9,7 +10,7 @@ use sqlite::{FileFrom, Files, Start};
 use sqlite_std_file::OpenError;
 use std::fs::{self, File, Metadata};
 use std::hash::{BuildHasher, RandomState};
-use std::io::{Read, Result};
+use std::io::{Error, ErrorKind, Read, Result};
 
 /// Files of batches, by their paths.
 ///
@@ -73,6 +74,10 @@ impl<'a, T: Start> WorldFiles<T> for System<'a> {
         path: &str,
         start: T,
     ) -> std::result::Result<Files<Telling<'a, FileFrom<T>, HostRuntime>>, OpenError> {
+        if holds_lambdamoo(self.rt, path) {
+            let _said = eprintln!(self.rt; "moo: {path}: {WHAT_TO_DO}");
+            return Err(OpenError::Io(Error::from(ErrorKind::InvalidData)));
+        }
         let files = sqlite_std_file::open(self.rt, path, start)?;
         fresh_files_hold_start(&files);
         Ok(telling_files(files, self.rt, self.changes))

@@ -13,6 +13,7 @@ ghost use Rattle.moo_commands.specs.Run.{IsDumpedAs, RefusesDump, is_load, dump_
 
 use crate::failure::Failure;
 use crate::host::BatchFiles;
+use crate::lambdamoo::{WHAT_TO_DO, is_lambdamoo};
 use moo_load::{LoadFault, read_dump, read_text};
 use moo_load_reasons::told;
 use moo_memory::Flat;
@@ -22,7 +23,9 @@ use std::io::{Eprint, Read};
 
 /// The word for the dump of a task, if it begins with the world of one.
 pub(crate) fn dump_word<'a>(task: Task<'a>) -> Option<&'a str>
-    ensures { MatchOption result (is_load task.entry.action ≡ false) (λ dump. (is_load task.entry.action ≡ true) × (dump_word task.entry.action ≡ dump.now)) }
+    ensures { MatchOption result
+        (is_load task.entry.action ≡ false)
+        (λ dump. (is_load task.entry.action ≡ true) × (dump_word task.entry.action ≡ dump.now)) }
 {
     match task.action {
         Action::Load { dump } => Some(dump),
@@ -30,17 +33,8 @@ pub(crate) fn dump_word<'a>(task: Task<'a>) -> Option<&'a str>
     }
 }
 
-/// Says on standard error why a text gives no world, and in which line. The path is that of the text, if it isn't standard input.
-fn explain_dump<C: Eprint>(
-    alloc: Global,
-    console: &C,
-    path: Option<&str>,
-    text: &[u8],
-    fault: LoadFault,
-) {
-    let Ok(Some(why)) = told(alloc, text, fault) else {
-        return;
-    };
+/// Says a sentence about a text on standard error. The path is that of the text, if it isn't standard input.
+fn say<C: Eprint>(console: &C, path: Option<&str>, why: &str) {
     match path {
         Some(path) => {
             let _said = eprintln!(console; "moo: {path}: {why}");
@@ -48,6 +42,21 @@ fn explain_dump<C: Eprint>(
         None => {
             let _said = eprintln!(console; "moo: {why}");
         }
+    }
+}
+
+/// Says on standard error why a text gives no world, and in which line; or that it is a LambdaMOO database.
+fn explain_dump<C: Eprint>(
+    alloc: Global,
+    console: &C,
+    path: Option<&str>,
+    text: &[u8],
+    fault: LoadFault,
+) {
+    if is_lambdamoo(text) {
+        say(console, path, WHAT_TO_DO);
+    } else if let Ok(Some(why)) = told(alloc, text, fault) {
+        say(console, path, why.as_str());
     }
 }
 
@@ -62,7 +71,8 @@ fn read_told<C: Eprint>(
     ensures good { IfOk result (λ rows. IsGood rows.maps) }
     ensures limit { IfOk result (λ rows. rows.maps.head.seq < 2 ^ 63) }
     ensures numbered { IfOk result (λ rows. AreRowsOf (state_of rows.maps) rows.maps) }
-    ensures complete { IfErr result (λ fault. fault ≢ OutOfMemory → length text.now < 4294967295 → (s : State) → IsHeld s → dump_of s ≢ text.now) }
+    ensures complete { IfErr result (λ fault. fault ≢ OutOfMemory → length text.now < 4294967295 →
+        (s : State) → IsHeld s → dump_of s ≢ text.now) }
 {
     let read = read_dump(alloc, text);
     if let Err(fault) = &read {
@@ -101,7 +111,8 @@ pub(crate) fn read_world<C: Eprint, H: BatchFiles, R: Read + Drop>(
     ensures good { IfOk result (λ rows. IsGood rows.maps) }
     ensures limit { IfOk result (λ rows. rows.maps.head.seq < 2 ^ 63) }
     ensures numbered { IfOk result (λ rows. AreRowsOf (state_of rows.maps) rows.maps) }
-    ensures dumped { IfOk result (λ rows. IsDumpedAs (texts_by (R.remaining input.old) (H.text host.now) dump.now) (state_of rows.maps)) }
+    ensures dumped { IfOk result (λ rows.
+        IsDumpedAs (texts_by (R.remaining input.old) (H.text host.now) dump.now) (state_of rows.maps)) }
     ensures failure { IfErr result (RefusesDump (texts_by (R.remaining input.old) (H.text host.now) dump.now)) }
     ensures input { bytes_eq dump.now (codes "-") ≡ false → input.new ≡ input.old }
 {

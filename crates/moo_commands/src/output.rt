@@ -1,7 +1,8 @@
 //! What is written of a failure, and the lines with numbers.
 
 ghost use Rattle.std.specs.Prelude.{MatchResult, ◌≡◌, IfOk};
-ghost use Rattle.moo_commands.specs.Lines.{WritesLine, word_of, status_of, Reports, checked_line, damaged_line, loaded_line, not_a_dump_line};
+ghost use Rattle.moo_commands.specs.Lines.{WritesLine, Reports, word_of, status_of};
+ghost use Rattle.moo_commands.specs.Lines.{checked_line, damaged_line, loaded_line, not_a_dump_line};
 
 use crate::failure::Failure;
 use moo_damage::{Key, Kind};
@@ -100,7 +101,8 @@ pub(crate) fn explain_lost<C: Eprint>(console: &C, tally: Tally) {
 fn put_made_line<W: Write>(line: Result<String, AllocError>, status: u8, output: &mut W) -> u8
     ensures { MatchResult line
         (λ text. WritesLine text.bytes.items status (W.contents output.old) (W.contents output.new) result)
-        (λ _. WritesLine (word_of Failure.NoMemory) (status_of Failure.NoMemory) (W.contents output.old) (W.contents output.new) result) }
+        (λ _. WritesLine (word_of Failure.NoMemory) (status_of Failure.NoMemory)
+        (W.contents output.old) (W.contents output.new) result) }
 {
     match line {
         Ok(line) => put_line(line.as_str(), status, output),

@@ -1,18 +1,17 @@
 //! A task over a connection.
 
-ghost use Rattle.std.specs.Prelude.{◌≡◌, ◌⊎◌, ℕ, List, true, false, MatchResult, Bool, IsTrue, ⊤};
+ghost use Rattle.std.specs.Prelude.{◌≡◌, ℕ, List, true, false, MatchResult, Bool};
 ghost use Rattle.sqlite.specs.State.{HasCleanDisk};
 ghost use Rattle.sqlite.specs.Held.{state};
-ghost use Rattle.moo_rows.specs.Opening.{opening_maps};
 ghost use Rattle.moo_world.specs.Rows.{IsGood};
-ghost use Rattle.moo_world.specs.Judge.{State, state_of};
+ghost use Rattle.moo_world.specs.Judge.{State};
 ghost use Rattle.moo_tables.specs.Tables.{Tables};
 ghost use Rattle.moo_tables.specs.Inside.{Rests};
-ghost use Rattle.moo_store.specs.Led.{LeavesLed};
 ghost use Rattle.moo_store.specs.States.{ShowsState};
-ghost use Rattle.moo_store.specs.World.{store_of, CrashLeaves, StandsFor};
+ghost use Rattle.moo_store.specs.World.{store_of, StandsFor};
 ghost use Rattle.moo_commands.specs.Lines.{Reports};
-ghost use Rattle.moo_commands.specs.Run.{begins_anew, is_load, dump_word, BeginsWith, FailsToBegin, ShowsTables, RunsFrom, RunsOpened, RunsShown, FailsAtOnce, LeavesAsBefore, LeavesNothingNew, only_reads, reads_input, ReadsFile};
+ghost use Rattle.moo_commands.specs.Run.{begins_anew, is_load, dump_word, RunsIn, RunsAnew, RunsKept, RunsShown, RunsOpened};
+ghost use Rattle.moo_commands.specs.Run.{LeavesNothingNew, only_reads, reads_input, ReadsFile};
 
 use crate::commands::do_task;
 use crate::failure::Failure;
@@ -39,7 +38,9 @@ fn ended<C: Eprint, W: Write>(
     done: Result<u8, Failure>,
     output: &mut W,
 ) -> u8
-    ensures { MatchResult done (λ status. (result ≡ status) × (W.contents output.new ≡ W.contents output.old)) (λ failure. Reports failure (W.contents output.old) (W.contents output.new) result) }
+    ensures { MatchResult done
+        (λ status. (result ≡ status) × (W.contents output.new ≡ W.contents output.old))
+        (λ failure. Reports failure (W.contents output.old) (W.contents output.new) result) }
 {
     match done {
         Ok(status) => status,
@@ -57,10 +58,12 @@ pub fn run_in<'s, S: Streams, B: Alter + Drop>(
     task: Task<'_>,
 ) -> Connection<B>
     requires read { (path : List ℕ) → ReadsFile task path → S.Host.may_read session.old.host path }
-    // The task runs from the state that the World stands for, and its batches lead on from the World's rows. A check that is done found that
-    // the tables show the World's rows.
-    ensures runs { (known : Bool) (s : State) → StandsFor B.Store known world s → RunsFrom task.entry s (⟦<Session<'s, S> as Runs>⟧.run session.old session.new) (IsTrue known × HasCleanDisk (state B.Store result)) (CrashLeaves (state B.Store result)) (LeavesLed (state B.Store result) world.rows.maps) (ShowsTables B.Store world (state B.Store result)) }
-    ensures clean { (known : Bool) (s : State) → StandsFor B.Store known world s → HasCleanDisk (state B.Store result) → HasCleanDisk (store_of B.Store world) }
+    // The task runs from the state that the World stands for, and its batches lead on from the World's rows. A check that is done found
+    // that the tables show the World's rows.
+    ensures runs { (known : Bool) (s : State) → StandsFor B.Store known world s →
+        RunsIn B.Store known world result task.entry s (⟦<Session<'s, S> as Runs>⟧.run session.old session.new) }
+    ensures clean { (known : Bool) (s : State) → StandsFor B.Store known world s →
+        HasCleanDisk (state B.Store result) → HasCleanDisk (store_of B.Store world) }
     // The rows of a World that works are good.
     ensures good { world.failed ≡ false → IsGood world.rows.maps }
     // A task that only reads commits nothing.
@@ -68,15 +71,7 @@ pub fn run_in<'s, S: Streams, B: Alter + Drop>(
     ensures input { reads_input task.entry ≡ false → session.new.input ≡ session.old.input }
 {
     world.has_good_rows();
-    let done = do_task(
-        session.alloc,
-        session.console,
-        &mut world,
-        task,
-        &mut session.host,
-        &mut session.input,
-        &mut session.output,
-    );
+    let done = do_task(session, &mut world, task);
     session.status = ended(session.alloc, session.console, done, &mut session.output);
     world.into_connection()
 }
@@ -90,8 +85,7 @@ fn run_anew<'s, S: Streams, B: Alter + Drop>(
     requires read { (path : List ℕ) → ReadsFile task path → S.Host.may_read session.old.host path }
     requires outside { conn.in_transaction ≡ false }
     requires load { is_load task.action ≡ false }
-    ensures runs { ((session.new.host ≡ session.old.host) × FailsToBegin task.entry (⟦<Session<'s, S> as Runs>⟧.run session.old session.new))
-        ⊎ ((s : State) × BeginsWith task.entry.action (⟦<Session<'s, S> as Runs>⟧.run session.old session.new).given s × RunsFrom task.entry s (⟦<Session<'s, S> as Runs>⟧.run session.old session.new) (HasCleanDisk (state B.Store result)) (CrashLeaves (state B.Store result)) (λ _ _. ⊤) ⊤) }
+    ensures runs { RunsAnew B.Store task.entry (⟦<Session<'s, S> as Runs>⟧.run session.old session.new) result }
     ensures input { reads_input task.entry ≡ false → session.new.input ≡ session.old.input }
 {
     match create_in(session.alloc, conn) {
@@ -119,8 +113,7 @@ fn run_loaded<'s, S: Streams, B: Alter + Drop>(
     requires outside { conn.in_transaction ≡ false }
     requires load { is_load task.action ≡ true }
     requires word { dump_word task.action ≡ dump.now }
-    ensures runs { ((session.new.host ≡ session.old.host) × FailsToBegin task.entry (⟦<Session<'s, S> as Runs>⟧.run session.old session.new))
-        ⊎ ((s : State) × BeginsWith task.entry.action (⟦<Session<'s, S> as Runs>⟧.run session.old session.new).given s × RunsFrom task.entry s (⟦<Session<'s, S> as Runs>⟧.run session.old session.new) (HasCleanDisk (state B.Store result)) (CrashLeaves (state B.Store result)) (λ _ _. ⊤) ⊤) }
+    ensures runs { RunsAnew B.Store task.entry (⟦<Session<'s, S> as Runs>⟧.run session.old session.new) result }
     ensures input { reads_input task.entry ≡ false → session.new.input ≡ session.old.input }
 {
     let rows = match read_world(
@@ -159,9 +152,9 @@ fn run_opened<'s, S: Streams, B: Alter + Drop>(
     requires read { (path : List ℕ) → ReadsFile task path → S.Host.may_read session.old.host path }
     requires outside { conn.in_transaction ≡ false }
     ensures kept { (s : State) → ShowsState (state B.Store conn) s → HasCleanDisk (state B.Store result) →
-        ((session.new.host ≡ session.old.host) × FailsAtOnce (⟦<Session<'s, S> as Runs>⟧.run session.old session.new) × LeavesAsBefore s (state B.Store conn) (state B.Store result))
-        ⊎ RunsFrom task.entry s (⟦<Session<'s, S> as Runs>⟧.run session.old session.new) (HasCleanDisk (state B.Store result)) (CrashLeaves (state B.Store result)) (λ _ _. ⊤) ⊤ }
-    ensures only { (tables : Tables) → Rests (state B.Store conn) tables → HasCleanDisk (state B.Store result) → RunsShown task.entry tables (⟦<Session<'s, S> as Runs>⟧.run session.old session.new) }
+        RunsKept B.Store task.entry (⟦<Session<'s, S> as Runs>⟧.run session.old session.new) s conn result }
+    ensures only { (tables : Tables) → Rests (state B.Store conn) tables → HasCleanDisk (state B.Store result) →
+        RunsShown task.entry tables (⟦<Session<'s, S> as Runs>⟧.run session.old session.new) }
     ensures opened { RunsOpened task.entry (⟦<Session<'s, S> as Runs>⟧.run session.old session.new) }
     ensures input { reads_input task.entry ≡ false → session.new.input ≡ session.old.input }
 {
@@ -192,14 +185,14 @@ pub fn run_over<'s, S: Streams, B: Alter + Drop>(
     requires read { (path : List ℕ) → ReadsFile task path → S.Host.may_read session.old.host path }
     requires outside { conn.in_transaction ≡ false }
     // A task that begins with a new world runs from that.
-    ensures anew { begins_anew task.entry ≡ true → ((session.new.host ≡ session.old.host) × FailsToBegin task.entry (⟦<Session<'s, S> as Runs>⟧.run session.old session.new))
-        ⊎ ((s : State) × BeginsWith task.entry.action (⟦<Session<'s, S> as Runs>⟧.run session.old session.new).given s × RunsFrom task.entry s (⟦<Session<'s, S> as Runs>⟧.run session.old session.new) (HasCleanDisk (state B.Store result)) (CrashLeaves (state B.Store result)) (λ _ _. ⊤) ⊤) }
+    ensures anew { begins_anew task.entry ≡ true →
+        RunsAnew B.Store task.entry (⟦<Session<'s, S> as Runs>⟧.run session.old session.new) result }
     // Any other runs from the state that the tables of the connection show, of any version, on a disk that returns what was written.
     ensures kept { (s : State) → begins_anew task.entry ≡ false → ShowsState (state B.Store conn) s → HasCleanDisk (state B.Store result) →
-        ((session.new.host ≡ session.old.host) × FailsAtOnce (⟦<Session<'s, S> as Runs>⟧.run session.old session.new) × LeavesAsBefore s (state B.Store conn) (state B.Store result))
-        ⊎ RunsFrom task.entry s (⟦<Session<'s, S> as Runs>⟧.run session.old session.new) (HasCleanDisk (state B.Store result)) (CrashLeaves (state B.Store result)) (λ _ _. ⊤) ⊤ }
+        RunsKept B.Store task.entry (⟦<Session<'s, S> as Runs>⟧.run session.old session.new) s conn result }
     // If there are tables, it runs from the world that they show, or the line tells a fault of these tables.
-    ensures only { (tables : Tables) → begins_anew task.entry ≡ false → Rests (state B.Store conn) tables → HasCleanDisk (state B.Store result) →
+    ensures only { (tables : Tables) → begins_anew task.entry ≡ false → Rests (state B.Store conn) tables →
+        HasCleanDisk (state B.Store result) →
         RunsShown task.entry tables (⟦<Session<'s, S> as Runs>⟧.run session.old session.new) }
     // Whatever they show, it is refused, or the task runs from a well formed world.
     ensures opened { begins_anew task.entry ≡ false → RunsOpened task.entry (⟦<Session<'s, S> as Runs>⟧.run session.old session.new) }

@@ -36,7 +36,8 @@ fn put_mistake<C: Eprint, W: Write>(
     error: &clap::Error,
     output: &mut W,
 ) -> u8
-    ensures { (found : Kinds) → HasKind found error.now → EndsUsage found (W.contents output.old) (W.contents output.new) result }
+    ensures { (found : Kinds) → HasKind found error.now →
+        EndsUsage found (W.contents output.old) (W.contents output.new) result }
 {
     let kind = error.kind();
     if kind == ErrorKind::OutOfMemory {
@@ -55,7 +56,8 @@ fn report_usage<C: Eprint, W: Write>(
     usage: &Usage,
     output: &mut W,
 ) -> u8
-    ensures { (words : List (List ℕ)) → IsRefusal words usage.now → EndsUsage (mistakes words) (W.contents output.old) (W.contents output.new) result }
+    ensures { (words : List (List ℕ)) → IsRefusal words usage.now →
+        EndsUsage (mistakes words) (W.contents output.old) (W.contents output.new) result }
 {
     match usage {
         Usage::Refused(error) => put_mistake(alloc, console, error, output),
@@ -68,26 +70,29 @@ fn report_usage<C: Eprint, W: Write>(
 ///
 /// What the command writes goes to the output, and after it the line of a failure. The status is 1 if the store, the reader or
 /// the writer failed, the text is too long, the port can't be listened on, or an answer is `fault` or `closed`; 3 if the file
-/// is damaged or of a newer version, or a dump shows no world; 4 if memory ran out. Words that name no task give the text of their reader: 2, or 0 for
-/// help and the version. If the store, the batches, the dump or the port failed, the cause goes to standard error, and so
-/// does a hint if a batch met a fault of the store. If a batch isn't accepted, standard error says its line and why. A connection that fails isn't a
-/// failure of `serve`.
+/// is damaged or of a newer version, or a dump shows no world; 4 if memory ran out. Words that name no task give the text of their
+/// reader: 2, or 0 for help and the version. If the store, the batches, the dump or the port failed, the cause goes to standard error,
+/// and so does a hint if a batch met a fault of the store. If a batch isn't accepted, standard error says its line and why. A connection
+/// that fails isn't a failure of `serve`.
 ///
-/// `T` is what the file of the words holds, and `H` the host, with its files and its ports: it is proved for all contents and all connections, and
-/// no code looks at them. It looks at and opens no file of a world but that of the words, and reads no file of batches
-/// and no dump but theirs. What is left of the file is handed back, to be closed. If the
-/// words name no file, that is the unspent start.
+/// `S::File` is what the file of the words holds, and `S::Host` the host, with its files and its ports: it is proved for all contents and
+/// all connections, and no code looks at them. It looks at and opens no file of a world but that of the words, and reads no file of
+/// batches and no dump but theirs. What is left of the file is handed back, to be closed. If the words name no file, that is the unspent
+/// start.
 pub fn run_words<'s, S: Streams>(
     session: &mut Session<'s, S>,
     words: &[&str],
     start: S::File,
 ) -> Ends<S::File, <S::Host as WorldFiles<S::File>>::Disk>
-    requires may { (task : Task) → NamesTask (map (λ word. word.now) words.now) task → S.Host.may_open session.old.host task.file.now }
-    requires read { (task : Task) (path : List ℕ) → NamesTask (map (λ word. word.now) words.now) task → ReadsFile task path → S.Host.may_read session.old.host path }
+    requires may { (task : Task) → NamesTask (map (λ word. word.now) words.now) task →
+        S.Host.may_open session.old.host task.file.now }
+    requires read { (task : Task) (path : List ℕ) → NamesTask (map (λ word. word.now) words.now) task → ReadsFile task path →
+        S.Host.may_read session.old.host path }
     // What is written, whatever the file holds.
     ensures words { RunsWords (map (λ word. word.now) words.now) (⟦<Session<'s, S> as Runs>⟧.run session.old session.new) }
     // And by what it holds: the run is one over the world that it shows.
-    ensures over { RunsOver (map (λ word. word.now) words.now) (image_at S.File.Start) result (⟦<Session<'s, S> as Runs>⟧.run session.old session.new) }
+    ensures over { RunsOver (map (λ word. word.now) words.now) (image_at S.File.Start) result
+        (⟦<Session<'s, S> as Runs>⟧.run session.old session.new) }
     // Only words of a task that reads the input change it.
     ensures input { KeepsInput (map (λ word. word.now) words.now) session.old.input session.new.input }
 {
@@ -114,11 +119,14 @@ pub fn run_to_end<'s, S: Streams>(
     words: &[&str],
     start: S::File,
 ) -> Remains<S::File, <S::Host as WorldFiles<S::File>>::Disk>
-    requires may { (task : Task) → NamesTask (map (λ word. word.now) words.now) task → S.Host.may_open session.old.host task.file.now }
-    requires read { (task : Task) (path : List ℕ) → NamesTask (map (λ word. word.now) words.now) task → ReadsFile task path → S.Host.may_read session.old.host path }
+    requires may { (task : Task) → NamesTask (map (λ word. word.now) words.now) task →
+        S.Host.may_open session.old.host task.file.now }
+    requires read { (task : Task) (path : List ℕ) → NamesTask (map (λ word. word.now) words.now) task → ReadsFile task path →
+        S.Host.may_read session.old.host path }
     ensures words { RunsWords (map (λ word. word.now) words.now) (⟦<Session<'s, S> as Runs>⟧.run session.old session.new) }
     // The file is closed after a run over what it held.
-    ensures closed { RunsClosed (map (λ word. word.now) words.now) (image_at S.File.Start) result (⟦<Session<'s, S> as Runs>⟧.run session.old session.new) }
+    ensures closed { RunsClosed (map (λ word. word.now) words.now) (image_at S.File.Start) result
+        (⟦<Session<'s, S> as Runs>⟧.run session.old session.new) }
     // Only words of a task that reads the input change it.
     ensures input { KeepsInput (map (λ word. word.now) words.now) session.old.input session.new.input }
 {

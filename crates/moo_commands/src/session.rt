@@ -6,6 +6,7 @@ use crate::host::BatchFiles;
 use moo_files::WorldFiles;
 use moo_http::Ports;
 use sqlite::Start;
+use sqlite_disk::Disk;
 use std::alloc::Global;
 use std::io::{Eprint, Read, Write};
 use std::time::Clock;
@@ -34,14 +35,24 @@ pub struct Session<'s, S: Streams> {
     pub status: u8,
 }
 
-/// What a run is given and writes, from what its session was to what it is.
+/// What a run is given and writes, from what its session was to what it is. `File` is what the file of its words holds, and `Disk` the disk
+/// that the file is on.
 pub trait Runs {
+    type File;
+
+    type Disk: Disk;
+
     ghost run: { Self → Self → Run };
 }
 
 impl<'s, S: Streams> Runs for Session<'s, S> {
+    type File = S::File;
+
+    type Disk = <S::Host as WorldFiles<S::File>>::Disk;
+
     ghost run = { λ old new. record {
-      given = given_to S.Input.Read S.Host.BatchFiles S.Host.Ports S.Host.Source.Arrivals S.Host.Source.Reader.Read S.Host.Source.Writer.Write old.input old.host new.host;
+      given = given_to S.Input.Read S.Host.BatchFiles S.Host.Ports S.Host.Source.Arrivals S.Host.Source.Reader.Read
+          S.Host.Source.Writer.Write old.input old.host new.host;
       before = S.Output.contents old.output;
       after = S.Output.contents new.output;
       status = new.status;

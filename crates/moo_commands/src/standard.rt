@@ -65,16 +65,22 @@ pub fn run_given<'s, S: Streams>(
     words: io::Result<Vec<String>>,
     start: S::File,
 ) -> Remains<S::File, <S::Host as WorldFiles<S::File>>::Disk>
-    requires may { IfOk words (λ words. (task : Task) → NamesTask (map string_bytes words.items) task → S.Host.may_open session.old.host task.file.now) }
-    requires read { IfOk words (λ words. (task : Task) (path : List ℕ) → NamesTask (map string_bytes words.items) task → ReadsFile task path → S.Host.may_read session.old.host path) }
+    requires may { IfOk words (λ words. (task : Task) → NamesTask (map string_bytes words.items) task →
+        S.Host.may_open session.old.host task.file.now) }
+    requires read { IfOk words (λ words. (task : Task) (path : List ℕ) → NamesTask (map string_bytes words.items) task →
+        ReadsFile task path → S.Host.may_read session.old.host path) }
     // The outcome of the words is that of `run_to_end`; or memory runs out before that, and their file isn't opened.
-    ensures read { IfOk words (λ words. (Reports Failure.NoMemory (S.Output.contents session.old.output) (S.Output.contents session.new.output) session.new.status × IsUntouched result × (session.new.host ≡ session.old.host))
-        ⊎ RunsClosed (map string_bytes words.items) (image_at S.File.Start) result (⟦<Session<'s, S> as Runs>⟧.run session.old session.new)) }
+    ensures read { IfOk words (λ words. let run = ⟦<Session<'s, S> as Runs>⟧.run session.old session.new in
+        (Reports Failure.NoMemory run.before run.after run.status × IsUntouched result × run.given.ports.rests)
+        ⊎ RunsClosed (map string_bytes words.items) (image_at S.File.Start) result run) }
     ensures input { IfOk words (λ words. KeepsInput (map string_bytes words.items) session.old.input session.new.input) }
     // If they can't be read, the line says whether memory ran out, no file is opened, and nothing is asked of the ports or read.
-    ensures memory { IfErr words (λ error. error_kind error ≡ ErrorKind.OutOfMemory → Reports Failure.NoMemory (S.Output.contents session.old.output) (S.Output.contents session.new.output) session.new.status) }
-    ensures unread { IfErr words (λ error. error_kind error ≢ ErrorKind.OutOfMemory → Reports Failure.Usage (S.Output.contents session.old.output) (S.Output.contents session.new.output) session.new.status) }
-    ensures unopened { IfErr words (λ _. IsUntouched result × (session.new.host ≡ session.old.host) × (session.new.input ≡ session.old.input)) }
+    ensures memory { IfErr words (λ error. error_kind error ≡ ErrorKind.OutOfMemory →
+        Reports Failure.NoMemory (S.Output.contents session.old.output) (S.Output.contents session.new.output) session.new.status) }
+    ensures unread { IfErr words (λ error. error_kind error ≢ ErrorKind.OutOfMemory →
+        Reports Failure.Usage (S.Output.contents session.old.output) (S.Output.contents session.new.output) session.new.status) }
+    ensures unopened { IfErr words (λ _.
+        IsUntouched result × (session.new.host ≡ session.old.host) × (session.new.input ≡ session.old.input)) }
 {
     let words = match words {
         Ok(words) => words,
@@ -122,8 +128,8 @@ impl<'a> Streams for Standard<'a> {
     type Output = Stdout;
 }
 
-/// The whole program: `run_given` over the words of the command line, the files and ports of the system and the standard streams. It has no type
-/// parameter, so that the check of `main` needn't know what streams are.
+/// The whole program: `run_given` over the words of the command line, the files and ports of the system and the standard streams. It has no
+/// type parameter, so that the check of `main` needn't know what streams are.
 pub fn run_command(rt: &HostRuntime) -> u8 {
     let changes = DiskChanges::new();
     let mut session: Session<'_, Standard<'_>> = Session {

@@ -31,7 +31,8 @@ fn add_definition(
     definer: ObjNo,
     id: PropId,
 ) -> Result<(), AllocError>
-    ensures { OnOk result ((d : Object) → ids_listed definitions.new d ≡ ids_listed definitions.old d ++ (if same_object definer d then id ∷ [] else [])) }
+    ensures { OnOk result ((d : Object) →
+        ids_listed definitions.new d ≡ ids_listed definitions.old d ++ (if same_object definer d then id ∷ [] else [])) }
 {
     match definitions.get_mut(&definer) {
         Some(ids) => ids.push(id)?,

@@ -1,14 +1,10 @@
 -- From what the files hold to what a connection to them keeps.
-use Rattle.moo_files.{proofs.Words.{◌≡◌, ◌≢◌, ◌⊎◌, inl, inr, ℕ, ◌≤◌, Result, Ok, Err, IfErr, [], ap, arith, sym, subst, subst₂, ◌∙◌, IsTrue, ∥∥₁_elim, ∥∥₁_map, Trees-set, Trees, HasCleanDisk, Survives, Opens, IsLive, Held, IsEmpty, IsNothing, file_state, empty_is_sound, Ghosts, FileStore, Error, State, Tables, schema_of, no_schema, ShowsState, LeavesState, Left, IsOfStore, Adopts, StoreFault, IsBlank, HoldsTrees, HoldsTables, HoldsState, HasOtherTables, HasAnyTable, IsMigrated, IsKept, ReadsAs, ReadsAsOurs, HoldsNoTable}, proofs.BlankLemmas.{holds_none}, proofs.RemainsLemmas.{found_empty, begun_empty}}
+use Rattle.moo_files.{proofs.Words.{◌≡◌, ◌≢◌, ◌⊎◌, inl, inr, ℕ, ◌≤◌, Result, Ok, Err, IfErr, [], ap, arith, sym, subst, subst₂, ◌∙◌, ∥∥₁_elim, ∥∥₁_map, Trees-set, Trees, HasCleanDisk, Survives, Opens, IsLive, Held, IsEmpty, IsNothing, file_state, empty_is_sound, Ghosts, FileStore, Error, State, Tables, schema_of, no_schema, ShowsState, LeavesState, Left, IsOfStore, Adopts, StoreFault, IsBlank, HoldsTrees, HoldsTables, HoldsState, HasOtherTables, HasAnyTable, IsMigrated, IsKept, ReadsAs, ReadsAsOurs, HoldsNoTable}, specs.Connected.{IsNewOrFound, OnlyLeaves}, proofs.BlankLemmas.{holds_none}, proofs.RemainsLemmas.{found_empty, begun_empty}}
 use Rattle.sqlite.{specs.Recovery.{Image}, specs.Schema.{Schema}, specs.State.{State as Database}, specs.Start.{FindsIn}, specs.Effect.{Database as Content, IsDatabase}}
 use Rattle.sqlite_trees.specs.Objects.{catalog_tree}
 use Rattle.sqlite_catalog.specs.Listing.{IsSound}
 use Rattle.moo_tables.{proofs.SchemaLemmas.{some_tables, one_schema}, specs.declared.version.Version.{Version}, specs.Inside.{Rests, Leaves}, proofs.ReopenLemmas.{opened}}
 use Rattle.moo_store.specs.declared.fault.StoreFault.TheVariants.{Store, OutOfMemory}
-
--- while it is open a crash leaves its last commit alone
-abbrev pub OnlyLeaves : Database → Type 0
-OnlyLeaves store = IsTrue store.is_open → (trees : Trees) → store.may_leave trees → trees ≡ store.committed.trees
 
 pub none_below : (n m : ℕ) → n ≤ m → m ≡ 0 → n ≡ 0
 none_below n m le e = omega (arith, le, e)
@@ -60,11 +56,8 @@ left_held image store s opens found only it left lies = subst (λ trees. LeavesS
 
 -- ---- files that held no database, so that a blank one was made, or what `sqlite` found
 
-abbrev pub NewOrFound : Image → Database → Type 0
-NewOrFound image store = (IsBlank image × IsEmpty store.committed.trees) ⊎ FindsIn image store
-
 -- files that hold a database aren't new
-pub finds_held : (image : Image) (store : Database) (trees : Trees) → NewOrFound image store → HoldsTrees image trees → FindsIn image store
+pub finds_held : (image : Image) (store : Database) (trees : Trees) → IsNewOrFound image store → HoldsTrees image trees → FindsIn image store
 finds_held image store trees (inl made) holds = absurd (∥∥₁_elim holds (λ x y. absurd x) (λ held. holds_none image trees made.0 held))
 finds_held image store trees (inr found) holds = found
 
@@ -77,11 +70,11 @@ none_found image store found none = found_empty image store.committed.trees none
 pub left_none : (image : Image) (store : Database) → Opens store → FindsIn image store → OnlyLeaves store → IsNothing image → (left : Trees) → store.may_leave left → IsEmpty left
 left_none image store opens found only none left lies = subst IsEmpty (sym (only opens.is_open left lies)) (none_found image store found none)
 
-pub left_new : (image : Image) (store : Database) → Opens store → NewOrFound image store → OnlyLeaves store → IsNothing image → (left : Trees) → store.may_leave left → IsEmpty left
+pub left_new : (image : Image) (store : Database) → Opens store → IsNewOrFound image store → OnlyLeaves store → IsNothing image → (left : Trees) → store.may_leave left → IsEmpty left
 left_new image store opens (inl made) only none left lies = subst IsEmpty (sym (only opens.is_open left lies)) made.1
 left_new image store opens (inr found) only none left lies = left_none image store opens found only none left lies
 
-pub left_begun : (image : Image) (store : Database) → Opens store → NewOrFound image store → OnlyLeaves store → IsBlank image → (left : Trees) → store.may_leave left → IsEmpty left
+pub left_begun : (image : Image) (store : Database) → Opens store → IsNewOrFound image store → OnlyLeaves store → IsBlank image → (left : Trees) → store.may_leave left → IsEmpty left
 left_begun image store opens (inl made) only begun left lies = subst IsEmpty (sym (only opens.is_open left lies)) made.1
 left_begun image store opens (inr found) only begun left lies = subst IsEmpty (sym (only opens.is_open left lies)) (begun_empty image store.committed.trees begun found.reads)
 
@@ -142,14 +135,14 @@ reads_something image store opens live found some = elim (reads_sound image stor
 ]
 
 -- a world was made in them, so that they had room for it
-pub no_table : (image : Image) (store : Database) → Opens store → IsLive store → NewOrFound image store → ¬ (store.now.schema ≢ no_schema) → HoldsNoTable image
+pub no_table : (image : Image) (store : Database) → Opens store → IsLive store → IsNewOrFound image store → ¬ (store.now.schema ≢ no_schema) → HoldsNoTable image
 no_table image store opens live (inl made) empty = inl made.0
 no_table image store opens live (inr found) empty = elim (reads_sound image store opens live found) [
   | inl nothing ↦ inr (inl nothing)
   | inr reads ↦ inr (inr (store.committed.trees, reads, λ any. empty (λ is. any (is_committed store no_schema opens live is))))
 ]
 
-pub found_something : (image : Image) (store : Database) → Opens store → IsLive store → NewOrFound image store → ¬ IsNothing image → ¬ IsBlank image → (trees : Trees) × ReadsAs image trees
+pub found_something : (image : Image) (store : Database) → Opens store → IsLive store → IsNewOrFound image store → ¬ IsNothing image → ¬ IsBlank image → (trees : Trees) × ReadsAs image trees
 found_something image store opens live (inl made) some begun = absurd (begun made.0)
 found_something image store opens live (inr found) some begun = reads_something image store opens live found some
 
@@ -172,13 +165,3 @@ kept_or_migrated image old new trees opens live found only holds clean it left l
 pub kept_state : (s : State) (trees left : Trees) → LeavesState trees s → IsKept trees left → LeavesState left s
 kept_state s trees left it (inl same) = subst (λ trees. LeavesState trees s) (sym same) it
 kept_state s trees left it (inr migrated) = migrated.state s it
-
--- what shows a state has tables
-pub has_tables : (store : Database) (s : State) → ShowsState store s → store.now.schema ≢ no_schema
-has_tables store s it none = some_tables it.tables.version (sym it.rests.holds.schema ∙ none)
-
--- what a new world can't be made for says nothing of tables
-pub each_fault : {W C : Type 0} (Kept : StoreFault × C → Type 0) (r : Result W (StoreFault × C)) → IfErr r (λ e. ((e.0 ≡ OutOfMemory) × Kept e) ⊎ ((error : Error) × (e.0 ≡ Store error))) → IfErr r (λ e. IsOfStore e.0)
-each_fault Kept (Ok world) it = tt
-each_fault Kept (Err e) (inl (is, kept)) = subst IsOfStore (sym is) tt
-each_fault Kept (Err e) (inr (error, is)) = subst IsOfStore (sym is) tt

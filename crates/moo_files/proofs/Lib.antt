@@ -4,6 +4,7 @@ mod BegunLemmas
 mod BlankLemmas
 mod ClosingLemmas
 mod ContentsLemmas
+pub mod MakingLemmas
 pub mod OpenedLemmas
 mod RefusalLemmas
 pub mod RemainsLemmas

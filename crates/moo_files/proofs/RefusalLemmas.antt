@@ -1,5 +1,6 @@
 -- What the fault of an open that failed says of the files.
-use Rattle.moo_files.proofs.Words.{◌≡◌, ◌≢◌, ◌⊎◌, inl, inr, ℕ, ◌<◌, arith, ap, sym, subst, ◌∙◌, ∥∥₁_elim, Ghosts, Files, Image, tally_of_files, Trees, store_error, FailsToOpenFiles, HoldsDatabase, faults_left, image_of, tally_left, Error, Leftover, not_ours, IsOfStore, Tables, StoreFault, HoldsTrees, ExcusesMalformed, IsUnopened, TakesForOurs, cannot_open, malformed, Remains}
+use Rattle.moo_files.proofs.Words.{◌≡◌, ◌≢◌, ◌⊎◌, inl, inr, ℕ, ◌<◌, arith, ap, sym, subst, ◌∙◌, ∥∥₁_elim, Ghosts, Files, Image, tally_of_files, Trees, store_error, FailsToOpenFiles, HoldsDatabase, faults_left, image_of, tally_left, Error, Leftover, not_ours, IsOfStore, Tables, StoreFault, HoldsTrees, ExcusesMalformed, IsUnopened, TakesForOurs, cannot_open, malformed, Remains, IsKept}
+use Rattle.moo_files.{specs.Opened.{Contents, Nothing, Database, Unfit, Refuses}, specs.Connected.{Unconnects}, proofs.RemainsLemmas.{keeps_more}}
 use Rattle.moo_files.specs.declared.remains.Remains.TheVariants as remains
 use Rattle.moo_store.specs.Opening.{Says}
 use Rattle.sqlite_disk.specs.Disk.{MoreFaults}
@@ -79,3 +80,16 @@ module _ {T D : Type 0} {g : Ghosts D} where
   takes_for_ours fault (remains.NotOpened seal) other = other
   takes_for_ours fault (remains.Leftover left) other = other
   takes_for_ours fault (remains.Connection conn) other = other
+
+  -- files to which there was no connection are refused with a fault of the store
+  pub refuses_unconnected : (image : Image) (fault : StoreFault) (r : Remains T D g) → IsOfStore fault → (held : Contents) → Unconnects held image fault r → Refuses held image fault r
+  refuses_unconnected image fault r store Nothing it = (store, it)
+  refuses_unconnected image fault r store (Database trees) it = record {
+    tables = λ tables leaves. says_nothing tables fault store;
+    state = λ s leaves. store;
+    other = λ others. store;
+    ours = λ ours. takes_for_ours fault r it.own;
+    malformed = it.malformed;
+    kept = keeps_more (λ found. found ≡ trees) (IsKept trees) (λ found same. inl same) image r it.kept;
+  }
+  refuses_unconnected image fault r store Unfit it = store

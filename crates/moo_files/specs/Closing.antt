@@ -22,7 +22,8 @@ module _ {D : Type 0} {g : Ghosts D} where
   -- The two files hold a database that a crash of this store might have left, and so does what a crash leaves of them. If closing
   -- failed, so does what the next open finds.
   abbrev pub IsLeftOf : Database → Leftover D g → Type 0
-  IsLeftOf store (left.Files now) = IsLeftBy store (image_of g now) × ((found : Image) → outcomes g now.log now.db found → IsLeftBy store found)
+  IsLeftOf store (left.Files now) =
+      IsLeftBy store (image_of g now) × ((found : Image) → outcomes g now.log now.db found → IsLeftBy store found)
   IsLeftOf store (left.Unopened now) = ⊥
   IsLeftOf store (left.Store now) = (trees : Trees) → recovers now trees → store.may_leave trees
 
@@ -35,5 +36,6 @@ module _ {D : Type 0} {g : Ghosts D} where
 module _ {T D : Type 0} {g : Ghosts D} where
   -- A connection was closed, and anything else is as it was. Before that the connection's trees were numbered.
   abbrev pub IsClosedFrom : Remains T D g → Remains T D g → Type 0
-  IsClosedFrom (remains.Connection conn) now = (left : Leftover D g) × (now ≡ remains.Leftover left) × IsClosedAs conn left × (IsCleanLeft left → HasCleanDisk (file_state conn) × IsLeftOf (file_state conn) left × HasNumberedTrees conn)
+  IsClosedFrom (remains.Connection conn) now = (left : Leftover D g) × (now ≡ remains.Leftover left) × IsClosedAs conn left
+      × (IsCleanLeft left → HasCleanDisk (file_state conn) × IsLeftOf (file_state conn) left × HasNumberedTrees conn)
   IsClosedFrom was now = now ≡ was

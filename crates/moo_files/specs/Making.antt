@@ -1,9 +1,72 @@
--- The rows of a world that is made in a file.
-use Rattle.std.specs.Prelude.{Option, None, Some}
+-- What making a world in a file does, by what the file holds.
+use Rattle.std.specs.Prelude.{◌≡◌, ◌⊎◌, true, ⊤, Option, None, Some, Ok, Err}
+use Rattle.sqlite_disk.specs.declared.Disk.{Ghosts}
+use Rattle.sqlite_store.specs.declared.store.FileStore.{FileStore}
+use Rattle.sqlite_wal.specs.Recovery.{Image}
+use Rattle.sqlite.specs.State.{HasCleanDisk}
+use Rattle.sqlite.specs.Files.{over_files, IsNothing}
+use Rattle.sqlite.specs.Tree.{Trees}
 use Rattle.moo_rows.specs.Maps.{Maps, Held}
 use Rattle.moo_rows.specs.Opening.{opening_maps}
+use Rattle.moo_world.specs.Judge.{state_of}
+use Rattle.moo_store.specs.Kept.{World}
+use Rattle.moo_store.specs.Opening.{IsOfStore}
+use Rattle.moo_store.specs.States.{LeavesState}
+use Rattle.moo_store.specs.World.{store_of, StandsFor, Left}
+use Rattle.moo_store.specs.declared.fault.StoreFault.{StoreFault}
+use Rattle.moo_files.specs.Blank.{IsBlank}
+use Rattle.moo_files.specs.Contents.{HoldsTrees, HasAnyTable, HoldsNoTable}
+use Rattle.moo_files.specs.Opened.{Attempt}
+use Rattle.moo_files.specs.Remains.{IsCleanRemains, MayStopAs, KeepsNothingBut, KeepsSuch, Spares}
+use Rattle.moo_files.specs.declared.remains.Remains.{Remains}
 
 -- these rows, or without any those of the opening world
 abbrev pub rows_made : Option Held → Maps
 rows_made None = opening_maps
 rows_made (Some rows) = rows.maps
+
+-- what files may hold before a world is made in them: nothing, half a first page, as a crash may leave it then, or a database
+pub data Site : Type 0 where
+  Empty : Site
+  HalfMade : Site
+  Filled : Trees → Site
+
+abbrev pub IsSite : Image → Site → Type 0
+IsSite image Empty = IsNothing image
+IsSite image HalfMade = IsBlank image
+IsSite image (Filled trees) = HoldsTrees image trees
+
+-- a world is made in a database only if it has no table, whether the tables show a world or not
+abbrev pub TakesWorld : Site → Type 0
+TakesWorld Empty = ⊤
+TakesWorld HalfMade = ⊤
+TakesWorld (Filled trees) = ¬ HasAnyTable trees
+
+module _ {D : Type 0} {g : Ghosts D} where
+  -- A world of these rows was made in files that had room for it: it has the very rows, and a crash leaves it.
+  pub record IsMadeIn (rows : Maps) (image : Image) (world : World (FileStore D g)) : Type 0 where
+    pub stands : StandsFor over_files true world (state_of rows)
+    pub same : world.rows.maps ≡ rows
+    pub left : HasCleanDisk (store_of over_files world) → Left (store_of over_files world) (state_of rows)
+    pub room : HasCleanDisk (store_of over_files world) → HoldsNoTable image
+    pub over : (site : Site) → IsSite image site → HasCleanDisk (store_of over_files world) → TakesWorld site
+
+module _ {T D : Type 0} {g : Ghosts D} where
+  -- What files keep in which no world was made. A database stays as it is; one without any table may hold what was committed, if that
+  -- is so. Files without a database hold none still, or one without rows, or what was committed.
+  abbrev pub KeepsSite : (Trees → Type 0) → Site → Image → Remains T D g → Type 0
+  KeepsSite Made Empty image rest = KeepsNothingBut Made image rest
+  KeepsSite Made HalfMade image rest = KeepsNothingBut Made image rest
+  KeepsSite Made (Filled trees) image rest = KeepsSuch (λ found. (found ≡ trees) ⊎ ((¬ HasAnyTable trees) × Made found)) image rest
+
+  -- No world was made: the store failed, it had no room for it, or memory ran out. Files that held anything else are spared, sound or not.
+  pub record IsUnmadeIn (Made : Trees → Type 0) (image : Image) (fault : StoreFault) (rest : Remains T D g) : Type 0 where
+    pub of_store : IsOfStore fault
+    pub stopped : MayStopAs fault rest
+    pub spared : ¬ IsNothing image → ¬ IsBlank image → IsCleanRemains rest → Spares image rest
+    pub kept : (site : Site) → IsSite image site → IsCleanRemains rest → KeepsSite Made site image rest
+
+  -- what making the world of these rows does
+  abbrev pub Makes : Maps → Image → Attempt T D g → Type 0
+  Makes rows image (Ok world) = IsMadeIn rows image world
+  Makes rows image (Err e) = IsUnmadeIn (λ found. LeavesState found (state_of rows)) image e.0 e.1

@@ -21,6 +21,10 @@ use Rattle.moo_files.specs.Contents.{HoldsTrees, HoldsTables, HoldsState, HasOth
 use Rattle.moo_files.specs.Remains.{IsCleanRemains, MayStopAs, TakesForOurs, ExcusesMalformed, KeepsNothingBut, Spares, StillHoldsTrees}
 use Rattle.moo_files.specs.declared.remains.Remains.{Remains}
 
+-- what opening a world in files answers, or making one
+abbrev pub Attempt : (T D : Type 0) → Ghosts D → Type 0
+Attempt T D g = Result (World (FileStore D g)) (StoreFault × Remains T D g)
+
 -- what the files of a name may hold: nothing, a database, or what reads as no sound database with tables of ours
 pub data Contents : Type 0 where
   Nothing : Contents
@@ -44,7 +48,8 @@ module _ {D : Type 0} {g : Ghosts D} where
   pub record OpensOver (trees : Trees) (world : World (FileStore D g)) : Type 0 where
     pub ours : ¬ HasOtherTables trees
     pub state : (s : State) → LeavesState trees s → StandsFor over_files true world s × Left (store_of over_files world) s
-    pub tables : (tables : Tables) → Leaves trees tables → ShowsRows tables world.rows.maps × RestsCurrent (store_of over_files world) tables world.rows.maps
+    pub tables : (tables : Tables) → Leaves trees tables → ShowsRows tables world.rows.maps
+        × RestsCurrent (store_of over_files world) tables world.rows.maps
     pub kept : (found : Trees) → (store_of over_files world).may_leave found → IsKept trees found
 
   -- a World opens over a database of ours, and over nothing else
@@ -77,21 +82,24 @@ module _ {T D : Type 0} {g : Ghosts D} where
 
 module _ {T D : Type 0} {g : Ghosts D} where
   -- if the files hold a state, a World that is opened stands for it
-  abbrev pub OpensHeld : Image → Result (World (FileStore D g)) (StoreFault × Remains T D g) → Type 0
-  OpensHeld image r = (s : State) → HoldsState image s → IfOk r (λ world. HasCleanDisk (store_of over_files world) → StandsFor over_files true world s)
+  abbrev pub OpensHeld : Image → Attempt T D g → Type 0
+  OpensHeld image r =
+      (s : State) → HoldsState image s → IfOk r (λ world. HasCleanDisk (store_of over_files world) → StandsFor over_files true world s)
 
   -- and if none is opened, the store failed or memory ran out
-  abbrev pub RefusesHeld : Image → Result (World (FileStore D g)) (StoreFault × Remains T D g) → Type 0
+  abbrev pub RefusesHeld : Image → Attempt T D g → Type 0
   RefusesHeld image r = (s : State) → HoldsState image s → IfErr r (λ e. IsCleanRemains e.1 → IsOfStore e.0)
 
   -- the rows of a World that is opened are those that the tables show
-  abbrev pub OpensTables : Image → Result (World (FileStore D g)) (StoreFault × Remains T D g) → Type 0
-  OpensTables image r = (tables : Tables) → HoldsTables image tables → IfOk r (λ world. HasCleanDisk (store_of over_files world) → ShowsRows tables world.rows.maps)
+  abbrev pub OpensTables : Image → Attempt T D g → Type 0
+  OpensTables image r = (tables : Tables) → HoldsTables image tables →
+      IfOk r (λ world. HasCleanDisk (store_of over_files world) → ShowsRows tables world.rows.maps)
 
   -- and these tables rest in its connection, cell by cell, or those that they were migrated to
-  abbrev pub OpensCurrent : Image → Result (World (FileStore D g)) (StoreFault × Remains T D g) → Type 0
-  OpensCurrent image r = (tables : Tables) → HoldsTables image tables → IfOk r (λ world. HasCleanDisk (store_of over_files world) → RestsCurrent (store_of over_files world) tables world.rows.maps)
+  abbrev pub OpensCurrent : Image → Attempt T D g → Type 0
+  OpensCurrent image r = (tables : Tables) → HoldsTables image tables →
+      IfOk r (λ world. HasCleanDisk (store_of over_files world) → RestsCurrent (store_of over_files world) tables world.rows.maps)
 
   -- whatever the files hold, they are good, and what is said of rows alone is said of them
-  abbrev pub OpensGood : Result (World (FileStore D g)) (StoreFault × Remains T D g) → Type 0
+  abbrev pub OpensGood : Attempt T D g → Type 0
   OpensGood r = IfOk r (λ world. IsGood world.rows.maps × StandsFor over_files false world (state_of world.rows.maps))

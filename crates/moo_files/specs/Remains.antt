@@ -85,7 +85,8 @@ module _ {D : Type 0} {g : Ghosts D} where
   -- pages end in sums, they may also be resealed.
   abbrev pub LeftoverKeeps : (Trees → Type 0) → Image → Leftover D g → Type 0
   LeftoverKeeps P image (left.Files now) = (found : Image) → outcomes g now.log now.db found → HoldsSuch P found
-  LeftoverKeeps P image (left.Unopened now) = (found : Image) → (state_of now).may_leave found → (HoldsSuch P found ⊎ IsResealed now image found) × (HasNoSums image → HoldsSuch P found)
+  LeftoverKeeps P image (left.Unopened now) = (found : Image) → (state_of now).may_leave found →
+      (HoldsSuch P found ⊎ IsResealed now image found) × (HasNoSums image → HoldsSuch P found)
   LeftoverKeeps P image (left.Store now) = (trees : Trees) → recovers now trees → P trees
 
   -- A crash leaves what was there, or the same pages, resealed. If the pages weren't whole, it leaves what was there. It never leaves

@@ -116,8 +116,10 @@ pub fn open_or_make<D: Disk + Drop>(
     ensures opened { IfOk result (λ c. HasCleanDisk (file_state c) → IsOpened c) }
     ensures found { IfOk result (λ c. HasCleanDisk (file_state c) → MakesOrFinds files c) }
     // So of files that hold a database it shows what they hold, and of those that hold none it shows none.
-    ensures holds { IfOk result (λ c. HasCleanDisk (file_state c) → (db : Trees) → HoldsDatabase (image_of D.Disk files) db → (file_state c).committed.trees ≡ db) }
-    ensures blank { IfOk result (λ c. HasCleanDisk (file_state c) → IsBlank (image_of D.Disk files) → IsEmpty (file_state c).committed.trees) }
+    ensures holds { IfOk result (λ c. HasCleanDisk (file_state c) → (db : Trees) → HoldsDatabase (image_of D.Disk files) db →
+        (file_state c).committed.trees ≡ db) }
+    ensures blank { IfOk result (λ c. HasCleanDisk (file_state c) → IsBlank (image_of D.Disk files) →
+        IsEmpty (file_state c).committed.trees) }
     ensures fresh { IfOk result IsNew }
     // After an error files that hold a database are as they were.
     ensures spared { IfErr result (λ e. IsCleanLeft e.1 → SparesFiles files e.1) }

@@ -19,7 +19,7 @@ pub fn close_connection<D: Disk + Drop>(conn: Connection<FileStore<D>>) -> Lefto
     ensures left { IsCleanLeft result → IsLeftOf (file_state conn) result }
     // It is the last commit, in the database file alone, unless closing failed.
     ensures copied { IsClosedAs conn result }
-    // Its trees were numbered, so that what the disk had left of its files, had it been stopped, was a database too (`disk_leaves_a_database`).
+    // Its trees were numbered. So if it had been stopped, what the disk left of its files was a database too (`disk_leaves_a_database`).
     ensures numbered { IsCleanLeft result → HasNumberedTrees conn }
 {
     // These are the steps of `sqlite`'s `close_files`, which doesn't say that the trees are numbered: `into_store` does.

@@ -4,6 +4,7 @@
 mod again;
 mod blank;
 mod closing;
+mod connecting;
 mod loading;
 mod making;
 mod opening;

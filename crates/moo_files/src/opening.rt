@@ -1,26 +1,21 @@
 //! Opening the world that a file holds.
 
-ghost use Rattle.std.specs.Prelude.{◌≡◌, ◌≢◌, ◌⊎◌, IfOk, IfErr, IsErr, IsErrAnd, Some, None, IfSome, IsTrue, false, true};
+ghost use Rattle.std.specs.Prelude.{◌≡◌, ◌≢◌, ◌⊎◌, IfOk, IfErr, IsErr, Some, None, IfSome, false};
 ghost use Rattle.std.specs.Fs.{file_type, metadata_len, IsFile};
-ghost use Rattle.sqlite.specs.State.{HasCleanDisk, Survives};
-ghost use Rattle.sqlite.specs.Files.{over_files, file_state};
+ghost use Rattle.sqlite.specs.State.{HasCleanDisk};
+ghost use Rattle.sqlite.specs.Files.{over_files};
 ghost use Rattle.sqlite.specs.WalFiles.{image_at};
-ghost use Rattle.moo_world.specs.Rows.{IsGood};
-ghost use Rattle.moo_world.specs.Judge.{State, state_of};
-ghost use Rattle.moo_tables.specs.Tables.{Tables, schema_of};
-ghost use Rattle.moo_tables.specs.declared.version.Version.{Version};
-ghost use Rattle.moo_tables.specs.Inside.{Rests, RestsAt, HasTables};
-ghost use Rattle.moo_cells.specs.Shows.{ShowsRows};
-ghost use Rattle.moo_store.specs.States.{ShowsState};
-ghost use Rattle.moo_store.specs.Current.{RestsCurrent};
-ghost use Rattle.moo_store.specs.Opening.{Says, IsOfStore, Adopts, not_ours};
-ghost use Rattle.moo_store.specs.World.{store_of, StandsFor, Left};
-ghost use Rattle.moo_files.specs.Opened.{Contents, Hold, IsOpenedOver, Opens, IsRefusedFrom, Refuses};
 ghost use Rattle.sqlite_std_file.specs.declared.pair.OpenError.{OpenError as Refusal};
+ghost use Rattle.moo_world.specs.Rows.{IsGood};
+ghost use Rattle.moo_world.specs.Judge.{state_of};
+ghost use Rattle.moo_store.specs.Opening.{Adopting, not_ours};
+ghost use Rattle.moo_store.specs.World.{store_of, StandsFor};
+ghost use Rattle.moo_files.specs.Opened.{Contents, Hold, IsOpenedOver, Opens, IsRefusedFrom, Refuses};
 ghost use Rattle.moo_files.specs.Remains.{cannot_open, IfNotOpened, IsCleanRemains};
 
+use crate::connecting::open_connection;
 use crate::paths::WorldFiles;
-use crate::remains::{Remains, open_connection};
+use crate::remains::Remains;
 use moo_store::{StoreFault, World, adopt};
 use sqlite::{Connection, Error, ErrorCode, FileStore, Start, Unknown};
 use sqlite_disk::Disk;
@@ -54,28 +49,7 @@ pub fn adopt_files<D: Disk + Drop>(
     conn: Connection<FileStore<D>>,
 ) -> Result<World<FileStore<D>>, (StoreFault, Connection<FileStore<D>>)>
     requires outside { conn.in_transaction ≡ false }
-    // Tables of any version that show a world and a number give a World that stands for these, unless the store fails or memory is refused.
-    ensures stands { (s : State) → ShowsState (file_state conn) s → IfOk result (λ world. HasCleanDisk (store_of over_files world) → StandsFor over_files true world s) }
-    ensures whole { (s : State) → ShowsState (file_state conn) s → IfErr result (λ e. HasCleanDisk (file_state e.1) → IsOfStore e.0) }
-    // Nothing else is opened, and a damage that is answered is that of the tables.
-    ensures shown { IfOk result (λ world. HasCleanDisk (store_of over_files world) → (tables : Tables) → Rests (file_state conn) tables → ShowsRows tables world.rows.maps × IsGood world.rows.maps) }
-    ensures fault { IfErr result (λ e. HasCleanDisk (file_state e.1) → (tables : Tables) → Rests (file_state conn) tables → Says tables e.0) }
-    // They are the tables that were there, each cell, or those that these were migrated to.
-    ensures rests { IfOk result (λ world. HasCleanDisk (store_of over_files world) → (tables : Tables) → Rests (file_state conn) tables → RestsCurrent (store_of over_files world) tables world.rows.maps) }
-    // Other tables than ours are refused, and so is a database without tables.
-    ensures other { ((version : Version) → (file_state conn).now.schema ≢ schema_of version) → IsErrAnd result (λ e. IsOfStore e.0 × (e.1 ≡ conn)) }
-    // Of tables of ours it never says that they aren't.
-    ensures own { IfErr result (λ e. (version : Version) → HasTables (schema_of version) (file_state conn) → e.0 ≢ not_ours) }
-    // Whatever is opened, its rows are good, and what is said of rows alone is said of them.
-    ensures rows { IfOk result (λ world. IsGood world.rows.maps × StandsFor over_files false world (state_of world.rows.maps)) }
-    ensures works { IfOk result (λ world. world.failed ≡ false) }
-    // A crash leaves what it could leave before, or of tables of an earlier version those that they were migrated to; and a refusal leaves
-    // the database as it was.
-    ensures crash { IfOk result (λ world. Survives (file_state conn) (store_of over_files world) (Adopts (file_state conn))) }
-    ensures crash_refused { IfErr result (λ e. Survives (file_state conn) (file_state e.1) (Adopts (file_state conn))) }
-    ensures undone { IfErr result (λ e. (e.1 ≡ conn) ⊎ (HasCleanDisk (file_state e.1) → IsTrue (file_state e.1).is_open → RestsAt (file_state e.1) (file_state conn).now)) }
-    ensures left { (s : State) → ShowsState (file_state conn) s → Left (file_state conn) s → IfOk result (λ world. HasCleanDisk (store_of over_files world) → Left (store_of over_files world) s) }
-    ensures left_refused { (s : State) → ShowsState (file_state conn) s → Left (file_state conn) s → IfErr result (λ e. HasCleanDisk (file_state e.1) → Left (file_state e.1) s) }
+    ensures adopts { Adopting over_files conn result }
 {
     adopt(alloc, conn)
 }
@@ -91,11 +65,13 @@ pub fn open_from<T: Start, H: WorldFiles<T>>(
     // A World that is opened works, its rows are good, and the files read as a sound database with tables of ours.
     ensures opened { IfOk result (IsOpenedOver (image_at T.Start)) }
     // It is what they hold: the state and the tables of their database, which a crash leaves, or what that was migrated to.
-    ensures opens { (held : Contents) → Hold (image_at T.Start) held → IfOk result (λ world. HasCleanDisk (store_of over_files world) → Opens held world) }
+    ensures opens { (held : Contents) → Hold (image_at T.Start) held →
+        IfOk result (λ world. HasCleanDisk (store_of over_files world) → Opens held world) }
     // Files that are refused are spared. If they weren't opened it is for one of few reasons, and that they couldn't be the host said.
     ensures refused { IfErr result (λ e. IsRefusedFrom (image_at T.Start) e.0 e.1) }
     // A damage that is told is that of their tables, and they hold what they held, or what that was migrated to.
-    ensures refuses { (held : Contents) → Hold (image_at T.Start) held → IfErr result (λ e. IsCleanRemains e.1 → Refuses held (image_at T.Start) e.0 e.1) }
+    ensures refuses { (held : Contents) → Hold (image_at T.Start) held →
+        IfErr result (λ e. IsCleanRemains e.1 → Refuses held (image_at T.Start) e.0 e.1) }
     ensures refusing { IfErr result (λ e. IfNotOpened e.1 ((error : Refusal) × H.refuses host.now path.now error)) }
 {
     if let Some(fault) = unfit(host.metadata(path)) {

@@ -3,7 +3,7 @@ use Rattle.moo_http.proofs.Words.{◌≡◌, ◌≢◌, inl, inr, ap, ◌∙◌,
 use Rattle.moo_world.specs.Judge as model
 use Rattle.moo_text.specs.declared.reply.Answer.{Answer}
 use Rattle.moo_text.specs.declared.reply.Answer.TheVariants as answered
-use Rattle.moo_request.specs.declared.asked.Asked.TheVariants.{Question}
+use Rattle.moo_request.specs.declared.asked.Asked.TheVariants.{Each, Question}
 use Rattle.moo_responses.specs.Outcomes.{outcome_of}
 use Rattle.moo_responses.specs.declared.outcome.Outcome.TheVariants as outcome
 
@@ -37,6 +37,7 @@ comes_defined : (s : State) (asked : Asked) (o : Outcome) (new : Stand) → Come
 comes_defined s (Refused refusal) o new comes other = (comes.0, ap state_at comes.1)
 comes_defined s (Calls Run batch) o new comes other = run_defined s batch comes.0 o new comes.1 comes.2 other
 comes_defined s (Calls Ask batch) o new comes other = ask_defined s batch comes.0 o new comes.1 comes.2 other
+comes_defined s (Each each) o new comes other = (comes.0, ap state_at comes.1)
 comes_defined s (Question question) o new comes other = (comes.0, ap state_at comes.1)
 
 pub defined : (s : State) (asked : Asked) (o : Outcome) (new : Stand) → MayAnswer (Works s) asked o new → (response_of o).status ≢ 503 → IsDefined s asked o new

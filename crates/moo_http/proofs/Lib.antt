@@ -5,3 +5,4 @@ pub mod Connections
 pub mod Turns
 pub mod Draining
 pub mod Defined
+pub mod Apart

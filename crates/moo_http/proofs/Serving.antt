@@ -36,24 +36,24 @@ nothing g known old was left rest before done takes at stays =
 
 -- ---- a request came
 
-answered : {S : Type 0} (g : Ghosts S) (known : Bool) (old : Stand) (was world : World S) (left rest : Option (List ℕ)) (is_head asks_why : Bool) (asked : Asked) (o : Outcome) (why : Option (List ℕ)) → Takes left rest (Request is_head asks_why asked) → IsWhyOf asks_why why → Consulted g known old world asked o
-    → IsMovedBy g was world (taken_by asked o) (failed_by asked o) → Serves g known old left rest was world (response_text is_head (response_with why o))
-answered g known old was world left rest is_head asks_why asked o why takes wanted consulted moved = record {
+answered : {S : Type 0} (g : Ghosts S) (known : Bool) (old : Stand) (was world : World S) (left rest : Option (List ℕ)) (is_head asks_why : Bool) (asked : Asked) (o : Outcome) (whys : List (Option (List ℕ))) → Takes left rest (Request is_head asks_why asked) → IsWhyOf asks_why whys → Consulted g known old world asked o
+    → IsMovedBy g was world (taken_by asked o) (failed_by asked o) → Serves g known old left rest was world (response_text is_head (response_with whys o))
+answered g known old was world left rest is_head asks_why asked o whys takes wanted consulted moved = record {
   received = Request is_head asks_why asked;
   takes = takes;
   new = consulted.new;
-  gets = (o, why, wanted, consulted.answers, refl);
+  gets = (o, whys, wanted, consulted.answers, refl);
   stands = consulted.stands;
   crash = consulted.crash;
   moved = moved;
 }
 
-pub served : {S : Type 0} (g : Ghosts S) (known : Bool) (r : Result (Unit {0}) ServeFault) (old : Stand) (was world : World S) (left rest before behind : Option (List ℕ)) (is_head asks_why : Bool) (asked : Asked) (o : Outcome) (why : Option (List ℕ))
-    → Takes left rest (Request is_head asks_why asked) → IsWhyOf asks_why why → Consulted g known old world asked o → IsMovedBy g was world (taken_by asked o) (failed_by asked o) → Written r before behind (response_text is_head (response_with why o)) → IfErr r (λ fault. fault ≢ Read) → Served g known r old was world left rest before behind
-served g known (Ok done) old was world left rest before behind is_head asks_why asked o why takes wanted consulted moved written other =
-    (response_text is_head (response_with why o), answered g known old was world left rest is_head asks_why asked o why takes wanted consulted moved, written)
-served g known (Err Write) old was world left rest before behind is_head asks_why asked o why takes wanted consulted moved written other =
-    (response_text is_head (response_with why o), answered g known old was world left rest is_head asks_why asked o why takes wanted consulted moved, written.0, written.1)
-served g known (Err Read) old was world left rest before behind is_head asks_why asked o why takes wanted consulted moved written other = absurd (other refl)
-served g known (Err OutOfMemory) old was world left rest before behind is_head asks_why asked o why takes wanted consulted moved written other =
-    (written, inr (response_text is_head (response_with why o), answered g known old was world left rest is_head asks_why asked o why takes wanted consulted moved))
+pub served : {S : Type 0} (g : Ghosts S) (known : Bool) (r : Result (Unit {0}) ServeFault) (old : Stand) (was world : World S) (left rest before behind : Option (List ℕ)) (is_head asks_why : Bool) (asked : Asked) (o : Outcome) (whys : List (Option (List ℕ)))
+    → Takes left rest (Request is_head asks_why asked) → IsWhyOf asks_why whys → Consulted g known old world asked o → IsMovedBy g was world (taken_by asked o) (failed_by asked o) → Written r before behind (response_text is_head (response_with whys o)) → IfErr r (λ fault. fault ≢ Read) → Served g known r old was world left rest before behind
+served g known (Ok done) old was world left rest before behind is_head asks_why asked o whys takes wanted consulted moved written other =
+    (response_text is_head (response_with whys o), answered g known old was world left rest is_head asks_why asked o whys takes wanted consulted moved, written)
+served g known (Err Write) old was world left rest before behind is_head asks_why asked o whys takes wanted consulted moved written other =
+    (response_text is_head (response_with whys o), answered g known old was world left rest is_head asks_why asked o whys takes wanted consulted moved, written.0, written.1)
+served g known (Err Read) old was world left rest before behind is_head asks_why asked o whys takes wanted consulted moved written other = absurd (other refl)
+served g known (Err OutOfMemory) old was world left rest before behind is_head asks_why asked o whys takes wanted consulted moved written other =
+    (written, inr (response_text is_head (response_with whys o), answered g known old was world left rest is_head asks_why asked o whys takes wanted consulted moved))

@@ -1,27 +1,34 @@
 -- What is answered at a state, and what a World that is asked answers and does.
-use Rattle.std.specs.Prelude.{◌≡◌, ◌⊎◌, ⊤, Bool, List, [], ◌∷◌, IsTrue}
+use Rattle.std.specs.Prelude.{◌≡◌, ◌⊎◌, ⊤, Bool, List, [], ◌∷◌, IsTrue, if◌then◌else◌}
 use Rattle.sqlite.specs.State.{HasCleanDisk}
 use Rattle.sqlite.specs.Store.{Ghosts}
 use Rattle.moo_text.specs.declared.reply.Answer.{Answer}
 use Rattle.moo_world.specs.declared.call.Batch.{Batch}
-use Rattle.moo_world.specs.Judge.{State, judge}
-use Rattle.moo_store.specs.Answered.{reply_of, answer_of, state_behind, acknowledged}
+use Rattle.moo_text.specs.declared.reply.Reply.TheVariants.{Stale}
+use Rattle.moo_world.specs.Judge.{State, judge, is_due}
+use Rattle.moo_store.specs.Answered.{reply_of, answer_of, answers_alone, state_behind, acknowledged}
 use Rattle.moo_store.specs.Stand.{Stand, Works, Failed, StoreFailed, RunsBatch, AsksBatch}
 use Rattle.moo_store.specs.Kept.{World}
 use Rattle.moo_store.specs.World.{store_of, CrashLeaves, StandsAt}
 use Rattle.moo_request.specs.declared.asked.Asked.{Asked}
-use Rattle.moo_request.specs.declared.asked.Asked.TheVariants.{Refused, Calls, Question}
+use Rattle.moo_request.specs.declared.asked.Asked.TheVariants.{Refused, Calls, Each, Question}
+use Rattle.moo_request.specs.declared.each.Each.{Each as Apart}
 use Rattle.moo_request.specs.declared.asked.Mode.TheVariants.{Run, Ask}
 use Rattle.moo_responses.specs.declared.outcome.Outcome.{Outcome}
 use Rattle.moo_responses.specs.declared.outcome.Outcome.TheVariants as outcome
 use Rattle.moo_responses.specs.Outcomes.{outcome_of}
 use Rattle.moo_responses.specs.Told.{told_of, TellingTakesMemory}
 
+-- what comes of calls that are asked each alone: each answer, if the present number is the one that they are meant for
+abbrev pub each_outcome : Apart → State → Outcome
+each_outcome each s = if is_due each.at s.seq then outcome.Each (answers_alone s each.batches) s.seq else outcome.Replied (Stale s.seq)
+
 -- what comes of what is asked at a state, and the state that it leaves
 abbrev pub answer : State → Asked → Outcome × State
 answer s (Refused refusal) = (outcome.Refused refusal, s)
 answer s (Calls Run batch) = (outcome.Replied (reply_of (judge s batch)), state_behind s batch)
 answer s (Calls Ask batch) = (outcome.Replied (answer_of s (judge s batch)), s)
+answer s (Each each) = (each_outcome each s, s)
 answer s (Question question) = (outcome.Told (told_of question s), s)
 
 -- ---- a World that stands somewhere
@@ -37,6 +44,7 @@ abbrev pub Comes : Stand → Asked → Outcome → Stand → Type 0
 Comes old (Refused refusal) o new = (o ≡ outcome.Refused refusal) × (new ≡ old)
 Comes old (Calls Run batch) o new = (a : Answer) × RunsBatch old batch a new × (o ≡ outcome_of a)
 Comes old (Calls Ask batch) o new = (a : Answer) × AsksBatch old batch a new × (o ≡ outcome_of a)
+Comes old (Each each) o new = (o ≡ tell (each_outcome each) old) × (new ≡ old)
 Comes old (Question question) o new = (o ≡ tell (λ s. outcome.Told (told_of question s)) old) × (new ≡ old)
 
 -- the World takes memory for what it hands out
@@ -44,6 +52,7 @@ abbrev pub TakesMemory : Asked → Type 0
 TakesMemory (Refused refusal) = ⊥
 TakesMemory (Calls Run batch) = ⊤
 TakesMemory (Calls Ask batch) = ⊥
+TakesMemory (Each each) = ⊤
 TakesMemory (Question question) = TellingTakesMemory question
 
 -- So it comes; or memory for what is handed out is refused, and nothing changes.
@@ -68,6 +77,7 @@ abbrev pub taken_by : Asked → Outcome → List Batch
 taken_by (Refused refusal) o = []
 taken_by (Calls Run batch) o = acknowledged_of batch o
 taken_by (Calls Ask batch) o = []
+taken_by (Each each) o = []
 taken_by (Question question) o = []
 
 -- the batch, if it was run and the store failed in it
@@ -79,4 +89,5 @@ abbrev pub failed_by : Asked → Outcome → List Batch
 failed_by (Refused refusal) o = []
 failed_by (Calls Run batch) o = failed_of batch o
 failed_by (Calls Ask batch) o = []
+failed_by (Each each) o = []
 failed_by (Question question) o = []

@@ -1,5 +1,5 @@
 -- What a request makes of its bytes, of the World and of what is written.
-use Rattle.std.specs.Prelude.{◌≡◌, ◌⊎◌, ℕ, Option, None, List, [], take, Result, Ok, Err, Bool, false, IsTrue}
+use Rattle.std.specs.Prelude.{◌≡◌, ◌⊎◌, ℕ, Option, List, [], take, Result, Ok, Err, Bool, false, IsTrue}
 use Rattle.std.specs.Io.KnownBytes.{Appends}
 use Rattle.sqlite.specs.State.{HasCleanDisk}
 use Rattle.sqlite.specs.Store.{Ghosts}
@@ -17,14 +17,14 @@ use Rattle.moo_http.specs.Answers.{MayAnswer, taken_by, failed_by}
 use Rattle.moo_responses.specs.Responses.{response_with, response_text}
 
 -- it is said why what was asked is refused only if that was asked too
-abbrev pub IsWhyOf : Bool → Option (List ℕ) → Type 0
-IsWhyOf asks_why why = asks_why ≡ false → why ≡ None
+abbrev pub IsWhyOf : Bool → List (Option (List ℕ)) → Type 0
+IsWhyOf asks_why whys = asks_why ≡ false → whys ≡ []
 
 -- the answer to what is received: nothing if nothing came
 abbrev pub Gets : Stand → Received → List ℕ → Stand → Type 0
 Gets old Nothing output new = (output ≡ []) × (new ≡ old)
 Gets old (Request is_head asks_why asked) output new =
-    (o : Outcome) × (why : Option (List ℕ)) × IsWhyOf asks_why why × MayAnswer old asked o new × (output ≡ response_text is_head (response_with why o))
+    (o : Outcome) × (whys : List (Option (List ℕ))) × IsWhyOf asks_why whys × MayAnswer old asked o new × (output ≡ response_text is_head (response_with whys o))
 
 -- the World was moved by the batch that was asked to be run, if it is acknowledged, and by nothing else
 abbrev pub Moved : {S : Type 0} (g : Ghosts S) (was world : World S) (old : Stand) (received : Received) (output : List ℕ) (new : Stand) → Gets old received output new → Type 0

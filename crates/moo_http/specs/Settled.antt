@@ -1,5 +1,5 @@
 -- What came of a call on a World.
-use Rattle.std.specs.Prelude.{◌≡◌, List, [], ◌∷◌, Result, Ok, Err}
+use Rattle.std.specs.Prelude.{Result, Ok, Err}
 use Rattle.moo_text.specs.declared.reply.Reply.{Reply}
 use Rattle.moo_store.specs.declared.fault.StoreFault.{StoreFault}
 use Rattle.moo_store.specs.declared.fault.StoreFault.TheVariants as fault
@@ -12,7 +12,7 @@ lost_by fault.OutOfMemory = outcome.NoMemory
 lost_by fault.Closed = outcome.Closed
 lost_by other = outcome.Fault
 
--- by the result of a run of one batch and its reply
-abbrev pub ComesOfRun : Result (Unit {0}) StoreFault → List Reply → Outcome → Type 0
-ComesOfRun (Ok done) replies o = (reply : Reply) × (replies ≡ reply ∷ []) × (o ≡ outcome.Replied reply)
-ComesOfRun (Err why) replies o = o ≡ lost_by why
+-- by the result of a batch that was run or asked
+abbrev pub came_of : Result Reply StoreFault → Outcome
+came_of (Ok reply) = outcome.Replied reply
+came_of (Err why) = lost_by why

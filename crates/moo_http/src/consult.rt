@@ -1,25 +1,23 @@
 //! Asking the World.
 
-ghost use Rattle.std.specs.Prelude.{◌≡◌, ◌∷◌, [], length, OnOk, Bool};
+ghost use Rattle.std.specs.Prelude.{◌≡◌, Bool};
 ghost use Rattle.moo_store.specs.Untouched.{IsMovedBy};
-ghost use Rattle.moo_world.specs.Judge.{state_of};
-ghost use Rattle.moo_world.specs.Rows.{world_of};
-ghost use Rattle.moo_world.specs.World.{IsTree};
+ghost use Rattle.moo_world.specs.Judge.{State, state_of, is_due};
+ghost use Rattle.moo_world.specs.Rows.{IsGood};
 ghost use Rattle.moo_store.specs.Stand.{Stand, Works};
 ghost use Rattle.sqlite.specs.State.{HasCleanDisk};
-ghost use Rattle.moo_store.specs.World.{store_of, StandsAt};
+ghost use Rattle.moo_store.specs.World.{store_of, StandsAt, StandsFor};
 ghost use Rattle.moo_http.specs.Answers.{MayAnswer, Consulted, taken_by, failed_by};
-ghost use Rattle.moo_http.specs.Settled.{ComesOfRun, lost_by};
+ghost use Rattle.moo_http.specs.Settled.{lost_by, came_of};
 
-use moo_request::{Asked, Mode, Question};
-use moo_responses::{Outcome, tell};
+use moo_request::{Asked, Each, Mode, Question};
+use moo_responses::{Outcome, Replies, tell};
 use moo_rows::Rows;
 use moo_store::{StoreFault, World};
 use moo_text::Reply;
 use moo_world::Batch;
 use sqlite::Alter;
 use std::alloc::Global;
-use std::slice;
 
 /// What comes of what the World refused.
 fn lost(fault: StoreFault) -> Outcome
@@ -34,48 +32,66 @@ fn lost(fault: StoreFault) -> Outcome
     }
 }
 
-/// The one reply.
-fn only(mut replies: Vec<Reply>) -> Reply
-    requires { length replies.items ≡ 1 }
-    ensures { replies.items ≡ result ∷ [] }
+/// What comes of a batch that was run or asked.
+fn came(reply: Result<Reply, StoreFault>) -> Outcome
+    ensures { result ≡ came_of reply }
 {
-    replies.pop().unwrap()
-}
-
-/// What a run of one batch came to, by its result and its reply.
-fn settle(ran: Result<(), StoreFault>, replies: Vec<Reply>) -> Outcome
-    requires { OnOk ran (length replies.items ≡ 1) }
-    ensures { ComesOfRun ran replies.items result }
-{
-    match ran {
-        Ok(()) => Outcome::Replied(only(replies)),
+    match reply {
+        Ok(reply) => Outcome::Replied(reply),
         Err(fault) => lost(fault),
     }
 }
 
-fn run_batch<S: Alter + Drop>(alloc: Global, world: &mut World<S>, batch: &Batch) -> Outcome
+fn run_batch<S: Alter + Drop>(world: &mut World<S>, batch: &Batch) -> Outcome
     ensures clean { HasCleanDisk (store_of S.Store world.new) → HasCleanDisk (store_of S.Store world.old) }
     ensures comes { (known : Bool) (stand : Stand) → StandsAt S.Store known world.old stand → (new : Stand) × StandsAt S.Store known world.new new × MayAnswer stand (Asked.Calls Mode.Run batch.now) result new }
     ensures moved { IsMovedBy S.Store world.old world.new (taken_by (Asked.Calls Mode.Run batch.now) result) (failed_by (Asked.Calls Mode.Run batch.now) result) }
 {
-    world.has_good_rows();
-    let mut replies = Vec::new(alloc);
-    let ran = world.run(slice::from_ref(batch), &mut replies);
-    settle(ran, replies)
+    came(world.run_one(batch))
 }
 
 fn ask_batch<S: Alter + Drop>(world: &World<S>, batch: &Batch) -> Outcome
     ensures { (known : Bool) (stand : Stand) → StandsAt S.Store known world.now stand → MayAnswer stand (Asked.Calls Mode.Ask batch.now) result stand }
 {
-    match world.ask(batch) {
-        Ok(reply) => Outcome::Replied(reply),
+    came(world.ask(batch))
+}
+
+/// Whether the number that calls are meant for, if they name one, is the present one.
+fn is_due(at: Option<u64>, seq: u64) -> bool
+    ensures { result ≡ is_due at seq }
+{
+    match at {
+        None => true,
+        Some(at) => at == seq,
+    }
+}
+
+/// What comes of calls that are asked each alone, at this present number.
+fn ask_each_at<S: Alter + Drop>(world: &World<S>, each: &Each, seq: u64) -> Outcome
+    ensures { (known : Bool) (s : State) → StandsFor S.Store known world.now s → s.seq ≡ seq → MayAnswer (Works s) (Asked.Each each.now) result (Works s) }
+{
+    if !is_due(each.at, seq) {
+        return Outcome::Replied(Reply::Stale { seq });
+    }
+    match world.ask_each(each.batches.items()) {
+        Ok(replies) => Outcome::Each(Replies::from_vec(replies), seq),
+        Err(fault) => lost(fault),
+    }
+}
+
+/// What comes of calls that are asked each alone.
+fn ask_each<S: Alter + Drop>(world: &World<S>, each: &Each) -> Outcome
+    ensures { (known : Bool) (stand : Stand) → StandsAt S.Store known world.now stand → MayAnswer stand (Asked.Each each.now) result stand }
+{
+    match world.seq() {
+        Ok(seq) => ask_each_at(world, each, seq),
         Err(fault) => lost(fault),
     }
 }
 
 /// What comes of a question to a World of these rows that works.
 fn ask_rows<R: Rows>(alloc: Global, rows: &R, question: Question) -> Outcome
-    requires { IsTree (world_of (R.held rows.now).maps) }
+    requires { IsGood (R.held rows.now).maps }
     ensures { MayAnswer (Works (state_of (R.held rows.now).maps)) (Asked.Question question) result (Works (state_of (R.held rows.now).maps)) }
 {
     match tell(alloc, rows, question) {
@@ -95,18 +111,13 @@ fn ask_question<S: Alter + Drop>(alloc: Global, world: &World<S>, question: Ques
 }
 
 /// Runs or asks one batch.
-fn take_batch<S: Alter + Drop>(
-    alloc: Global,
-    world: &mut World<S>,
-    mode: Mode,
-    batch: &Batch,
-) -> Outcome
+fn take_batch<S: Alter + Drop>(world: &mut World<S>, mode: Mode, batch: &Batch) -> Outcome
     ensures clean { HasCleanDisk (store_of S.Store world.new) → HasCleanDisk (store_of S.Store world.old) }
     ensures comes { (known : Bool) (stand : Stand) → StandsAt S.Store known world.old stand → (new : Stand) × StandsAt S.Store known world.new new × MayAnswer stand (Asked.Calls mode batch.now) result new }
     ensures moved { IsMovedBy S.Store world.old world.new (taken_by (Asked.Calls mode batch.now) result) (failed_by (Asked.Calls mode batch.now) result) }
 {
     match mode {
-        Mode::Run => run_batch(alloc, world, batch),
+        Mode::Run => run_batch(world, batch),
         Mode::Ask => ask_batch(world, batch),
     }
 }
@@ -118,7 +129,8 @@ fn answer<S: Alter + Drop>(alloc: Global, world: &mut World<S>, asked: &Asked) -
 {
     match asked {
         Asked::Refused(refusal) => Outcome::Refused(*refusal),
-        Asked::Calls(mode, batch) => take_batch(alloc, world, *mode, batch),
+        Asked::Calls(mode, batch) => take_batch(world, *mode, batch),
+        Asked::Each(each) => ask_each(world, each),
         Asked::Question(question) => ask_question(alloc, world, *question),
     }
 }

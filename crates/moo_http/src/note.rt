@@ -17,6 +17,7 @@ pub enum Route {
     Unknown,
     Batch,
     Ask,
+    Each,
     /// That of a question.
     Question(Question),
 }
@@ -27,6 +28,7 @@ impl Display for Route {
             Route::Unknown => f.write_str("-"),
             Route::Batch => f.write_str("/batch"),
             Route::Ask => f.write_str("/ask"),
+            Route::Each => f.write_str("/each"),
             Route::Question(question) => question.fmt(f),
         }
     }
@@ -91,6 +93,7 @@ fn route_of(asked: &Asked) -> Route {
     match asked {
         Asked::Refused(_) => Route::Unknown,
         Asked::Calls(mode, _) => route_of_batch(*mode),
+        Asked::Each(_) => Route::Each,
         Asked::Question(question) => Route::Question(*question),
     }
 }

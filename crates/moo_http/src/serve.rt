@@ -33,8 +33,8 @@ fn serve_asked<S: Alter + Drop, W: Write>(
     world: &mut World<S>,
     note: &mut Note,
 ) -> Result<(), ServeFault>
-    ensures answered { (known : Bool) (stand : Stand) → StandsAt S.Store known world.old stand → (o : Outcome) × (why : Option (List ℕ)) × IsWhyOf asks_why why × Consulted S.Store known stand world.new asked.now o
-        × IsMovedBy S.Store world.old world.new (taken_by asked.now o) (failed_by asked.now o) × Written result (W.contents writer.old) (W.contents writer.new) (response_text is_head (response_with why o)) }
+    ensures answered { (known : Bool) (stand : Stand) → StandsAt S.Store known world.old stand → (o : Outcome) × (whys : List (Option (List ℕ))) × IsWhyOf asks_why whys × Consulted S.Store known stand world.new asked.now o
+        × IsMovedBy S.Store world.old world.new (taken_by asked.now o) (failed_by asked.now o) × Written result (W.contents writer.old) (W.contents writer.new) (response_text is_head (response_with whys o)) }
     ensures unwritten { IfErr result (λ fault. fault ≢ ServeFault.Write → writer.new ≡ writer.old) }
     ensures fault { IfErr result (λ fault. fault ≢ ServeFault.Read) }
     ensures moved { (batches lost : List Batch) × IsMovedBy S.Store world.old world.new batches lost }
@@ -43,8 +43,8 @@ fn serve_asked<S: Alter + Drop, W: Write>(
     note.asks(asked);
     let outcome = consult(alloc, world, asked);
     note.comes_to(&outcome);
-    let text = told_answer(alloc, world, asked, &outcome, wrong, is_head, asks_why)?;
-    write_out(writer, text.as_bytes())
+    let bytes = told_answer(alloc, world, asked, outcome, wrong, is_head, asks_why)?;
+    write_out(writer, &bytes)
 }
 
 /// Reads the one request of a connection, does what it asks, and writes the answer. If no byte comes nothing is written, and that isn't a

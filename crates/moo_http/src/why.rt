@@ -1,56 +1,111 @@
 //! Why what was asked is refused.
 
-ghost use Rattle.std.specs.Prelude.{◌≡◌, ℕ, List, Option, IfOk, string_bytes};
+ghost use Rattle.std.specs.Prelude.{◌≡◌, ℕ, List, Option, IfOk};
 ghost use Rattle.moo_responses.specs.Responses.{response_with, response_text};
 ghost use Rattle.moo_http.specs.Serves.{IsWhyOf};
 
 use moo_reasons::{call_why, reply_why};
-use moo_request::{Asked, BodyFault};
-use moo_responses::{Outcome, answer_text};
+use moo_request::{Asked, BodyFault, Each};
+use moo_responses::{Outcome, Replies, answer_text};
 use moo_store::World;
 use moo_text::Reply;
+use moo_world::Batch;
 use sqlite::Alter;
 use std::alloc::{AllocError, Global};
 
-/// What is wrong with a body.
-fn body_why(alloc: Global, wrong: &BodyFault) -> Result<String, AllocError> {
-    match wrong {
-        BodyFault::Shape(fault) => fault.to_string(alloc),
-        BodyFault::Call(text) => call_why(alloc, text),
+/// Why a text isn't a call, if it isn't one.
+fn text_why(alloc: Global, text: &Option<String>) -> Result<Option<String>, AllocError> {
+    match text {
+        Some(text) => Ok(Some(call_why(alloc, text)?)),
+        None => Ok(None),
     }
 }
 
-/// Why the batch that was asked got this reply, if it is refused or full. It changed nothing, so the rows are those that it found.
+/// A list of one sentence, or of none.
+fn one_of(alloc: Global, why: Option<String>) -> Result<Vec<Option<String>>, AllocError> {
+    let mut whys = Vec::new(alloc);
+    whys.push(why)?;
+    Ok(whys)
+}
+
+/// What is wrong with a body.
+fn body_why(alloc: Global, wrong: Option<&BodyFault>) -> Result<Vec<Option<String>>, AllocError> {
+    match wrong {
+        Some(BodyFault::Shape(fault)) => one_of(alloc, Some(fault.to_string(alloc)?)),
+        Some(BodyFault::Call(text)) => one_of(alloc, Some(call_why(alloc, text)?)),
+        _ => Ok(Vec::new(alloc)),
+    }
+}
+
+/// Why a batch got this reply, if it is refused or full. It changed nothing, so the rows are those that it found.
 fn batch_why<S: Alter + Drop>(
     alloc: Global,
     world: &World<S>,
-    asked: &Asked,
+    batch: &Batch,
     reply: &Reply,
 ) -> Result<Option<String>, AllocError> {
-    let Asked::Calls(_, batch) = asked else {
-        return Ok(None);
-    };
     match world.good_rows() {
         Some(rows) => reply_why(alloc, rows, batch, reply),
         None => Ok(None),
     }
 }
 
-/// Why what was asked is refused, if its body or its batch is.
-fn find_why<S: Alter + Drop>(
+/// Why a call that was asked alone got this reply, or why its text isn't one.
+fn alone_why<S: Alter + Drop>(
+    alloc: Global,
+    world: &World<S>,
+    batch: Option<&Option<Batch>>,
+    reply: &Option<Reply>,
+    text: Option<&Option<String>>,
+) -> Result<Option<String>, AllocError> {
+    match (batch, reply, text) {
+        (Some(Some(batch)), Some(reply), _) => batch_why(alloc, world, batch, reply),
+        (_, _, Some(text)) => text_why(alloc, text),
+        _ => Ok(None),
+    }
+}
+
+/// Why each of the calls that were asked alone is refused, if it is.
+fn each_whys<S: Alter + Drop>(
+    alloc: Global,
+    world: &World<S>,
+    each: &Each,
+    replies: &Replies,
+    texts: &[Option<String>],
+) -> Result<Vec<Option<String>>, AllocError> {
+    let batches = each.batches.items();
+    let mut whys = Vec::new(alloc);
+    for (i, reply) in replies.items().iter().enumerate() {
+        whys.push(alone_why(alloc, world, batches.get(i), reply, texts.get(i))?)?;
+    }
+    Ok(whys)
+}
+
+/// The texts that aren't calls, of calls that were asked alone.
+fn bad_texts(wrong: Option<&BodyFault>) -> &[Option<String>] {
+    match wrong {
+        Some(BodyFault::Texts(texts)) => texts,
+        _ => &[],
+    }
+}
+
+/// Why what was asked is refused, if its body, its batch or one of its calls alone is.
+fn find_whys<S: Alter + Drop>(
     alloc: Global,
     world: &World<S>,
     asked: &Asked,
     outcome: &Outcome,
     wrong: Option<&BodyFault>,
-) -> Result<Option<String>, AllocError> {
-    match outcome {
-        Outcome::Refused(_) => match wrong {
-            Some(wrong) => Ok(Some(body_why(alloc, wrong)?)),
-            None => Ok(None),
-        },
-        Outcome::Replied(reply) => batch_why(alloc, world, asked, reply),
-        _ => Ok(None),
+) -> Result<Vec<Option<String>>, AllocError> {
+    match (outcome, asked) {
+        (Outcome::Refused(_), _) => body_why(alloc, wrong),
+        (Outcome::Replied(reply), Asked::Calls(_, batch)) => {
+            one_of(alloc, batch_why(alloc, world, batch, reply)?)
+        }
+        (Outcome::Each(replies, _), Asked::Each(each)) => {
+            each_whys(alloc, world, each, replies, bad_texts(wrong))
+        }
+        _ => Ok(Vec::new(alloc)),
     }
 }
 
@@ -60,16 +115,19 @@ pub(crate) fn told_answer<S: Alter + Drop>(
     alloc: Global,
     world: &World<S>,
     asked: &Asked,
-    outcome: &Outcome,
+    outcome: Outcome,
     wrong: Option<&BodyFault>,
     is_head: bool,
     asks_why: bool,
-) -> Result<String, AllocError>
-    ensures { IfOk result (λ text. (why : Option (List ℕ)) × IsWhyOf asks_why why × (string_bytes text ≡ response_text is_head (response_with why outcome.now))) }
+) -> Result<Vec<u8>, AllocError>
+    ensures { IfOk result (λ bytes. (whys : List (Option (List ℕ))) × IsWhyOf asks_why whys × (bytes.items ≡ response_text is_head (response_with whys outcome))) }
 {
     if !asks_why {
-        return answer_text(alloc, outcome, None, is_head);
+        return answer_text(alloc, outcome, &[], is_head);
     }
-    let why = find_why(alloc, world, asked, outcome, wrong).unwrap_or(None);
-    answer_text(alloc, outcome, why.as_deref(), is_head)
+    let whys = match find_whys(alloc, world, asked, &outcome, wrong) {
+        Ok(whys) => whys,
+        Err(_) => Vec::new(alloc),
+    };
+    answer_text(alloc, outcome, &whys, is_head)
 }

@@ -1,5 +1,6 @@
 -- The rows that the dump of a state is read as.
-use Rattle.std.specs.Prelude.{◌≡◌, ℕ, zero, suc, ◌+◌, ◌<◌, ◌≤◌, true, List, map, length, Option, Some, None, is_some, slice_get, if◌then◌else◌}
+use Rattle.std.specs.Prelude.{◌≡◌, ℕ, zero, suc, ◌+◌, ◌<◌, ◌≤◌, true, List, map, length}
+use Rattle.std.specs.Prelude.{Option, Some, None, is_some, slice_get, if◌then◌else◌}
 use Rattle.std.specs.Option.{option_map, option_and_then}
 use Rattle.std.specs.List.{flat_map}
 use Rattle.std.specs.FinMap.{FinMap, get}
@@ -64,6 +65,7 @@ pub record AreRowsOf (s : State) (m : Maps) : Type 0 where
   pub next_petition : IsAbove s.petitions m.head.next_petition
   pub objects : (x : ObjNo) → get m.objects x ≡ row_of s.world x
   pub props : (id : PropId) → get m.props id ≡ option_map property_row (at_number (all_properties s.world) id.0)
-  pub slots : (x : ObjNo) (id : PropId) → get m.slots (x, id) ≡ option_and_then (slot_of_property s.world x) (at_number (all_properties s.world) id.0)
+  pub slots : (x : ObjNo) (id : PropId) →
+      get m.slots (x, id) ≡ option_and_then (slot_of_property s.world x) (at_number (all_properties s.world) id.0)
   pub verbs : (x : ObjNo) (id : VerbId) → get m.verbs (x, id) ≡ option_and_then (verb_on x) (at_number (all_verbs s.world) id.0)
   pub petitions : m.petitions ≡ s.petitions

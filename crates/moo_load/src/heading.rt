@@ -1,6 +1,7 @@
 //! The first two lines of a dump.
 
-ghost use Rattle.std.specs.Prelude.{◌≡◌, ◌≢◌, ◌<◌, ◌≤◌, ◌^◌, ◌++◌, ℕ, List, pos, negsuc, ◌≤ℤ◌, length, drop, FitsSigned, IfOk, IfErr, codes};
+ghost use Rattle.std.specs.Prelude.{◌≡◌, ◌≢◌, ◌<◌, ◌≤◌, ◌^◌, ◌++◌, ℕ, List, pos, negsuc};
+ghost use Rattle.std.specs.Prelude.{◌≤ℤ◌, length, drop, FitsSigned, IfOk, IfErr, codes};
 ghost use Rattle.std.specs.Fmt.{decimal};
 ghost use Rattle.std.specs.Int.{w32};
 ghost use Rattle.moo_value.specs.declared.value.ObjNo.{ObjNo as Object};
@@ -72,8 +73,10 @@ fn top_of(alloc: Global, line: &[u8]) -> Result<i32, LineFault>
     ensures least { IfOk result (λ top. negsuc 0 ≤ℤ top) }
     ensures most { IfOk result (λ top. top ≤ℤ pos 2147483647) }
     ensures fits { IfOk result (λ top. FitsSigned w32 top) }
-    ensures ok { IfOk result (λ top. (x : Object) → negsuc 0 ≤ℤ x.0 → x.0 ≤ℤ pos 2147483647 → line.now ≡ codes "top " ++ print (Obj x) → top ≡ x.0) }
-    ensures err { IfErr result (λ fault. fault ≢ LineFault.OutOfMemory → (x : Object) → negsuc 0 ≤ℤ x.0 → x.0 ≤ℤ pos 2147483647 → line.now ≢ codes "top " ++ print (Obj x)) }
+    ensures ok { IfOk result (λ top. (x : Object) → negsuc 0 ≤ℤ x.0 → x.0 ≤ℤ pos 2147483647 → line.now ≡ codes "top " ++ print (Obj x) →
+        top ≡ x.0) }
+    ensures err { IfErr result (λ fault. fault ≢ LineFault.OutOfMemory → (x : Object) → negsuc 0 ≤ℤ x.0 → x.0 ≤ℤ pos 2147483647 →
+        line.now ≢ codes "top " ++ print (Obj x)) }
 {
     let value = value_after(alloc, b"top ", line)?;
     assigned_of(&value)
@@ -84,8 +87,10 @@ pub(crate) fn read_heading(alloc: Global, text: &[u8]) -> Result<(Head, usize), 
     ensures read { IfOk result (λ r. AreRead (record no_maps { head = r.0 })) }
     ensures start { IfOk result (λ r. r.1 ≤ length text.now) }
     // The heading of a state is read as its head.
-    ensures ok { IfOk result (λ r. (s : State) (rest : List ℕ) → IsHeld s → text.now ≡ heading s ++ rest → (r.0 ≡ first_head s) × (drop r.1 text.now ≡ rest)) }
-    ensures err { IfErr result (λ fault. fault ≢ LoadFault.OutOfMemory → (s : State) (rest : List ℕ) → IsHeld s → text.now ≢ heading s ++ rest) }
+    ensures ok { IfOk result (λ r. (s : State) (rest : List ℕ) → IsHeld s → text.now ≡ heading s ++ rest → (r.0 ≡ first_head s)
+        × (drop r.1 text.now ≡ rest)) }
+    ensures err { IfErr result (λ fault. fault ≢ LoadFault.OutOfMemory → (s : State) (rest : List ℕ) → IsHeld s →
+        text.now ≢ heading s ++ rest) }
     ensures fault { IfErr result (SaysOfText text.now) }
 {
     let first = next_line(text, 0)?;

@@ -73,7 +73,8 @@ pub fn read_dump(alloc: Global, text: &[u8]) -> Result<Flat, LoadFault>
     ensures numbered { IfOk result (λ rows. AreRowsOf (state_of rows.maps) rows.maps) }
     ensures fault { IfErr result (SaysOfText text.now) }
     // No dump of a well formed state is refused. A longer one may have more properties or verbs than there are numbers.
-    ensures complete { IfErr result (λ fault. fault ≢ LoadFault.OutOfMemory → length text.now < 4294967295 → (s : State) → IsHeld s → dump s ≢ text.now) }
+    ensures complete { IfErr result (λ fault. fault ≢ LoadFault.OutOfMemory → length text.now < 4294967295 → (s : State) → IsHeld s →
+        dump s ≢ text.now) }
 {
     let rows = read_rows(alloc, text)?;
     judge_rows(alloc, &rows, text)?;

@@ -17,7 +17,8 @@ use std::alloc::Global;
 pub(crate) fn read_object(alloc: Global, values: &[Value]) -> Result<(ObjNo, ObjRow), LineFault>
     ensures shown { IfOk result (λ r. values.now ≡ object_values r.0 r.1) }
     ensures fits { IfOk result (λ r. row_fits r.1 ≡ true) }
-    ensures err { IfErr result (λ fault. fault ≢ LineFault.OutOfMemory → (x : Object) (row : Row) → row_fits row ≡ true → values.now ≢ object_values x row) }
+    ensures err { IfErr result (λ fault. fault ≢ LineFault.OutOfMemory → (x : Object) (row : Row) → row_fits row ≡ true →
+        values.now ≢ object_values x row) }
 {
     let [
         number,

@@ -45,9 +45,11 @@ fn may_be_held(calls: &ValueList) -> bool
 /// The calls that a petition holds.
 fn calls_of(alloc: Global, value: &Value) -> Result<ValueList, LineFault>
     ensures shown { IfOk result (λ calls. value.now ≡ a_list calls) }
-    ensures fits { IfOk result (λ calls. (list_all is_named (spread calls) && (are_few calls && (are_shallow calls && all_within_limits calls))) ≡ true) }
+    ensures fits { IfOk result (λ calls. (list_all is_named (spread calls)
+        && (are_few calls && (are_shallow calls && all_within_limits calls))) ≡ true) }
     ensures err { IfErr result (λ fault. fault ≢ LineFault.OutOfMemory → (calls : Values)
-        → (list_all is_named (spread calls) && (are_few calls && (are_shallow calls && all_within_limits calls))) ≡ true → value.now ≢ a_list calls) }
+        → (list_all is_named (spread calls) && (are_few calls && (are_shallow calls && all_within_limits calls))) ≡ true →
+        value.now ≢ a_list calls) }
 {
     if !fits(value) {
         return Err(LineFault::Unreadable(DumpReason::NoCalls));
@@ -70,7 +72,8 @@ pub(crate) fn read_petition(
     ensures fits { IfOk result (λ r. petition_fits r.1 ≡ true) }
     ensures some { IfOk result (λ r. 0 < r.0.0) }
     ensures below { IfOk result (λ r. r.0.0 < 4294967295) }
-    ensures err { IfErr result (λ fault. fault ≢ LineFault.OutOfMemory → (id : Id) (row : Row) → 0 < id.0 → id.0 < 4294967295 → petition_fits row ≡ true
+    ensures err { IfErr result (λ fault. fault ≢ LineFault.OutOfMemory → (id : Id) (row : Row) → 0 < id.0 → id.0 < 4294967295 →
+        petition_fits row ≡ true
         → values.now ≢ petition_values id row) }
 {
     let [number, who, calls] = values else {

@@ -4,7 +4,8 @@
 ghost use Rattle.std.specs.Prelude.{◌≡◌, ◌≢◌, ◌≤◌, ◌∷◌, ◌++◌, [], List, length, drop, IfOk, IfErr, OnOk};
 ghost use Rattle.std.specs.List.{AllByRecursion};
 ghost use Rattle.moo_rows.specs.declared.row.PropId.{PropId as AProperty};
-ghost use Rattle.moo_load.specs.Entries.{Entry, entry_text, entry_lines, EntryFits, NumberIsLeft, NumbersAreLeft, entry_taken, entries_taken, carried, EachHas};
+ghost use Rattle.moo_load.specs.Entries.{Entry, entry_text, entry_lines, EntryFits, NumberIsLeft};
+ghost use Rattle.moo_load.specs.Entries.{NumbersAreLeft, entry_taken, entries_taken, carried, EachHas};
 ghost use Rattle.moo_load.specs.Loaded.{SaysOfText};
 ghost use Rattle.moo_load.specs.OneState.{IsHeld};
 ghost use Rattle.moo_load.specs.Rows.{AreRead};
@@ -28,8 +29,10 @@ fn take_line(alloc: Global, line: &[u8], rows: &mut Flat) -> Result<(), LineFaul
     requires { AreRead rows.old.maps }
     ensures read { OnOk result (AreRead rows.new.maps) }
     // The line of an entry is taken as the entry, unless there is no number or no memory left.
-    ensures put { OnOk result ((e : Entry) → EntryFits e → line.now ++ 10 ∷ [] ≡ entry_text e → rows.new.maps ≡ entry_taken e rows.old.maps) }
-    ensures err { IfErr result (λ fault. fault ≢ LineFault.OutOfMemory → (e : Entry) → EntryFits e → NumberIsLeft e rows.old.maps → line.now ++ 10 ∷ [] ≢ entry_text e) }
+    ensures put { OnOk result ((e : Entry) → EntryFits e → line.now ++ 10 ∷ [] ≡ entry_text e →
+        rows.new.maps ≡ entry_taken e rows.old.maps) }
+    ensures err { IfErr result (λ fault. fault ≢ LineFault.OutOfMemory → (e : Entry) → EntryFits e → NumberIsLeft e rows.old.maps →
+        line.now ++ 10 ∷ [] ≢ entry_text e) }
 {
     let (word, literal) = split_word(line)?;
     if word == Word::Slot {
@@ -55,9 +58,11 @@ fn take_slot_line(
     requires { AreRead rows.old.maps }
     ensures read { OnOk result (AreRead rows.new.maps) }
     // The line of an entry puts its slot, if the slot's property is the next one of its definer.
-    ensures put { IfOk result (λ put. (number : Property → AProperty) (e : Entry) → EntryFits e → SlotIsNext number e (last, rows.old.maps) → line.now ++ 10 ∷ [] ≡ entry_text e
+    ensures put { IfOk result (λ put. (number : Property → AProperty) (e : Entry) → EntryFits e →
+        SlotIsNext number e (last, rows.old.maps) → line.now ++ 10 ∷ [] ≡ entry_text e
         → (put, rows.new.maps) ≡ slot_line_put number e (last, rows.old.maps)) }
-    ensures err { IfErr result (λ fault. fault ≢ LineFault.OutOfMemory → (number : Property → AProperty) (e : Entry) → EntryFits e → SlotIsNext number e (last, rows.old.maps)
+    ensures err { IfErr result (λ fault. fault ≢ LineFault.OutOfMemory → (number : Property → AProperty) (e : Entry) → EntryFits e →
+        SlotIsNext number e (last, rows.old.maps)
         → line.now ++ 10 ∷ [] ≢ entry_text e) }
 {
     let (word, literal) = split_word(line)?;
@@ -77,7 +82,8 @@ fn take_lines(alloc: Global, text: &[u8], start: usize, rows: &mut Flat) -> Resu
     // The lines of entries are taken as the entries, unless there is no number or no memory left.
     ensures put { OnOk result ((es : List Entry) → AllByRecursion EntryFits es → drop start text.now ≡ entry_lines es
         → rows.new.maps ≡ entries_taken es rows.old.maps) }
-    ensures err { IfErr result (λ fault. fault ≢ LoadFault.OutOfMemory → (es : List Entry) → AllByRecursion EntryFits es → NumbersAreLeft es rows.old.maps
+    ensures err { IfErr result (λ fault. fault ≢ LoadFault.OutOfMemory → (es : List Entry) → AllByRecursion EntryFits es →
+        NumbersAreLeft es rows.old.maps
         → drop start text.now ≢ entry_lines es) }
     ensures fault { IfErr result (SaysOfText text.now) }
 {
@@ -103,7 +109,8 @@ fn take_slots(alloc: Global, text: &[u8], start: usize, rows: &mut Flat) -> Resu
     ensures put { OnOk result ((number : Property → AProperty) (es : List Entry) → AllByRecursion EntryFits es
         → EachHas (SlotIsNext number) (slot_line_put number) es (no_slot, rows.old.maps) → drop start text.now ≡ entry_lines es
         → rows.new.maps ≡ (carried (slot_line_put number) es (no_slot, rows.old.maps)).1) }
-    ensures err { IfErr result (λ fault. fault ≢ LoadFault.OutOfMemory → (number : Property → AProperty) (es : List Entry) → AllByRecursion EntryFits es
+    ensures err { IfErr result (λ fault. fault ≢ LoadFault.OutOfMemory → (number : Property → AProperty) (es : List Entry) →
+        AllByRecursion EntryFits es
         → EachHas (SlotIsNext number) (slot_line_put number) es (no_slot, rows.old.maps) → drop start text.now ≢ entry_lines es) }
     ensures fault { IfErr result (SaysOfText text.now) }
 {

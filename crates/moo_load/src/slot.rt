@@ -46,7 +46,8 @@ fn bits_of(value: &Value) -> Result<Bits, LineFault>
 fn state_of(alloc: Global, values: &[Value]) -> Result<SlotState, LineFault>
     ensures shown { IfOk result (λ state. values.now ≡ state_values state) }
     ensures fits { IfOk result (λ state. state_fits state ≡ true) }
-    ensures err { IfErr result (λ fault. fault ≢ LineFault.OutOfMemory → (state : State) → state_fits state ≡ true → values.now ≢ state_values state) }
+    ensures err { IfErr result (λ fault. fault ≢ LineFault.OutOfMemory → (state : State) → state_fits state ≡ true →
+        values.now ≢ state_values state) }
 {
     match values {
         [Value::Int(0)] => Ok(SlotState::Clear),
@@ -65,7 +66,8 @@ fn state_of(alloc: Global, values: &[Value]) -> Result<SlotState, LineFault>
 pub(crate) fn dumped_slot(alloc: Global, values: &[Value]) -> Result<SlotLine, LineFault>
     ensures shown { IfOk result (λ slot. values.now ≡ slot_values slot.object slot.definer slot.name slot.row) }
     ensures fits { IfOk result (λ slot. (is_number slot.row.owner && state_fits slot.row.state) ≡ true) }
-    ensures err { IfErr result (λ fault. fault ≢ LineFault.OutOfMemory → (x definer : Object) (name : Name) (row : Row) → state_fits row.state ≡ true
+    ensures err { IfErr result (λ fault. fault ≢ LineFault.OutOfMemory → (x definer : Object) (name : Name) (row : Row) →
+        state_fits row.state ≡ true
         → values.now ≢ slot_values x definer name row) }
 {
     let [object, definer, name, owner, letters, state @ ..] = values else {

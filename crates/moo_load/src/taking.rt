@@ -36,7 +36,8 @@ pub(crate) fn take_object(alloc: Global, values: &[Value], rows: &mut Flat) -> R
     requires { AreRead rows.old.maps }
     ensures read { OnOk result (AreRead rows.new.maps) }
     ensures put { OnOk result ((x : Object) (row : ObjectRow) → values.now ≡ object_values x row → rows.new ≡ with_object rows.old x row) }
-    ensures err { IfErr result (λ fault. fault ≢ LineFault.OutOfMemory → (x : Object) (row : ObjectRow) → row_fits row ≡ true → values.now ≢ object_values x row) }
+    ensures err { IfErr result (λ fault. fault ≢ LineFault.OutOfMemory → (x : Object) (row : ObjectRow) → row_fits row ≡ true →
+        values.now ≢ object_values x row) }
 {
     let (number, row) = read_object(alloc, values)?;
     rows.put_object(number, row)?;
@@ -51,9 +52,11 @@ pub(crate) fn take_property(
 ) -> Result<(), LineFault>
     requires { AreRead rows.old.maps }
     ensures read { OnOk result (AreRead rows.new.maps) }
-    ensures put { OnOk result ((row : APropRow) → values.now ≡ Obj row.definer ∷ Str row.name ∷ [] → rows.new.maps ≡ property_taken rows.old.maps row) }
+    ensures put { OnOk result ((row : APropRow) → values.now ≡ Obj row.definer ∷ Str row.name ∷ [] →
+        rows.new.maps ≡ property_taken rows.old.maps row) }
     // Unless there is no number left.
-    ensures err { IfErr result (λ fault. fault ≢ LineFault.OutOfMemory → rows.old.maps.head.next_prop < 4294967295 → (row : APropRow) → is_property_name row.name ≡ true
+    ensures err { IfErr result (λ fault. fault ≢ LineFault.OutOfMemory → rows.old.maps.head.next_prop < 4294967295 → (row : APropRow) →
+        is_property_name row.name ≡ true
         → values.now ≢ Obj row.definer ∷ Str row.name ∷ []) }
 {
     let row = read_property(alloc, values)?;
@@ -72,9 +75,11 @@ pub(crate) fn take_property(
 pub(crate) fn take_verb(alloc: Global, values: &[Value], rows: &mut Flat) -> Result<(), LineFault>
     requires { AreRead rows.old.maps }
     ensures read { OnOk result (AreRead rows.new.maps) }
-    ensures put { OnOk result ((x : Object) (row : Verb) → values.now ≡ verb_values x row → rows.new.maps ≡ verb_taken rows.old.maps x row) }
+    ensures put { OnOk result ((x : Object) (row : Verb) → values.now ≡ verb_values x row →
+        rows.new.maps ≡ verb_taken rows.old.maps x row) }
     // Unless there is no number left.
-    ensures err { IfErr result (λ fault. fault ≢ LineFault.OutOfMemory → rows.old.maps.head.next_verb < 4294967295 → (x : Object) (row : Verb) → verb_fits row ≡ true
+    ensures err { IfErr result (λ fault. fault ≢ LineFault.OutOfMemory → rows.old.maps.head.next_verb < 4294967295 →
+        (x : Object) (row : Verb) → verb_fits row ≡ true
         → values.now ≢ verb_values x row) }
 {
     let (object, row) = read_verb(alloc, values)?;
@@ -97,8 +102,10 @@ pub(crate) fn take_petition(
 ) -> Result<(), LineFault>
     requires { AreRead rows.old.maps }
     ensures read { OnOk result (AreRead rows.new.maps) }
-    ensures put { OnOk result ((id : Id) (row : APetition) → values.now ≡ petition_values id row → rows.new.maps ≡ petition_taken rows.old.maps id row) }
-    ensures err { IfErr result (λ fault. fault ≢ LineFault.OutOfMemory → (id : Id) (row : APetition) → 0 < id.0 → id.0 < 4294967295 → petition_fits row ≡ true
+    ensures put { OnOk result ((id : Id) (row : APetition) → values.now ≡ petition_values id row →
+        rows.new.maps ≡ petition_taken rows.old.maps id row) }
+    ensures err { IfErr result (λ fault. fault ≢ LineFault.OutOfMemory → (id : Id) (row : APetition) → 0 < id.0 → id.0 < 4294967295 →
+        petition_fits row ≡ true
         → values.now ≢ petition_values id row) }
 {
     let (id, row) = read_petition(alloc, values)?;
@@ -134,7 +141,8 @@ fn number_before(last: LastSlot, object: ObjNo, definer: ObjNo) -> PropId
 /// The property of a slot. A dump has the slots of an object that one definer has given it in the order of its properties, so
 /// that the next one is the property after the last.
 fn property_of<R: Rows>(rows: &R, last: LastSlot, slot: &SlotLine) -> Option<PropId>
-    ensures { (id : AProperty) → IsNextProperty (R.held rows.now).maps last slot.now.object (slot.now.definer, slot.now.name) id → result ≡ Some id }
+    ensures { (id : AProperty) → IsNextProperty (R.held rows.now).maps last slot.now.object (slot.now.definer, slot.now.name) id →
+        result ≡ Some id }
 {
     let after = number_before(last, slot.object, slot.definer);
     let id = rows.next_defined(slot.definer, after)?;
@@ -168,9 +176,12 @@ pub(crate) fn take_slot(
     requires { AreRead rows.old.maps }
     ensures read { OnOk result (AreRead rows.new.maps) }
     // The slot of the next property is put under its number.
-    ensures put { IfOk result (λ put. (x : Object) (p : Property) (k : Slot) (id : AProperty) → values.now ≡ slot_values x p.0 p.1 (dumped_slot k)
-        → IsNextProperty rows.old.maps last x p id → (put ≡ record { object = x; definer = p.0; id = id }) × (rows.new ≡ with_slot rows.old (x, id) (dumped_slot k))) }
-    ensures err { IfErr result (λ fault. fault ≢ LineFault.OutOfMemory → (x : Object) (p : Property) (k : Slot) (id : AProperty) → state_fits k.state ≡ true
+    ensures put { IfOk result (λ put. (x : Object) (p : Property) (k : Slot) (id : AProperty) →
+        values.now ≡ slot_values x p.0 p.1 (dumped_slot k)
+        → IsNextProperty rows.old.maps last x p id → (put ≡ record { object = x; definer = p.0; id = id })
+        × (rows.new ≡ with_slot rows.old (x, id) (dumped_slot k))) }
+    ensures err { IfErr result (λ fault. fault ≢ LineFault.OutOfMemory → (x : Object) (p : Property) (k : Slot) (id : AProperty) →
+        state_fits k.state ≡ true
         → IsNextProperty rows.old.maps last x p id → values.now ≢ slot_values x p.0 p.1 (dumped_slot k)) }
 {
     let slot = dumped_slot(alloc, values)?;

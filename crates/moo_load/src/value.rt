@@ -61,7 +61,8 @@ pub(crate) fn flag_of(value: &Value, what: &'static str) -> Result<bool, LineFau
 fn objects_of(alloc: Global, values: &[Value]) -> Result<ObjList, LineFault>
     ensures ok { IfOk result (λ objects. values.now ≡ map Obj objects) }
     ensures fits { IfOk result (λ objects. accept_fits (Some objects) ≡ true) }
-    ensures err { IfErr result (λ fault. fault ≢ LineFault.OutOfMemory → (objects : List ObjNo) → length objects ≤ 1000 → values.now ≢ map Obj objects) }
+    ensures err { IfErr result (λ fault. fault ≢ LineFault.OutOfMemory → (objects : List ObjNo) → length objects ≤ 1000 →
+        values.now ≢ map Obj objects) }
 {
     if values.len() > MAX_ACCEPTED {
         return Err(LineFault::Unreadable(DumpReason::NoAcceptList));
@@ -78,7 +79,8 @@ fn objects_of(alloc: Global, values: &[Value]) -> Result<ObjList, LineFault>
 pub(crate) fn accept_of(alloc: Global, value: &Value) -> Result<Option<ObjList>, LineFault>
     ensures ok { IfOk result (λ accept. value.now ≡ accept_value accept) }
     ensures fits { IfOk result (λ accept. accept_fits accept ≡ true) }
-    ensures err { IfErr result (λ fault. fault ≢ LineFault.OutOfMemory → (accept : Option (List ObjNo)) → accept_fits accept ≡ true → value.now ≢ accept_value accept) }
+    ensures err { IfErr result (λ fault. fault ≢ LineFault.OutOfMemory → (accept : Option (List ObjNo)) → accept_fits accept ≡ true →
+        value.now ≢ accept_value accept) }
 {
     match value {
         Value::Int(0) => Ok(None),

@@ -68,7 +68,8 @@ fn bits_of(value: &Value) -> Result<VerbBits, LineFault>
 pub(crate) fn read_verb(alloc: Global, values: &[Value]) -> Result<(ObjNo, VerbRow), LineFault>
     ensures shown { IfOk result (λ r. values.now ≡ verb_values r.0 r.1) }
     ensures fits { IfOk result (λ r. verb_fits r.1 ≡ true) }
-    ensures err { IfErr result (λ fault. fault ≢ LineFault.OutOfMemory → (x : Object) (row : Row) → verb_fits row ≡ true → values.now ≢ verb_values x row) }
+    ensures err { IfErr result (λ fault. fault ≢ LineFault.OutOfMemory → (x : Object) (row : Row) → verb_fits row ≡ true →
+        values.now ≢ verb_values x row) }
 {
     let [object, names, owner, letters, dobj, prep, iobj] = values else {
         return Err(LineFault::Unreadable(DumpReason::Count));

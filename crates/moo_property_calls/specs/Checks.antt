@@ -38,7 +38,8 @@ taking_property_info world (owner, perms) then = do
 
 -- the reason is true of any call about letters of rights such as these
 abbrev pub IsTrueOfLetters : Maps → Name → Reason → Type 0
-IsTrueOfLetters maps letters reason = (programmer : ObjNo) (about : About) → IsTrueOf maps programmer (record about { letters = Some letters }) reason
+IsTrueOfLetters maps letters reason =
+    (programmer : ObjNo) (about : About) → IsTrueOf maps programmer (record about { letters = Some letters }) reason
 
 -- the reason is true of any call about a new name of a property of the object
 abbrev pub IsTrueOfName : Maps → ObjNo → Name → Reason → Type 0

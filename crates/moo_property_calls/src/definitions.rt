@@ -89,7 +89,8 @@ pub(crate) fn defines<R: Rows>(rows: &R, x: ObjNo, name: &MooStr) -> bool
 pub(crate) fn bits_taken<R: Rows>(rows: &R, info: Info<'_>) -> Result<Bits, Reason>
     ensures owner { OnOk result (is_object (world_in (R.held rows.now)) info.entry.owner ≡ true) }
     ensures bits { IfOk result (λ bits. bits_of info.entry.perms.now ≡ Some bits) }
-    ensures err { IfErr result (λ reason. (then : Bits → Outcome World) → taking_property_info (world_in (R.held rows.now)) (info.entry.owner, info.entry.perms.now) then ≡ Failed (error_of reason)) }
+    ensures err { IfErr result (λ reason. (then : Bits → Outcome World) →
+        taking_property_info (world_in (R.held rows.now)) (info.entry.owner, info.entry.perms.now) then ≡ Failed (error_of reason)) }
     ensures told { IfErr result (IsTrueOfLetters (R.held rows.now).maps info.entry.perms.now) }
 {
     if !valid(rows, info.owner) {
@@ -117,9 +118,12 @@ fn bits_to_define<R: Rows>(
     info: Info<'_>,
 ) -> Result<Bits, Fault>
     requires { IsGood (R.held rows.now).maps }
-    ensures ok { IfOk result (λ bits. (v : Value) → add_property (world_in (R.held rows.now)) programmer x name.now v (info.entry.owner, info.entry.perms.now)
+    ensures ok { IfOk result (λ bits. (v : Value) →
+        add_property (world_in (R.held rows.now)) programmer x name.now v (info.entry.owner, info.entry.perms.now)
         ≡ Done zero (property_added (world_in (R.held rows.now)) x name.now (record { definer = x; owner = info.entry.owner; bits = bits; state = Set v }))) }
-    ensures err { IfErr result (λ fault. (v : Value) → Answers (add_property (world_in (R.held rows.now)) programmer x name.now v (info.entry.owner, info.entry.perms.now)) (R.held rows.now) (Err fault)) }
+    ensures err { IfErr result (λ fault. (v : Value) →
+        Answers (add_property (world_in (R.held rows.now)) programmer x name.now v (info.entry.owner, info.entry.perms.now))
+        (R.held rows.now) (Err fault)) }
     ensures there { OnOk result (is_object (world_in (R.held rows.now)) x ≡ true) }
     ensures free { OnOk result (may_define (world_in (R.held rows.now)) x name.now ≡ true) }
     ensures left { OnOk result (nat_lt (world_in (R.held rows.now)).next_prop 4294967295 ≡ true) }

@@ -28,7 +28,8 @@ pub fn delete_property<R: Rows>(
     name: &MooStr,
 ) -> Result<Value, Fault>
     requires { IsGood (R.held rows.old).maps }
-    ensures comes { ComesTo (delete_property (world_in (R.held rows.old)) programmer x name.now) (R.held rows.old) (R.held rows.new) result }
+    ensures comes { ComesTo (delete_property (world_in (R.held rows.old)) programmer x name.now) (R.held rows.old)
+        (R.held rows.new) result }
     ensures kept { OnOk result (Keeps (R.held rows.old) (R.held rows.new)) }
     ensures told { IsTold (R.held rows.old).maps programmer (about_property x name.now) result }
 {

@@ -46,7 +46,8 @@ fn may_rename<R: Rows>(
     ensures ok { OnOk result (may_rename (world_in (R.held rows.now)) x name.now (option_map (λ n. n.now) new.entry) ≡ true) }
     ensures err { OnErr result (may_rename (world_in (R.held rows.now)) x name.now (option_map (λ n. n.now) new.entry) ≡ false) }
     ensures code { IfErr result (λ reason. error_of reason ≡ E_INVARG) }
-    ensures told { IfErr result (λ reason. (programmer : ObjNo) (letters : Name) → IsTrueOf (R.held rows.now).maps programmer (about_info x name.now letters (option_map (λ n. n.now) new.entry)) reason) }
+    ensures told { IfErr result (λ reason. (programmer : ObjNo) (letters : Name) →
+        IsTrueOf (R.held rows.now).maps programmer (about_info x name.now letters (option_map (λ n. n.now) new.entry)) reason) }
 {
     let Some(new) = new else {
         return Ok(());
@@ -145,7 +146,8 @@ pub fn set_property_info<R: Rows>(
     new_name: Option<&MooStr>,
 ) -> Result<Value, Fault>
     requires { IsGood (R.held rows.old).maps }
-    ensures comes { ComesTo (set_property_info (world_in (R.held rows.old)) programmer x name.now (info.entry.owner, info.entry.perms.now) (option_map (λ n. n.now) new_name.entry)) (R.held rows.old) (R.held rows.new) result }
+    ensures comes { ComesTo (set_property_info (world_in (R.held rows.old)) programmer x name.now (info.entry.owner, info.entry.perms.now)
+        (option_map (λ n. n.now) new_name.entry)) (R.held rows.old) (R.held rows.new) result }
     ensures kept { OnOk result (Keeps (R.held rows.old) (R.held rows.new)) }
     ensures told { IsTold (R.held rows.old).maps programmer (about_info x name.now info.entry.perms.now (option_map (λ n. n.now) new_name.entry)) result }
 {

@@ -30,7 +30,8 @@ pub fn set_property<R: Rows>(
 ) -> Result<Value, Fault>
     requires good { IsGood (R.held rows.old).maps }
     requires fit { fits value.now ≡ true }
-    ensures comes { ComesTo (set_property (world_in (R.held rows.old)) programmer x name.now value.now) (R.held rows.old) (R.held rows.new) result }
+    ensures comes { ComesTo (set_property (world_in (R.held rows.old)) programmer x name.now value.now) (R.held rows.old)
+        (R.held rows.new) result }
     ensures kept { OnOk result (Keeps (R.held rows.old) (R.held rows.new)) }
     ensures told { IsTold (R.held rows.old).maps programmer (about_property x name.now) result }
 {

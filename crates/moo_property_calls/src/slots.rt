@@ -42,8 +42,10 @@ pub(crate) fn readable_slot<'a, R: Rows>(
     name: &MooStr,
 ) -> Result<FoundSlot<'a>, Reason>
     requires { IsGood (R.held rows.now).maps }
-    ensures ok { IfOk result (λ found. (then : Slot → Outcome World) → reading_slot (world_in (R.held rows.now)) programmer x name.now then ≡ then (slot_seen found.definer found.slot.now)) }
-    ensures err { IfErr result (λ reason. (then : Slot → Outcome World) → reading_slot (world_in (R.held rows.now)) programmer x name.now then ≡ Failed (error_of reason)) }
+    ensures ok { IfOk result (λ found. (then : Slot → Outcome World) →
+        reading_slot (world_in (R.held rows.now)) programmer x name.now then ≡ then (slot_seen found.definer found.slot.now)) }
+    ensures err { IfErr result (λ reason. (then : Slot → Outcome World) →
+        reading_slot (world_in (R.held rows.now)) programmer x name.now then ≡ Failed (error_of reason)) }
     ensures held { IfOk result (λ found. is_some (get (R.held rows.now).maps.slots (x, found.id)) ≡ true) }
     ensures named { IfOk result (λ found. name_of (R.held rows.now).maps found.id ≡ folded name.now) }
     ensures told { IfErr result (IsTrueOf (R.held rows.now).maps programmer (about_property x name.now)) }
@@ -68,7 +70,8 @@ pub(crate) fn writable_slot<'a, R: Rows>(
     requires { IsGood (R.held rows.now).maps }
     ensures slot { IfOk result (λ found. slot_of (world_in (R.held rows.now)) x (folded name.now) ≡ Some (slot_seen found.definer found.slot.now)) }
     ensures may { IfOk result (λ found. may_write_slot (world_in (R.held rows.now)) programmer (slot_seen found.definer found.slot.now) ≡ true) }
-    ensures err { IfErr result (λ reason. (then : Slot → Outcome World) → writing_slot (world_in (R.held rows.now)) programmer x name.now then ≡ Failed (error_of reason)) }
+    ensures err { IfErr result (λ reason. (then : Slot → Outcome World) →
+        writing_slot (world_in (R.held rows.now)) programmer x name.now then ≡ Failed (error_of reason)) }
     ensures held { IfOk result (λ found. is_some (get (R.held rows.now).maps.slots (x, found.id)) ≡ true) }
     ensures named { IfOk result (λ found. name_of (R.held rows.now).maps found.id ≡ folded name.now) }
     ensures told { IfErr result (IsTrueOf (R.held rows.now).maps programmer (about_property x name.now)) }

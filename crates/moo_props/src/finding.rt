@@ -31,8 +31,8 @@ pub(crate) fn own_named<R: Rows>(rows: &R, y: ObjNo, name: &[u8], hash: u64) -> 
     rows.next_named(y, name, hash, PropId(0))
 }
 
-/// The property of a name that x has. It climbs from x to the one that defines it, and to the root if none does: a look-up for
-/// each object on the way, however many properties they define.
+/// The property of a name that x has. It climbs from x to the one that defines it, and to the root if none does: a look-up of the name
+/// for each object on the way, however many properties they define, and one of its row only if the climb goes on.
 pub(crate) fn find_named<R: Rows>(rows: &R, x: ObjNo, name: &[u8]) -> Option<PropId>
     requires { IsGood (R.held rows.now).maps }
     ensures held { IfSome result (λ id. is_some (get (R.held rows.now).maps.slots (x, id)) ≡ true) }
@@ -41,13 +41,15 @@ pub(crate) fn find_named<R: Rows>(rows: &R, x: ObjNo, name: &[u8]) -> Option<Pro
 {
     let hash = name_hash(name);
     let mut at = x;
-    while let Some(row) = rows.object(at) {
+    'climb: loop {
         if let Some(id) = own_named(rows, at, name, hash) {
             return Some(id);
         }
-        at = row.parent;
+        at = match rows.object(at) {
+            None => return None,
+            Some(row) => row.parent,
+        };
     }
-    None
 }
 
 /// The property of a name that x has: one that x or an ancestor of x defines. Names compare without ASCII case.

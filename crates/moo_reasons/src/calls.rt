@@ -1,20 +1,13 @@
 //! Why a line isn't a call.
 
+use crate::built_ins::is_built_in;
 use crate::names::nearest_name;
 use crate::values::put_value_reason;
-use crate::words::put_shown;
+use crate::words::{after_mark, put_shown};
 use moo_text::{is_short, skip_blanks, split_word};
 use moo_value::read_literal;
 use moo_world::CallName;
 use std::alloc::{AllocError, Global};
-
-/// What follows the mark, if the bytes begin with it after blanks.
-fn after_mark(mark: u8, bytes: &[u8]) -> Option<&[u8]> {
-    match skip_blanks(bytes).split_first() {
-        Some((first, rest)) if *first == mark => Some(rest),
-        _ => None,
-    }
-}
 
 /// What is wrong after the closing bracket, or that nothing is.
 fn put_end_reason(rest: &[u8], out: &mut Vec<u8>) -> Result<(), AllocError> {
@@ -51,16 +44,27 @@ fn put_values_reason(alloc: Global, bytes: &[u8], out: &mut Vec<u8>) -> Result<(
     out.extend_from_slice(b"the line ends where a value is missing")
 }
 
-/// That a word names no call, and which name it may have meant.
+/// That a word names no call, and which name it may have meant. Names of LambdaMOO's own functions are explained on a page.
 fn put_name_reason(word: &[u8], out: &mut Vec<u8>) -> Result<(), AllocError> {
     put_shown(word, out)?;
     out.extend_from_slice(b" names no call")?;
+    if is_built_in(word) {
+        return out.extend_from_slice(b" (see LAMBDAMOO)");
+    }
     if let Some(name) = nearest_name(word) {
         out.extend_from_slice(b" (did you mean ")?;
         out.extend_from_slice(name.spelling())?;
         out.extend_from_slice(b"?)")?;
     }
     Ok(())
+}
+
+/// What is wrong with a line that begins with `end` in any letters, and isn't the line `end`.
+fn put_word_end_reason(word: &[u8], out: &mut Vec<u8>) -> Result<(), AllocError> {
+    if word == b"end".as_slice() {
+        return out.extend_from_slice(b"`end` is alone on its line, and no comment follows it");
+    }
+    out.extend_from_slice(b"`end` is in small letters")
 }
 
 /// What is wrong with a line that begins with no name.
@@ -79,7 +83,10 @@ pub(crate) fn call_reason(alloc: Global, line: &[u8], out: &mut Vec<u8>) -> Resu
     if word.is_empty() {
         return put_start_reason(line, out);
     }
-    if word == b"batch".as_slice() {
+    if word.eq_ignore_ascii_case(b"end") {
+        return put_word_end_reason(word, out);
+    }
+    if word.eq_ignore_ascii_case(b"batch") {
         return out.extend_from_slice(
             b"`batch` inside a batch: the line `end` before it is missing",
         );

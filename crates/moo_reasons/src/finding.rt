@@ -5,6 +5,7 @@ ghost use Rattle.moo_world.specs.Rows.{IsGood};
 
 use crate::given::given_by;
 use crate::granted::{calls_granted, tell_held};
+use crate::nearest::{nearest_property, tell_nearest};
 use crate::shown::Said;
 use crate::telling::tell;
 use moo_batch::step;
@@ -52,8 +53,12 @@ fn tell_after<R: Rows>(
     }
     let given = given_by(batch.programmer, call);
     let granted = calls_granted(rows, given)?;
+    let nearest = nearest_property(said.alloc, rows, given)?;
     match step(rows, said.alloc, batch.programmer, call) {
-        Err(Fault::Moo(reason)) => tell(said, b", ", rows, given, reason),
+        Err(Fault::Moo(reason)) => {
+            tell(said, b", ", rows, given, reason)?;
+            tell_nearest(said, reason, nearest)
+        }
         Err(Fault::Held { place, reason }) => tell_held(said, rows, given, granted, place, reason),
         _ => Ok(()),
     }

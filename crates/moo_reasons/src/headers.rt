@@ -6,6 +6,22 @@ use std::alloc::{AllocError, Global};
 
 const FORM: &[u8] = b"a batch begins with a line `batch as #N`, in small letters";
 
+/// What made the line, if its bytes aren't those of plain text.
+fn foreign_reason(line: &[u8]) -> Option<&'static str> {
+    if line.starts_with(&[0xef, 0xbb, 0xbf]) {
+        return Some("the text begins with a byte order mark: save it as plain ASCII, without one");
+    }
+    if line.starts_with(&[0xff, 0xfe]) || line.starts_with(&[0xfe, 0xff]) || line.contains(&0) {
+        return Some("the text is in UTF-16: save it as plain ASCII");
+    }
+    if line.contains(&b'\r') {
+        return Some(
+            "the line has carriage returns inside: end lines with line feeds, and not as on an old Mac",
+        );
+    }
+    None
+}
+
 /// What is wrong after the programmer, where only `at` and a number may come.
 fn put_end_reason(rest: &[u8], out: &mut Vec<u8>) -> Result<(), AllocError> {
     match next_word(rest) {
@@ -58,6 +74,9 @@ pub(crate) fn header_reason(
     line: &[u8],
     out: &mut Vec<u8>,
 ) -> Result<(), AllocError> {
+    if let Some(reason) = foreign_reason(line) {
+        return out.extend_from_slice(reason.as_bytes());
+    }
     if !is_short(line) {
         return out.extend_from_slice(b"a line of over 262144 bytes");
     }

@@ -4,6 +4,7 @@
 //! these words: what a batch is answered is judged elsewhere.
 #![tactic(auto, unfolding(moo_world::specs::Rows::world_shown, moo_world::specs::Objects::same_object))]
 
+mod built_ins;
 mod calls;
 mod finding;
 mod forms;
@@ -11,6 +12,7 @@ mod given;
 mod granted;
 mod headers;
 mod names;
+mod nearest;
 mod notes;
 mod plain;
 mod refusals;

@@ -31,6 +31,17 @@ fn distance(word: &[u8], name: &[u8]) -> usize {
     longer.saturating_sub(front.saturating_add(back))
 }
 
+/// How far a word is from a name that it may have meant: at most two bytes differ, and fewer than half of the word's. None if it is
+/// further.
+pub(crate) fn near(word: &[u8], name: &[u8]) -> Option<usize> {
+    let changed = distance(word, name);
+    if changed <= MOST_CHANGED && changed.saturating_mul(2) < word.len() {
+        Some(changed)
+    } else {
+        None
+    }
+}
+
 /// The name that is nearest to a word, if one is near.
 pub(crate) fn nearest_name(word: &[u8]) -> Option<CallName> {
     let mut nearest = None;

@@ -46,19 +46,35 @@ fn put_line_place(
     Ok(())
 }
 
-/// Appends why a line of a batch, which is its line of this number, is malformed.
-fn put_malformed(
+/// Appends why the first bad line of a batch is malformed, whether it is the header or not, and that it keeps a batch after it from being
+/// run.
+fn put_bad_line(
     alloc: Global,
-    number: u32,
+    is_header: bool,
     marks: &Marks,
     out: &mut Vec<u8>,
 ) -> Result<(), AllocError> {
-    out.extend_from_slice(b"malformed: ")?;
-    if number == 1 {
-        header_reason(alloc, marks.bad(), out)
+    if is_header {
+        header_reason(alloc, marks.bad(), out)?;
     } else {
-        call_reason(alloc, marks.bad(), out)
+        call_reason(alloc, marks.bad(), out)?;
     }
+    if marks.swallows() {
+        out.extend_from_slice(b", and the batch after it wasn't run")?;
+    }
+    Ok(())
+}
+
+/// Appends that the text ends inside a batch, and why a line of it is malformed, if one is.
+fn put_truncated(alloc: Global, marks: &Marks, out: &mut Vec<u8>) -> Result<(), AllocError> {
+    out.extend_from_slice(b"truncated: the text ends inside the batch that begins here")?;
+    let Some(line) = marks.bad_line() else {
+        return Ok(());
+    };
+    out.extend_from_slice(b"; line ")?;
+    put_number(alloc, line, out)?;
+    out.extend_from_slice(b" is malformed: ")?;
+    put_bad_line(alloc, marks.header() == Some(line), marks, out)
 }
 
 /// Why a batch is refused, if it is and the rows are at hand. AllocError: memory ran out.
@@ -134,10 +150,11 @@ fn put_answer(
 ) -> Result<(), AllocError> {
     match answer {
         Answer::Replied(reply) => put_reply(alloc, reply, told, out),
-        Answer::Malformed(number) => put_malformed(alloc, *number, marks, out),
-        Answer::Truncated => {
-            out.extend_from_slice(b"truncated: the text ends inside the batch that begins here")
+        Answer::Malformed(number) => {
+            out.extend_from_slice(b"malformed: ")?;
+            put_bad_line(alloc, *number == 1, marks, out)
         }
+        Answer::Truncated => put_truncated(alloc, marks, out),
         Answer::Fault => out.extend_from_slice(b"fault: the store failed in the batch"),
         Answer::Closed => out.extend_from_slice(b"closed: the store failed before the batch"),
     }

@@ -1,9 +1,18 @@
 //! Pieces of the words.
 
+use moo_text::skip_blanks;
 use std::alloc::{AllocError, Global};
 
 /// So many bytes of a text are shown.
 const MOST_SHOWN: usize = 40;
+
+/// What follows the mark, if the bytes begin with it after blanks.
+pub(crate) fn after_mark(mark: u8, bytes: &[u8]) -> Option<&[u8]> {
+    match skip_blanks(bytes).split_first() {
+        Some((first, rest)) if *first == mark => Some(rest),
+        _ => None,
+    }
+}
 
 /// Appends the first bytes of a text between quotes, and a question mark for each that doesn't print.
 pub(crate) fn put_shown(bytes: &[u8], out: &mut Vec<u8>) -> Result<(), AllocError> {

@@ -1,19 +1,19 @@
 -- What is received of bytes is determined by them.
-use Rattle.moo_request.{proofs.Words.{◌≡◌, inl, inr, ℕ, List, Some, None, arith, sym, ap, subst, ◌∙◌, option_and_then, RequestHead, ReadsRequest, request_unique, Asked, Mode, Plan, Decided, Body, Request, BodyAsks, shape_asked, plan_by, is_head, asks_why, PlanAsks, Receives, nothing, no_head, request, shape_of}, proofs.HeadLemmas.{no_empty_head}, specs.declared.request.Received.{Received}}
+use Rattle.moo_request.{proofs.Words.{◌≡◌, inl, inr, ℕ, List, Some, None, arith, sym, ap, subst, ◌∙◌, option_and_then, RequestHead, ReadsRequest, request_unique, Asked, Form, Plan, Decided, Body, Request, BodyAsks, shape_asked, plan_by, is_head, asks_why, PlanAsks, Receives, nothing, no_head, request, shape_of}, proofs.HeadLemmas.{no_empty_head}, specs.declared.request.Received.{Received}}
 
-body-once : (mode : Mode) (bytes : List ℕ) (a b : Asked) → BodyAsks mode bytes a → BodyAsks mode bytes b → a ≡ b
-body-once mode bytes a b (None, j, e) (None, k, f) = e ∙ sym f
-body-once mode bytes a b (None, j, e) (Some d, k, f) = let none = j k.0 in let some = k.1 in cc
-body-once mode bytes a b (Some d, j, e) (None, k, f) = let none = k j.0 in let some = j.1 in cc
-body-once mode bytes a b (Some d, j, e) (Some x, k, f) =
-    e ∙ ap (λ json. shape_asked mode (option_and_then shape_of json)) (sym j.1 ∙ k.1) ∙ sym f
+body-once : (form : Form) (bytes : List ℕ) (a b : Asked) → BodyAsks form bytes a → BodyAsks form bytes b → a ≡ b
+body-once form bytes a b (None, j, e) (None, k, f) = e ∙ sym f
+body-once form bytes a b (None, j, e) (Some d, k, f) = let none = j k.0 in let some = k.1 in cc
+body-once form bytes a b (Some d, j, e) (None, k, f) = let none = k j.0 in let some = j.1 in cc
+body-once form bytes a b (Some d, j, e) (Some x, k, f) =
+    e ∙ ap (λ json. shape_asked form (option_and_then shape_of json)) (sym j.1 ∙ k.1) ∙ sym f
 
 plan-once : (plan : Plan) (rest : List ℕ) (a b : Asked) → PlanAsks plan rest a → PlanAsks plan rest b → a ≡ b
 plan-once (Decided d) rest a b p q = p ∙ sym q
-plan-once (Body mode n) rest a b (inl (fits, x)) (inl (fit, y)) = body-once mode _ a b x y
-plan-once (Body mode n) rest a b (inl (fits, x)) (inr (short, e)) = absurd (omega (arith, fits, short))
-plan-once (Body mode n) rest a b (inr (short, e)) (inl (fits, x)) = absurd (omega (arith, fits, short))
-plan-once (Body mode n) rest a b (inr (short, e)) (inr (brief, f)) = e ∙ sym f
+plan-once (Body form n) rest a b (inl (fits, x)) (inl (fit, y)) = body-once form _ a b x y
+plan-once (Body form n) rest a b (inl (fits, x)) (inr (short, e)) = absurd (omega (arith, fits, short))
+plan-once (Body form n) rest a b (inr (short, e)) (inl (fits, x)) = absurd (omega (arith, fits, short))
+plan-once (Body form n) rest a b (inr (short, e)) (inr (brief, f)) = e ∙ sym f
 
 requests-once : (input : List ℕ) (x y : RequestHead) (t u : List ℕ) (a b : Asked) → ReadsRequest input x t → ReadsRequest input y u
     → PlanAsks (plan_by x) t a → PlanAsks (plan_by y) u b → Request (is_head x) (asks_why x) a ≡ Request (is_head y) (asks_why y) b

@@ -26,7 +26,7 @@ unfoldable pub use Rattle.moo_request.specs.Routes.{service_rows}
 pub use Rattle.moo_request.specs.Settled.{Settles}
 pub use Rattle.moo_request.specs.Shape.{are_within, shape_of, texts_of}
 pub use Rattle.moo_request.specs.declared.asked.Asked.{Asked}
-pub use Rattle.moo_request.specs.declared.asked.Mode.{Mode}
+pub use Rattle.moo_request.specs.declared.asked.Form.{Form}
 pub use Rattle.moo_request.specs.declared.head.HeadSpans.{HeadSpans}
 pub use Rattle.moo_request.specs.declared.plan.Plan.{Plan}
 pub use Rattle.moo_request.specs.declared.plan.Plan.TheVariants.{Body, Decided}

@@ -1,3 +1,4 @@
+pub mod Alone
 pub mod Body
 pub mod Calls
 pub mod Found

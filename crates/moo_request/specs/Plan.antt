@@ -6,14 +6,15 @@ use Rattle.httparse.specs.Spans.{name_and_value}
 use Rattle.moo_request.specs.declared.asked.Asked.TheVariants.{Refused, Question as Asks}
 use Rattle.moo_request.specs.declared.asked.Method.{Method}
 use Rattle.moo_request.specs.declared.asked.Method.TheVariants.{Get, Post}
-use Rattle.moo_request.specs.declared.asked.Mode.{Mode}
+use Rattle.moo_request.specs.declared.asked.Form.{Form}
+use Rattle.moo_request.specs.declared.asked.Form.TheVariants as form
 use Rattle.moo_request.specs.declared.asked.Refusal.TheVariants.{BadRequest, Forbidden, NotFound, NotAllowed, TooLarge}
 use Rattle.moo_request.specs.declared.routes.Endpoint.{Endpoint}
-use Rattle.moo_request.specs.declared.routes.Endpoint.TheVariants.{Batch, About}
+use Rattle.moo_request.specs.declared.routes.Endpoint.TheVariants.{Batch, Each, About}
 use Rattle.moo_request.specs.declared.question.Question.{Question}
 use Rattle.moo_request.specs.declared.plan.Plan.{Plan}
 use Rattle.moo_request.specs.declared.plan.Plan.TheVariants.{Decided, Body}
-use Rattle.moo_request.specs.declared.question.Topic.TheVariants.{Seq, Object, Objects}
+use Rattle.moo_request.specs.declared.question.Topic.TheVariants.{Seq, Object, Objects, Dump}
 use Rattle.moo_request.specs.Hosts.{is_own_line}
 use Rattle.moo_request.specs.Lengths.{Line, is_from_page, length_text}
 use Rattle.moo_request.specs.Numbers.{bounded_of}
@@ -31,6 +32,7 @@ is_why target = bytes_eq (after_first (λ b. b == 63) target) (codes "why")
 -- the method of a route
 abbrev pub method_of : Endpoint → Method
 method_of (Batch mode) = Post
+method_of Each = Post
 method_of (About topic) = Get
 
 abbrev pub method_text : Method → List ℕ
@@ -42,9 +44,9 @@ abbrev pub length_of : List Line → Option ℕ
 length_of lines = option_and_then (λ text. if nat_le (length text) 10 then bounded_of 9999999999 text else None) (length_text lines)
 
 -- a body says it, if its length is stated and at most 1,048,576
-abbrev pub body_plan : Mode → Option ℕ → Plan
-body_plan mode None = Decided (Refused BadRequest)
-body_plan mode (Some n) = if nat_lt 1048576 n then Decided (Refused TooLarge) else Body mode n
+abbrev pub body_plan : Form → Option ℕ → Plan
+body_plan form None = Decided (Refused BadRequest)
+body_plan form (Some n) = if nat_lt 1048576 n then Decided (Refused TooLarge) else Body form n
 
 -- the question that the path asks; not found if it asks none
 abbrev pub question_plan : Option Question → Plan
@@ -52,7 +54,8 @@ question_plan None = Decided (Refused NotFound)
 question_plan (Some question) = Decided (Asks question)
 
 abbrev pub endpoint_plan : Endpoint → List ℕ → List Line → Plan
-endpoint_plan (Batch mode) path lines = body_plan mode (length_of lines)
+endpoint_plan (Batch mode) path lines = body_plan (form.Batch mode) (length_of lines)
+endpoint_plan Each path lines = body_plan form.Each (length_of lines)
 endpoint_plan (About topic) path lines = question_plan (question_of topic path)
 
 -- the method of a route, then what it needs
@@ -63,9 +66,11 @@ allowed_plan endpoint method path lines =
 -- the routes that aren't for a request to another machine
 abbrev pub is_guarded : Endpoint → Bool
 is_guarded (Batch mode) = false
+is_guarded Each = true
 is_guarded (About Seq) = false
 is_guarded (About Object) = false
 is_guarded (About Objects) = true
+is_guarded (About Dump) = true
 
 -- first the route, then whether it is for this machine, then its method
 abbrev pub routed_plan : Option Endpoint → List ℕ → List ℕ → List Line → Plan
@@ -87,7 +92,7 @@ plan_by head = plan_of head.method head.target (map name_and_value head.fields)
 -- the bytes that are read after the head
 abbrev pub body_size : Plan → ℕ
 body_size (Decided asked) = 0
-body_size (Body mode n) = n
+body_size (Body form n) = n
 
 -- whether it is to be said why, if the request is refused
 abbrev pub asks_why : RequestHead → Bool

@@ -17,8 +17,8 @@ use Rattle.moo_request.specs.Settled.{Settles}
 -- What is planned, done with what follows the head: a body of n bytes is its first n, and without so many the request is cut off.
 abbrev pub PlanAsks : Plan → List ℕ → Asked → Type 0
 PlanAsks (Decided decided) rest asked = asked ≡ decided
-PlanAsks (Body mode n) rest asked =
-    ((n ≤ length rest) × BodyAsks mode (take n rest) asked) ⊎ ((length rest < n) × (asked ≡ Refused BadRequest))
+PlanAsks (Body form n) rest asked =
+    ((n ≤ length rest) × BodyAsks form (take n rest) asked) ⊎ ((length rest < n) × (asked ≡ Refused BadRequest))
 
 -- What the bytes of a connection ask: nothing if there are none; a bad request if they begin with no head; else what the one
 -- head and the bytes after it ask.

@@ -1,5 +1,6 @@
 //! What a request asks.
 
+use crate::each::Each;
 use crate::question::Question;
 use moo_world::Batch;
 
@@ -34,6 +35,15 @@ pub enum Mode {
     Ask,
 }
 
+/// What the calls of a body are.
+#[derive(Clone, Copy, Drop)]
+pub enum Form {
+    /// One batch.
+    Batch(Mode),
+    /// A batch each, which is asked.
+    Each,
+}
+
 /// What a request asks.
 #[derive(Drop)]
 pub enum Asked {
@@ -41,6 +51,8 @@ pub enum Asked {
     Refused(Refusal),
     /// A batch.
     Calls(Mode, Batch),
+    /// Calls, each of which is a batch that is only asked what it would answer.
+    Each(Each),
     /// Something of the world, which stays as it is.
     Question(Question),
 }

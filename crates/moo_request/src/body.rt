@@ -1,7 +1,7 @@
 //! What a body asks.
 
 ghost use Rattle.std.specs.Prelude.{◌≡◌, ◌≤◌, ◌+◌, ◌-◌, Some, length, drop, map, max, IfOk, OnOk, OnErr};
-ghost use Rattle.moo_request.specs.Body.{shape_asked, BodyAsks};
+ghost use Rattle.moo_request.specs.Body.{shape_asked, form_asked, BodyAsks};
 ghost use Rattle.serde_json.specs.View.{view};
 ghost use Rattle.moo_request.specs.Calls.{calls_from};
 ghost use Rattle.moo_request.specs.Given.{Grows, TakesAtMost};
@@ -12,7 +12,8 @@ ghost use Rattle.moo_request.specs.Settled.{Settles};
 ghost use Rattle.moo_request.specs.Shape.{shape_of};
 ghost use Rattle.moo_request.specs.Shown.{shape_shown, calls_shown};
 
-use crate::asked::{Asked, Mode, Refusal};
+use crate::asked::{Asked, Form, Mode, Refusal};
+use crate::each::{Batches, Each, bad_texts, read_each};
 use crate::fault::ReadFault;
 use crate::input::read_until;
 use crate::plan::Plan;
@@ -57,15 +58,15 @@ fn bad_call(alloc: Global, texts: &[&str], number: u32) -> Option<BodyFault> {
     Some(BodyFault::Call(text))
 }
 
-/// What a shape asks, and what is wrong with it.
-fn ask_shape(
+/// The batch that a shape asks, and what is wrong with it.
+fn ask_batch(
     alloc: Global,
     mode: Mode,
     shape: &Shape<'_>,
     wrong: &mut Option<BodyFault>,
 ) -> Result<Asked, AllocError>
     requires { length shape.now.calls.items ≤ 1000 }
-    ensures { IfOk result (λ asked. asked ≡ shape_asked mode (Some (shape_shown shape.now))) }
+    ensures { IfOk result (λ asked. asked ≡ form_asked (Form.Batch mode) (shape_shown shape.now)) }
 {
     match read_calls(alloc, &shape.calls)? {
         CallsRead::Whole(calls) => Ok(Asked::Calls(
@@ -83,17 +84,52 @@ fn ask_shape(
     }
 }
 
+/// The calls of a shape, each to be asked alone, and those of its texts that aren't calls. These are unknown if memory for them is refused.
+fn ask_each(
+    alloc: Global,
+    shape: &Shape<'_>,
+    wrong: &mut Option<BodyFault>,
+) -> Result<Asked, AllocError>
+    ensures { IfOk result (λ asked. asked ≡ form_asked Form.Each (shape_shown shape.now)) }
+{
+    let batches = read_each(alloc, shape.programmer, &shape.calls)?;
+    *wrong = match bad_texts(alloc, &shape.calls, &batches) {
+        Ok(texts) => Some(BodyFault::Texts(texts)),
+        Err(_) => None,
+    };
+    Ok(Asked::Each(Each {
+        at: shape.at,
+        batches: Batches::from_vec(batches),
+    }))
+}
+
+/// What a shape asks, and what is wrong with it.
+fn ask_shape(
+    alloc: Global,
+    form: Form,
+    shape: &Shape<'_>,
+    wrong: &mut Option<BodyFault>,
+) -> Result<Asked, AllocError>
+    requires { length shape.now.calls.items ≤ 1000 }
+    ensures { IfOk result (λ asked. asked ≡ shape_asked form (Some (shape_shown shape.now))) }
+{
+    match form {
+        Form::Batch(mode) => ask_batch(alloc, mode, shape, wrong),
+        Form::Each => ask_each(alloc, shape, wrong),
+    }
+}
+
 /// What a JSON asks, and what is wrong with it.
 fn ask_json(
     alloc: Global,
-    mode: Mode,
+    form: Form,
     value: &Value,
     wrong: &mut Option<BodyFault>,
 ) -> Result<Asked, AllocError>
-    ensures { IfOk result (λ asked. asked ≡ shape_asked mode (shape_of (view value.now))) }
+    ensures { IfOk result (λ asked. asked ≡ shape_asked form (shape_of (view value.now))) }
 {
     match shape_in(alloc, value)? {
-        ShapeRead::Whole(shape) => ask_shape(alloc, mode, &shape, wrong),
+        ShapeRead::Whole(shape) => ask_shape(alloc, form, &shape, wrong),
         ShapeRead::Bad(fault) => {
             *wrong = Some(BodyFault::Shape(fault));
             Ok(Asked::Refused(Refusal::BadRequest))
@@ -104,14 +140,14 @@ fn ask_json(
 /// What a body asks, and what is wrong with it.
 fn ask_body(
     alloc: Global,
-    mode: Mode,
+    form: Form,
     body: &[u8],
     wrong: &mut Option<BodyFault>,
 ) -> Result<Asked, AllocError>
-    ensures { IfOk result (BodyAsks mode body.now) }
+    ensures { IfOk result (BodyAsks form body.now) }
 {
     match read_json(alloc, body)? {
-        Some(value) => ask_json(alloc, mode, &value, wrong),
+        Some(value) => ask_json(alloc, form, &value, wrong),
         None => {
             *wrong = Some(BodyFault::Shape(ShapeFault::NotJson));
             Ok(Asked::Refused(Refusal::BadRequest))
@@ -125,7 +161,7 @@ fn read_body<R: Read>(
     reader: &mut R,
     bytes: &mut Vec<u8>,
     start: usize,
-    mode: Mode,
+    form: Form,
     size: u64,
     wrong: &mut Option<BodyFault>,
 ) -> Result<Asked, ReadFault>
@@ -133,7 +169,7 @@ fn read_body<R: Read>(
     requires bound { start + size ≤ 1056768 }
     ensures grows { OnOk result (Grows (R.remaining reader.old) (R.remaining reader.new) bytes.old.items bytes.new.items) }
     ensures asks { IfOk result (λ asked. Settles (R.remaining reader.new) bytes.new.items
-        (λ input. PlanAsks (Plan.Body mode size) (drop start input) asked)) }
+        (λ input. PlanAsks (Plan.Body form size) (drop start input) asked)) }
     ensures few { OnOk result (length bytes.new.items ≤ max (length bytes.old.items) (start + size)) }
     ensures breaks { OnErr result (TakesAtMost ((start + size) - length bytes.old.items) (R.remaining reader.old) (R.remaining reader.new)) }
 {
@@ -141,7 +177,7 @@ fn read_body<R: Read>(
     if !read_until(reader, bytes, end)? {
         return Ok(Asked::Refused(Refusal::BadRequest));
     }
-    let asked = ask_body(alloc, mode, &bytes[start..end], wrong)?;
+    let asked = ask_body(alloc, form, &bytes[start..end], wrong)?;
     Ok(asked)
 }
 
@@ -164,6 +200,6 @@ pub(crate) fn follow_plan<R: Read>(
 {
     match plan {
         Plan::Decided(asked) => Ok(asked),
-        Plan::Body(mode, size) => read_body(alloc, reader, bytes, start, mode, size, wrong),
+        Plan::Body(form, size) => read_body(alloc, reader, bytes, start, form, size, wrong),
     }
 }

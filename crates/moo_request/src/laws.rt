@@ -4,7 +4,7 @@ ghost use Rattle.std.specs.Prelude.{◌≡◌, ℕ, List, [], Some, None, codes,
 ghost use Rattle.moo_request.specs.Request.{Receives};
 ghost use Rattle.moo_request.specs.Routes.{endpoint_of};
 ghost use Rattle.moo_request.specs.declared.request.Received.{Received as AReceived};
-ghost use Rattle.moo_request.specs.declared.routes.Endpoint.TheVariants.{Batch, About};
+ghost use Rattle.moo_request.specs.declared.routes.Endpoint.TheVariants.{Batch, Each, About};
 ghost use Rattle.moo_request.specs.declared.asked.Mode.TheVariants.{Run, Ask};
 ghost use Rattle.moo_request.specs.declared.question.Topic.TheVariants.{Seq, Object};
 ghost use Rattle.moo_request.specs.Questions.{all_topics, sample_path};
@@ -18,6 +18,7 @@ pub fn received_once()
 pub fn routes_are_known()
     ensures batch { endpoint_of (codes "/batch") ≡ Some (Batch Run) }
     ensures ask { endpoint_of (codes "/ask") ≡ Some (Batch Ask) }
+    ensures each { endpoint_of (codes "/each") ≡ Some Each }
     ensures seq { endpoint_of (codes "/seq") ≡ Some (About Seq) }
     ensures object { endpoint_of (codes "/object/12") ≡ Some (About Object) }
     ensures topics { map (λ topic. endpoint_of (sample_path topic)) all_topics ≡ map (λ topic. Some (About topic)) all_topics }

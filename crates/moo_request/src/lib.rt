@@ -3,6 +3,7 @@
 
 mod asked;
 mod body;
+mod each;
 mod fault;
 mod head;
 mod host;
@@ -18,6 +19,7 @@ mod shape;
 mod wrong;
 
 pub use asked::{Asked, Method, Mode, Refusal};
+pub use each::{Batches, Each};
 pub use fault::ReadFault;
 pub use laws::{received_once, routes_are_known};
 pub use question::Question;

@@ -5,7 +5,7 @@ ghost use Rattle.httparse.specs.Spans.{IsHeaderWithin, header_bytes};
 ghost use Rattle.moo_request.specs.Plan.{path_of, is_why, method_of, method_text, length_of, body_plan, question_plan, endpoint_plan, routed_plan, known_plan, is_guarded, allowed_plan, plan_of};
 ghost use Rattle.moo_request.specs.Planned.{IsBounded};
 
-use crate::asked::{Asked, Method, Mode, Refusal};
+use crate::asked::{Asked, Form, Method, Refusal};
 use crate::host::is_for_us;
 use crate::lines::{is_from_page, stated_length};
 use crate::numbers::bounded;
@@ -20,7 +20,7 @@ const MAX_BODY: u64 = 1_048_576;
 #[derive(Drop)]
 pub enum Plan {
     Decided(Asked),
-    Body(Mode, u64),
+    Body(Form, u64),
 }
 
 /// The target before its first question mark.
@@ -59,7 +59,7 @@ fn method_for(endpoint: Endpoint) -> Method
     ensures { result ≡ method_of endpoint }
 {
     match endpoint {
-        Endpoint::Batch(_) => Method::Post,
+        Endpoint::Batch(_) | Endpoint::Each => Method::Post,
         Endpoint::About(_) => Method::Get,
     }
 }
@@ -92,8 +92,8 @@ fn body_length(bytes: &[u8], lines: &[HeaderSpan]) -> Option<u64>
 }
 
 /// A body says it, unless its length isn't stated or is over the limit.
-fn plan_body(mode: Mode, length: Option<u64>) -> Plan
-    ensures value { result ≡ body_plan mode length }
+fn plan_body(form: Form, length: Option<u64>) -> Plan
+    ensures value { result ≡ body_plan form length }
     ensures bound { IsBounded result }
 {
     match length {
@@ -101,7 +101,7 @@ fn plan_body(mode: Mode, length: Option<u64>) -> Plan
             if MAX_BODY < length {
                 Plan::Decided(Asked::Refused(Refusal::TooLarge))
             } else {
-                Plan::Body(mode, length)
+                Plan::Body(form, length)
             }
         }
         None => Plan::Decided(Asked::Refused(Refusal::BadRequest)),
@@ -126,7 +126,8 @@ fn plan_endpoint(endpoint: Endpoint, path: &[u8], bytes: &[u8], lines: &[HeaderS
     ensures bound { IsBounded result }
 {
     match endpoint {
-        Endpoint::Batch(mode) => plan_body(mode, body_length(bytes, lines)),
+        Endpoint::Batch(mode) => plan_body(Form::Batch(mode), body_length(bytes, lines)),
+        Endpoint::Each => plan_body(Form::Each, body_length(bytes, lines)),
         Endpoint::About(topic) => plan_question(topic.question(path)),
     }
 }
@@ -138,7 +139,8 @@ fn is_guarded(endpoint: Endpoint) -> bool
 {
     match endpoint {
         Endpoint::Batch(_) | Endpoint::About(Topic::Seq) | Endpoint::About(Topic::Object) => false,
-        Endpoint::About(Topic::Objects) => true,
+        Endpoint::Each => true,
+        Endpoint::About(Topic::Objects) | Endpoint::About(Topic::Dump) => true,
     }
 }
 

@@ -14,6 +14,7 @@ pub enum Topic {
     Seq,
     Object,
     Objects,
+    Dump,
 }
 
 /// What a GET asks.
@@ -25,10 +26,12 @@ pub enum Question {
     Object(ObjNo),
     /// The objects from a number on.
     Objects(ObjNo),
+    /// All that the world holds.
+    Dump,
 }
 
 /// Every topic.
-const ALL: [Topic; 3] = [Topic::Seq, Topic::Object, Topic::Objects];
+const ALL: [Topic; 4] = [Topic::Seq, Topic::Object, Topic::Objects, Topic::Dump];
 
 /// The number that a path has after so many bytes.
 fn number_after(path: &[u8], start: usize) -> Option<i32>
@@ -57,6 +60,7 @@ impl Topic {
             Topic::Seq => "/seq",
             Topic::Object => "/object/{n}",
             Topic::Objects => "/objects/{n}",
+            Topic::Dump => "/dump",
         }
     }
 
@@ -74,6 +78,7 @@ impl Topic {
                 Some(number) => Some(Question::Objects(ObjNo(number))),
                 None => None,
             },
+            Topic::Dump => Some(Question::Dump),
         }
     }
 }
@@ -85,6 +90,7 @@ impl Display for Question {
             Question::Seq => write!(f, "/seq"),
             Question::Object(number) => write!(f, "/object/{}", number.0),
             Question::Objects(number) => write!(f, "/objects/{}", number.0),
+            Question::Dump => write!(f, "/dump"),
         }
     }
 }

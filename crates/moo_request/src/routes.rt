@@ -2,7 +2,7 @@
 
 ghost use Rattle.std.specs.Prelude.{◌≡◌, OnOk, codes};
 ghost use Rattle.moo_request.specs.declared.asked.Mode.TheVariants.{Run, Ask};
-ghost use Rattle.moo_request.specs.declared.routes.Endpoint.TheVariants.{Batch};
+ghost use Rattle.moo_request.specs.declared.routes.Endpoint.TheVariants.{Batch, Each};
 ghost use Rattle.moo_request.specs.Routes.{service_rows, with_route, with_topics, endpoint_of};
 ghost use Rattle.moo_request.specs.Questions.{all_topics};
 
@@ -16,6 +16,8 @@ use std::alloc::{AllocError, Global};
 pub enum Endpoint {
     /// Batches are sent to it.
     Batch(Mode),
+    /// Calls are sent to it, each to be asked alone.
+    Each,
     /// It answers a question.
     About(Topic),
 }
@@ -51,17 +53,18 @@ fn add_topics(router: &mut Router<Endpoint>) -> Result<(), AllocError>
     Ok(())
 }
 
-/// Adds the two routes of batches and that of each topic. AllocError if memory runs out.
+/// Adds the two routes of batches, that of calls alone and that of each topic. AllocError if memory runs out.
 fn add_routes(router: &mut Router<Endpoint>) -> Result<(), AllocError>
-    ensures { OnOk result (router.new ≡ with_topics all_topics (with_route (codes "/ask") (Batch Ask) (with_route (codes "/batch") (Batch Run) router.old))) }
+    ensures { OnOk result (router.new ≡ with_topics all_topics (with_route (codes "/each") Each (with_route (codes "/ask") (Batch Ask) (with_route (codes "/batch") (Batch Run) router.old)))) }
 {
     add_route(router, "/batch", Endpoint::Batch(Mode::Run))?;
     add_route(router, "/ask", Endpoint::Batch(Mode::Ask))?;
+    add_route(router, "/each", Endpoint::Each)?;
     add_topics(router)
 }
 
 impl Routes {
-    /// The router of the two routes of batches and of each topic. AllocError if memory runs out.
+    /// The router of the two routes of batches, of calls alone and of each topic. AllocError if memory runs out.
     pub fn new(alloc: Global) -> Result<Routes, AllocError> {
         let mut router = Router::new(alloc);
         add_routes(&mut router)?;

@@ -3,7 +3,7 @@ use Rattle.moo_responses.proofs.Words.{◌≡◌, ℕ, List, [], ◌++◌}
 use Rattle.std.proofs.Common.{append_assoc, append-nil}
 
 -- the pieces of a head, one after another, are its lines
-pub pieces_are : (http code space reason end kind named length close allow : List ℕ)
-    → http ++ (code ++ (space ++ (reason ++ ((end ++ (kind ++ (end ++ named))) ++ (length ++ ((end ++ (close ++ end)) ++ (allow ++ (end ++ []))))))))
-    ≡ (((((http ++ code) ++ space) ++ reason) ++ end) ++ (kind ++ end) ++ ((named ++ length) ++ end) ++ (close ++ end) ++ allow) ++ end
-pieces_are http code space reason end kind named length close allow = simp (append_assoc, append-nil)
+pub pieces_are : (http code space reason end typed kind named length close allow : List ℕ)
+    → http ++ (code ++ (space ++ (reason ++ ((end ++ typed) ++ (kind ++ ((end ++ named) ++ (length ++ ((end ++ (close ++ end)) ++ (allow ++ (end ++ []))))))))))
+    ≡ (((((http ++ code) ++ space) ++ reason) ++ end) ++ (typed ++ (kind ++ end)) ++ ((named ++ length) ++ end) ++ (close ++ end) ++ allow) ++ end
+pieces_are http code space reason end typed kind named length close allow = simp (append_assoc, append-nil)

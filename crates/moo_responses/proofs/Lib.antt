@@ -4,3 +4,4 @@ pub mod Ascii
 pub mod BodyLemmas
 pub mod PageLemmas
 pub mod HeadLemmas
+pub mod EachLemmas

@@ -21,15 +21,15 @@ unfoldable pub length_line : ℕ → List ℕ
 length_line length = codes "content-length: " ++ decimal length ++ line_end
 
 -- the head of a response, with the empty line
-unfoldable pub head_text : ℕ → Option (List ℕ) → ℕ → List ℕ
-head_text status allow size =
+unfoldable pub head_text : ℕ → List ℕ → Option (List ℕ) → ℕ → List ℕ
+head_text status kind allow size =
     status_line status
-    ++ (codes "content-type: application/json" ++ line_end)
+    ++ (codes "content-type: " ++ (kind ++ line_end))
     ++ length_line size
     ++ (codes "connection: close" ++ line_end)
     ++ allow_line allow
     ++ line_end
 
 -- the bytes of a response of this body; to HEAD the body is left off
-abbrev pub text_of : Bool → ℕ → Option (List ℕ) → List ℕ → List ℕ
-text_of is_head status allow body = head_text status allow (length body) ++ (if is_head then [] else body)
+abbrev pub text_of : Bool → ℕ → List ℕ → Option (List ℕ) → List ℕ → List ℕ
+text_of is_head status kind allow body = head_text status kind allow (length body) ++ (if is_head then [] else body)

@@ -3,6 +3,8 @@ pub mod Fields
 pub mod Bytes
 pub mod Pages
 pub mod PageBodies
+pub mod Whys
+pub mod EachBodies
 pub mod Told
 pub mod Outcomes
 pub mod Responses

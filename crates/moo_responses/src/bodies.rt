@@ -5,7 +5,8 @@ ghost use Rattle.serde_json.specs.Data.{object, string, member, no_members};
 ghost use Rattle.serde_json.specs.View.{items_view, members_view};
 ghost use Rattle.serde_json.specs.Written.{compact_text, members_have_float};
 ghost use Rattle.moo_value.specs.Literal.{print};
-ghost use Rattle.moo_responses.specs.Bodies.{strings, error_body, call_body, told_error_body, told_call_body, stale_body, number_body, accepted_body};
+ghost use Rattle.moo_responses.specs.Bodies.{strings, error_body, call_body, told_error_body, told_call_body, stale_body, number_body};
+ghost use Rattle.moo_responses.specs.Bodies.{accepted_body};
 
 use crate::limits::read_limits;
 use moo_value::{Value as Literal, print_literal};
@@ -21,7 +22,7 @@ pub(crate) fn printed(alloc: Global, fields: Map<String, Value>) -> Result<Strin
 }
 
 /// A word under `error`.
-fn error_fields(alloc: Global, word: &str) -> Result<Map<String, Value>, AllocError>
+pub(crate) fn error_fields(alloc: Global, word: &str) -> Result<Map<String, Value>, AllocError>
     ensures { IfOk result (λ fields. members_view fields.entries ≡ member (codes "error") (string word.now) no_members) }
 {
     let word = String::from_str(alloc, word)?;

@@ -1,5 +1,6 @@
 //! What came of a request.
 
+use crate::replies::Replies;
 use crate::told::Told;
 use moo_request::Refusal;
 use moo_text::Reply;
@@ -17,6 +18,8 @@ pub enum Outcome {
     NoMemory,
     /// What its batch was answered.
     Replied(Reply),
+    /// What its calls were answered, each alone, and the number of accepted batches.
+    Each(Replies, u64),
     /// What its question was told.
     Told(Told),
 }

@@ -1,15 +1,19 @@
 //! The status and the body of what came of a request.
 
-ghost use Rattle.std.specs.Prelude.{◌≡◌, None, IfOk, option_map};
-ghost use Rattle.moo_responses.specs.Responses.{plain, method_name, refusal_response, told_refusal, told_reply, response_with};
+ghost use Rattle.std.specs.Prelude.{◌≡◌, None, IfOk, option_map, codes, string_bytes};
+ghost use Rattle.moo_responses.specs.Responses.{plain, method_name, refusal_response, told_refusal, told_reply, response_of, response_with};
 ghost use Rattle.moo_responses.specs.Bodies.{error_body, told_error_body, told_call_body, stale_body, accepted_body};
-ghost use Rattle.moo_responses.specs.Told.{told_status, told_body};
+ghost use Rattle.moo_responses.specs.EachBodies.{each_body};
+ghost use Rattle.moo_responses.specs.Whys.{whys_shown};
 ghost use Rattle.moo_responses.specs.Shown.{Shows};
 
 use crate::bodies::{accepted_text, error_text, stale_text, told_call_text, told_error_text};
+use crate::each_body::each_text;
 use crate::outcome::Outcome;
+use crate::replies::Replies;
 use crate::response::Response;
-use crate::told::{Told, status_of, told_text};
+use crate::told::{Told, kind_of, status_of, told_bytes};
+use crate::whys::why_of;
 use http::StatusCode;
 use moo_request::{Method, Refusal};
 use moo_text::Reply;
@@ -25,16 +29,18 @@ fn name_of(method: Method) -> &'static str
     }
 }
 
-/// A response that names no method.
+/// A response of JSON that names no method.
 fn with_body(status: StatusCode, body: String) -> Response
     ensures status { result.status ≡ status }
     ensures allow { result.allow ≡ None }
-    ensures body { result.body ≡ body }
+    ensures kind { result.kind.now ≡ codes "application/json" }
+    ensures body { result.body.items ≡ string_bytes body }
 {
     Response {
         status,
         allow: None,
-        body,
+        kind: "application/json",
+        body: body.into_bytes(),
     }
 }
 
@@ -87,11 +93,30 @@ fn accepted(alloc: Global, answers: &Answers, seq: u64) -> Result<Response, Allo
     Ok(with_body(StatusCode::OK, body))
 }
 
-fn say(alloc: Global, told: &Told) -> Result<Response, AllocError>
-    ensures { IfOk result (λ r. Shows r (plain (told_status told.now) (told_body told.now))) }
+fn each(
+    alloc: Global,
+    replies: &Replies,
+    seq: u64,
+    whys: &[Option<String>],
+) -> Result<Response, AllocError>
+    ensures { IfOk result (λ r. Shows r (plain 200 (each_body (whys_shown whys.now) replies.now seq))) }
 {
-    let body = told_text(alloc, told)?;
-    Ok(with_body(status_of(told), body))
+    let body = each_text(alloc, replies, seq, whys)?;
+    Ok(with_body(StatusCode::OK, body))
+}
+
+fn say(alloc: Global, told: Told) -> Result<Response, AllocError>
+    ensures { IfOk result (λ r. Shows r (response_of (Outcome.Told told))) }
+{
+    let status = status_of(&told);
+    let kind = kind_of(&told);
+    let body = told_bytes(alloc, told)?;
+    Ok(Response {
+        status,
+        allow: None,
+        kind,
+        body,
+    })
 }
 
 fn not_allowed(alloc: Global, method: Method) -> Result<Response, AllocError>
@@ -101,7 +126,8 @@ fn not_allowed(alloc: Global, method: Method) -> Result<Response, AllocError>
     Ok(Response {
         status: StatusCode::METHOD_NOT_ALLOWED,
         allow: Some(name_of(method)),
-        body,
+        kind: "application/json",
+        body: body.into_bytes(),
     })
 }
 
@@ -137,17 +163,18 @@ fn reply_to(alloc: Global, reply: &Reply, why: Option<&str>) -> Result<Response,
 /// The response to what came of a request.
 pub(crate) fn respond(
     alloc: Global,
-    outcome: &Outcome,
-    why: Option<&str>,
+    outcome: Outcome,
+    whys: &[Option<String>],
 ) -> Result<Response, AllocError>
-    ensures { IfOk result (λ r. Shows r (response_with (option_map (λ w. w.now) why.entry) outcome.now)) }
+    ensures { IfOk result (λ r. Shows r (response_with (whys_shown whys.now) outcome)) }
 {
     match outcome {
-        Outcome::Refused(refusal) => refuse(alloc, *refusal, why),
+        Outcome::Refused(refusal) => refuse(alloc, refusal, why_of(whys, 0)),
         Outcome::Closed => error(alloc, StatusCode::SERVICE_UNAVAILABLE, "closed"),
         Outcome::Fault => error(alloc, StatusCode::SERVICE_UNAVAILABLE, "fault"),
         Outcome::NoMemory => error(alloc, StatusCode::SERVICE_UNAVAILABLE, "nomemory"),
-        Outcome::Replied(reply) => reply_to(alloc, reply, why),
+        Outcome::Replied(reply) => reply_to(alloc, &reply, why_of(whys, 0)),
+        Outcome::Each(replies, seq) => each(alloc, &replies, seq, whys),
         Outcome::Told(told) => say(alloc, told),
     }
 }

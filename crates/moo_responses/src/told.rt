@@ -1,21 +1,24 @@
 //! What a question is told, and the status and the body that tell it.
 
-ghost use Rattle.std.specs.Prelude.{◌≡◌, IfOk, OnErr, string_bytes};
-ghost use Rattle.serde_json.specs.Written.{compact_text};
+ghost use Rattle.std.specs.Prelude.{◌≡◌, IfOk, OnErr};
 ghost use Rattle.moo_world.specs.Judge.{state_of};
-ghost use Rattle.moo_world.specs.Rows.{world_of};
-ghost use Rattle.moo_world.specs.World.{IsTree};
-ghost use Rattle.moo_responses.specs.Told.{looked, told_of, TellingTakesMemory, told_status, told_body};
+ghost use Rattle.moo_dump.specs.Dump.{dump};
+ghost use Rattle.moo_world.specs.Rows.{IsGood};
+ghost use Rattle.moo_responses.specs.Told.{looked, told_of, TellingTakesMemory, told_status, told_kind, told_bytes};
 
 use crate::bodies::{error_text, number_text};
 use crate::look_body::look_text;
 use crate::page::{Page, list_page};
 use crate::page_body::page_text;
+use crate::text::Text;
 use http::StatusCode;
-use moo_dump::{Look, look};
+use moo_dump::{Look, dump, look};
 use moo_request::Question;
 use moo_rows::Rows;
 use std::alloc::{AllocError, Global};
+
+/// Room after a dump for the head of its answer, which is then put before it without more memory.
+const HEAD_ROOM: usize = 256;
 
 /// What a question is told.
 #[derive(Drop)]
@@ -28,6 +31,8 @@ pub enum Told {
     NoObject,
     /// Some of the objects, and the number of accepted batches.
     Objects(Page, u64),
+    /// All that the world holds.
+    Dump(Text),
 }
 
 /// What a look tells. It shows nothing if there isn't such an object.
@@ -40,9 +45,22 @@ fn seen(look: Option<Look>) -> Told
     }
 }
 
+/// All that the rows hold, as text, in memory that has room for a head. The only error is a lack of memory.
+fn dumped<R: Rows>(alloc: Global, rows: &R) -> Result<Text, AllocError>
+    requires { IsGood (R.held rows.now).maps }
+    ensures { IfOk result (λ text. text ≡ dump (state_of (R.held rows.now).maps)) }
+{
+    let mut bytes = Vec::new(alloc);
+    let Ok(()) = dump(alloc, rows, &mut bytes) else {
+        return Err(AllocError);
+    };
+    bytes.reserve_exact(HEAD_ROOM)?;
+    Ok(Text::from_vec(bytes))
+}
+
 /// What the rows of a world tell of a question. The only error is a lack of memory.
 pub fn tell<R: Rows>(alloc: Global, rows: &R, question: Question) -> Result<Told, AllocError>
-    requires { IsTree (world_of (R.held rows.now).maps) }
+    requires { IsGood (R.held rows.now).maps }
     ensures told { IfOk result (λ told. told ≡ told_of question (state_of (R.held rows.now).maps)) }
     ensures memory { OnErr result (TellingTakesMemory question) }
 {
@@ -52,6 +70,7 @@ pub fn tell<R: Rows>(alloc: Global, rows: &R, question: Question) -> Result<Told
         Question::Objects(number) => {
             Ok(Told::Objects(list_page(alloc, rows, number)?, rows.head().seq))
         }
+        Question::Dump => Ok(Told::Dump(dumped(alloc, rows)?)),
     }
 }
 
@@ -60,19 +79,30 @@ pub(crate) fn status_of(told: &Told) -> StatusCode
     ensures { result ≡ told_status told.now }
 {
     match told {
-        Told::Seq(_) | Told::Object(_) | Told::Objects(_, _) => StatusCode::OK,
+        Told::Seq(_) | Told::Object(_) | Told::Objects(_, _) | Told::Dump(_) => StatusCode::OK,
         Told::NoObject => StatusCode::NOT_FOUND,
     }
 }
 
-/// The body of what is told.
-pub(crate) fn told_text(alloc: Global, told: &Told) -> Result<String, AllocError>
-    ensures { IfOk result (λ text. string_bytes text ≡ compact_text (told_body told.now)) }
+/// The kind of the body of what is told.
+pub(crate) fn kind_of(told: &Told) -> &'static str
+    ensures { result.now ≡ told_kind told.now }
 {
     match told {
-        Told::Seq(seq) => number_text(alloc, "seq", *seq),
-        Told::Object(look) => look_text(alloc, look),
-        Told::NoObject => error_text(alloc, "E_INVARG"),
-        Told::Objects(page, seq) => page_text(alloc, page, *seq),
+        Told::Dump(_) => "text/plain",
+        _ => "application/json",
+    }
+}
+
+/// The bytes of the body of what is told.
+pub(crate) fn told_bytes(alloc: Global, told: Told) -> Result<Vec<u8>, AllocError>
+    ensures { IfOk result (λ bytes. bytes.items ≡ told_bytes told) }
+{
+    match told {
+        Told::Seq(seq) => Ok(number_text(alloc, "seq", seq)?.into_bytes()),
+        Told::Object(look) => Ok(look_text(alloc, &look)?.into_bytes()),
+        Told::NoObject => Ok(error_text(alloc, "E_INVARG")?.into_bytes()),
+        Told::Objects(page, seq) => Ok(page_text(alloc, &page, seq)?.into_bytes()),
+        Told::Dump(text) => Ok(text.into_vec()),
     }
 }

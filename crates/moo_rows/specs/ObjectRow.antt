@@ -16,7 +16,8 @@ pub object_row-exact : IsExact equal.ghosts.eq
 object_row-exact x y =
     is _
     (and _ _ (bytes_eq-Decides x.name y.name) (and _ _ (object_no-exact x.owner y.owner) (and _ _ (object_no-exact x.parent y.parent)
-    (and _ _ (object_no-exact x.location y.location) (and _ _ (booleans_Decides x.player y.player) (and _ _ (booleans_Decides x.programmer y.programmer)
+    (and _ _ (object_no-exact x.location y.location)
+    (and _ _ (booleans_Decides x.player y.player) (and _ _ (booleans_Decides x.programmer y.programmer)
     (and _ _ (booleans_Decides x.wizard y.wizard) (and _ _ (booleans_Decides x.r y.r) (and _ _ (booleans_Decides x.w y.w)
     (and _ _ (booleans_Decides x.f y.f) (option-exact list_eq-exact x.accept y.accept)))))))))))
     (λ h i. record {

@@ -147,7 +147,8 @@ impl<'a, R: Rows> Iterator for WalkOf<'a, R, PropId> {
     }
 }
 
-/// The slots of an object whose property has a greater number than `last`, with their rows, in order: from 0 on all of them. Takes no memory.
+/// The slots of an object whose property has a greater number than `last`, with their rows, in order: from 0 on all of them. Takes no
+/// memory.
 pub fn each_slot_of<R: Rows>(rows: &R, object: ObjNo, last: PropId) -> WalkOf<'_, R, PropId>
     ensures { slots_of_left result.object result.last (R.held result.rows.now).maps ≡ slots_of_left object last (R.held rows.now).maps }
 {

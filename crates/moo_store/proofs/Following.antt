@@ -1,5 +1,5 @@
 -- What answers the items of a text, seen as something else.
-use Rattle.moo_store.proofs.Words.{ℕ, List, [], ◌∷◌, Option, refl, sym, subst, Batch, items, Next, Answer, TextFault, Turn, Turns, Completes, Halts}
+use Rattle.moo_store.proofs.Words.{EndsEarly, ℕ, List, [], ◌∷◌, Option, refl, sym, subst, Batch, items, Next, Answer, TextFault, Turn, Turns, Completes, Halts}
 use Rattle.moo_text.specs.declared.next.Next.TheVariants.{Batch as Whole, Malformed, Truncated, End}
 
 -- Where the one stands as the other before a step, it does so behind it.
@@ -51,5 +51,27 @@ module _ {A B : Type 0} (P : A → Batch → Answer → A → Type 0) (Q : B →
           wrote = h.wrote;
           read = h.read;
           cut = h.cut;
+        },
+      )
+
+  abbrev pub early-follows : (old new : A) (stand : B) (text before behind : Option (List ℕ)) (b l : ℕ) → As old stand → EndsEarly P old new text before behind b l
+      → (next : B) × As new next × EndsEarly Q stand next text before behind b l
+  early-follows old new stand text before behind b l it e =
+      let all = turns-follow old new stand e.done e.answers it e.turns in (
+        all.0,
+        all.1,
+        record {
+          given = e.given;
+          ended = e.ended;
+          front = e.front;
+          short = e.short;
+          done = e.done;
+          whole = e.whole;
+          answers = e.answers;
+          turns = all.2;
+          first = e.first;
+          wrote = e.wrote;
+          batches_are = e.batches_are;
+          lost_are = e.lost_are;
         },
       )

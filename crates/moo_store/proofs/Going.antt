@@ -4,35 +4,35 @@ use Rattle.std.{specs.List.{count_by}, specs.Io.KnownBytes.{Appends, Consumes, I
 use Rattle.moo_text.{specs.Replies.{answer_text}, specs.Given.{ReaderGives, Explains, BreaksOff, ReadsNext, ReadsItems}, specs.declared.next.Next.TheVariants.{End}, specs.declared.fault.TextFault.TheVariants.{Read, Write, OutOfMemory, Long}, proofs.Joining.{items_none, items_then, items_end, whole_items, all_given, items_stop}}
 
 -- one turn more
-turns-push : {A : Type 0} (P : A → Batch → Answer → A → Type 0) (old now next : A) (done : List Next) (answers : List Answer) (item : Next) (a : Answer) → Turns P old done answers now → Turn P now item a next
+pub turns-push : {A : Type 0} (P : A → Batch → Answer → A → Type 0) (old now next : A) (done : List Next) (answers : List Answer) (item : Next) (a : Answer) → Turns P old done answers now → Turn P now item a next
     → Turns P old (done ++ item ∷ []) (answers ++ a ∷ []) next
 turns-push P old now next [] [] item a it one = (next, subst (λ w. Turn P w item a next) it one, refl)
 turns-push P old now next [] (x ∷ xs) item a it one = absurd it
 turns-push P old now next (i ∷ is) [] item a it one = absurd it
 turns-push P old now next (i ∷ is) (x ∷ xs) item a it one = (it.0, it.1, turns-push P it.0 now next is xs item a it.2 one)
 
-count-push : (p : Answer → Bool) (answers : List Answer) (a : Answer) → count_by p (answers ++ a ∷ []) ≡ count_by p answers + cond (p a) 1 0
+pub count-push : (p : Answer → Bool) (answers : List Answer) (a : Answer) → count_by p (answers ++ a ∷ []) ≡ count_by p answers + cond (p a) 1 0
 count-push p answers a = sum_by-append (λ x. cond (p x) 1 0) answers (a ∷ []) ∙ ap (λ n. count_by p answers + n) (zero-add (cond (p a) 1 0))
 
 -- an item that has a turn isn't the end
-not_end : {A : Type 0} (P : A → Batch → Answer → A → Type 0) (now next : A) (item : Next) (a : Answer) → Turn P now item a next → item ≡ End → ⊥
+pub not_end : {A : Type 0} (P : A → Batch → Answer → A → Type 0) (now next : A) (item : Next) (a : Answer) → Turn P now item a next → item ≡ End → ⊥
 not_end P now next item a one end = subst (λ i. Turn P now i a next) end one
 
 -- a fault of the writer
-no_read : {X : Type 0} (fault : TextFault) → (fault ≡ Write) ⊎ (fault ≡ OutOfMemory) → fault ≡ Read → X
+pub no_read : {X : Type 0} (fault : TextFault) → (fault ≡ Write) ⊎ (fault ≡ OutOfMemory) → fault ≡ Read → X
 no_read fault it read = elim it [
   | inl w ↦ (let odd : Read ≡ Write = sym read ∙ w in absurd cc)
   | inr m ↦ (let odd : Read ≡ OutOfMemory = sym read ∙ m in absurd cc)
 ]
 
-not_long : {X : Type 0} (fault : TextFault) → (fault ≡ Write) ⊎ (fault ≡ OutOfMemory) → fault ≡ Long → X
+pub not_long : {X : Type 0} (fault : TextFault) → (fault ≡ Write) ⊎ (fault ≡ OutOfMemory) → fault ≡ Long → X
 not_long fault it long = elim it [
   | inl w ↦ (let odd : Long ≡ Write = sym long ∙ w in absurd cc)
   | inr m ↦ (let odd : Long ≡ OutOfMemory = sym long ∙ m in absurd cc)
 ]
 
 -- what a reader gave stands in front of its bytes
-gives_front : (text : Option (List ℕ)) (room : ℕ) (c : Side) (given : List ℕ) → ReaderGives (untouched text room) c given → GivesFrontOrAll text c.ended given
+pub gives_front : (text : Option (List ℕ)) (room : ℕ) (c : Side) (given : List ℕ) → ReaderGives (untouched text room) c given → GivesFrontOrAll text c.ended given
 gives_front text room c given g = by text c.left g.known (g.at_end (λ e. absurd cc))
   where
     by : (text now : Option (List ℕ)) → Consumes text now given → (c.ended ≡ true → IsAtEnd now) → GivesFrontOrAll text c.ended given
@@ -41,7 +41,7 @@ gives_front text room c given g = by text c.left g.known (g.at_end (λ e. absurd
     by (Some bytes) (Some rest) known end = (rest, known, end)
 
 -- how much was given where reading was stopped
-counted : (count : ℕ) (fault : TextFault) → Explains 1073741824 count fault → (fault ≡ Long → count ≡ 1073741825) × (fault ≢ Long → count ≤ 1073741824)
+pub counted : (count : ℕ) (fault : TextFault) → Explains 1073741824 count fault → (fault ≡ Long → count ≡ 1073741825) × (fault ≢ Long → count ≤ 1073741824)
 counted count Read e = ((λ is. absurd cc), λ other. e)
 counted count Write e = absurd e
 counted count OutOfMemory e = ((λ is. absurd cc), λ other. e)
@@ -58,7 +58,7 @@ module _ {A : Type 0} (P : A → Batch → Answer → A → Type 0) (old : A) (t
     pub batches_are : batches ≡ count_by is_batch answers
     pub lost_are : lost ≡ count_by is_lost_answer answers
 
-  pub going_starts : (side : Side) (b l : ℕ) → side ≡ untouched text 1073741824 → b ≡ 0 → l ≡ 0 → Going old side before b l
+  abbrev pub going_starts : (side : Side) (b l : ℕ) → side ≡ untouched text 1073741824 → b ≡ 0 → l ≡ 0 → Going old side before b l
   going_starts side b l is is_b is_l = record {
     done = [];
     read = subst (λ s. ReadsItems (untouched text 1073741824) s []) (sym is) (items_none (untouched text 1073741824));
@@ -69,7 +69,7 @@ module _ {A : Type 0} (P : A → Batch → Answer → A → Type 0) (old : A) (t
     lost_are = is_l;
   }
 
-  pub going_on : (now next : A) (side more : Side) (written longer : Option (List ℕ)) (b l b2 l2 : ℕ) (item : Next) (a : Answer)
+  abbrev pub going_on : (now next : A) (side more : Side) (written longer : Option (List ℕ)) (b l b2 l2 : ℕ) (item : Next) (a : Answer)
       → Going now side written b l → ReadsNext side more item → Turn P now item a next → Appends written longer (answer_text a)
       → b2 ≡ b + cond (is_batch a) 1 0 → l2 ≡ l + cond (is_lost_answer a) 1 0 → Going next more longer b2 l2
   going_on now next side more written longer b l b2 l2 item a p took one wrote is_b is_l = record {
@@ -83,7 +83,7 @@ module _ {A : Type 0} (P : A → Batch → Answer → A → Type 0) (old : A) (t
   }
 
   -- at the end of the text
-  pub going_through : (now : A) (side more : Side) (written : Option (List ℕ)) (b l : ℕ) → Going now side written b l → ReadsNext side more End → IsOver more → Completes P old now text before written b l
+  abbrev pub going_through : (now : A) (side more : Side) (written : Option (List ℕ)) (b l : ℕ) → Going now side written b l → ReadsNext side more End → IsOver more → Completes P old now text before written b l
   going_through now side more written b l p took over =
       let all = items_end (untouched text 1073741824) side more p.done p.read took in
       record {
@@ -98,7 +98,7 @@ module _ {A : Type 0} (P : A → Batch → Answer → A → Type 0) (old : A) (t
       }
 
   -- a fault of reading
-  pub halts_before : (now : A) (side more : Side) (written : Option (List ℕ)) (b l : ℕ) (fault : TextFault) → Going now side written b l → BreaksOff side more fault → Halts P old now text before written fault
+  abbrev pub halts_before : (now : A) (side more : Side) (written : Option (List ℕ)) (b l : ℕ) (fault : TextFault) → Going now side written b l → BreaksOff side more fault → Halts P old now text before written fault
   halts_before now side more written b l fault p broke =
       let stop = items_stop text 1073741824 side more p.done fault p.read broke in
       record {
@@ -122,7 +122,7 @@ module _ {A : Type 0} (P : A → Batch → Answer → A → Type 0) (old : A) (t
       }
 
   -- a fault of writing
-  pub halts_inside : (now next : A) (side more : Side) (written longer : Option (List ℕ)) (b l : ℕ) (fault : TextFault) (item : Next) (a : Answer) (count : ℕ)
+  abbrev pub halts_inside : (now next : A) (side more : Side) (written longer : Option (List ℕ)) (b l : ℕ) (fault : TextFault) (item : Next) (a : Answer) (count : ℕ)
       → Going now side written b l → ReadsNext side more item → Turn P now item a next → Appends written longer (take count (answer_text a)) → (fault ≡ Write) ⊎ (fault ≡ OutOfMemory) → (fault ≢ Write → count ≡ 0)
       → Halts P old next text before longer fault
   halts_inside now next side more written longer b l fault item a count p took one wrote writing cut =

@@ -35,7 +35,7 @@ turn_written g old now new batches lost (Malformed number) a was turn = written_
 turn_written g old now new batches lost Truncated a was turn = written_same g old now new batches lost turn.1 was
 turn_written g old now new batches lost End a was turn = absurd turn
 
-turns_written : {S : Type 0} (g : Ghosts S) (old now new : World S) (batches lost : List Batch) (items : List Next) (answers : List Answer) → IsMovedBy g old now batches lost → Turns (RunsAndAnswers g) now items answers new
+pub turns_written : {S : Type 0} (g : Ghosts S) (old now new : World S) (batches lost : List Batch) (items : List Next) (answers : List Answer) → IsMovedBy g old now batches lost → Turns (RunsAndAnswers g) now items answers new
     → IsMovedBy g old new (batches ++ accepted items answers) (lost ++ faulted items answers)
 turns_written g old now new batches lost [] [] was turns = written_same g old now new batches lost turns was
 turns_written g old now new batches lost [] (a ∷ answers) was turns = absurd turns
@@ -55,7 +55,7 @@ over_at g known world (StoreFailed s hand) tables sure at clean rests = record {
   shows = λ works. let no : true ≡ false = sym at.0 ∙ works in absurd cc;
 }
 
-keeps_rest : {S : Type 0} (g : Ghosts S) (known : Bool) (old new : World S) (stand : Stand) (batches lost : List Batch) → IsMovedBy g old new batches lost → StandsAt g known old stand → IsTrue known → KeepsRest g old new batches
+pub keeps_rest : {S : Type 0} (g : Ghosts S) (known : Bool) (old new : World S) (stand : Stand) (batches lost : List Batch) → IsMovedBy g old new batches lost → StandsAt g known old stand → IsTrue known → KeepsRest g old new batches
 keeps_rest g known old new stand batches lost it at sure clean works tables rests = it.written clean works tables (over_at g known old stand tables sure at (it.clean clean) rests)
 
 -- a World that works shows its rows
@@ -64,13 +64,13 @@ shows_at g known world (Works s) sure at works = at.is_at.shown sure works
 shows_at g known world (Failed s) sure at works = at.1.shown sure works
 shows_at g known world (StoreFailed s hand) sure at works = let no : true ≡ false = sym at.0 ∙ works in absurd cc
 
-keeps_led : {S : Type 0} (g : Ghosts S) (known : Bool) (old new : World S) (stand : Stand) (batches lost : List Batch) → IsMovedBy g old new batches lost → (old.failed ≡ false → IsGood old.rows.maps) → StandsAt g known old stand → IsTrue known → KeepsLed g old new batches lost
+pub keeps_led : {S : Type 0} (g : Ghosts S) (known : Bool) (old new : World S) (stand : Stand) (batches lost : List Batch) → IsMovedBy g old new batches lost → (old.failed ≡ false → IsGood old.rows.maps) → StandsAt g known old stand → IsTrue known → KeepsLed g old new batches lost
 keeps_led g known old new stand batches lost it good at sure clean works = it.led clean (shows_at g known old stand sure at works) (good works)
 
 -- ---- a whole text
 
 module _ {S : Type 0} (g : Ghosts S) (settled : (w : World S) → IsSettled (store_of g w)) where
-  pub applies : (old new : World S) (text before behind : Option (List ℕ)) (b l : ℕ) → (old.failed ≡ false → IsGood old.rows.maps) → Completes (RunsAndAnswers g) old new text before behind b l → (known : Bool) (stand : Stand) → StandsAt g known old stand → Applies g known stand text before behind old new b l
+  abbrev pub applies : (old new : World S) (text before behind : Option (List ℕ)) (b l : ℕ) → (old.failed ≡ false → IsGood old.rows.maps) → Completes (RunsAndAnswers g) old new text before behind b l → (known : Bool) (stand : Stand) → StandsAt g known old stand → Applies g known stand text before behind old new b l
   applies old new text before behind b l good c known stand at =
       let run = completes-follows (RunsAndAnswers g) RunsBatch (StandsAt g known) (λ old new stand batch a it one. one.stands known stand it) old new stand text before behind b l at c in
       let wrote = turns_written g old old new [] [] (items c.given) c.answers (written_none g old (settled old)) c.turns in
@@ -84,7 +84,7 @@ module _ {S : Type 0} (g : Ghosts S) (settled : (w : World S) → IsSettled (sto
         led = keeps_led g known old new stand (accepted (items c.given) c.answers) (faulted (items c.given) c.answers) wrote good at;
       }
 
-  pub stops : (old new : World S) (text before behind : Option (List ℕ)) (fault : TextFault) → (old.failed ≡ false → IsGood old.rows.maps) → Halts (RunsAndAnswers g) old new text before behind fault → (known : Bool) (stand : Stand) → StandsAt g known old stand → StopsRun g known stand text before behind old new fault
+  abbrev pub stops : (old new : World S) (text before behind : Option (List ℕ)) (fault : TextFault) → (old.failed ≡ false → IsGood old.rows.maps) → Halts (RunsAndAnswers g) old new text before behind fault → (known : Bool) (stand : Stand) → StandsAt g known old stand → StopsRun g known stand text before behind old new fault
   stops old new text before behind fault good h known stand at =
       let run = halts-follows (RunsAndAnswers g) RunsBatch (StandsAt g known) (λ old new stand batch a it one. one.stands known stand it) old new stand text before behind fault at h in
       let done = turns_written g old old h.mid [] [] h.done h.answers (written_none g old (settled old)) h.turns in

@@ -4,7 +4,7 @@ use Rattle.sqlite.specs.declared.error.Error.{Error}
 use Rattle.moo_text.specs.declared.reply.Answer.TheVariants as answer
 use Rattle.moo_text.specs.declared.reply.Reply.TheVariants as reply
 
-not_both : {X : Type 0} (b : Bool) → b ≡ false → b ≡ true → X
+pub not_both : {X : Type 0} (b : Bool) → b ≡ false → b ≡ true → X
 not_both b p q = let no : true ≡ false = sym q ∙ p in absurd cc
 
 -- a World that has failed stays where it is

@@ -13,6 +13,9 @@ pub mod Following
 pub mod Standing
 pub mod Going
 pub mod Items
+pub mod Early
+pub mod Rehearsals
+pub mod Telling
 pub mod Writing
 pub mod WholeRuns
 pub mod Opened
@@ -21,7 +24,10 @@ pub mod Stopped
 pub mod Numbered
 pub mod Asking
 pub mod AdoptLemmas
+pub mod AdoptedLemmas
+pub mod LoadedLemmas
 pub mod Migrated
 pub mod Current
 pub mod HeadlineLemmas
 pub mod CheckLemmas
+pub mod Alone

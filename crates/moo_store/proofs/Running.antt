@@ -340,3 +340,7 @@ no_memory g old new fault is it = subst (λ f. FailsAtStore g old new (let r : R
 
 pub same_fault : {T : Type 0} (f g : StoreFault) → (let r : Result T StoreFault = Err f in let s : Result T StoreFault = Err g in r ≡ s) → f ≡ g
 same_fault f g e = cc
+
+-- a run that came to its end didn't fail
+pub never_failed : {T : Type 0} (x : T) (f : StoreFault) → (let r : Result T StoreFault = Ok x in let s : Result T StoreFault = Err f in r ≡ s) → ⊥
+never_failed x f e = cc

@@ -19,9 +19,11 @@ pub use Rattle.moo_store.specs.Kept.{World}
 pub use Rattle.moo_store.specs.Led.{BatchesLead, LeavesLed}
 pub use Rattle.moo_store.specs.Opening.{Adopts, IsOfStore, Says, TakesOver}
 pub use Rattle.moo_store.specs.Printed.{PrintEach, Prints, PrintsObject, PrintsOver, PrintsPetition, PrintsProp, PrintsSlot, PrintsVerb, all_changes, all_of, as_changes, new_number}
+pub use Rattle.moo_store.specs.Rehearsed.{Rehearsal, RehearsesAt, RehearsesBatch}
 pub use Rattle.moo_store.specs.Stand.{AsksBatch, Failed, ReachesStore, RunsBatch, Stand, StoreFailed, VerdictLeaves, Works, state_at}
 pub use Rattle.moo_store.specs.States.{KeepsRows, KeepsState, LeavesRows, LeavesState, ShowsState}
 pub use Rattle.moo_store.specs.Stopped.{IsStopped, KeepsFaults}
+pub use Rattle.moo_store.specs.Stopping.{AppliesFirst, AreAccepted, CompletesUntil, EndAtFirst, EndsEarly, ComesAfter, HaltsUntil, says_accepted, up_to_first}
 pub use Rattle.moo_store.specs.Text.{Applies, KeepsLed, KeepsRest, RunsAll, RunsAndAnswers, StandsBehind, StopsRun, accepted, accepted_at, answer_to, answers_asked, batches_of, faulted, faulted_at, is_plain, replies}
 pub use Rattle.moo_store.specs.Turns.{Completes, GivesFrontOrAll, Halts, Turn, Turns, answers_text, is_batch, is_lost_answer}
 pub use Rattle.moo_store.specs.Untouched.{HasWritten, IsKnown, IsMovedBy, KeepsCells, StandsOver, Writes, WritesOne, lost_of, taken_of}

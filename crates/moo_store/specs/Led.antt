@@ -15,9 +15,11 @@ use Rattle.moo_store.specs.States.{LeavesRows}
 abbrev pub BatchesLead : List Batch → Maps → Maps → Type 0
 BatchesLead [] rows end = end ≡ rows
 BatchesLead (batch ∷ batches) rows end =
-    (next : Maps) × IsGood next × BatchLeads batch rows next × (state_of next ≡ state_behind (state_of rows) batch) × BatchesLead batches next end
+    (next : Maps) × IsGood next × BatchLeads batch rows next × (state_of next ≡ state_behind (state_of rows) batch)
+    × BatchesLead batches next end
 
 -- whatever a crash leaves shows good rows that these batches lead to, or these and the next one of the others
 abbrev pub LeavesLed : Database → Maps → List Batch → List Batch → Type 0
 LeavesLed store rows batches others =
-    (trees : Trees) → store.may_leave trees → (more : ℕ) × (more ≤ 1) × (end : Maps) × IsGood end × BatchesLead (batches ++ take more others) rows end × LeavesRows trees end
+    (trees : Trees) → store.may_leave trees → (more : ℕ) × (more ≤ 1) × (end : Maps) × IsGood end
+    × BatchesLead (batches ++ take more others) rows end × LeavesRows trees end

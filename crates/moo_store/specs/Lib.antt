@@ -11,6 +11,10 @@ pub mod Led
 pub mod Untouched
 pub mod Stopped
 pub mod Text
+pub mod Stopping
+pub mod Rehearsed
 pub mod Opening
+pub mod Loading
 pub mod Reopened
+pub mod Runs
 pub mod Checked

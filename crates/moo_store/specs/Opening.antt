@@ -1,25 +1,30 @@
 -- What opening a store may answer, and what it may leave.
-use Rattle.std.specs.Prelude.{◌≡◌, true, Result, IfOk, IfErr, ⊤}
+use Rattle.std.specs.Prelude.{◌≡◌, ◌≢◌, ◌⊎◌, IsTrue, true, false, Result, Ok, Err, IfOk, IfErr, ⊤}
 use Rattle.sqlite.specs.declared.error.Error.TheVariants.{SqliteFailure}
 use Rattle.sqlite.specs.declared.error.ErrorCode.TheVariants.{NotADatabase}
-use Rattle.sqlite.specs.State.{State as Database, HasCleanDisk}
+use Rattle.sqlite.specs.State.{State as Database, HasCleanDisk, Survives}
 use Rattle.sqlite.specs.Held.{Held, state}
 use Rattle.sqlite.specs.Store.{Ghosts}
 use Rattle.sqlite.specs.Tree.{Trees}
-use Rattle.moo_rows.specs.Maps.{Maps}
-use Rattle.moo_world.specs.Judge.{State}
+use Rattle.moo_rows.specs.Maps.{Maps, Held as Rows}
+use Rattle.moo_world.specs.Judge.{State, state_of}
 use Rattle.moo_world.specs.Rows.{IsGood}
 use Rattle.moo_tables.specs.Tables.{Tables, schema_of}
-use Rattle.moo_tables.specs.Inside.{Rests}
+use Rattle.moo_tables.specs.Inside.{Rests, RestsAt, HasTables}
 use Rattle.moo_tables.specs.Version.{IsEarlier}
 use Rattle.moo_tables.specs.declared.version.Version.{Version}
 use Rattle.moo_cells.specs.Shows.{ShowsRows}
 use Rattle.moo_cells.specs.Damage.{Damage, IsNewer}
 use Rattle.moo_store.specs.States.{LeavesRows, ShowsState, LeavesState}
+use Rattle.moo_store.specs.Current.{RestsCurrent}
 use Rattle.moo_store.specs.Kept.{World}
 use Rattle.moo_store.specs.World.{store_of, StandsFor}
 use Rattle.moo_store.specs.declared.fault.StoreFault.{StoreFault}
 use Rattle.moo_store.specs.declared.fault.StoreFault.TheVariants.{Store, Damaged, NewerVersion, OutOfMemory, Closed}
+
+-- what opening a World over a connection answers, or making one
+abbrev pub Adoption : Type 0 → Type 0
+Adoption S = Result (World S) (StoreFault × Held S)
 
 -- what a fault of opening says of the tables: Store and OutOfMemory nothing, and Closed never comes
 abbrev pub Says : Tables → StoreFault → Type 0
@@ -49,18 +54,70 @@ TakesOver rows store trees = (tables : Tables) → Rests store tables → ShowsR
 -- tables that are there show the rows of a world
 abbrev pub Adopts : Database → Trees → Type 0
 Adopts conn trees =
-    (version : Version) × IsEarlier version × (conn.now.schema ≡ schema_of version) × ((s : State) → ShowsState conn s → LeavesState trees s)
+    (version : Version) × IsEarlier version × (conn.now.schema ≡ schema_of version)
+    × ((s : State) → ShowsState conn s → LeavesState trees s)
     × ((tables : Tables) → Rests conn tables → (rows : Maps) × IsGood rows × ShowsRows tables rows × LeavesRows trees rows)
 
 module _ {S : Type 0} (g : Ghosts S) where
   -- if the tables show a state, a World that is opened stands for it
-  abbrev pub OpensState : Database → Result (World S) (StoreFault × Held S) → Type 0
+  abbrev pub OpensState : Database → Adoption S → Type 0
   OpensState store r = (s : State) → ShowsState store s → IfOk r (λ world. HasCleanDisk (store_of g world) → StandsFor g true world s)
 
   -- and if none is opened, the store failed or memory ran out
-  abbrev pub RefusesState : Database → Result (World S) (StoreFault × Held S) → Type 0
+  abbrev pub RefusesState : Database → Adoption S → Type 0
   RefusesState store r = (s : State) → ShowsState store s → IfErr r (λ e. HasCleanDisk (state g e.1) → IsOfStore e.0)
 
   -- the rows of a World that is opened are good, and those that the tables show
-  abbrev pub OpensShown : Database → Result (World S) (StoreFault × Held S) → Type 0
-  OpensShown store r = IfOk r (λ world. HasCleanDisk (store_of g world) → (tables : Tables) → Rests store tables → ShowsRows tables world.rows.maps × IsGood world.rows.maps)
+  abbrev pub OpensShown : Database → Adoption S → Type 0
+  OpensShown store r = IfOk r (λ world. HasCleanDisk (store_of g world) → (tables : Tables) → Rests store tables →
+      ShowsRows tables world.rows.maps × IsGood world.rows.maps)
+
+-- the tables of a connection are of no version of ours, or there are none
+abbrev pub HasOthers : Database → Type 0
+HasOthers conn = (version : Version) → conn.now.schema ≢ schema_of version
+
+module _ {S : Type 0} (g : Ghosts S) where
+  -- A World was opened over the tables of this connection: they are ours. It works, its rows are good, and what is said of rows alone is
+  -- said of them. It stands for the state that the tables show, and has their rows. They rest in it, each cell, or those that they were
+  -- migrated to; a crash leaves what it could leave before, or these.
+  pub record IsAdopted (conn : Database) (world : World S) : Type 0 where
+    pub works : world.failed ≡ false
+    pub good : IsGood world.rows.maps
+    pub stands : StandsFor g false world (state_of world.rows.maps)
+    pub ours : ¬ HasOthers conn
+    pub state : (s : State) → ShowsState conn s → HasCleanDisk (store_of g world) → StandsFor g true world s
+    pub shown : (tables : Tables) → Rests conn tables → HasCleanDisk (store_of g world) → ShowsRows tables world.rows.maps
+    pub rests : (tables : Tables) → Rests conn tables → HasCleanDisk (store_of g world) →
+        RestsCurrent (store_of g world) tables world.rows.maps
+    pub crash : Survives conn (store_of g world) (Adopts conn)
+
+  -- None was opened, and the connection comes back outside a transaction. A fault of a state is one of the store, and a damage that is
+  -- told is that of the tables; other tables are a fault of the store, and ours are never called others. The database is as it was.
+  pub record IsUnadopted (conn : Held S) (fault : StoreFault) (last : Held S) : Type 0 where
+    pub outside : (state g last).in_transaction ≡ false
+    pub other : HasOthers (state g conn) → IsOfStore fault × (last ≡ conn)
+    pub own : (version : Version) → HasTables (schema_of version) (state g conn) → fault ≢ not_ours
+    pub whole : (s : State) → ShowsState (state g conn) s → HasCleanDisk (state g last) → IsOfStore fault
+    pub says : (tables : Tables) → Rests (state g conn) tables → HasCleanDisk (state g last) → Says tables fault
+    pub undone : (last ≡ conn) ⊎ (HasCleanDisk (state g last) → IsTrue (state g last).is_open → RestsAt (state g last) (state g conn).now)
+    pub crash : Survives (state g conn) (state g last) (Adopts (state g conn))
+
+  -- what opening the world that the tables of a connection show answers
+  abbrev pub Adopting : Held S → Adoption S → Type 0
+  Adopting conn (Ok world) = IsAdopted (state g conn) world
+  Adopting conn (Err e) = IsUnadopted conn e.0 e.1
+
+  -- Rows were read of the tables of this connection, which are ours. They are good, those that the tables show, and no others are. The
+  -- tables were brought to the present version.
+  pub record IsBrought (conn last : Held S) (rows : Maps) : Type 0 where
+    pub good : IsGood rows
+    pub ours : ¬ HasOthers (state g conn)
+    pub one : (tables : Tables) (m : Maps) → Rests (state g conn) tables → ShowsRows tables m → IsGood m → HasCleanDisk (state g last) →
+        rows ≡ m
+    pub shown : (tables : Tables) → Rests (state g conn) tables → HasCleanDisk (state g last) → ShowsRows tables rows
+    pub rests : (tables : Tables) → Rests (state g conn) tables → HasCleanDisk (state g last) → RestsCurrent (state g last) tables rows
+    pub crash : Survives (state g conn) (state g last) (Adopts (state g conn))
+
+  abbrev pub Brings : Held S → Held S → Result Rows StoreFault → Type 0
+  Brings conn last (Ok rows) = IsBrought conn last rows.maps
+  Brings conn last (Err fault) = IsUnadopted conn fault last

@@ -15,14 +15,16 @@ use Rattle.moo_store.specs.World.{store_of, StandsFor}
 -- rows that the acknowledged batches lead to, or these and the next one.
 abbrev pub RunLeaves : {S : Type 0} → Ghosts S → World S → World S → List Batch → List Reply → Type 0
 RunLeaves g was world batches replies =
-    (s : State) → StandsFor g true was s → HasCleanDisk (store_of g world) → LeavesLed (store_of g world) was.rows.maps (acknowledged batches replies) (drop (length replies) batches)
+    (s : State) → StandsFor g true was s → HasCleanDisk (store_of g world) →
+    LeavesLed (store_of g world) was.rows.maps (acknowledged batches replies) (drop (length replies) batches)
 
 -- the batches that were acknowledged, and the first `more` of those that have no reply
 abbrev pub kept_of : List Batch → List Reply → ℕ → List Batch
 kept_of batches replies more = acknowledged batches replies ++ take more (drop (length replies) batches)
 
 -- The World is exactly what the definitions give for every acknowledged batch and at most one more, the next one.
-pub record HoldsAcknowledged {S : Type 0} (g : Ghosts S) (world : World S) (s : State) (batches : List Batch) (replies : List Reply) : Type 0 where
+pub record HoldsAcknowledged {S : Type 0} (g : Ghosts S) (world : World S) (s : State) (batches : List Batch)
+    (replies : List Reply) : Type 0 where
   pub more : ℕ
   pub at_most_one : more ≤ 1
   pub stands : StandsFor g true world (after s (kept_of batches replies more))
@@ -42,4 +44,5 @@ RunsInParts s (part ∷ parts) end = (more : ℕ) × (more ≤ 1) × RunsInParts
 -- one list of all the parts' acknowledged batches in turn, with at most one more after each part's
 abbrev pub IsKeptOf : List Batch → List (List Batch × List Reply) → Type 0
 IsKeptOf kept [] = kept ≡ []
-IsKeptOf kept (part ∷ parts) = (more : ℕ) × (rest : List Batch) × (more ≤ 1) × IsKeptOf rest parts × (kept ≡ kept_of part.0 part.1 more ++ rest)
+IsKeptOf kept (part ∷ parts) =
+    (more : ℕ) × (rest : List Batch) × (more ≤ 1) × IsKeptOf rest parts × (kept ≡ kept_of part.0 part.1 more ++ rest)

@@ -48,6 +48,7 @@ RunsBatch (StoreFailed s hand) batch a new = (a ≡ answer.Closed) × (new ≡ S
 
 -- asked, it replies so too, with the present number, and stands as it did
 abbrev pub AsksBatch : Stand → Batch → Answer → Stand → Type 0
-AsksBatch (Works s) batch a new = (((a ≡ answer.Replied NoMemory) × IsRun s batch) ⊎ (a ≡ answer.Replied (answer_of s (judge s batch)))) × (new ≡ Works s)
+AsksBatch (Works s) batch a new =
+    (((a ≡ answer.Replied NoMemory) × IsRun s batch) ⊎ (a ≡ answer.Replied (answer_of s (judge s batch)))) × (new ≡ Works s)
 AsksBatch (Failed s) batch a new = (a ≡ answer.Closed) × (new ≡ Failed s)
 AsksBatch (StoreFailed s hand) batch a new = (a ≡ answer.Closed) × (new ≡ StoreFailed s hand)

@@ -1,5 +1,6 @@
 -- What a run of batches, and of a text of them, leaves of a World.
-use Rattle.std.specs.Prelude.{◌≡◌, ◌⊎◌, ℕ, Bool, true, false, List, [], ◌∷◌, ◌++◌, map, take, drop, length, Option, IsTrue, Result, Ok, Err, IfErr}
+use Rattle.std.specs.Prelude.{◌≡◌, ◌⊎◌, ℕ, Bool, true, false, List, [], ◌∷◌, ◌++◌, map}
+use Rattle.std.specs.Prelude.{take, drop, length, Option, IsTrue, Result, Ok, Err, IfErr}
 use Rattle.sqlite.specs.State.{HasCleanDisk}
 use Rattle.sqlite.specs.Store.{Ghosts}
 use Rattle.sqlite.specs.declared.error.Error.{Error}
@@ -34,7 +35,8 @@ answer_to (Err fault) = answer.Fault
 
 -- wherever a World stood, it ran a batch with this answer, and stands as that leaves it
 abbrev pub StandsBehind : {S : Type 0} (g : Ghosts S) → World S → Batch → Answer → World S → Type 0
-StandsBehind g old batch a new = (known : Bool) (stand : Stand) → StandsAt g known old stand → (next : Stand) × StandsAt g known new next × RunsBatch stand batch a next
+StandsBehind g old batch a new =
+    (known : Bool) (stand : Stand) → StandsAt g known old stand → (next : Stand) × StandsAt g known new next × RunsBatch stand batch a next
 
 -- A World ran a batch, and gave this answer.
 pub record RunsAndAnswers {S : Type 0} (g : Ghosts S) (old : World S) (batch : Batch) (a : Answer) (new : World S) : Type 0 where
@@ -46,12 +48,14 @@ pub record RunsAndAnswers {S : Type 0} (g : Ghosts S) (old : World S) (batch : B
   pub fails : old.failed ≡ false → IfErr result (λ fault. ((error : Error) × (fault ≡ Store error)) × (new.failed ≡ true))
 
 -- Each batch that has a reply had its turn; if the store failed, so had the next one.
-pub record RunsAll {S : Type 0} (g : Ghosts S) (known : Bool) (world : World S) (old : Stand) (batches : List Batch) (replies : List Reply) (r : Result (Unit {0}) StoreFault) : Type 0 where
+pub record RunsAll {S : Type 0} (g : Ghosts S) (known : Bool) (world : World S) (old : Stand) (batches : List Batch) (replies : List Reply)
+    (r : Result (Unit {0}) StoreFault) : Type 0 where
   pub mid : Stand
   pub turns : Turns RunsBatch old (map Whole (take (length replies) batches)) (map answer.Replied replies) mid
   pub new : Stand
   pub stands : StandsAt g known world new
-  pub ends : MatchStore r (new ≡ mid) ((batch : Batch) × (left : List Batch) × (drop (length replies) batches ≡ batch ∷ left) × RunsBatch mid batch answer.Fault new)
+  pub ends : MatchStore r (new ≡ mid)
+      ((batch : Batch) × (left : List Batch) × (drop (length replies) batches ≡ batch ∷ left) × RunsBatch mid batch answer.Fault new)
 
 -- the batch of an item, if it is acknowledged
 abbrev pub accepted_at : Next → Answer → List Batch
@@ -67,7 +71,8 @@ accepted items answers = []
 -- connection is still open.
 abbrev pub KeepsRest : {S : Type 0} (g : Ghosts S) → World S → World S → List Batch → Type 0
 KeepsRest g was world batches =
-    HasCleanDisk (store_of g world) → (world.failed ≡ false) ⊎ IsTrue (store_of g world).is_open → (tables : Tables) → Rests (store_of g was) tables → HasWritten g was world tables batches
+    HasCleanDisk (store_of g world) → (world.failed ≡ false) ⊎ IsTrue (store_of g world).is_open → (tables : Tables) →
+    Rests (store_of g was) tables → HasWritten g was world tables batches
 
 -- the batch of an item, if the store failed in it
 abbrev pub faulted_at : Next → Answer → List Batch
@@ -82,10 +87,12 @@ faulted items answers = []
 -- If the disk returns what was written, and the World worked before: whatever a crash leaves shows rows that these batches lead to from
 -- its rows, or these and one of the others.
 abbrev pub KeepsLed : {S : Type 0} (g : Ghosts S) → World S → World S → List Batch → List Batch → Type 0
-KeepsLed g was world batches others = HasCleanDisk (store_of g world) → was.failed ≡ false → LeavesLed (store_of g world) was.rows.maps batches others
+KeepsLed g was world batches others =
+    HasCleanDisk (store_of g world) → was.failed ≡ false → LeavesLed (store_of g world) was.rows.maps batches others
 
 -- The text was run to its end.
-pub record Applies {S : Type 0} (g : Ghosts S) (known : Bool) (old : Stand) (text before behind : Option (List ℕ)) (was world : World S) (batches lost : ℕ) : Type 0 where
+pub record Applies {S : Type 0} (g : Ghosts S) (known : Bool) (old : Stand) (text before behind : Option (List ℕ)) (was world : World S)
+    (batches lost : ℕ) : Type 0 where
   pub new : Stand
   pub stands : StandsAt g known world new
   pub completes : Completes RunsBatch old new text before behind batches lost
@@ -94,17 +101,21 @@ pub record Applies {S : Type 0} (g : Ghosts S) (known : Bool) (old : Stand) (tex
   -- in the tables, each acknowledged batch keeps the cells of the rows that it leaves as they are
   pub cells : IsTrue known → KeepsRest g was world (accepted (items completes.given) completes.answers)
   -- a crash leaves rows that the acknowledged batches lead to, with all numbers kept, or these and the batch in which the store failed
-  pub led : IsTrue known → KeepsLed g was world (accepted (items completes.given) completes.answers) (faulted (items completes.given) completes.answers)
+  pub led : IsTrue known →
+      KeepsLed g was world (accepted (items completes.given) completes.answers) (faulted (items completes.given) completes.answers)
 
 -- The run of the text stopped.
-pub record StopsRun {S : Type 0} (g : Ghosts S) (known : Bool) (old : Stand) (text before behind : Option (List ℕ)) (was world : World S) (fault : TextFault) : Type 0 where
+pub record StopsRun {S : Type 0} (g : Ghosts S) (known : Bool) (old : Stand) (text before behind : Option (List ℕ)) (was world : World S)
+    (fault : TextFault) : Type 0 where
   pub new : Stand
   pub stands : StandsAt g known world new
   pub halts : Halts RunsBatch old new text before behind fault
   pub crash : IsTrue known → HasCleanDisk (store_of g world) → CrashLeaves (store_of g world) new
   pub clean : HasCleanDisk (store_of g world) → HasCleanDisk (store_of g was)
   pub cells : IsTrue known → KeepsRest g was world (accepted halts.done halts.answers ++ accepted halts.hand halts.last)
-  pub led : IsTrue known → KeepsLed g was world (accepted halts.done halts.answers ++ accepted halts.hand halts.last) (faulted halts.done halts.answers ++ faulted halts.hand halts.last)
+  pub led : IsTrue known →
+      KeepsLed g was world (accepted halts.done halts.answers ++ accepted halts.hand halts.last)
+      (faulted halts.done halts.answers ++ faulted halts.hand halts.last)
 
 -- ---- if memory doesn't run out and no fault comes
 

@@ -32,23 +32,29 @@ pub record KeepsCells (rows next : Maps) (old new : Tables) : Type 0 where
   pub shows : ShowsRows new next
   pub objects : (n : ObjNo) → get rows.objects n ≡ get next.objects n → new.object n.0 ≡ old.object n.0
   pub props : (id : PropId) → get rows.props id ≡ get next.props id → new.prop (pos id.0) ≡ old.prop (pos id.0)
-  pub slots : (key : ObjNo × PropId) → get rows.slots key ≡ get next.slots key → new.slot (key.0.0, pos key.1.0) ≡ old.slot (key.0.0, pos key.1.0)
-  pub verbs : (key : ObjNo × VerbId) → get rows.verbs key ≡ get next.verbs key → new.verb (key.0.0, pos key.1.0) ≡ old.verb (key.0.0, pos key.1.0)
+  pub slots : (key : ObjNo × PropId) → get rows.slots key ≡ get next.slots key →
+      new.slot (key.0.0, pos key.1.0) ≡ old.slot (key.0.0, pos key.1.0)
+  pub verbs : (key : ObjNo × VerbId) → get rows.verbs key ≡ get next.verbs key →
+      new.verb (key.0.0, pos key.1.0) ≡ old.verb (key.0.0, pos key.1.0)
   pub petitions : (id : PetitionId) → get rows.petitions id ≡ get next.petitions id → new.petition (pos id.0) ≡ old.petition (pos id.0)
   pub counter : rows.head.next_petition ≡ next.head.next_petition → (n : ℤ) → new.petition_head n ≡ old.petition_head n
   pub head_columns : IfBoth HeadColumns (Some rows.head) (Some next.head) (old.head (pos 1)) (new.head (pos 1))
   pub object_columns : (n : ObjNo) → IfBoth ObjectColumns (get rows.objects n) (get next.objects n) (old.object n.0) (new.object n.0)
   pub prop_columns : (id : PropId) → IfBoth PropColumns (get rows.props id) (get next.props id) (old.prop (pos id.0)) (new.prop (pos id.0))
-  pub slot_columns : (key : ObjNo × PropId) → IfBoth SlotColumns (get rows.slots key) (get next.slots key) (old.slot (key.0.0, pos key.1.0)) (new.slot (key.0.0, pos key.1.0))
-  pub verb_columns : (key : ObjNo × VerbId) → IfBoth VerbColumns (get rows.verbs key) (get next.verbs key) (old.verb (key.0.0, pos key.1.0)) (new.verb (key.0.0, pos key.1.0))
-  pub petition_columns : (id : PetitionId) → IfBoth PetitionColumns (get rows.petitions id) (get next.petitions id) (old.petition (pos id.0)) (new.petition (pos id.0))
+  pub slot_columns : (key : ObjNo × PropId) →
+      IfBoth SlotColumns (get rows.slots key) (get next.slots key) (old.slot (key.0.0, pos key.1.0)) (new.slot (key.0.0, pos key.1.0))
+  pub verb_columns : (key : ObjNo × VerbId) →
+      IfBoth VerbColumns (get rows.verbs key) (get next.verbs key) (old.verb (key.0.0, pos key.1.0)) (new.verb (key.0.0, pos key.1.0))
+  pub petition_columns : (id : PetitionId) →
+      IfBoth PetitionColumns (get rows.petitions id) (get next.petitions id) (old.petition (pos id.0)) (new.petition (pos id.0))
 
 -- Accepted batches, one after another: each leads from good rows to good rows, as it is judged, call by call with the numbers of
 -- properties, verbs and petitions kept, and keeps the cells of every row that is the same in both, and of each column that is.
 abbrev pub Writes : Maps → Tables → List Batch → Maps → Tables → Type 0
 Writes rows tables [] end after = (end ≡ rows) × (after ≡ tables)
 Writes rows tables (batch ∷ batches) end after =
-    (next : Maps) × (between : Tables) × IsGood next × BatchLeads batch rows next × (state_of next ≡ state_behind (state_of rows) batch) × KeepsCells rows next tables between × Writes next between batches end after
+    (next : Maps) × (between : Tables) × IsGood next × BatchLeads batch rows next × (state_of next ≡ state_behind (state_of rows) batch)
+    × KeepsCells rows next tables between × Writes next between batches end after
 
 -- the tables of a World, after these batches were written
 pub record HasWritten {S : Type 0} (g : Ghosts S) (old new : World S) (tables : Tables) (batches : List Batch) : Type 0 where
@@ -83,9 +89,11 @@ IsKnown store r = MatchStore r ⊤ (IsTrue store.is_open)
 -- What one batch writes, if the disk returns what was written; it returned that before too. If the store fails, it writes nothing.
 pub record WritesOne {S : Type 0} (g : Ghosts S) (old new : World S) (batch : Batch) (r : Result Reply StoreFault) : Type 0 where
   pub clean : HasCleanDisk (store_of g new) → HasCleanDisk (store_of g old)
-  pub written : HasCleanDisk (store_of g new) → IsKnown (store_of g new) r → (tables : Tables) → StandsOver g old tables → HasWritten g old new tables (taken_of batch r)
+  pub written : HasCleanDisk (store_of g new) → IsKnown (store_of g new) r → (tables : Tables) → StandsOver g old tables →
+      HasWritten g old new tables (taken_of batch r)
   -- a crash leaves the rows that an accepted batch led to; if the store failed, those before the batch or those that it leads to
-  pub led : HasCleanDisk (store_of g new) → ShowsItsRows g old → old.failed ≡ false → LeavesLed (store_of g new) old.rows.maps (taken_of batch r) (lost_of batch r)
+  pub led : HasCleanDisk (store_of g new) → ShowsItsRows g old → old.failed ≡ false →
+      LeavesLed (store_of g new) old.rows.maps (taken_of batch r) (lost_of batch r)
 
 -- Accepted batches, one after another, made this World of that one: these were acknowledged, and the store failed in the others, of which
 -- there are none while the World works. One that had failed is as it was.
@@ -95,6 +103,8 @@ pub record IsMovedBy {S : Type 0} (g : Ghosts S) (old now : World S) (batches lo
   pub none : now.failed ≡ false → lost ≡ []
   pub closed : old.failed ≡ true → (now ≡ old) × (batches ≡ []) × (lost ≡ [])
   -- in the tables, each batch that was acknowledged keeps the cells of the rows that it leaves as they are
-  pub written : HasCleanDisk (store_of g now) → (now.failed ≡ false) ⊎ IsTrue (store_of g now).is_open → (tables : Tables) → StandsOver g old tables → HasWritten g old now tables batches
+  pub written : HasCleanDisk (store_of g now) → (now.failed ≡ false) ⊎ IsTrue (store_of g now).is_open → (tables : Tables) →
+      StandsOver g old tables → HasWritten g old now tables batches
   -- a crash leaves rows that these lead to, with all numbers kept, or these and one of the others
-  pub led : HasCleanDisk (store_of g now) → ShowsItsRows g old → IsGood old.rows.maps → LeavesLed (store_of g now) old.rows.maps batches lost
+  pub led : HasCleanDisk (store_of g now) → ShowsItsRows g old → IsGood old.rows.maps →
+      LeavesLed (store_of g now) old.rows.maps batches lost

@@ -41,7 +41,8 @@ Left store s = (trees : Trees) → store.may_leave trees → LeavesState trees s
 
 -- whatever a crash leaves shows s, or the state after the next of these batches
 abbrev pub LeftOrNext : Database → State → List Batch → Type 0
-LeftOrNext store s batches = (trees : Trees) → store.may_leave trees → (more : ℕ) × (more ≤ 1) × LeavesState trees (after s (take more batches))
+LeftOrNext store s batches =
+    (trees : Trees) → store.may_leave trees → (more : ℕ) × (more ≤ 1) × LeavesState trees (after s (take more batches))
 
 -- whatever a crash leaves shows a state that this stand may leave
 abbrev pub CrashLeaves : Database → Stand → Type 0
@@ -51,7 +52,8 @@ CrashLeaves store stand = (trees : Trees) → store.may_leave trees → (t : Sta
 abbrev pub StandsAt : {S : Type 0} (g : Ghosts S) → Bool → World S → Stand → Type 0
 StandsAt g known world (Works s) = StandsFor g known world s
 StandsAt g known world (Failed s) = (world.failed ≡ true) × IsAt g known world s
-StandsAt g known world (StoreFailed s hand) = (world.failed ≡ true) × (IsTrue known → HasCleanDisk (store_of g world) → CrashLeaves (store_of g world) (StoreFailed s hand))
+StandsAt g known world (StoreFailed s hand) =
+    (world.failed ≡ true) × (IsTrue known → HasCleanDisk (store_of g world) → CrashLeaves (store_of g world) (StoreFailed s hand))
 
 -- P, or Q if the store failed
 abbrev pub MatchStore : {T : Type 0} → Result T StoreFault → Type 0 → Type 0 → Type 0

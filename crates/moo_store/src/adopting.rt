@@ -1,19 +1,8 @@
 //! Opening the world that a store holds.
 
-ghost use Rattle.std.specs.Prelude.{◌≡◌, ◌≢◌, ◌⊎◌, IfOk, IfErr, OnErr, IsErrAnd, IsTrue, false};
-ghost use Rattle.sqlite.specs.State.{HasCleanDisk, Survives};
+ghost use Rattle.std.specs.Prelude.{◌≡◌, false};
 ghost use Rattle.sqlite.specs.Held.{state};
-ghost use Rattle.moo_rows.specs.Maps.{Maps};
-ghost use Rattle.moo_world.specs.Rows.{IsGood};
-ghost use Rattle.moo_world.specs.Judge.{State, state_of};
-ghost use Rattle.moo_tables.specs.Tables.{Tables, present_schema, schema_of};
-ghost use Rattle.moo_tables.specs.Inside.{Rests, RestsAt, HasTables};
-ghost use Rattle.moo_tables.specs.declared.version.Version.{Version};
-ghost use Rattle.moo_cells.specs.Shows.{ShowsRows};
-ghost use Rattle.moo_store.specs.States.{KeepsRows, ShowsState};
-ghost use Rattle.moo_store.specs.Current.{RestsCurrent};
-ghost use Rattle.moo_store.specs.Opening.{Says, IsOfStore, Adopts, OpensState, RefusesState, OpensShown, not_ours};
-ghost use Rattle.moo_store.specs.World.{store_of, StandsFor, Left};
+ghost use Rattle.moo_store.specs.Opening.{Adopting, Brings};
 
 use crate::fault::StoreFault;
 use crate::migrating::make_current;
@@ -28,17 +17,7 @@ use std::alloc::Global;
 fn open_rows<S: Alter>(alloc: Global, conn: &mut Connection<S>) -> Result<Flat, StoreFault>
     requires outside { (state S.Store conn.old).in_transaction ≡ false }
     ensures outside { (state S.Store conn.new).in_transaction ≡ false }
-    ensures good { IfOk result (λ rows. IsGood rows.maps) }
-    ensures shown { HasCleanDisk (state S.Store conn.new) → IfOk result (λ rows. (tables : Tables) → Rests (state S.Store conn.old) tables → ShowsRows tables rows.maps) }
-    ensures one { HasCleanDisk (state S.Store conn.new) → IfOk result (λ rows. (tables : Tables) (m : Maps) → Rests (state S.Store conn.old) tables → ShowsRows tables m → IsGood m → rows.maps ≡ m) }
-    ensures keeps { HasCleanDisk (state S.Store conn.new) → IfOk result (λ rows. (tables : Tables) → Rests (state S.Store conn.old) tables → KeepsRows (state S.Store conn.new) rows.maps) }
-    ensures rests { HasCleanDisk (state S.Store conn.new) → IfOk result (λ rows. (tables : Tables) → Rests (state S.Store conn.old) tables → RestsCurrent (state S.Store conn.new) tables rows.maps) }
-    ensures fault { HasCleanDisk (state S.Store conn.new) → IfErr result (λ fault. (tables : Tables) → Rests (state S.Store conn.old) tables → Says tables fault) }
-    ensures whole { HasCleanDisk (state S.Store conn.new) → IfErr result (λ fault. (tables : Tables) (m : Maps) → Rests (state S.Store conn.old) tables → ShowsRows tables m → IsGood m → IsOfStore fault) }
-    ensures other { ((version : Version) → (state S.Store conn.old).now.schema ≢ schema_of version) → IsErrAnd result (λ fault. IsOfStore fault × (conn.new ≡ conn.old)) }
-    ensures own { IfErr result (λ fault. (version : Version) → HasTables (schema_of version) (state S.Store conn.old) → fault ≢ not_ours) }
-    ensures undone { OnErr result ((conn.new ≡ conn.old) ⊎ (HasCleanDisk (state S.Store conn.new) → IsTrue (state S.Store conn.new).is_open → RestsAt (state S.Store conn.new) (state S.Store conn.old).now)) }
-    ensures crash { Survives (state S.Store conn.old) (state S.Store conn.new) (Adopts (state S.Store conn.old)) }
+    ensures brings { Brings S.Store conn.old conn.new result }
 {
     let (version, rows) = match read_rows(alloc, conn) {
         Ok(read) => read,
@@ -64,32 +43,9 @@ pub fn adopt<S: Alter + Drop>(
     mut conn: Connection<S>,
 ) -> Result<World<S>, (StoreFault, Connection<S>)>
     requires outside { (state S.Store conn).in_transaction ≡ false }
-    // Tables of any version that show a world and a number give a World that stands for these, unless the store fails or memory runs out.
-    ensures stands { OpensState S.Store (state S.Store conn) result }
-    // Whatever is opened, its rows are good, and what is said of rows alone is said of them.
-    ensures rows { IfOk result (λ world. IsGood world.rows.maps × StandsFor S.Store false world (state_of world.rows.maps)) }
-    ensures works { IfOk result (λ world. world.failed ≡ false) }
-    ensures whole { RefusesState S.Store (state S.Store conn) result }
-    // Nothing else is opened, and a damage that is answered is that of the tables.
-    ensures shown { OpensShown S.Store (state S.Store conn) result }
-    ensures fault { IfErr result (λ e. HasCleanDisk (state S.Store e.1) → (tables : Tables) → Rests (state S.Store conn) tables → Says tables e.0) }
-    // What is opened has the tables of the present version.
-    ensures current { IfOk result (λ world. HasCleanDisk (store_of S.Store world) → (tables : Tables) → Rests (state S.Store conn) tables → HasTables present_schema (store_of S.Store world)) }
-    // They are the tables that were there, each cell, if these were of that version already; else those that they were migrated to.
-    ensures rests { IfOk result (λ world. HasCleanDisk (store_of S.Store world) → (tables : Tables) → Rests (state S.Store conn) tables → RestsCurrent (store_of S.Store world) tables world.rows.maps) }
-    // Other tables than ours are a fault of the store, and the connection comes back as it is; so it does if memory runs out.
-    ensures other { ((version : Version) → (state S.Store conn).now.schema ≢ schema_of version) → IsErrAnd result (λ e. IsOfStore e.0 × (e.1 ≡ conn)) }
-    // Of tables of ours it never says that they aren't.
-    ensures own { IfErr result (λ e. (version : Version) → HasTables (schema_of version) (state S.Store conn) → e.0 ≢ not_ours) }
-    // A refusal leaves the database as it was.
-    ensures outside_refused { IfErr result (λ e. (state S.Store e.1).in_transaction ≡ false) }
-    ensures undone { IfErr result (λ e. (e.1 ≡ conn) ⊎ (HasCleanDisk (state S.Store e.1) → IsTrue (state S.Store e.1).is_open → RestsAt (state S.Store e.1) (state S.Store conn).now)) }
-    // A crash leaves what it could leave before, or in place of tables of an earlier version those that they were migrated to.
-    ensures crash { IfOk result (λ world. Survives (state S.Store conn) (store_of S.Store world) (Adopts (state S.Store conn))) }
-    ensures crash_refused { IfErr result (λ e. Survives (state S.Store conn) (state S.Store e.1) (Adopts (state S.Store conn))) }
-    // So if a crash left one state before, it still leaves that state.
-    ensures left { (s : State) → ShowsState (state S.Store conn) s → Left (state S.Store conn) s → IfOk result (λ world. HasCleanDisk (store_of S.Store world) → Left (store_of S.Store world) s) }
-    ensures left_refused { (s : State) → ShowsState (state S.Store conn) s → Left (state S.Store conn) s → IfErr result (λ e. HasCleanDisk (state S.Store e.1) → Left (state S.Store e.1) s) }
+    // Tables of any version that show a world and a number give a World that stands for these, unless the store fails or memory runs
+    // out. Nothing else is opened, and a damage that is answered is that of the tables. A refusal leaves the database as it was.
+    ensures adopts { Adopting S.Store conn result }
 {
     match open_rows(alloc, &mut conn) {
         Ok(rows) => Ok(World::over(alloc, conn, rows)),

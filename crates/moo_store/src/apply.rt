@@ -1,11 +1,13 @@
 //! Running a text of batches.
 
-ghost use Rattle.std.specs.Prelude.{Bool, IfOk, IfErr};
+ghost use Rattle.std.specs.Prelude.{◌≡◌, Bool, true, false, IfOk, IfErr};
 ghost use Rattle.moo_store.specs.Stand.{Stand};
 ghost use Rattle.moo_store.specs.World.{StandsAt};
 ghost use Rattle.moo_store.specs.Text.{RunsAndAnswers, Applies, StopsRun};
+ghost use Rattle.moo_store.specs.Stopping.{AreAccepted, AppliesFirst};
 
-use crate::answering::{Answering, answer_all, answered_by};
+use crate::answering::{Answering, answer_all, answer_until, answered_by};
+use crate::course::Course;
 use crate::tally::Tally;
 use crate::world::World;
 use moo_memory::Flat;
@@ -43,7 +45,8 @@ pub fn apply_text<R: Read + Drop, W: Write, S: Alter + Drop, N: Notes>(
 ) -> Result<Tally, TextFault>
     // The answers of all items of the text that the reader gave are written, and nothing else.
     ensures applies { IfOk result (λ tally. (known : Bool) (stand : Stand) → StandsAt S.Store known world.old stand →
-        Applies S.Store known stand (R.remaining reader) (W.contents writer.old) (W.contents writer.new) world.old world.new tally.batches tally.lost) }
+        Applies S.Store known stand (R.remaining reader) (W.contents writer.old)
+        (W.contents writer.new) world.old world.new tally.batches tally.lost) }
 
     // At a fault those of the items that are done are written, and the beginning of the next one.
     ensures stops { IfErr result (λ fault. (known : Bool) (stand : Stand) → StandsAt S.Store known world.old stand →
@@ -51,4 +54,38 @@ pub fn apply_text<R: Read + Drop, W: Write, S: Alter + Drop, N: Notes>(
 {
     world.has_good_rows();
     answer_all(alloc, reader, writer, world, notes)
+}
+
+/// Runs the batches of a text as `apply_text` does. If it is to stop, it ends after the first answer that isn't `accepted`, which is still
+/// written: the World is then that of the batches up to it, and what follows it in the text isn't run.
+///
+/// The faults are those of `apply_text`.
+pub fn apply_until<R: Read + Drop, W: Write, S: Alter + Drop, N: Notes>(
+    alloc: Global,
+    reader: R,
+    writer: &mut W,
+    world: &mut World<S>,
+    stop: bool,
+    notes: &mut N,
+) -> Result<Course, TextFault>
+    // It came to the end of the text, as `apply_text` does; if it was to stop, each answer is `accepted`.
+    ensures applies { IfOk result (λ course. course.stopped ≡ false →
+        (known : Bool) (stand : Stand) → StandsAt S.Store known world.old stand →
+        (run : Applies S.Store known stand (R.remaining reader) (W.contents writer.old)
+        (W.contents writer.new) world.old world.new course.tally.batches course.tally.lost)
+        × (stop ≡ true → AreAccepted run.completes.answers)) }
+
+    // Or it stopped: the answers up to and with the first that isn't `accepted` are written, and nothing else.
+    ensures early { IfOk result (λ course. course.stopped ≡ true → (stop ≡ true)
+        × ((known : Bool) (stand : Stand) → StandsAt S.Store known world.old stand →
+        AppliesFirst S.Store known stand (R.remaining reader) (W.contents writer.old)
+        (W.contents writer.new) world.old world.new course.tally.batches course.tally.lost)) }
+
+    // At a fault the answers of the items that are done are written, and the beginning of the next one.
+    ensures stops { IfErr result (λ fault. (known : Bool) (stand : Stand) → StandsAt S.Store known world.old stand →
+        (run : StopsRun S.Store known stand (R.remaining reader) (W.contents writer.old) (W.contents writer.new) world.old world.new fault)
+        × (stop ≡ true → AreAccepted run.halts.answers)) }
+{
+    world.has_good_rows();
+    answer_until(alloc, reader, writer, world, stop, notes)
 }

@@ -22,7 +22,8 @@ struct Questions<'a, S: Alter> {
 }
 
 impl<'a, S: Alter + Drop> Answering for Questions<'a, S> {
-    ghost answered = { λ old batch a new. (new ≡ old) × ((known : Bool) (stand : Stand) → StandsAt S.Store known old.world.now stand → AsksBatch stand batch a stand) };
+    ghost answered = { λ old batch a new. (new ≡ old)
+        × ((known : Bool) (stand : Stand) → StandsAt S.Store known old.world.now stand → AsksBatch stand batch a stand) };
 
     fn answer(&mut self, batch: &Batch) -> Answer {
         answered_by(self.world.ask(batch))

@@ -14,9 +14,9 @@ ghost use Rattle.moo_store.specs.Checked.{SaysInCheck, FailsWorld};
 ghost use Rattle.moo_store.specs.World.{store_of, StandsFor};
 
 use crate::fault::StoreFault;
-use crate::reading::{read_lists, test_current};
+use crate::reading::{failure_of, read_lists, test_current};
 use crate::world::World;
-use moo_cells::{CellFault, compare_cells};
+use moo_cells::{CellFault, compare_cells, show_in_turn};
 use moo_damage::Kind;
 use moo_memory::Flat;
 use moo_rows::{Rows, each_object};
@@ -58,6 +58,9 @@ fn compare_lists(alloc: Global, lists: CellLists, own: &Flat) -> Result<u64, Sto
 }
 
 /// The number of objects, if the tables of a connection show these rows. Nothing is written.
+///
+/// The tables are compared one after another. Only if a row differs, or if memory ran out, all are read again at once, to tell what is
+/// wrong.
 fn check_rows<S: Alter>(
     alloc: Global,
     conn: &mut Connection<S>,
@@ -66,12 +69,20 @@ fn check_rows<S: Alter>(
     requires outside { (state S.Store conn.old).in_transaction ≡ false }
     requires good { IsGood own.now.maps }
     ensures outside { (state S.Store conn.new).in_transaction ≡ false }
-    ensures shown { OnOk result (HasCleanDisk (state S.Store conn.new) → (tables : Tables) → Rests (state S.Store conn.old) tables → ShowsRows tables own.now.maps) }
+    ensures shown { OnOk result (HasCleanDisk (state S.Store conn.new) → (tables : Tables) → Rests (state S.Store conn.old) tables →
+        ShowsRows tables own.now.maps) }
     ensures count { IfOk result (λ count. count ≡ length (objects_of (world_of own.now.maps))) }
-    ensures fault { HasCleanDisk (state S.Store conn.new) → IfErr result (λ fault. (tables : Tables) → Rests (state S.Store conn.old) tables → SaysInCheck own.now.maps tables fault) }
-    ensures whole { HasCleanDisk (state S.Store conn.new) → IfErr result (λ fault. (tables : Tables) → Rests (state S.Store conn.old) tables → ShowsRows tables own.now.maps → IsOfStore fault) }
-    ensures kept { HasCleanDisk (state S.Store conn.new) → IsTrue (state S.Store conn.new).is_open → (tables : Tables) → Rests (state S.Store conn.old) tables → Rests (state S.Store conn.new) tables }
-    ensures stays { HasCleanDisk (state S.Store conn.new) → MatchResult result (λ _. (tables : Tables) → Rests (state S.Store conn.old) tables → Rests (state S.Store conn.new) tables) (λ fault. fault ≡ StoreFault.OutOfMemory → (tables : Tables) → Rests (state S.Store conn.old) tables → Rests (state S.Store conn.new) tables) }
+    ensures fault { HasCleanDisk (state S.Store conn.new) →
+        IfErr result (λ fault. (tables : Tables) → Rests (state S.Store conn.old) tables → SaysInCheck own.now.maps tables fault) }
+    ensures whole { HasCleanDisk (state S.Store conn.new) →
+        IfErr result (λ fault. (tables : Tables) → Rests (state S.Store conn.old) tables → ShowsRows tables own.now.maps →
+        IsOfStore fault) }
+    ensures kept { HasCleanDisk (state S.Store conn.new) → IsTrue (state S.Store conn.new).is_open → (tables : Tables) →
+        Rests (state S.Store conn.old) tables → Rests (state S.Store conn.new) tables }
+    ensures stays { HasCleanDisk (state S.Store conn.new) →
+        MatchResult result (λ _. (tables : Tables) → Rests (state S.Store conn.old) tables → Rests (state S.Store conn.new) tables)
+        (λ fault. fault ≡ StoreFault.OutOfMemory → (tables : Tables) → Rests (state S.Store conn.old) tables →
+        Rests (state S.Store conn.new) tables) }
     ensures clean { HasCleanDisk (state S.Store conn.new) → HasCleanDisk (state S.Store conn.old) }
     ensures crash { Survives (state S.Store conn.old) (state S.Store conn.new) (λ _. ⊥) }
     ensures open { IfErr result (λ fault. fault ≢ StoreFault.Closed) }
@@ -79,6 +90,13 @@ fn check_rows<S: Alter>(
     match test_current(alloc, conn) {
         Ok(()) => {}
         Err(fault) => return Err(fault),
+    }
+    let shown = match show_in_turn(alloc, conn, Version::PRESENT, own) {
+        Ok(shown) => shown,
+        Err(error) => return Err(failure_of(error)),
+    };
+    if shown {
+        return Ok(object_count(own));
     }
     match read_lists(alloc, conn, Version::PRESENT) {
         Ok(lists) => compare_lists(alloc, lists, own),
@@ -104,16 +122,22 @@ impl<S: Alter + Drop> World<S> {
     /// World. OutOfMemory: memory ran out, and the World works on. Closed: the World had failed.
     pub fn check(&mut self) -> Result<u64, StoreFault>
         // Ok only if the tables show the World's own rows.
-        ensures shown { OnOk result (HasCleanDisk (store_of S.Store self.new) → (tables : Tables) → Rests (store_of S.Store self.old) tables → ShowsRows tables self.old.rows.maps) }
+        ensures shown { OnOk result (HasCleanDisk (store_of S.Store self.new) → (tables : Tables) →
+            Rests (store_of S.Store self.old) tables → ShowsRows tables self.old.rows.maps) }
         ensures count { IfOk result (λ count. count ≡ length (objects_of (world_of self.old.rows.maps))) }
         // A damage is answered only if the tables have it, or if they show other rows than these.
-        ensures fault { HasCleanDisk (store_of S.Store self.new) → IfErr result (λ fault. (tables : Tables) → Rests (store_of S.Store self.old) tables → SaysInCheck self.old.rows.maps tables fault) }
+        ensures fault { HasCleanDisk (store_of S.Store self.new) →
+            IfErr result (λ fault. (tables : Tables) → Rests (store_of S.Store self.old) tables →
+            SaysInCheck self.old.rows.maps tables fault) }
         // A World that stands for a state is checked with no damage, and stands for it as long as it works.
-        ensures whole { (known : Bool) (s : _) → StandsFor S.Store known self.old s → IsTrue known → HasCleanDisk (store_of S.Store self.new) → IfErr result IsOfStore }
-        ensures stands { (known : Bool) (s : _) → StandsFor S.Store known self.old s → self.new.failed ≡ false → HasCleanDisk (store_of S.Store self.new) → StandsFor S.Store known self.new s }
+        ensures whole { (known : Bool) (s : _) → StandsFor S.Store known self.old s → IsTrue known →
+            HasCleanDisk (store_of S.Store self.new) → IfErr result IsOfStore }
+        ensures stands { (known : Bool) (s : _) → StandsFor S.Store known self.old s → self.new.failed ≡ false →
+            HasCleanDisk (store_of S.Store self.new) → StandsFor S.Store known self.new s }
         // The rows, the tables and what a crash leaves stay as they are.
         ensures rows { self.new.rows ≡ self.old.rows }
-        ensures kept { HasCleanDisk (store_of S.Store self.new) → IsTrue (store_of S.Store self.new).is_open → (tables : Tables) → Rests (store_of S.Store self.old) tables → Rests (store_of S.Store self.new) tables }
+        ensures kept { HasCleanDisk (store_of S.Store self.new) → IsTrue (store_of S.Store self.new).is_open → (tables : Tables) →
+            Rests (store_of S.Store self.old) tables → Rests (store_of S.Store self.new) tables }
         ensures crash { Survives (store_of S.Store self.old) (store_of S.Store self.new) (λ _. ⊥) }
         // Every fault but out of memory fails the World. A failed World changes no more.
         ensures fails { self.old.failed ≡ false → FailsWorld result self.new.failed }

@@ -75,7 +75,8 @@ pub(crate) fn accept_over(
     old: Option<&ObjRow>,
     row: &ObjRow,
 ) -> Result<Option<Vec<u8>>, AllocError>
-    ensures { IfOk result (λ cell. PrintsOver ShowsAccept (option_map (λ r. r.accept) (option_map (λ r. r.now) old.entry)) row.now.accept cell) }
+    ensures { IfOk result (λ cell. PrintsOver ShowsAccept (option_map (λ r. r.accept)
+        (option_map (λ r. r.now) old.entry)) row.now.accept cell) }
 {
     if has_accept(old, &row.accept) {
         return Ok(None);
@@ -99,7 +100,8 @@ pub(crate) fn state_over(
     old: Option<&SlotRow>,
     row: &SlotRow,
 ) -> Result<Option<Vec<u8>>, AllocError>
-    ensures { IfOk result (λ cell. PrintsOver ShowsSlotState (option_map (λ r. r.state) (option_map (λ r. r.now) old.entry)) row.now.state cell) }
+    ensures { IfOk result (λ cell. PrintsOver ShowsSlotState (option_map (λ r. r.state)
+        (option_map (λ r. r.now) old.entry)) row.now.state cell) }
 {
     if has_state(old, &row.state) {
         return Ok(None);
@@ -123,7 +125,8 @@ pub(crate) fn bits_over(
     old: Option<&VerbRow>,
     row: &VerbRow,
 ) -> Result<Option<Vec<u8>>, AllocError>
-    ensures { IfOk result (λ cell. PrintsOver (λ text bits. verb_bits_of text ≡ Some bits) (option_map (λ r. r.bits) (option_map (λ r. r.now) old.entry)) row.now.bits cell) }
+    ensures { IfOk result (λ cell. PrintsOver (λ text bits. verb_bits_of text ≡ Some bits)
+        (option_map (λ r. r.bits) (option_map (λ r. r.now) old.entry)) row.now.bits cell) }
 {
     if has_bits(old, &row.bits) {
         return Ok(None);
@@ -147,7 +150,8 @@ pub(crate) fn calls_over(
     old: Option<&PetitionRow>,
     row: &PetitionRow,
 ) -> Result<Option<Vec<u8>>, AllocError>
-    ensures { IfOk result (λ cell. PrintsOver (λ text calls. Spells (a_list calls) text) (option_map (λ r. r.calls) (option_map (λ r. r.now) old.entry)) row.now.calls cell) }
+    ensures { IfOk result (λ cell. PrintsOver (λ text calls. Spells (a_list calls) text)
+        (option_map (λ r. r.calls) (option_map (λ r. r.now) old.entry)) row.now.calls cell) }
 {
     if has_calls(old, &row.calls) {
         return Ok(None);

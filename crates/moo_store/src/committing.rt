@@ -25,14 +25,26 @@ pub(crate) fn commit_cells<S: Alter>(
     requires limit { cells.now.head.seq < 2 ^ 63 }
     requires outside { (state S.Store conn.old).in_transaction ≡ false }
     ensures outside { (state S.Store conn.new).in_transaction ≡ false }
-    ensures written { HasCleanDisk (state S.Store conn.new) → OnOk result ((changes : Changes) (base next : Maps) → Prints (Some base.head.next_petition) base cells.now changes → AreChanges base next changes → KeepsRows (state S.Store conn.old) base → KeepsRows (state S.Store conn.new) next) }
-    ensures cells { HasCleanDisk (state S.Store conn.new) → OnOk result ((changes : Changes) (base next : Maps) (tables : Tables) → Prints (Some base.head.next_petition) base cells.now changes → AreChanges base next changes → Rests (state S.Store conn.old) tables → IsCurrent tables → ShowsRows tables base → (after : Tables) × Rests (state S.Store conn.new) after × KeepsCells base next tables after) }
+    ensures written { HasCleanDisk (state S.Store conn.new) →
+        OnOk result ((changes : Changes) (base next : Maps) → Prints (Some base.head.next_petition) base cells.now changes →
+        AreChanges base next changes → KeepsRows (state S.Store conn.old) base → KeepsRows (state S.Store conn.new) next) }
+    ensures cells { HasCleanDisk (state S.Store conn.new) →
+        OnOk result ((changes : Changes) (base next : Maps) (tables : Tables) →
+        Prints (Some base.head.next_petition) base cells.now changes → AreChanges base next changes →
+        Rests (state S.Store conn.old) tables → IsCurrent tables → ShowsRows tables base → (after : Tables)
+        × Rests (state S.Store conn.new) after × KeepsCells base next tables after) }
     ensures clean { HasCleanDisk (state S.Store conn.new) → HasCleanDisk (state S.Store conn.old) }
-    ensures undone { HasCleanDisk (state S.Store conn.new) → OnErr result (IsTrue (state S.Store conn.new).is_open → (tables : Tables) → Rests (state S.Store conn.old) tables → IsCurrent tables → Rests (state S.Store conn.new) tables) }
-    ensures cause { HasCleanDisk (state S.Store conn.new) → IfErr result (λ error. (tables : Tables) → Rests (state S.Store conn.old) tables → IsCurrent tables → StopsChange (state S.Store conn.old) (state S.Store conn.new) error) }
+    ensures undone { HasCleanDisk (state S.Store conn.new) →
+        OnErr result (IsTrue (state S.Store conn.new).is_open → (tables : Tables) → Rests (state S.Store conn.old) tables →
+        IsCurrent tables → Rests (state S.Store conn.new) tables) }
+    ensures cause { HasCleanDisk (state S.Store conn.new) →
+        IfErr result (λ error. (tables : Tables) → Rests (state S.Store conn.old) tables → IsCurrent tables →
+        StopsChange (state S.Store conn.old) (state S.Store conn.new) error) }
     ensures counts { (state S.Store conn.old).faults ≤ (state S.Store conn.new).faults }
     ensures steps { (state S.Store conn.new).step_limit ≡ (state S.Store conn.old).step_limit }
-    ensures crash { (changes : Changes) (base next : Maps) → Prints (Some base.head.next_petition) base cells.now changes → AreChanges base next changes → (HasCleanDisk (state S.Store conn.old) → KeepsRows (state S.Store conn.old) base) → Survives (state S.Store conn.old) (state S.Store conn.new) (λ trees. LeavesRows trees next) }
+    ensures crash { (changes : Changes) (base next : Maps) → Prints (Some base.head.next_petition) base cells.now changes →
+        AreChanges base next changes → (HasCleanDisk (state S.Store conn.old) → KeepsRows (state S.Store conn.old) base) →
+        Survives (state S.Store conn.old) (state S.Store conn.new) (λ trees. LeavesRows trees next) }
 {
     commit_changes(conn, cells)
 }

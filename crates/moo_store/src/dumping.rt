@@ -27,8 +27,10 @@ impl<S: Alter + Drop> World<S> {
     /// Write if the writer fails or takes no bytes, and OutOfMemory: only the beginning of the text is written then. Closed if the
     /// World had failed: nothing is written.
     pub fn dump<W: Write>(&self, output: &mut W) -> Result<(), DumpFault>
-        ensures ok { (known : Bool) (s : _) → StandsFor S.Store known self.now s → OnOk result (Appends (W.contents output.old) (W.contents output.new) (dump s)) }
-        ensures err { (known : Bool) (s : _) → StandsFor S.Store known self.now s → OnErr result ((count : ℕ) × Appends (W.contents output.old) (W.contents output.new) (take count (dump s))) }
+        ensures ok { (known : Bool) (s : _) → StandsFor S.Store known self.now s →
+            OnOk result (Appends (W.contents output.old) (W.contents output.new) (dump s)) }
+        ensures err { (known : Bool) (s : _) → StandsFor S.Store known self.now s →
+            OnErr result ((count : ℕ) × Appends (W.contents output.old) (W.contents output.new) (take count (dump s))) }
         ensures closed { IsTrue self.now.failed → IsErrOf result DumpFault.Closed × (output.new ≡ output.old) }
         ensures open { self.now.failed ≡ false → IfErr result (λ fault. fault ≢ DumpFault.Closed) }
     {

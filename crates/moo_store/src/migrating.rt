@@ -46,10 +46,18 @@ fn migrate_rows<S: Alter>(
     ensures outside { (state S.Store conn.new).in_transaction ≡ false }
     ensures fault { IfErr result IsOfStore }
     ensures own { IfErr result (λ fault. fault ≢ not_ours) }
-    ensures keeps { HasCleanDisk (state S.Store conn.new) → OnOk result ((tables : Tables) → Rests (state S.Store conn.old) tables → IsEarlier tables.version → ShowsRows tables rows.now.maps → KeepsRows (state S.Store conn.new) rows.now.maps) }
-    ensures rests { HasCleanDisk (state S.Store conn.new) → OnOk result ((tables : Tables) → Rests (state S.Store conn.old) tables → IsEarlier tables.version → ShowsRows tables rows.now.maps → RestsCurrent (state S.Store conn.new) tables rows.now.maps) }
-    ensures undone { OnErr result ((conn.new ≡ conn.old) ⊎ (HasCleanDisk (state S.Store conn.new) → IsTrue (state S.Store conn.new).is_open → RestsAt (state S.Store conn.new) (state S.Store conn.old).committed)) }
-    ensures crash { (version : Version) → IsEarlier version → (HasCleanDisk (state S.Store conn.old) → HasTables (schema_of version) (state S.Store conn.old)) → Survives (state S.Store conn.old) (state S.Store conn.new) (TakesOver rows.now.maps (state S.Store conn.old)) }
+    ensures keeps { HasCleanDisk (state S.Store conn.new) →
+        OnOk result ((tables : Tables) → Rests (state S.Store conn.old) tables → IsEarlier tables.version → ShowsRows tables rows.now.maps →
+        KeepsRows (state S.Store conn.new) rows.now.maps) }
+    ensures rests { HasCleanDisk (state S.Store conn.new) →
+        OnOk result ((tables : Tables) → Rests (state S.Store conn.old) tables → IsEarlier tables.version → ShowsRows tables rows.now.maps →
+        RestsCurrent (state S.Store conn.new) tables rows.now.maps) }
+    ensures undone { OnErr result ((conn.new ≡ conn.old)
+        ⊎ (HasCleanDisk (state S.Store conn.new) → IsTrue (state S.Store conn.new).is_open →
+        RestsAt (state S.Store conn.new) (state S.Store conn.old).committed)) }
+    ensures crash { (version : Version) → IsEarlier version →
+        (HasCleanDisk (state S.Store conn.old) → HasTables (schema_of version) (state S.Store conn.old)) →
+        Survives (state S.Store conn.old) (state S.Store conn.new) (TakesOver rows.now.maps (state S.Store conn.old)) }
 {
     let Ok(slots) = print_slots(alloc, rows) else {
         return Err(StoreFault::OutOfMemory);
@@ -72,10 +80,18 @@ pub(crate) fn make_current<S: Alter>(
     ensures outside { (state S.Store conn.new).in_transaction ≡ false }
     ensures fault { IfErr result IsOfStore }
     ensures own { IfErr result (λ fault. fault ≢ not_ours) }
-    ensures keeps { HasCleanDisk (state S.Store conn.new) → OnOk result ((tables : Tables) → Rests (state S.Store conn.old) tables → tables.version ≡ version → ShowsRows tables rows.now.maps → KeepsRows (state S.Store conn.new) rows.now.maps) }
-    ensures rests { HasCleanDisk (state S.Store conn.new) → OnOk result ((tables : Tables) → Rests (state S.Store conn.old) tables → tables.version ≡ version → ShowsRows tables rows.now.maps → RestsCurrent (state S.Store conn.new) tables rows.now.maps) }
-    ensures undone { OnErr result ((conn.new ≡ conn.old) ⊎ (HasCleanDisk (state S.Store conn.new) → IsTrue (state S.Store conn.new).is_open → RestsAt (state S.Store conn.new) (state S.Store conn.old).committed)) }
-    ensures crash { (HasCleanDisk (state S.Store conn.old) → HasTables (schema_of version) (state S.Store conn.old)) → Survives (state S.Store conn.old) (state S.Store conn.new) (λ trees. IsEarlier version × TakesOver rows.now.maps (state S.Store conn.old) trees) }
+    ensures keeps { HasCleanDisk (state S.Store conn.new) →
+        OnOk result ((tables : Tables) → Rests (state S.Store conn.old) tables → tables.version ≡ version → ShowsRows tables rows.now.maps →
+        KeepsRows (state S.Store conn.new) rows.now.maps) }
+    ensures rests { HasCleanDisk (state S.Store conn.new) →
+        OnOk result ((tables : Tables) → Rests (state S.Store conn.old) tables → tables.version ≡ version → ShowsRows tables rows.now.maps →
+        RestsCurrent (state S.Store conn.new) tables rows.now.maps) }
+    ensures undone { OnErr result ((conn.new ≡ conn.old)
+        ⊎ (HasCleanDisk (state S.Store conn.new) → IsTrue (state S.Store conn.new).is_open →
+        RestsAt (state S.Store conn.new) (state S.Store conn.old).committed)) }
+    ensures crash { (HasCleanDisk (state S.Store conn.old) → HasTables (schema_of version) (state S.Store conn.old)) →
+        Survives (state S.Store conn.old) (state S.Store conn.new)
+        (λ trees. IsEarlier version × TakesOver rows.now.maps (state S.Store conn.old) trees) }
 {
     if version.is_present() {
         return Ok(());

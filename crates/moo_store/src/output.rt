@@ -16,7 +16,9 @@ pub(crate) fn put_answer<W: Write>(
     answer: &Answer,
 ) -> Result<(), TextFault>
     ensures ok { OnOk result (Appends (W.contents writer.old) (W.contents writer.new) (answer_text answer.now)) }
-    ensures err { IfErr result (λ fault. (count : ℕ) × Appends (W.contents writer.old) (W.contents writer.new) (take count (answer_text answer.now)) × (fault ≢ TextFault.Write → count ≡ 0)) }
+    ensures err { IfErr result (λ fault. (count : ℕ)
+        × Appends (W.contents writer.old) (W.contents writer.new) (take count (answer_text answer.now))
+        × (fault ≢ TextFault.Write → count ≡ 0)) }
     ensures fault { IfErr result (λ fault. (fault ≡ TextFault.Write) ⊎ (fault ≡ TextFault.OutOfMemory)) }
 {
     let mut text = Vec::new(alloc);

@@ -32,7 +32,8 @@ trait Print<K, C> {
 
     /// The first key past another, or the first of all.
     fn next(rows: &Flat, last: Option<K>) -> Option<K>
-        ensures some { IfSome result (λ key. (row : Self) × (held rows.now.maps key ≡ Some row) × (left last rows.now.maps ≡ (key, row) ∷ left (Some key) rows.now.maps)) }
+        ensures some { IfSome result (λ key. (row : Self) × (held rows.now.maps key ≡ Some row)
+            × (left last rows.now.maps ≡ (key, row) ∷ left (Some key) rows.now.maps)) }
         ensures none { IfNone result (left last rows.now.maps ≡ []) };
 
     /// A column with several spellings of one value is printed only if its value changes. The only error is out of memory.
@@ -57,7 +58,8 @@ impl Print<ObjNo, ObjectCells> for ObjRow {
     }
 
     fn next(rows: &Flat, last: Option<ObjNo>) -> Option<ObjNo>
-        ensures some { IfSome result (λ key. (row : ObjRow) × (get rows.now.maps.objects key ≡ Some row) × (objects_left last rows.now.maps ≡ (key, row) ∷ objects_left (Some key) rows.now.maps)) }
+        ensures some { IfSome result (λ key. (row : ObjRow) × (get rows.now.maps.objects key ≡ Some row)
+            × (objects_left last rows.now.maps ≡ (key, row) ∷ objects_left (Some key) rows.now.maps)) }
         ensures none { IfNone result (objects_left last rows.now.maps ≡ []) }
     {
         rows.next_object(last)
@@ -87,7 +89,8 @@ impl Print<PropId, PropCells> for PropRow {
     }
 
     fn next(rows: &Flat, last: Option<PropId>) -> Option<PropId>
-        ensures some { IfSome result (λ key. (row : PropRow) × (get rows.now.maps.props key ≡ Some row) × (props_left last rows.now.maps ≡ (key, row) ∷ props_left (Some key) rows.now.maps)) }
+        ensures some { IfSome result (λ key. (row : PropRow) × (get rows.now.maps.props key ≡ Some row)
+            × (props_left last rows.now.maps ≡ (key, row) ∷ props_left (Some key) rows.now.maps)) }
         ensures none { IfNone result (props_left last rows.now.maps ≡ []) }
     {
         rows.next_prop(last)
@@ -119,7 +122,8 @@ impl Print<(ObjNo, PropId), SlotCells> for SlotRow {
     }
 
     fn next(rows: &Flat, last: Option<(ObjNo, PropId)>) -> Option<(ObjNo, PropId)>
-        ensures some { IfSome result (λ key. (row : SlotRow) × (get rows.now.maps.slots key ≡ Some row) × (slots_left last rows.now.maps ≡ (key, row) ∷ slots_left (Some key) rows.now.maps)) }
+        ensures some { IfSome result (λ key. (row : SlotRow) × (get rows.now.maps.slots key ≡ Some row)
+            × (slots_left last rows.now.maps ≡ (key, row) ∷ slots_left (Some key) rows.now.maps)) }
         ensures none { IfNone result (slots_left last rows.now.maps ≡ []) }
     {
         rows.next_slot(last)
@@ -152,7 +156,8 @@ impl Print<(ObjNo, VerbId), VerbCells> for VerbRow {
     }
 
     fn next(rows: &Flat, last: Option<(ObjNo, VerbId)>) -> Option<(ObjNo, VerbId)>
-        ensures some { IfSome result (λ key. (row : VerbRow) × (get rows.now.maps.verbs key ≡ Some row) × (verbs_left last rows.now.maps ≡ (key, row) ∷ verbs_left (Some key) rows.now.maps)) }
+        ensures some { IfSome result (λ key. (row : VerbRow) × (get rows.now.maps.verbs key ≡ Some row)
+            × (verbs_left last rows.now.maps ≡ (key, row) ∷ verbs_left (Some key) rows.now.maps)) }
         ensures none { IfNone result (verbs_left last rows.now.maps ≡ []) }
     {
         rows.next_verb(last)
@@ -192,7 +197,8 @@ impl Print<PetitionId, PetitionCells> for PetitionRow {
     }
 
     fn next(rows: &Flat, last: Option<PetitionId>) -> Option<PetitionId>
-        ensures some { IfSome result (λ key. (row : PetitionRow) × (get rows.now.maps.petitions key ≡ Some row) × (petitions_left last rows.now.maps ≡ (key, row) ∷ petitions_left (Some key) rows.now.maps)) }
+        ensures some { IfSome result (λ key. (row : PetitionRow) × (get rows.now.maps.petitions key ≡ Some row)
+            × (petitions_left last rows.now.maps ≡ (key, row) ∷ petitions_left (Some key) rows.now.maps)) }
         ensures none { IfNone result (petitions_left last rows.now.maps ≡ []) }
     {
         rows.next_petition(last)

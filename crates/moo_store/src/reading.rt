@@ -13,7 +13,7 @@ ghost use Rattle.moo_cells.specs.Shows.{ShowsRows};
 ghost use Rattle.moo_store.specs.Opening.{Says, IsOfStore, not_ours};
 
 use crate::fault::StoreFault;
-use moo_cells::{CellFault, read_cells};
+use moo_cells::{CellFault, read_cells, read_in_turn};
 use moo_memory::Flat;
 use moo_tables::{CellLists, Version, are_listed, read_tables, version_of};
 use sqlite::{Alter, Connection, Error, ErrorCode};
@@ -63,7 +63,9 @@ pub(crate) fn read_lists<S: Alter>(
     requires outside { (state S.Store conn.old).in_transaction ≡ false }
     ensures outside { (state S.Store conn.new).in_transaction ≡ false }
     ensures read { OnOk result (ReadsTables (schema_of version) (state S.Store conn.old) (state S.Store conn.new)) }
-    ensures listed { HasCleanDisk (state S.Store conn.new) → IfOk result (λ lists. (tables : Tables) → tables.version ≡ version → Rests (state S.Store conn.old) tables → tables_of lists ≡ tables) }
+    ensures listed { HasCleanDisk (state S.Store conn.new) →
+        IfOk result (λ lists. (tables : Tables) → tables.version ≡ version → Rests (state S.Store conn.old) tables →
+        tables_of lists ≡ tables) }
     ensures failed { OnErr result (FailsToRead (schema_of version) (state S.Store conn.old) (state S.Store conn.new)) }
     ensures fault { IfErr result (λ fault. (error : _) × (fault ≡ StoreFault.Store error)) }
     ensures own { IfErr result (λ fault. fault ≢ not_ours) }
@@ -82,7 +84,8 @@ pub(crate) fn test_tables<S: Alter>(
     ensures ours { IfOk result (λ version. HasTables (schema_of version) (state S.Store conn.now)) }
     ensures fault { IfErr result IsOfStore }
     ensures own { IfErr result (λ fault. (version : Version) → HasTables (schema_of version) (state S.Store conn.now) → fault ≢ not_ours) }
-    ensures settled { IsTrue (state S.Store conn.now).is_open → (state S.Store conn.now).in_transaction ≡ false → (state S.Store conn.now).now ≡ (state S.Store conn.now).committed }
+    ensures settled { IsTrue (state S.Store conn.now).is_open → (state S.Store conn.now).in_transaction ≡ false →
+        (state S.Store conn.now).now ≡ (state S.Store conn.now).committed }
 {
     let _settled = conn.is_autocommit();
     match version_of(alloc, conn.schema()) {
@@ -104,6 +107,70 @@ pub(crate) fn test_current<S: Alter>(alloc: Global, conn: &Connection<S>) -> Res
     }
 }
 
+/// The rows that the tables show, which are of this version. All are read at once, and so what is wrong with them can be told.
+fn read_whole<S: Alter>(
+    alloc: Global,
+    conn: &mut Connection<S>,
+    version: Version,
+) -> Result<Flat, StoreFault>
+    requires outside { (state S.Store conn.old).in_transaction ≡ false }
+    ensures outside { (state S.Store conn.new).in_transaction ≡ false }
+    ensures read { OnOk result (ReadsTables (schema_of version) (state S.Store conn.old) (state S.Store conn.new)) }
+    ensures failed { OnErr result (FailsToRead (schema_of version) (state S.Store conn.old) (state S.Store conn.new)) }
+    ensures own { IfErr result (λ fault. fault ≢ not_ours) }
+    ensures rows { HasCleanDisk (state S.Store conn.new) → IfOk result (λ rows. (tables : Tables) → tables.version ≡ version →
+        Rests (state S.Store conn.old) tables → ShowsRows tables rows.maps) }
+    ensures good { IfOk result (λ rows. IsGood rows.maps) }
+    ensures limit { IfOk result (λ rows. rows.maps.head.seq < 2 ^ 63) }
+    ensures one { HasCleanDisk (state S.Store conn.new) → IfOk result (λ rows. (tables : Tables) (m : Maps) → tables.version ≡ version →
+        Rests (state S.Store conn.old) tables → ShowsRows tables m → IsGood m → rows.maps ≡ m) }
+    ensures fault { HasCleanDisk (state S.Store conn.new) → IfErr result (λ fault. (tables : Tables) → tables.version ≡ version →
+        Rests (state S.Store conn.old) tables → Says tables fault) }
+    ensures whole { HasCleanDisk (state S.Store conn.new) → IfErr result (λ fault. (tables : Tables) (m : Maps) →
+        tables.version ≡ version → Rests (state S.Store conn.old) tables → ShowsRows tables m → IsGood m → IsOfStore fault) }
+{
+    let lists = match read_lists(alloc, conn, version) {
+        Ok(lists) => lists,
+        Err(fault) => return Err(fault),
+    };
+    match rows_of(alloc, lists) {
+        Ok(rows) => Ok(rows),
+        Err(fault) => Err(fault),
+    }
+}
+
+/// The same, one table after another. Only if they show no world, or if memory ran out, all are read again at once.
+fn read_each<S: Alter>(
+    alloc: Global,
+    conn: &mut Connection<S>,
+    version: Version,
+) -> Result<Flat, StoreFault>
+    requires outside { (state S.Store conn.old).in_transaction ≡ false }
+    ensures outside { (state S.Store conn.new).in_transaction ≡ false }
+    ensures read { OnOk result (ReadsTables (schema_of version) (state S.Store conn.old) (state S.Store conn.new)) }
+    ensures failed { OnErr result (FailsToRead (schema_of version) (state S.Store conn.old) (state S.Store conn.new)) }
+    ensures own { IfErr result (λ fault. fault ≢ not_ours) }
+    ensures rows { HasCleanDisk (state S.Store conn.new) → IfOk result (λ rows. (tables : Tables) → tables.version ≡ version →
+        Rests (state S.Store conn.old) tables → ShowsRows tables rows.maps) }
+    ensures good { IfOk result (λ rows. IsGood rows.maps) }
+    ensures limit { IfOk result (λ rows. rows.maps.head.seq < 2 ^ 63) }
+    ensures one { HasCleanDisk (state S.Store conn.new) → IfOk result (λ rows. (tables : Tables) (m : Maps) → tables.version ≡ version →
+        Rests (state S.Store conn.old) tables → ShowsRows tables m → IsGood m → rows.maps ≡ m) }
+    ensures fault { HasCleanDisk (state S.Store conn.new) → IfErr result (λ fault. (tables : Tables) → tables.version ≡ version →
+        Rests (state S.Store conn.old) tables → Says tables fault) }
+    ensures whole { HasCleanDisk (state S.Store conn.new) → IfErr result (λ fault. (tables : Tables) (m : Maps) →
+        tables.version ≡ version → Rests (state S.Store conn.old) tables → ShowsRows tables m → IsGood m → IsOfStore fault) }
+{
+    match read_in_turn(alloc, conn, version) {
+        Ok(Some(rows)) => Ok(rows),
+        Ok(None) => match read_whole(alloc, conn, version) {
+            Ok(rows) => Ok(rows),
+            Err(fault) => Err(fault),
+        },
+        Err(error) => Err(failure_of(error)),
+    }
+}
+
 /// The version of the tables of a connection, and the rows that they show. Nothing is written.
 pub(crate) fn read_rows<S: Alter>(
     alloc: Global,
@@ -111,27 +178,33 @@ pub(crate) fn read_rows<S: Alter>(
 ) -> Result<(Version, Flat), StoreFault>
     requires outside { (state S.Store conn.old).in_transaction ≡ false }
     ensures outside { (state S.Store conn.new).in_transaction ≡ false }
-    ensures read { IfOk result (λ r. HasTables (schema_of r.0) (state S.Store conn.old) × ReadsTables (schema_of r.0) (state S.Store conn.old) (state S.Store conn.new)) }
-    ensures failed { OnErr result ((conn.new ≡ conn.old) ⊎ ((version : Version) × HasTables (schema_of version) (state S.Store conn.old) × FailsToRead (schema_of version) (state S.Store conn.old) (state S.Store conn.new))) }
+    ensures read { IfOk result (λ r. HasTables (schema_of r.0) (state S.Store conn.old)
+        × ReadsTables (schema_of r.0) (state S.Store conn.old) (state S.Store conn.new)) }
+    ensures failed { OnErr result ((conn.new ≡ conn.old)
+        ⊎ ((version : Version) × HasTables (schema_of version) (state S.Store conn.old)
+        × FailsToRead (schema_of version) (state S.Store conn.old) (state S.Store conn.new))) }
     ensures settled { IsTrue (state S.Store conn.old).is_open → (state S.Store conn.old).now ≡ (state S.Store conn.old).committed }
-    ensures other { ((version : Version) → (state S.Store conn.old).now.schema ≢ schema_of version) → IsErrAnd result (λ fault. IsOfStore fault × (conn.new ≡ conn.old)) }
+    ensures other { ((version : Version) → (state S.Store conn.old).now.schema ≢ schema_of version) →
+        IsErrAnd result (λ fault. IsOfStore fault × (conn.new ≡ conn.old)) }
     ensures own { IfErr result (λ fault. (version : Version) → HasTables (schema_of version) (state S.Store conn.old) → fault ≢ not_ours) }
-    ensures rows { HasCleanDisk (state S.Store conn.new) → IfOk result (λ r. (tables : Tables) → Rests (state S.Store conn.old) tables → ShowsRows tables r.1.maps) }
+    ensures rows { HasCleanDisk (state S.Store conn.new) →
+        IfOk result (λ r. (tables : Tables) → Rests (state S.Store conn.old) tables → ShowsRows tables r.1.maps) }
     ensures good { IfOk result (λ r. IsGood r.1.maps) }
     ensures limit { IfOk result (λ r. r.1.maps.head.seq < 2 ^ 63) }
-    ensures one { HasCleanDisk (state S.Store conn.new) → IfOk result (λ r. (tables : Tables) (m : Maps) → Rests (state S.Store conn.old) tables → ShowsRows tables m → IsGood m → r.1.maps ≡ m) }
-    ensures fault { HasCleanDisk (state S.Store conn.new) → IfErr result (λ fault. (tables : Tables) → Rests (state S.Store conn.old) tables → Says tables fault) }
-    ensures whole { HasCleanDisk (state S.Store conn.new) → IfErr result (λ fault. (tables : Tables) (m : Maps) → Rests (state S.Store conn.old) tables → ShowsRows tables m → IsGood m → IsOfStore fault) }
+    ensures one { HasCleanDisk (state S.Store conn.new) →
+        IfOk result (λ r. (tables : Tables) (m : Maps) → Rests (state S.Store conn.old) tables → ShowsRows tables m → IsGood m →
+        r.1.maps ≡ m) }
+    ensures fault { HasCleanDisk (state S.Store conn.new) →
+        IfErr result (λ fault. (tables : Tables) → Rests (state S.Store conn.old) tables → Says tables fault) }
+    ensures whole { HasCleanDisk (state S.Store conn.new) →
+        IfErr result (λ fault. (tables : Tables) (m : Maps) → Rests (state S.Store conn.old) tables → ShowsRows tables m → IsGood m →
+        IsOfStore fault) }
 {
     let version = match test_tables(alloc, conn) {
         Ok(version) => version,
         Err(fault) => return Err(fault),
     };
-    let lists = match read_lists(alloc, conn, version) {
-        Ok(lists) => lists,
-        Err(fault) => return Err(fault),
-    };
-    match rows_of(alloc, lists) {
+    match read_each(alloc, conn, version) {
         Ok(rows) => Ok((version, rows)),
         Err(fault) => Err(fault),
     }

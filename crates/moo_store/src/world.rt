@@ -41,26 +41,27 @@ impl<S: Alter> Model for World<S> {
 }
 
 impl<S: Alter + Drop> World<S> {
-    ghost use Rattle.std.specs.Prelude.{◌≡◌, ◌≢◌, ◌⊎◌, ◌<◌, ◌^◌, Bool, false, true, IsTrue, [], ◌∷◌, length, take, drop, Some, OnOk, OnErr, IfOk, IfErr, IsErrAnd, IsErrOf, IsOkAnd, ⊤, Ok, Err};
+    ghost use Rattle.std.specs.Prelude.{◌≡◌, ◌⊎◌, ◌<◌, ◌^◌, Bool, false, true, IsTrue, [], length, Some, OnOk, OnErr, IfOk, IfErr};
+    ghost use Rattle.std.specs.Prelude.{IfSome, IfNone, IsErrOf, IsOkAnd, ⊤, Ok};
     ghost use Rattle.sqlite.specs.State.{HasCleanDisk};
     ghost use Rattle.sqlite.specs.Held.{state};
     ghost use Rattle.moo_rows.specs.Maps.{Maps};
     ghost use Rattle.moo_world.specs.Rows.{IsGood};
-    ghost use Rattle.moo_world.specs.Judge.{state_of, judge as verdict, after};
+    ghost use Rattle.moo_world.specs.Judge.{state_of, judge as verdict};
     ghost use Rattle.moo_world.specs.ObjectLists.{objects_of};
     ghost use Rattle.moo_memory.specs.Changes.{AreChanges};
     ghost use Rattle.moo_store.specs.Printed.{Prints};
     ghost use Rattle.moo_cells.specs.Shows.{ShowsRows};
     ghost use Rattle.moo_store.specs.States.{LeavesRows};
-    ghost use Rattle.moo_store.specs.Answered.{answer_of, IsRun, AnsweredOne, Answered, acknowledged, added};
+    ghost use Rattle.moo_store.specs.Answered.{answer_of, IsRun};
     ghost use Rattle.moo_tables.specs.Tables.{Tables};
     ghost use Rattle.moo_tables.specs.Inside.{Rests, IsCurrent};
-    ghost use Rattle.moo_store.specs.Reopened.{RunLeaves};
-    ghost use Rattle.moo_store.specs.Untouched.{KeepsCells, WritesOne, HasWritten, IsKnown, taken_of};
+    ghost use Rattle.moo_store.specs.Runs.{RunsBatches};
+    ghost use Rattle.moo_store.specs.Untouched.{KeepsCells, WritesOne, taken_of};
     ghost use Rattle.moo_store.specs.Stopped.{KeepsFaults, IsStopped};
     ghost use Rattle.moo_store.specs.Stand.{Stand};
-    ghost use Rattle.moo_store.specs.Text.{answer_to, StandsBehind, RunsAll};
-    ghost use Rattle.moo_store.specs.World.{store_of, ShowsItsRows, IsAt, StandsFor, StandsAt, CrashLeaves, Left, LeftOrNext, MatchStore, IsOfRun};
+    ghost use Rattle.moo_store.specs.Text.{answer_to, StandsBehind};
+    ghost use Rattle.moo_store.specs.World.{store_of, ShowsItsRows, IsAt, StandsFor, StandsAt, CrashLeaves, MatchStore, IsOfRun};
     ghost use Rattle.moo_store.specs.declared.fault.StoreFault.TheVariants.{Store, OutOfMemory, Closed};
 
     /// The World of good rows, over a connection in no transaction. It stands for them if the tables of the connection
@@ -71,7 +72,8 @@ impl<S: Alter + Drop> World<S> {
         ensures connection { result.connection ≡ connection }
         ensures rows { result.rows.maps ≡ rows.maps }
         ensures works { result.failed ≡ false }
-        ensures stands { (known : Bool) → (IsTrue known → ShowsItsRows S.Store result) → StandsFor S.Store known result (state_of rows.maps) }
+        ensures stands { (known : Bool) → (IsTrue known → ShowsItsRows S.Store result) →
+            StandsFor S.Store known result (state_of rows.maps) }
     {
         World {
             alloc,
@@ -93,16 +95,25 @@ impl<S: Alter + Drop> World<S> {
         requires limit { cells.now.head.seq < 2 ^ 63 }
         requires changes { (next : Maps) × AreChanges self.old.rows.maps next changes × IsGood next }
         ensures reply { IfOk result (λ reply. reply ≡ Reply.Accepted changes.head.seq answers) }
-        ensures is_at { OnOk result ((known : Bool) (next : Maps) → (IsTrue known → ShowsItsRows S.Store self.old) → AreChanges self.old.rows.maps next changes → IsGood next → IsAt S.Store known self.new (state_of next)) }
-        ensures rows { OnOk result ((next : Maps) → AreChanges self.old.rows.maps next changes → self.new.failed ≡ false → self.new.rows.maps ≡ next) }
-        ensures cells { OnOk result ((next : Maps) (tables : Tables) → AreChanges self.old.rows.maps next changes → HasCleanDisk (store_of S.Store self.new) → Rests (store_of S.Store self.old) tables → IsCurrent tables → ShowsRows tables self.old.rows.maps → (after : Tables) × Rests (store_of S.Store self.new) after × KeepsCells self.old.rows.maps next tables after) }
-        ensures undone { OnErr result (HasCleanDisk (store_of S.Store self.new) → IsTrue (store_of S.Store self.new).is_open → (tables : Tables) → Rests (store_of S.Store self.old) tables → IsCurrent tables → Rests (store_of S.Store self.new) tables) }
+        ensures is_at { OnOk result ((known : Bool) (next : Maps) → (IsTrue known → ShowsItsRows S.Store self.old) →
+            AreChanges self.old.rows.maps next changes → IsGood next → IsAt S.Store known self.new (state_of next)) }
+        ensures rows { OnOk result ((next : Maps) → AreChanges self.old.rows.maps next changes → self.new.failed ≡ false →
+            self.new.rows.maps ≡ next) }
+        ensures cells { OnOk result ((next : Maps) (tables : Tables) → AreChanges self.old.rows.maps next changes →
+            HasCleanDisk (store_of S.Store self.new) → Rests (store_of S.Store self.old) tables → IsCurrent tables →
+            ShowsRows tables self.old.rows.maps → (after : Tables) × Rests (store_of S.Store self.new) after
+            × KeepsCells self.old.rows.maps next tables after) }
+        ensures undone { OnErr result (HasCleanDisk (store_of S.Store self.new) → IsTrue (store_of S.Store self.new).is_open →
+            (tables : Tables) → Rests (store_of S.Store self.old) tables → IsCurrent tables → Rests (store_of S.Store self.new) tables) }
         ensures clean { HasCleanDisk (store_of S.Store self.new) → HasCleanDisk (store_of S.Store self.old) }
         ensures fault { IfErr result (λ fault. (error : _) × (fault ≡ Store error)) }
         ensures kept { KeepsFaults (store_of S.Store self.old) (store_of S.Store self.new) }
-        ensures cause { HasCleanDisk (store_of S.Store self.new) → ShowsItsRows S.Store self.old → IfErr result (IsStopped (store_of S.Store self.old) (store_of S.Store self.new)) }
+        ensures cause { HasCleanDisk (store_of S.Store self.new) → ShowsItsRows S.Store self.old →
+            IfErr result (IsStopped (store_of S.Store self.old) (store_of S.Store self.new)) }
         ensures failed { OnErr result (self.new.failed ≡ true) }
-        ensures crash { OnErr result ((next : Maps) → ShowsItsRows S.Store self.old → AreChanges self.old.rows.maps next changes → HasCleanDisk (store_of S.Store self.new) → (trees : _) → (store_of S.Store self.new).may_leave trees → LeavesRows trees self.old.rows.maps ⊎ LeavesRows trees next) }
+        ensures crash { OnErr result ((next : Maps) → ShowsItsRows S.Store self.old → AreChanges self.old.rows.maps next changes →
+            HasCleanDisk (store_of S.Store self.new) → (trees : _) → (store_of S.Store self.new).may_leave trees →
+            LeavesRows trees self.old.rows.maps ⊎ LeavesRows trees next) }
     {
         if let Err(error) = commit_cells(&mut self.connection, cells) {
             self.failed = true;
@@ -115,8 +126,8 @@ impl<S: Alter + Drop> World<S> {
         Ok(Reply::Accepted { seq, answers })
     }
 
-    /// Runs one batch, and commits it if it is accepted.
-    pub(crate) fn run_one(&mut self, batch: &Batch) -> Result<Reply, StoreFault>
+    /// Runs one batch, and commits it if it is accepted. The faults: Store if the store failed; Closed if the World had failed.
+    pub fn run_one(&mut self, batch: &Batch) -> Result<Reply, StoreFault>
         ensures stands { StandsBehind S.Store self.old batch.now (answer_to result) self.new }
         ensures cells { WritesOne S.Store self.old self.new batch.now result }
         ensures same { taken_of batch.now result ≡ [] → MatchStore result (self.new ≡ self.old) ⊤ }
@@ -124,7 +135,8 @@ impl<S: Alter + Drop> World<S> {
         ensures fails { self.old.failed ≡ false → IfErr result (λ fault. ((error : _) × (fault ≡ Store error)) × (self.new.failed ≡ true)) }
         ensures fault { IfErr result IsOfRun }
         ensures kept { KeepsFaults (store_of S.Store self.old) (store_of S.Store self.new) }
-        ensures cause { HasCleanDisk (store_of S.Store self.new) → (self.old.failed ≡ false → ShowsItsRows S.Store self.old) → IfErr result (IsStopped (store_of S.Store self.old) (store_of S.Store self.new)) }
+        ensures cause { HasCleanDisk (store_of S.Store self.new) → (self.old.failed ≡ false → ShowsItsRows S.Store self.old) →
+            IfErr result (IsStopped (store_of S.Store self.old) (store_of S.Store self.new)) }
     {
         if self.failed {
             return Err(StoreFault::Closed);
@@ -149,54 +161,9 @@ impl<S: Alter + Drop> World<S> {
     /// is no room for the replies, before anything is done; Store if the store failed, and then the batch in hand and those after
     /// it have no reply; Closed if the World had failed.
     pub fn run(&mut self, batches: &[Batch], replies: &mut Vec<Reply>) -> Result<(), StoreFault>
-        // The replies that were there stay, and after them comes one for each batch before the run stopped.
-        ensures stood { take (length replies.old.items) replies.new.items ≡ replies.old.items }
-        ensures each { OnOk result (length (added replies.old.items replies.new.items) ≡ length batches.now) }
-        ensures fewer { self.old.failed ≡ false → IfErr result (λ fault. fault ≢ StoreFault.OutOfMemory → length (added replies.old.items replies.new.items) < length batches.now) }
-
-        // Wherever the World stood, each of these batches has its turn. If the store failed, it failed in the next batch.
-        ensures turns { (known : Bool) (stand : Stand) → StandsAt S.Store known self.old stand → RunsAll S.Store known self.new stand batches.now (added replies.old.items replies.new.items) result }
-
-        // Each is judged after the accepted batches before it; or, if its calls are run, the reply may be NoMemory, which changes nothing.
-        ensures replies { (known : Bool) (s : _) → IsAt S.Store known self.old s →
-            let new = added replies.old.items replies.new.items in
-            Answered s (take (length new) batches.now) new (after s (acknowledged batches.now new)) }
-
-        // Then the World is at the state after the acknowledged batches. If the store failed, a crash leaves that state,
-        // or the one after the batch in hand.
-        ensures world { (known : Bool) (s : _) → IsAt S.Store known self.old s →
-            let new = added replies.old.items replies.new.items in
-            let end = after s (acknowledged batches.now new) in
-            MatchStore result (IsAt S.Store known self.new end) (IsTrue known → HasCleanDisk (store_of S.Store self.new) → LeftOrNext (store_of S.Store self.new) end (drop (length new) batches.now)) }
-        ensures left { (s : _) → IsAt S.Store true self.old s →
-            let end = after s (acknowledged batches.now (added replies.old.items replies.new.items)) in
-            MatchStore result (HasCleanDisk (store_of S.Store self.new) → Left (store_of S.Store self.new) end) ⊤ }
-
-        // A disk that returns what was written did so before.
-        ensures clean { HasCleanDisk (store_of S.Store self.new) → HasCleanDisk (store_of S.Store self.old) }
-
-        // In the tables, each acknowledged batch leads from rows that they show to rows that they show. A row that is the same
-        // in both keeps its cells, byte for byte, and so does a column that is the same in a row that changes. If the store
-        // failed, the batch in hand wrote nothing.
-        ensures cells { (s : _) → IsAt S.Store true self.old s → HasCleanDisk (store_of S.Store self.new) → IsKnown (store_of S.Store self.new) result → (tables : Tables) → Rests (store_of S.Store self.old) tables →
-            HasWritten S.Store self.old self.new tables (acknowledged batches.now (added replies.old.items replies.new.items)) }
-
-        // A crash leaves rows that the acknowledged batches lead to, or these and the batch in hand, with all numbers kept.
-        ensures led { RunLeaves S.Store self.old self.new batches.now (added replies.old.items replies.new.items) }
-
-        // Batches of which none is acknowledged change nothing.
-        ensures same { acknowledged batches.now (added replies.old.items replies.new.items) ≡ [] → MatchStore result (self.new ≡ self.old) ⊤ }
-
-        // If there is no room for the replies, nothing has changed. A failed World changes no more.
-        ensures memory { IsErrOf result StoreFault.OutOfMemory → (self.new ≡ self.old) × (replies.new.items ≡ replies.old.items) }
-        ensures closed { IsTrue self.old.failed → IsErrOf result StoreFault.Closed × (self.new ≡ self.old) × (replies.new.items ≡ replies.old.items) }
-        ensures failed { IfErr result (λ fault. (fault ≡ StoreFault.OutOfMemory) ⊎ IsTrue self.new.failed) }
-        ensures fault { IfErr result IsOfRun }
-
-        // A fault Store names what stopped the store: memory, the disk, a row too big to be stored, a limit on steps, or a table
-        // whose numbers are used up. SQL refuses nothing that a World writes.
-        ensures kept { KeepsFaults (store_of S.Store self.old) (store_of S.Store self.new) }
-        ensures cause { (s : _) → IsAt S.Store true self.old s → HasCleanDisk (store_of S.Store self.new) → IfErr result (IsStopped (store_of S.Store self.old) (store_of S.Store self.new)) }
+        // Wherever the World stood, each batch that has a reply had its turn, and the replies are those of its state. The acknowledged
+        // batches are in the tables, and a crash leaves them, or these and the batch in hand, in which the store failed.
+        ensures runs { RunsBatches S.Store self.old self.new batches.now replies.old.items replies.new.items result }
     {
         if self.failed {
             return Err(StoreFault::Closed);
@@ -215,8 +182,10 @@ impl<S: Alter + Drop> World<S> {
 
     /// What a batch would come to at present, with the present number. Nothing changes. The only fault is Closed.
     pub fn ask(&self, batch: &Batch) -> Result<Reply, StoreFault>
-        ensures verdict { (known : Bool) (s : _) → StandsFor S.Store known self.now s → IsOkAnd result (λ reply. (reply ≡ Reply.NoMemory) ⊎ (reply ≡ answer_of s (verdict s batch.now))) }
-        ensures memory { (known : Bool) (s : _) → StandsFor S.Store known self.now s → IfOk result (λ reply. reply ≡ Reply.NoMemory → IsRun s batch.now) }
+        ensures verdict { (known : Bool) (s : _) → StandsFor S.Store known self.now s →
+            IsOkAnd result (λ reply. (reply ≡ Reply.NoMemory) ⊎ (reply ≡ answer_of s (verdict s batch.now))) }
+        ensures memory { (known : Bool) (s : _) → StandsFor S.Store known self.now s →
+            IfOk result (λ reply. reply ≡ Reply.NoMemory → IsRun s batch.now) }
         ensures closed { IsTrue self.now.failed → IsErrOf result StoreFault.Closed }
     {
         if self.failed {
@@ -239,9 +208,20 @@ impl<S: Alter + Drop> World<S> {
 
     /// A World that works and whose tables show its rows stands for their world. The call does nothing; its contract is what it is for.
     pub fn stands(&self)
-        ensures { (known : Bool) → self.now.failed ≡ false → (IsTrue known → ShowsItsRows S.Store self.now) → StandsFor S.Store known self.now (state_of self.now.rows.maps) }
+        ensures { (known : Bool) → self.now.failed ≡ false → (IsTrue known → ShowsItsRows S.Store self.now) →
+            StandsFor S.Store known self.now (state_of self.now.rows.maps) }
     {
         let _failed = self.failed;
+    }
+
+    /// The rows, unless the World has failed.
+    pub fn good_rows(&self) -> Option<&Flat>
+        ensures good { IfSome result (λ rows. IsGood rows.now.maps) }
+        ensures state { (known : Bool) (s : _) → StandsFor S.Store known self.now s → IfSome result (λ rows. state_of rows.now.maps ≡ s) }
+        ensures works { IfSome result (λ _. self.now.failed ≡ false) }
+        ensures failed { IfNone result (IsTrue self.now.failed) }
+    {
+        if self.failed { None } else { Some(&self.rows) }
     }
 
     /// The rows of a World that works are good. The call does nothing; its contract is what it is for.
@@ -254,7 +234,8 @@ impl<S: Alter + Drop> World<S> {
     /// What a crash leaves of a World at rest, wherever it stands: the state of one that works. The call does nothing; its contract
     /// is what it is for.
     pub fn leaves(&self)
-        ensures { (known : Bool) (stand : Stand) → StandsAt S.Store known self.now stand → IsTrue known → HasCleanDisk (store_of S.Store self.now) → CrashLeaves (store_of S.Store self.now) stand }
+        ensures { (known : Bool) (stand : Stand) → StandsAt S.Store known self.now stand → IsTrue known →
+            HasCleanDisk (store_of S.Store self.now) → CrashLeaves (store_of S.Store self.now) stand }
     {
         let _failed = self.failed;
     }

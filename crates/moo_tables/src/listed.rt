@@ -54,7 +54,7 @@ fn is_pair_above(last: Option<(i64, i64)>, pair: (i64, i64)) -> bool
 }
 
 /// Whether the first column is a whole number that rises from row to row.
-fn are_numbered(rows: &[Row]) -> bool
+pub fn are_numbered(rows: &[Row]) -> bool
     ensures { IsTrue result ↔ AreKeyed rows.now }
 {
     let mut last = None;
@@ -71,7 +71,7 @@ fn are_numbered(rows: &[Row]) -> bool
 }
 
 /// Whether the first two columns are whole numbers that rise from row to row.
-fn are_paired(rows: &[Row]) -> bool
+pub fn are_paired(rows: &[Row]) -> bool
     ensures { IsTrue result ↔ ArePaired rows.now }
 {
     let mut last = None;

@@ -4,7 +4,7 @@ ghost use Rattle.std.specs.Prelude.{◌≡◌, IfOk, OnOk, OnErr, false, ◌⊎�
 ghost use Rattle.sqlite.specs.Held.{state};
 ghost use Rattle.sqlite.specs.State.{HasCleanDisk};
 ghost use Rattle.moo_tables.specs.Inside.{Rests, ReadsTables, FailsToRead};
-ghost use Rattle.moo_tables.specs.Listing.{ListsNumbers, ListsTables};
+ghost use Rattle.moo_tables.specs.Listing.{ListsNumbers, ListsPairs, ListsTables};
 ghost use Rattle.moo_tables.specs.Tables.{schema_of};
 
 use crate::counter::READ_PETITION_HEAD;
@@ -52,6 +52,57 @@ fn both_petition_cells_of<S: Alter>(
     let petition = all_rows(alloc, conn, READ_PETITION)?;
     let petition_head = all_rows(alloc, conn, READ_PETITION_HEAD)?;
     Ok((petition, petition_head))
+}
+
+/// The rows of `head`, of `petition` and of `petition_head`. If the version has no petitions the last two have none.
+///
+/// As of each of the readers of one table, nothing is written, and after a fault the tables are as they were, unless the fault shut the
+/// connection.
+pub fn small_cells_of<S: Alter>(
+    alloc: Global,
+    conn: &mut Connection<S>,
+    version: Version,
+) -> Result<(Vec<Row>, Vec<Row>, Vec<Row>), Error>
+    ensures outside { (state S.Store conn.old).in_transaction ≡ false → (state S.Store conn.new).in_transaction ≡ false }
+    ensures read { OnOk result (ReadsTables (schema_of version) (state S.Store conn.old) (state S.Store conn.new)) }
+    ensures listed { HasCleanDisk (state S.Store conn.new) → IfOk result (λ lists. (tables : _) → Rests (state S.Store conn.old) tables →
+        tables.version ≡ version → ListsNumbers lists.0.items tables.head × ListsNumbers lists.1.items tables.petition ×
+        ListsNumbers lists.2.items tables.petition_head) }
+    ensures failed { OnErr result (FailsToRead (schema_of version) (state S.Store conn.old) (state S.Store conn.new)) }
+{
+    let head = all_rows(alloc, conn, READ_HEAD)?;
+    let (petition, petition_head) = both_petition_cells_of(alloc, conn, version)?;
+    Ok((head, petition, petition_head))
+}
+
+/// The rows of `prop`, in the order of their numbers.
+pub fn prop_cells_of<S: Alter>(
+    alloc: Global,
+    conn: &mut Connection<S>,
+    version: Version,
+) -> Result<Vec<Row>, Error>
+    ensures outside { (state S.Store conn.old).in_transaction ≡ false → (state S.Store conn.new).in_transaction ≡ false }
+    ensures read { OnOk result (ReadsTables (schema_of version) (state S.Store conn.old) (state S.Store conn.new)) }
+    ensures listed { HasCleanDisk (state S.Store conn.new) → IfOk result (λ rows. (tables : _) → Rests (state S.Store conn.old) tables →
+        tables.version ≡ version → ListsNumbers rows.items tables.prop) }
+    ensures failed { OnErr result (FailsToRead (schema_of version) (state S.Store conn.old) (state S.Store conn.new)) }
+{
+    all_rows(alloc, conn, READ_PROP)
+}
+
+/// The rows of `verb`, in the order of their objects, then of their numbers.
+pub fn verb_cells_of<S: Alter>(
+    alloc: Global,
+    conn: &mut Connection<S>,
+    version: Version,
+) -> Result<Vec<Row>, Error>
+    ensures outside { (state S.Store conn.old).in_transaction ≡ false → (state S.Store conn.new).in_transaction ≡ false }
+    ensures read { OnOk result (ReadsTables (schema_of version) (state S.Store conn.old) (state S.Store conn.new)) }
+    ensures listed { HasCleanDisk (state S.Store conn.new) → IfOk result (λ rows. (tables : _) → Rests (state S.Store conn.old) tables →
+        tables.version ≡ version → ListsPairs rows.items tables.verb) }
+    ensures failed { OnErr result (FailsToRead (schema_of version) (state S.Store conn.old) (state S.Store conn.new)) }
+{
+    all_rows(alloc, conn, READ_VERB)
 }
 
 /// Reads the rows of each table, from the one that the version has them in; those of petitions if it has any.

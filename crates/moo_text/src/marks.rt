@@ -1,6 +1,6 @@
 //! The places of the lines of a batch in their text, for messages.
 
-use crate::line::{is_blank_line, is_end_line};
+use crate::line::{is_blank_line, is_end_line, next_word};
 use std::alloc::Global;
 
 /// Where the lines of the last batch are in their text. It serves messages alone: no contract speaks of it.
@@ -16,6 +16,18 @@ pub struct Marks {
     is_over: bool,
     /// The first bad line of the batch, without its end.
     bad: Vec<u8>,
+    /// The number of that line.
+    bad_line: Option<u64>,
+    /// A line after it begins a batch, which is skipped with it.
+    swallows: bool,
+}
+
+/// Whether the first word of a line is `batch`.
+fn begins_batch(line: &[u8]) -> bool {
+    match next_word(line) {
+        Some((word, _)) => word == b"batch".as_slice(),
+        None => false,
+    }
 }
 
 impl Marks {
@@ -25,6 +37,8 @@ impl Marks {
             numbers: Vec::new(alloc),
             is_over: false,
             bad: Vec::new(alloc),
+            bad_line: None,
+            swallows: false,
         }
     }
 
@@ -34,7 +48,12 @@ impl Marks {
         if self.is_over {
             self.numbers.clear();
             self.bad.clear();
+            self.bad_line = None;
+            self.swallows = false;
             self.is_over = false;
+        }
+        if !self.bad.is_empty() && begins_batch(line) {
+            self.swallows = true;
         }
         if is_blank_line(line) {
             return;
@@ -46,6 +65,7 @@ impl Marks {
     /// That line is the first bad one of the batch.
     pub(crate) fn spoil(&mut self, line: Vec<u8>) {
         self.bad = line;
+        self.bad_line = Some(self.count);
     }
 
     /// The line of the text that the batch begins with. The first line of a text is 1.
@@ -61,6 +81,16 @@ impl Marks {
     /// The first bad line of the batch, without its end; no bytes if it has none. A line over its limit is cut after it.
     pub fn bad(&self) -> &[u8] {
         self.bad.as_slice()
+    }
+
+    /// The line of the text that this is.
+    pub fn bad_line(&self) -> Option<u64> {
+        self.bad_line
+    }
+
+    /// Whether a batch begins after it, before the next line `end`: that batch is skipped too.
+    pub fn swallows(&self) -> bool {
+        self.swallows
     }
 
     /// So many lines were read.

@@ -7,7 +7,7 @@ mod locations;
 mod numbers;
 mod under;
 
-pub use ancestors::{chain, common, is_under};
+pub use ancestors::{chain, chain_keys, common, is_under};
 pub use lists::{children, contents, players};
 pub use locations::inside;
 pub use numbers::{is_nothing, nothing, valid};

@@ -26,7 +26,8 @@ fn visit<R: Rows>(
 ) -> Result<(), AllocError>
     requires tree { IsTree (world_of (R.held rows.now).maps) }
     requires object { is_object (world_of (R.held rows.now).maps) y ≡ true }
-    ensures found { OnOk result ((row : ObjRow) → get (R.held rows.now).maps.objects y ≡ Some row → contents object_cmp found.new ≡ insert (contents object_cmp found.old) y row.owner) }
+    ensures found { OnOk result ((row : ObjRow) → get (R.held rows.now).maps.objects y ≡ Some row →
+        contents object_cmp found.new ≡ insert (contents object_cmp found.old) y row.owner) }
     ensures below { OnOk result (below.new.items ≡ below.old.items ++ children_of (world_of (R.held rows.now).maps) y) }
 {
     let row = match rows.object(y) {

@@ -37,4 +37,5 @@ taking_verb_info world (owner, perms) names then = do
 -- the reason is true of any call about letters of rights and names of a verb such as these
 abbrev pub IsTrueOfVerbInfo : Maps → Name → Name → Reason → Type 0
 IsTrueOfVerbInfo maps letters names reason =
-    (programmer : ObjNo) (about : About) → IsTrueOf maps programmer (record about { letters = Some letters; verb_names = Some names }) reason
+    (programmer : ObjNo) (about : About) →
+    IsTrueOf maps programmer (record about { letters = Some letters; verb_names = Some names }) reason

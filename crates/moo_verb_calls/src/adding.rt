@@ -37,7 +37,9 @@ pub(crate) fn bits_taken<R: Rows>(rows: &R, verb: VerbInfo<'_>) -> Result<VerbBi
     ensures owner { OnOk result (is_object (world_in (R.held rows.now)) verb.entry.info.owner ≡ true) }
     ensures bits { IfOk result (λ bits. verb_bits_of verb.entry.info.perms.now ≡ Some bits) }
     ensures names { OnOk result (has_word verb.entry.names.now ≡ true) }
-    ensures err { IfErr result (λ reason. (then : VerbBits → Outcome World) → taking_verb_info (world_in (R.held rows.now)) (verb.entry.info.owner, verb.entry.info.perms.now) verb.entry.names.now then ≡ Failed (error_of reason)) }
+    ensures err { IfErr result (λ reason. (then : VerbBits → Outcome World) →
+        taking_verb_info (world_in (R.held rows.now))
+        (verb.entry.info.owner, verb.entry.info.perms.now) verb.entry.names.now then ≡ Failed (error_of reason)) }
     ensures told { IfErr result (IsTrueOfVerbInfo (R.held rows.now).maps verb.entry.info.perms.now verb.entry.names.now) }
 {
     if !valid(rows, verb.info.owner) {

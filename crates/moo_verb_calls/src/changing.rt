@@ -35,7 +35,8 @@ pub fn delete_verb<R: Rows>(
     ensures comes { ComesTo (delete_verb (world_in (R.held rows.old)) programmer x desc.now) (R.held rows.old) (R.held rows.new) result }
     ensures kept { OnOk result (Keeps (R.held rows.old) (R.held rows.new)) }
     ensures gone { OnOk result
-        ((id : VerbId) × (option_map (λ f. f.0) (found_verb (world_in (R.held rows.old)) x desc.now) ≡ Some (verb_place (R.held rows.old).maps x id))
+        ((id : VerbId)
+        × (option_map (λ f. f.0) (found_verb (world_in (R.held rows.old)) x desc.now) ≡ Some (verb_place (R.held rows.old).maps x id))
         × ((R.held rows.new).maps.verbs ≡ remove (R.held rows.old).maps.verbs (x, id))) }
     ensures told { IsTold (R.held rows.old).maps programmer (about_verb x desc.now) result }
 {

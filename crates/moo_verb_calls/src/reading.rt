@@ -62,8 +62,10 @@ fn readable_verb<'a, R: Rows>(
     desc: &Desc,
 ) -> Result<&'a VerbRow, Reason>
     requires { IsGood (R.held rows.now).maps }
-    ensures ok { IfOk result (λ verb. (then : VerbRow → Outcome World) → reading_verb (world_in (R.held rows.now)) programmer x desc.now then ≡ then verb.now) }
-    ensures err { IfErr result (λ reason. (then : VerbRow → Outcome World) → reading_verb (world_in (R.held rows.now)) programmer x desc.now then ≡ Failed (error_of reason)) }
+    ensures ok { IfOk result (λ verb. (then : VerbRow → Outcome World) →
+        reading_verb (world_in (R.held rows.now)) programmer x desc.now then ≡ then verb.now) }
+    ensures err { IfErr result (λ reason. (then : VerbRow → Outcome World) →
+        reading_verb (world_in (R.held rows.now)) programmer x desc.now then ≡ Failed (error_of reason)) }
     ensures told { IfErr result (IsTrueOf (R.held rows.now).maps programmer (about_verb x desc.now)) }
 {
     if !valid(rows, x) {

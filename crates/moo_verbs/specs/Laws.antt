@@ -19,7 +19,8 @@ MatchesStar front behind word =
 
 -- the first star of a name counts
 abbrev pub StarsMatch : Type 0
-StarsMatch = (front behind word : Name) → list_any is_star front ≡ false → Decides (matches (front ++ 42 ∷ behind) word) (MatchesStar front behind word)
+StarsMatch = (front behind word : Name) → list_any is_star front ≡ false →
+    Decides (matches (front ++ 42 ∷ behind) word) (MatchesStar front behind word)
 
 -- a name without a star matches itself alone
 abbrev pub NamesMatch : Type 0

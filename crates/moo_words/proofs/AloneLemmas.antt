@@ -2,7 +2,7 @@
 use Rattle.std.{proofs.Common.{◌≡◌, ◌<◌, ◌≤◌, inl, inr, ℕ, List, Option, Some, None, option_map, refl, sym, ap, subst, ◌∙◌, arith, length}, proofs.lemmas.Bool.{true≢false}, specs.Str.{bytes_eq}, specs.Str.Parse.{digits_value, without_leading_plus}}
 use Rattle.std.specs.Prelude.{codes, find, option_and_then, slice_get}
 use Rattle.clap.{specs.Walk.{Row, Text, first_of, one_of, row_text}, specs.Values.{read_as}, specs.Simple.{subcommand_of}}
-use Rattle.moo_words.{specs.Commands.{moo_app}, specs.declared.task.Task.{Task}, specs.declared.task.Service.{Service}, specs.declared.task.Action.{Action}, specs.declared.task.Action.TheVariants.{Init, Apply, Ask, Dump, Load, Check, Serve}, specs.Tasks.{HasNumber, HasCount, IsService, HasArguments, IsTask, NamesTask, NamesAlone, command_of, text_word, service_of, request_of}}
+use Rattle.moo_words.{specs.Commands.{moo_app}, specs.declared.task.Task.{Task}, specs.declared.task.Service.{Service}, specs.declared.task.Action.{Action}, specs.declared.task.Action.TheVariants.{Init, Apply, Rehearse, Ask, Dump, Load, Check, Serve}, specs.declared.task.Options.{Options}, specs.Tasks.{AreOptions, HasNumber, HasCount, IsService, HasArguments, IsTask, NamesTask, NamesAlone, command_of, text_word, options_of, service_of, request_of}}
 
 same_some : {A : Type 0} (o : Option A) (a b : A) → o ≡ Some a → o ≡ Some b → a ≡ b
 same_some o a b e f = let same : Some a ≡ Some b = sym e ∙ f in cc
@@ -31,14 +31,18 @@ one_count rows n m (inr of) (inr also) = of.1 ∙ sym also.1
 one_service : (rows : List Row) (a b : Service) → IsService rows a → IsService rows b → a ≡ b
 one_service rows a b of also = grind (arith, one_number, one_count)
 
-one_action : (rows : List Row) (a b : Action) → command_of a ≡ command_of b → HasArguments rows a → HasArguments rows b → (text_word a ≡ text_word b) × (service_of a ≡ service_of b)
-one_action rows (Apply batches) (Apply others) same of also = (sym of ∙ also, refl)
-one_action rows (Ask batches) (Ask others) same of also = (sym of ∙ also, refl)
-one_action rows (Load dump) (Load other) same of also = (sym of ∙ also, refl)
-one_action rows (Serve service) (Serve other) same of also = (refl, ap Some (one_service rows service other of also))
-one_action rows Init Init same of also = (refl, refl)
-one_action rows Dump Dump same of also = (refl, refl)
-one_action rows Check Check same of also = (refl, refl)
+one_options : (rows : List Row) (a b : Options) → AreOptions rows a → AreOptions rows b → a ≡ b
+one_options rows a b of also = grind arith
+
+one_action : (rows : List Row) (a b : Action) → command_of a ≡ command_of b → HasArguments rows a → HasArguments rows b → (text_word a ≡ text_word b) × (options_of a ≡ options_of b) × (service_of a ≡ service_of b)
+one_action rows (Apply batches) (Apply others) same of also = (sym of.0 ∙ also.0, ap Some (one_options rows batches.options others.options of.1 also.1), refl)
+one_action rows (Rehearse batches) (Rehearse others) same of also = (sym of.0 ∙ also.0, ap Some (one_options rows batches.options others.options of.1 also.1), refl)
+one_action rows (Ask batches) (Ask others) same of also = (sym of ∙ also, refl, refl)
+one_action rows (Load dump) (Load other) same of also = (sym of ∙ also, refl, refl)
+one_action rows (Serve service) (Serve other) same of also = (refl, refl, ap Some (one_service rows service other of also))
+one_action rows Init Init same of also = (refl, refl, refl)
+one_action rows Dump Dump same of also = (refl, refl, refl)
+one_action rows Check Check same of also = (refl, refl, refl)
 one_action rows a b same of also = absurd (true≢false (ap (bytes_eq (command_of a)) same))
 
 one_task : (found : Text × List Row) (a b : Task) → IsTask found a → IsTask found b → request_of a ≡ request_of b
@@ -47,7 +51,8 @@ one_task found a b (of, (name, arguments)) (also, (other, others)) =
     let files : a.file.now ≡ b.file.now = same_some _ _ _ of also in
     let words = one_action found.1 a.action b.action commands arguments others in
     let texts : text_word a.action ≡ text_word b.action = words.0 in
-    let services : service_of a.action ≡ service_of b.action = words.1 in
+    let options : options_of a.action ≡ options_of b.action = words.1 in
+    let services : service_of a.action ≡ service_of b.action = words.2 in
     cc
 
 not_both : (n : ℕ) → n ≤ 1 → 1 < n → ⊥

@@ -1,12 +1,19 @@
 -- What the getters of the matches read.
-use Rattle.std.{proofs.Common.{◌≡◌, ℕ, List, Option, Some, None, Result, Ok, IfSome, Bor, option_map, refl, sym, ap, ◌∙◌}, specs.Box.{box_value}, specs.Str.Parse.{digits_value, without_leading_plus}}
+use Rattle.std.{proofs.Common.{◌≡◌, ℕ, Bool, false, List, Option, Some, None, Result, Ok, IfSome, Bor, option_map, refl, sym, ap, ◌∙◌}, specs.Box.{box_value}, specs.Option.{option_map_or}, specs.Prelude.{codes}, specs.Str.{bytes_eq}, specs.Str.Parse.{digits_value, without_leading_plus}}
 use Rattle.clap.{specs.Matches.{ReadsOne, first_value, one_text}, specs.Walk.{Row, Text, rows_of, first_of}, specs.declared.parser.matches.Found.{Found}, specs.Matches.{subcommand_name_of}, specs.Simple.{subcommand_rows, subcommand_rows_of}, specs.declared.parser.matches.ArgMatches.{ArgMatches}, specs.declared.parser.matches.ArgMatches.TheViews.{out-ArgMatches, out-SubCommand}, proofs.WalkLemmas.{first_value-rows, one_text-rows}}
-use Rattle.moo_words.specs.Tasks.{HasNumber, HasText}
+use Rattle.moo_words.specs.Tasks.{HasNumber, HasText, is_set}
 
 pub text_given : (found : Found) (id : Text) (r : Option (Bor (List ℕ))) → option_map (λ s. s.now) r ≡ first_value found id
     → IfSome r (λ text. HasText (rows_of found) id text.now)
 text_given found id None e = tt
 text_given found id (Some text) e = sym (first_value-rows found id) ∙ sym e
+
+-- a flag is given if its text is `true`
+abbrev pub says_true : Option (Bor (List ℕ)) → Bool
+says_true r = option_map_or (λ text. bytes_eq text (codes "true")) (option_map (λ s. s.now) r) false
+
+pub set_given : (found : Found) (id : Text) (r : Option (Bor (List ℕ))) → option_map (λ s. s.now) r ≡ first_value found id → says_true r ≡ is_set id (rows_of found)
+set_given found id r e = ap (λ o. option_map_or (λ text. bytes_eq text (codes "true")) o false) (e ∙ first_value-rows found id)
 
 pub no_text : (found : Found) (id : Text) (r : Option (Bor (List ℕ))) → option_map (λ s. s.now) r ≡ first_value found id → r ≡ None → first_of id (rows_of found) ≡ None
 no_text found id r e none = sym (first_value-rows found id) ∙ sym e ∙ ap (option_map (λ s. s.now)) none

@@ -3,10 +3,11 @@ ghost use Rattle.std.specs.Prelude.{◌≡◌, false, codes, IfOk};
 ghost use Rattle.clap.specs.Walk.{rule_of};
 ghost use Rattle.clap.specs.Simple.{App, app_of, new_app, with_rule, with_subcommand};
 ghost use Rattle.clap.specs.declared.builder.command.Command.TheViews.{out-Command as fields_of};
-ghost use Rattle.moo_words.specs.Commands.{text_rule, port_rule, count_rule, file_app, serve_app, program_app, moo_app};
+ghost use Rattle.moo_words.specs.Commands.{text_rule, flag_rule, port_rule, count_rule, file_app, batches_app, running_app, load_app};
+ghost use Rattle.moo_words.specs.Commands.{serve_app, program_app, moo_app};
 
 use crate::help;
-use clap::{Arg, Command, value_parser};
+use clap::{Arg, ArgAction, Command, value_parser};
 use std::alloc::{AllocError, Global};
 
 fn text_arg<'a>(alloc: Global, id: &'a str, about: &'a str) -> Arg<'a>
@@ -14,6 +15,17 @@ fn text_arg<'a>(alloc: Global, id: &'a str, about: &'a str) -> Arg<'a>
     ensures local { result.global ≡ false }
 {
     Arg::new(alloc, id).required(true).help(about)
+}
+
+/// A flag: it is there or it isn't.
+fn flag_arg<'a>(alloc: Global, name: &'a str, about: &'a str) -> Arg<'a>
+    ensures rule { rule_of result ≡ flag_rule name.entry.now }
+    ensures local { result.global ≡ false }
+{
+    Arg::new(alloc, name)
+        .long(name)
+        .action(ArgAction::SetTrue)
+        .help(about)
 }
 
 fn port_arg<'a>(alloc: Global) -> Arg<'a>
@@ -70,6 +82,46 @@ fn text_command<'a>(
     file_command(alloc, name, about, more)?.arg(text_arg(alloc, id, text))
 }
 
+/// A command of a file and batches.
+fn batches_command<'a>(
+    alloc: Global,
+    name: &'a str,
+    about: &'a str,
+    more: &'a str,
+) -> Result<Command<'a>, AllocError>
+    ensures shape { IfOk result (λ command. app_of command ≡ batches_app name.entry.now) }
+    ensures local { IfOk result (λ command. (fields_of command).has_globals ≡ false) }
+{
+    text_command(alloc, name, about, more, "BATCHES", help::BATCHES)
+}
+
+/// A command of a file and batches that may stop.
+fn running_command<'a>(
+    alloc: Global,
+    name: &'a str,
+    about: &'a str,
+    more: &'a str,
+) -> Result<Command<'a>, AllocError>
+    ensures shape { IfOk result (λ command. app_of command ≡ running_app name.entry.now) }
+    ensures local { IfOk result (λ command. (fields_of command).has_globals ≡ false) }
+{
+    batches_command(alloc, name, about, more)?.arg(flag_arg(alloc, "stop", help::STOP))
+}
+
+fn load_command<'a>(alloc: Global) -> Result<Command<'a>, AllocError>
+    ensures shape { IfOk result (λ command. app_of command ≡ load_app) }
+    ensures local { IfOk result (λ command. (fields_of command).has_globals ≡ false) }
+{
+    text_command(
+        alloc,
+        "load",
+        help::LOAD,
+        help::LOAD_MORE,
+        "DUMP",
+        help::DUMP_FILE,
+    )
+}
+
 fn serve_command<'a>(alloc: Global) -> Result<Command<'a>, AllocError>
     ensures shape { IfOk result (λ command. app_of command ≡ serve_app) }
     ensures local { IfOk result (λ command. (fields_of command).has_globals ≡ false) }
@@ -105,35 +157,15 @@ pub(crate) fn moo_command<'a>(alloc: Global) -> Result<Command<'a>, AllocError>
 {
     let command = file_command(alloc, "init", help::INIT, help::INIT_MORE);
     let program = with_command(Ok(program(alloc)), command);
-    let command = text_command(
-        alloc,
-        "apply",
-        help::APPLY,
-        help::APPLY_MORE,
-        "BATCHES",
-        help::BATCHES,
-    );
+    let command = running_command(alloc, "apply", help::APPLY, help::APPLY_MORE);
     let program = with_command(program, command);
-    let command = text_command(
-        alloc,
-        "ask",
-        help::ASK,
-        help::ASK_MORE,
-        "BATCHES",
-        help::BATCHES,
-    );
+    let command = running_command(alloc, "rehearse", help::REHEARSE, help::REHEARSE_MORE);
+    let program = with_command(program, command);
+    let command = batches_command(alloc, "ask", help::ASK, help::ASK_MORE);
     let program = with_command(program, command);
     let command = file_command(alloc, "dump", help::DUMP, help::DUMP_MORE);
     let program = with_command(program, command);
-    let command = text_command(
-        alloc,
-        "load",
-        help::LOAD,
-        help::LOAD_MORE,
-        "DUMP",
-        help::DUMP_FILE,
-    );
-    let program = with_command(program, command);
+    let program = with_command(program, load_command(alloc));
     let command = file_command(alloc, "check", help::CHECK, help::CHECK_MORE);
     let program = with_command(program, command);
     with_command(program, serve_command(alloc))

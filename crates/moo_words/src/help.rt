@@ -7,6 +7,8 @@ pub(crate) const FILE: &str =
 
 pub(crate) const BATCHES: &str = "A file of batches, or - for standard input";
 
+pub(crate) const STOP: &str = "End after the first reply that isn't `accepted`, with status 1";
+
 pub(crate) const DUMP_FILE: &str = "A file that `moo dump` wrote, or - for standard input";
 
 pub(crate) const PORT: &str = "The port on 127.0.0.1 to listen on, 1 to 65535";
@@ -30,11 +32,12 @@ as `create(#1)`, then a line `end`. It acts whole or not at all.
 `moo apply --help` lists the calls, the values and the replies. `moo COMMAND --help` says of each command
 what it writes, and how it ends.
 
-Exit status: 0 done, and no reply is `fault` or `closed`; 1 a reply is, or the store, a stream or the port
-failed; 2 the words are wrong; 3 the world in the file is damaged or of a newer version, or a text isn't a
-dump; 4 out of memory. A file that can't be read as a database, or isn't one of moo, is a store fault, 1.
+Exit status: 0 done, and no reply is `fault` or `closed`; 1 a reply is, or `--stop` ended a text early, or
+the store, a stream or the port failed; 2 the words are wrong; 3 the world in the file is damaged or of a
+newer version, or a text isn't a dump; 4 out of memory. A file that can't be read as a database, or isn't
+one of moo, is a store fault, 1.
 
-A file of version 1 is migrated to version 2 when it is opened, by ask, dump and check too.
+A file of version 1 is migrated to version 2 when it is opened, by rehearse, ask, dump and check too.
 
 A failure is a line on standard output; standard error says why the store, the batches or the port failed.
 If standard output failed, batches may be committed all the same: `moo check FILE` says S.";
@@ -77,8 +80,9 @@ Standard output, for each batch:
   nomemory       out of memory in it
   fault          the store failed in it; the reply to each batch after it is `closed`
 Only an accepted batch changes the world; one with `fault` may be committed too: `moo check FILE` says S. The
-batches after a refused one are run all the same. Each accepted batch counts, even if it only reads:
-`moo ask` looks without counting.
+batches after a refused one are run all the same; with `--stop` nothing after the first reply that isn't
+`accepted` is run. `moo rehearse` prints the same and changes nothing. Each accepted batch counts, even if it
+only reads: `moo ask` looks without counting.
 
 Values: 12 and -5; objects #4, and #-1 for no object; texts \"a \\\"b\\\" c\"; errors E_PERM; lists
 {1, {#2, \"a\"}}. Numbers other than 0 are true, and texts and lists that aren't empty.
@@ -138,14 +142,31 @@ Why a call is refused, E_NAME:
   E_RECMOVE  O would be in itself, or under itself
   E_NACC     PLACE doesn't accept O, and the programmer isn't a wizard
 
-Exit status: 0 each batch has its reply, and no reply is `fault` or `closed`; 1 one is, or standard output
-failed, or the last line is `moo: store fault`, `moo: read fault` or `moo: input too long`;
-3 `moo: damaged KIND KEY` or `moo: newer version`; 4 `moo: no memory`.
+Exit status: 0 each batch has its reply, and no reply is `fault` or `closed`; 1 one is, or `--stop` met a
+reply that isn't `accepted`, or standard output failed, or the last line is `moo: store fault`,
+`moo: read fault` or `moo: input too long`; 3 `moo: damaged KIND KEY` or `moo: newer version`;
+4 `moo: no memory`.
 
 Example:
   printf 'batch as #3\\ncreate(#1)\\nset(#4, \"name\", \"Lantern\")\\nend\\n' | moo apply world.db -";
 
-pub(crate) const ASK: &str = "Print what the batches of a text would answer, and change nothing";
+pub(crate) const REHEARSE: &str =
+    "Print what `moo apply` would print for a text, and change nothing";
+
+pub(crate) const REHEARSE_MORE: &str =
+    "Standard output: what `moo apply` would print, with its numbers. Each batch is judged on the world that the
+batches before it would have left. `moo apply --help` lists replies, values and calls. No batch is committed:
+nothing is written to FILE, but a file of version 1 is migrated.
+
+`--stop` ends it where `moo apply --stop` would end.
+
+Exit status: that of `moo apply`.
+
+Example:
+  moo rehearse --stop world.db build.txt && moo apply --stop world.db build.txt";
+
+pub(crate) const ASK: &str =
+    "Print what each batch of a text would answer at present, and change nothing";
 
 pub(crate) const ASK_MORE: &str =
     "Standard output: the replies of `moo apply`. Each batch is judged on the world as it is: no batch sees what
@@ -221,11 +242,13 @@ pub(crate) const SERVE_MORE: &str =
     "Standard output: `listening 127.0.0.1:PORT` once FILE is open and the port is bound; at the end, after COUNT
 connections, `served A failed F`. Without COUNT that is after 4,294,967,295 connections.
 
-POST /batch runs a batch, POST /ask says what it would answer. The body is JSON, with calls as in a text:
+POST /batch runs a batch, POST /ask says what it would answer, and POST /each what each of its calls alone
+would. The body is JSON, with calls as in a text:
   {\"as\":\"#3\",\"calls\":[\"create(#1)\"]}, and \"at\":17, a bare number, to act only on a world with number 17
 Other keys are ignored: a mistyped \"at\" guards nothing. GET /seq answers the number, and GET /object/5 the
 built-in properties of #5, its children and its contents. GET /objects/5 lists objects from #5
-on. With ?why after /batch or /ask a refusal says why. Answers are JSON:
+on, and GET /dump is what `moo dump` writes. With ?why after /batch, /ask or /each a refusal says why.
+Answers are JSON, but for a dump:
   200 {\"answers\":[\"#4\",\"{1, 2}\"],\"seq\":18}   each answer a string, as in a text; or what GET asks
   409 {\"call\":K,\"error\":\"E_PERM\"} or {\"error\":\"stale\",\"seq\":S}     it is refused, and changed nothing
   400 {\"error\":\"bad request\"} or {\"call\":K,\"error\":\"malformed\"}; 413 its body is over 1,048,576 bytes

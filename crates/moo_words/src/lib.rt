@@ -5,4 +5,4 @@ mod commands;
 mod help;
 mod task;
 
-pub use task::{Action, Service, Task, Usage, read_words};
+pub use task::{Action, Batches, Options, Service, Task, Usage, read_words};

@@ -3,7 +3,8 @@ ghost use Rattle.std.specs.Prelude.{◌≡◌, ◌<◌, List, Some, map, IfOk, I
 ghost use Rattle.clap.specs.Simple.{subcommand_rows_of};
 ghost use Rattle.clap.specs.Walk.{Row, Text, rows_of};
 ghost use Rattle.clap.specs.Matches.{found_of};
-ghost use Rattle.moo_words.specs.Tasks.{HasNumber, HasText, HasCount, IsService, IsAction, IsTask, IsRefusal, NamesTask, NamesAlone};
+ghost use Rattle.moo_words.specs.Tasks.{HasNumber, HasText, is_set, AreOptions, AreBatches, HasCount, IsService, IsAction, IsTask};
+ghost use Rattle.moo_words.specs.Tasks.{IsRefusal, NamesTask, NamesAlone};
 
 use crate::commands::moo_command;
 use clap::{ArgMatches, Error};
@@ -18,14 +19,16 @@ pub struct Task<'a> {
 
 /// What a command does with its file.
 ///
-/// `batches` is the path of a text of batches, and `dump` that of a dump; `-` is standard input.
+/// `batches` of `Ask` is the path of a text of batches, and `dump` that of a dump; `-` is standard input.
 #[derive(Clone, Copy, Drop)]
 pub enum Action<'a> {
     /// Make a new world.
     Init,
     /// Run the batches of a text.
-    Apply { batches: &'a str },
-    /// Say what the batches of a text would answer.
+    Apply(Batches<'a>),
+    /// Say what running the batches of a text would answer.
+    Rehearse(Batches<'a>),
+    /// Say what each batch of a text would answer at present.
     Ask { batches: &'a str },
     /// Print the whole world.
     Dump,
@@ -35,6 +38,19 @@ pub enum Action<'a> {
     Check,
     /// Answer requests.
     Serve(Service),
+}
+
+/// Which batches are run: those of a text, whose path this is, or of standard input for `-`; and how.
+#[derive(Clone, Copy, Drop)]
+pub struct Batches<'a> {
+    pub path: &'a str,
+    pub options: Options,
+}
+
+/// How batches are run: whether they stop after the first reply that isn't `accepted`.
+#[derive(Clone, Copy, Drop)]
+pub struct Options {
+    pub stop: bool,
 }
 
 /// How `serve` answers: on this port of 127.0.0.1, 1 to 65535, and it ends after so many connections, 0 to 1,000,000, or 4,294,967,295 if
@@ -63,6 +79,16 @@ fn text_of<'a>(matches: &ArgMatches<'a>, id: &str) -> Option<&'a str>
     ensures { IfSome result (λ text. HasText (rows_of (found_of matches.now)) id.now text.now) }
 {
     matches.get_str(id)
+}
+
+// Whether a flag is given.
+fn flag_of(matches: &ArgMatches<'_>, id: &str) -> bool
+    ensures { result ≡ is_set id.now (rows_of (found_of matches.now)) }
+{
+    match matches.get_str(id) {
+        Some(text) => text == "true",
+        None => false,
+    }
 }
 
 // The number of an argument.
@@ -103,19 +129,40 @@ fn service_in(matches: &ArgMatches<'_>) -> Option<Service>
     })
 }
 
+// How a command is to run its batches.
+fn options_in(matches: &ArgMatches<'_>) -> Options
+    ensures { AreOptions (rows_of (found_of matches.now)) result }
+{
+    Options {
+        stop: flag_of(matches, "stop"),
+    }
+}
+
+// Which batches a command is to run, and how.
+fn batches_in<'a>(matches: &ArgMatches<'a>) -> Option<Batches<'a>>
+    ensures { IfSome result (AreBatches (rows_of (found_of matches.now))) }
+{
+    let path = text_of(matches, "BATCHES")?;
+    let options = options_in(matches);
+    Some(Batches { path, options })
+}
+
 // The action of a command that reads a text.
 fn text_action_in<'a>(name: &str, matches: &ArgMatches<'a>) -> Option<Action<'a>>
     ensures { IfSome result (IsAction (name.now, rows_of (found_of matches.now))) }
 {
-    if name == "load" {
-        let dump = text_of(matches, "DUMP")?;
-        return Some(Action::Load { dump });
-    }
-    let batches = text_of(matches, "BATCHES")?;
     if name == "apply" {
-        Some(Action::Apply { batches })
+        let batches = batches_in(matches)?;
+        Some(Action::Apply(batches))
+    } else if name == "rehearse" {
+        let batches = batches_in(matches)?;
+        Some(Action::Rehearse(batches))
     } else if name == "ask" {
+        let batches = text_of(matches, "BATCHES")?;
         Some(Action::Ask { batches })
+    } else if name == "load" {
+        let dump = text_of(matches, "DUMP")?;
+        Some(Action::Load { dump })
     } else {
         None
     }
@@ -163,7 +210,10 @@ pub fn read_words<'a>(alloc: Global, words: &'a [&'a str]) -> Result<Task<'a>, U
     if words.len() <= 1 {
         return Ok(Task {
             file: ":memory:",
-            action: Action::Apply { batches: "-" },
+            action: Action::Apply(Batches {
+                path: "-",
+                options: Options { stop: false },
+            }),
         });
     }
     let command = match moo_command(alloc) {

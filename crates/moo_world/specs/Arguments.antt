@@ -1,6 +1,7 @@
--- What a call is given. A wrong number of arguments is E_ARGS. A wrong type is E_TYPE. So is a list such as {owner, perms} with a wrong number
--- of values, or one of a wrong type.
-use Rattle.std.specs.Prelude.{ℕ, nat_le, nat_lt, ℤ, pos, negsuc, Bool, true, ◌&&◌, List, [], ◌∷◌, length, Option, Some, None, Result, Ok, Err, ok_or, if◌then◌else◌}
+-- What a call is given. A wrong number of arguments is E_ARGS. A wrong type is E_TYPE. So is a list such as {owner, perms} with a wrong
+-- number of values, or one of a wrong type.
+use Rattle.std.specs.Prelude.{ℕ, nat_le, nat_lt, ℤ, pos, negsuc, Bool, true, ◌&&◌, List, [], ◌∷◌}
+use Rattle.std.specs.Prelude.{length, Option, Some, None, Result, Ok, Err, ok_or, if◌then◌else◌}
 use Rattle.std.specs.List.{list_all}
 use Rattle.std.specs.Option.{option_map}
 use Rattle.std.specs.Ordering.{int_eq}
@@ -9,7 +10,8 @@ use Rattle.moo_value.specs.declared.value.Value.{Value}
 use Rattle.moo_value.specs.declared.value.Value.TheVariants.{Int, Obj, Str, Error, List as a_list}
 use Rattle.moo_value.specs.Text.{is_allowed}
 use Rattle.moo_value.specs.Value.{nesting, spread}
-use Rattle.moo_value.specs.Values.{Values, no_values as none_left, int as integer_first, object as object_first, string as string_first, error as error_first, list as list_first}
+use Rattle.moo_value.specs.Values.{Values, no_values as none_left, int as integer_first}
+use Rattle.moo_value.specs.Values.{object as object_first, string as string_first, error as error_first, list as list_first}
 use Rattle.moo_world.specs.declared.descriptor.Desc.{Desc}
 use Rattle.moo_world.specs.declared.descriptor.Desc.TheVariants.{Index, Name as a_word}
 use Rattle.moo_world.specs.Objects.{Name}
@@ -131,7 +133,8 @@ info_and_name_in other = None
 
 -- what add_property takes
 abbrev pub new_property : List Value → Result (ObjNo × (Name × Value × Info)) Code
-new_property (Obj object ∷ Str name ∷ value ∷ a_list info ∷ []) = beside_object object (option_map (λ read. (name, value, read)) (info_in (spread info)))
+new_property (Obj object ∷ Str name ∷ value ∷ a_list info ∷ []) =
+    beside_object object (option_map (λ read. (name, value, read)) (info_in (spread info)))
 new_property (a ∷ b ∷ c ∷ d ∷ []) = Err E_TYPE
 new_property args = Err E_ARGS
 
@@ -144,7 +147,9 @@ pub record NewPropertyInfo : Type 0 where
 
 abbrev pub new_property_info : List Value → Result NewPropertyInfo Code
 new_property_info (Obj object ∷ Str name ∷ a_list info ∷ []) =
-    ok_or (option_map (λ (info, new_name). record { object = object; name = name; info = info; new_name = new_name }) (info_and_name_in (spread info))) E_TYPE
+    ok_or (option_map (λ (info, new_name). record { object = object; name = name; info = info; new_name = new_name })
+    (info_and_name_in (spread info)))
+    E_TYPE
 new_property_info (a ∷ b ∷ c ∷ []) = Err E_TYPE
 new_property_info args = Err E_ARGS
 

@@ -19,12 +19,14 @@ use Rattle.moo_world.specs.Rows.{IsGood, world_of}
 abbrev pub HeldCallsLead : ObjNo → List Value → Maps → Maps → Type 0
 HeldCallsLead programmer [] old new = new ≡ old
 HeldCallsLead programmer (held ∷ helds) old new =
-    (answer : Value) × (mid : Maps) × (in_world (state_of old) (held_step (world_of old) programmer held) ≡ Done answer (state_of mid)) × IsGood mid × KeepsNumbers old mid × HeldCallsLead programmer helds mid new
+    (answer : Value) × (mid : Maps) × (in_world (state_of old) (held_step (world_of old) programmer held) ≡ Done answer (state_of mid))
+    × IsGood mid × KeepsNumbers old mid × HeldCallsLead programmer helds mid new
 
 -- the petition goes that is granted, and then the calls that it holds lead on
 abbrev pub GrantLeads : ObjNo → List Value → Maps → Maps → Type 0
 GrantLeads programmer args old new =
-    (number : ℤ) × (found : PetitionId × PetitionRow) × (one_integer args ≡ Ok number) × (petition_at (state_of old) number ≡ Some found) × HeldCallsLead programmer (spread found.1.calls) (record old { petitions = remove old.petitions found.0 }) new
+    (number : ℤ) × (found : PetitionId × PetitionRow) × (one_integer args ≡ Ok number) × (petition_at (state_of old) number ≡ Some found)
+    × HeldCallsLead programmer (spread found.1.calls) (record old { petitions = remove old.petitions found.0 }) new
 
 -- what a call does to numbers: one change, or, if it grants a petition, one for each call that the petition holds
 abbrev pub CallKeepsNumbers : Bool → ObjNo → List Value → Maps → Maps → Type 0
@@ -35,13 +37,16 @@ CallKeepsNumbers false programmer args = KeepsNumbers
 abbrev pub CallsLead : ObjNo → List Call → Maps → Maps → Type 0
 CallsLead programmer [] old new = new ≡ old
 CallsLead programmer (call ∷ calls) old new =
-    (answer : Value) × (mid : Maps) × (batch_call (state_of old) programmer call ≡ Done answer (state_of mid)) × IsGood mid × CallKeepsNumbers (is_grant call.name) programmer call.args old mid × CallsLead programmer calls mid new
+    (answer : Value) × (mid : Maps) × (batch_call (state_of old) programmer call ≡ Done answer (state_of mid)) × IsGood mid
+    × CallKeepsNumbers (is_grant call.name) programmer call.args old mid × CallsLead programmer calls mid new
 
 -- the calls of the batch do, and the batch is counted
 abbrev pub BatchLeads : Batch → Maps → Maps → Type 0
 BatchLeads batch old new =
-    (last : Maps) × CallsLead batch.programmer batch.calls old last × (new ≡ record last { head = record (last.head) { seq = old.head.seq + 1 } })
+    (last : Maps) × CallsLead batch.programmer batch.calls old last
+    × (new ≡ record last { head = record (last.head) { seq = old.head.seq + 1 } })
 
 -- no batch gives a number again
 abbrev pub BatchesKeepNumbers : Type 0
-BatchesKeepNumbers = (batch : Batch) (old new : Maps) → BatchLeads batch old new → NumbersStay old new × PetitionsStay (state_of old) (state_of new)
+BatchesKeepNumbers =
+    (batch : Batch) (old new : Maps) → BatchLeads batch old new → NumbersStay old new × PetitionsStay (state_of old) (state_of new)

@@ -1,5 +1,5 @@
--- What each call on objects does: its checks, in their order, and then its answer and the world that it leaves. At the end, each call by its
--- name, those on properties and on verbs too.
+-- What each call on objects does: its checks, in their order, and then its answer and the world that it leaves. At the end, each call by
+-- its name, those on properties and on verbs too.
 -- From the LambdaMOO Programmer's Manual: 'Fundamental Operations on Objects', 'Object Movement' and 'Operations on Player Objects' in the
 -- part on built-in functions. E_RECMOVE for a parent that is the object itself or under it is LambdaMOO 1.8's. The manual doesn't give the
 -- order of the checks: it is that of the lines here. Accept lists are this server's own.
@@ -42,9 +42,16 @@ use Rattle.moo_world.specs.Recycling.{recycled}
 use Rattle.moo_world.specs.Fields.{field_changed}
 use Rattle.moo_world.specs.declared.call.Call.{Call}
 use Rattle.moo_world.specs.declared.name.CallName.{CallName}
-use Rattle.moo_world.specs.declared.name.CallName.TheVariants.{Valid, Parent, Children, IsPlayer, Players, MaxObject, Get, Properties, PropertyInfo, IsClearProperty, Verbs, VerbInfo, VerbArgs, AcceptList, Create, Chparent, Recycle, Move, SetPlayerFlag, Set, AddProperty, DeleteProperty, SetPropertyInfo, ClearProperty, AddVerb, DeleteVerb, SetVerbInfo, SetVerbArgs, SetAccept, Petition, Petitions, Grant, Decline}
-use Rattle.moo_world.specs.Arguments.{no_values, one_object, two_objects, object_and_text, object_and_value, object_text_and_value, parent_and_owner, object_and_accept, new_property, new_property_info, object_and_desc, new_verb, new_verb_info, new_verb_args}
-use Rattle.moo_world.specs.PropertyCalls.{get, properties, property_info, is_clear_property, set, add_property, delete_property, set_property_info, clear_property}
+use Rattle.moo_world.specs.declared.name.CallName.TheVariants.{Valid, Parent, Children, IsPlayer, Players, MaxObject, Get, Properties}
+use Rattle.moo_world.specs.declared.name.CallName.TheVariants.{PropertyInfo, IsClearProperty, Verbs, VerbInfo, VerbArgs, AcceptList}
+use Rattle.moo_world.specs.declared.name.CallName.TheVariants.{Create, Chparent, Recycle, Move, SetPlayerFlag, Set, AddProperty}
+use Rattle.moo_world.specs.declared.name.CallName.TheVariants.{DeleteProperty, SetPropertyInfo, ClearProperty, AddVerb, DeleteVerb}
+use Rattle.moo_world.specs.declared.name.CallName.TheVariants.{SetVerbInfo, SetVerbArgs, SetAccept, Petition, Petitions, Grant, Decline}
+use Rattle.moo_world.specs.Arguments.{no_values, one_object, two_objects, object_and_text, object_and_value}
+use Rattle.moo_world.specs.Arguments.{object_text_and_value, parent_and_owner, object_and_accept, new_property}
+use Rattle.moo_world.specs.Arguments.{new_property_info, object_and_desc, new_verb, new_verb_info, new_verb_args}
+use Rattle.moo_world.specs.PropertyCalls.{get, properties, property_info, is_clear_property, set}
+use Rattle.moo_world.specs.PropertyCalls.{add_property, delete_property, set_property_info, clear_property}
 use Rattle.moo_world.specs.VerbCalls.{verbs, verb_info, verb_args, add_verb, delete_verb, set_verb_info, set_verb_args}
 use Rattle.moo_world.specs.Codes.{E_PERM, E_INVARG, E_RECMOVE, E_NACC, E_QUOTA}
 
@@ -147,25 +154,35 @@ named_call world programmer MaxObject args = given (no_values args) (λ _. max_o
 named_call world programmer Get args = given (object_and_text args) λ (object, name). get world programmer object name
 named_call world programmer Properties args = given (one_object args) (properties world programmer)
 named_call world programmer PropertyInfo args = given (object_and_text args) λ (object, name). property_info world programmer object name
-named_call world programmer IsClearProperty args = given (object_and_text args) λ (object, name). is_clear_property world programmer object name
+named_call world programmer IsClearProperty args =
+    given (object_and_text args) λ (object, name). is_clear_property world programmer object name
 named_call world programmer Verbs args = given (one_object args) (verbs world programmer)
-named_call world programmer VerbInfo args = given (object_and_desc args) λ (object, descriptor). verb_info world programmer object descriptor
-named_call world programmer VerbArgs args = given (object_and_desc args) λ (object, descriptor). verb_args world programmer object descriptor
+named_call world programmer VerbInfo args =
+    given (object_and_desc args) λ (object, descriptor). verb_info world programmer object descriptor
+named_call world programmer VerbArgs args =
+    given (object_and_desc args) λ (object, descriptor). verb_args world programmer object descriptor
 named_call world programmer AcceptList args = given (one_object args) (accept_list world)
 named_call world programmer Create args = given (parent_and_owner programmer args) λ (parent, owner). create world programmer parent owner
 named_call world programmer Chparent args = given (two_objects args) λ (object, new_parent). chparent world programmer object new_parent
 named_call world programmer Recycle args = given (one_object args) (recycle world programmer)
 named_call world programmer Move args = given (two_objects args) λ (object, destination). move world programmer object destination
-named_call world programmer SetPlayerFlag args = given (object_and_value args) λ (object, value). set_player_flag world programmer object value
+named_call world programmer SetPlayerFlag args =
+    given (object_and_value args) λ (object, value). set_player_flag world programmer object value
 named_call world programmer Set args = given (object_text_and_value args) λ (object, name, value). set world programmer object name value
-named_call world programmer AddProperty args = given (new_property args) λ (object, (name, value, info)). add_property world programmer object name value info
-named_call world programmer DeleteProperty args = given (object_and_text args) λ (object, name). delete_property world programmer object name
+named_call world programmer AddProperty args =
+    given (new_property args) λ (object, (name, value, info)). add_property world programmer object name value info
+named_call world programmer DeleteProperty args =
+    given (object_and_text args) λ (object, name). delete_property world programmer object name
 named_call world programmer SetPropertyInfo args = given (new_property_info args) λ arguments. set_property_info world programmer arguments.object arguments.name arguments.info arguments.new_name
 named_call world programmer ClearProperty args = given (object_and_text args) λ (object, name). clear_property world programmer object name
-named_call world programmer AddVerb args = given (new_verb args) λ (object, ((info, names), verb_args)). add_verb world programmer object info names verb_args
-named_call world programmer DeleteVerb args = given (object_and_desc args) λ (object, descriptor). delete_verb world programmer object descriptor
-named_call world programmer SetVerbInfo args = given (new_verb_info args) λ (object, (descriptor, (info, names))). set_verb_info world programmer object descriptor info names
-named_call world programmer SetVerbArgs args = given (new_verb_args args) λ (object, (descriptor, verb_args)). set_verb_args world programmer object descriptor verb_args
+named_call world programmer AddVerb args =
+    given (new_verb args) λ (object, ((info, names), verb_args)). add_verb world programmer object info names verb_args
+named_call world programmer DeleteVerb args =
+    given (object_and_desc args) λ (object, descriptor). delete_verb world programmer object descriptor
+named_call world programmer SetVerbInfo args =
+    given (new_verb_info args) λ (object, (descriptor, (info, names))). set_verb_info world programmer object descriptor info names
+named_call world programmer SetVerbArgs args =
+    given (new_verb_args args) λ (object, (descriptor, verb_args)). set_verb_args world programmer object descriptor verb_args
 named_call world programmer SetAccept args = given (object_and_accept args) λ (object, list). set_accept world programmer object list
 -- the calls of petitions need more than the world: `batch_call` says what they do, and never asks for them here
 named_call world programmer Petition args = Failed E_INVARG
@@ -173,8 +190,8 @@ named_call world programmer Petitions args = Failed E_INVARG
 named_call world programmer Grant args = Failed E_INVARG
 named_call world programmer Decline args = Failed E_INVARG
 
--- A call on the world. The programmer has to be an object. Each call that a petition holds is made in this way, by the wizard who grants it. A
--- call of a batch is `batch_call`, in Requests, which knows the calls of petitions too.
+-- A call on the world. The programmer has to be an object. Each call that a petition holds is made in this way, by the wizard who grants
+-- it. A call of a batch is `batch_call`, in Requests, which knows the calls of petitions too.
 unfoldable pub world_call : World → ObjNo → Call → Outcome World
 world_call world programmer call = do
   require is_object world programmer else E_PERM

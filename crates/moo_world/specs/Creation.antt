@@ -25,7 +25,8 @@ plain_object parent owner = record {
 
 -- the world with one object more, whose number is now the greatest that was given
 abbrev pub object_added : World → ObjNo → WorldObject → World
-object_added world object entry = record world { object = λ other. if same_object object other then Some entry else world.object other; top = object.0 }
+object_added world object entry =
+    record world { object = λ other. if same_object object other then Some entry else world.object other; top = object.0 }
 
 -- the new object gets a fresh slot for each property of its parent
 abbrev pub created : World → ObjNo → ObjNo → ObjNo → World

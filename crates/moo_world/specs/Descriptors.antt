@@ -1,7 +1,7 @@
 -- How a verb is named: by a number from 1 on, or by a word that one of its names matches. Both give its place among the verbs of the
 -- object, counted from 0.
--- From the LambdaMOO Programmer's Manual: 'Operations on Verbs'. The manual doesn't say which verb a word means if several match: here, as in
--- LambdaMOO 1.8, the first of the object itself. That 0 and a number below it are E_VERBNF is this server's own.
+-- From the LambdaMOO Programmer's Manual: 'Operations on Verbs'. The manual doesn't say which verb a word means if several match: here, as
+-- in LambdaMOO 1.8, the first of the object itself. That 0 and a number below it are E_VERBNF is this server's own.
 use Rattle.std.specs.Prelude.{ℕ, zero, suc, ℤ, pos, negsuc, nat_lt, length, Option, None, Some, if◌then◌else◌}
 use Rattle.std.specs.Option.{option_map, option_and_then}
 use Rattle.std.specs.List.{position}
@@ -37,4 +37,5 @@ described world object (a_word word) = verb_by_word world object word
 
 -- the verb, with its place
 abbrev pub found_verb : World → ObjNo → Desc → Option (ℕ × VerbRow)
-found_verb world object desc = option_and_then (λ place. option_map (λ verb. (place, verb)) (verb_at world object place)) (described world object desc)
+found_verb world object desc =
+    option_and_then (λ place. option_map (λ verb. (place, verb)) (verb_at world object place)) (described world object desc)

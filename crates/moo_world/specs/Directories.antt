@@ -33,7 +33,8 @@ abbrev pub verb_changed : World → ObjNo → ℕ → (VerbRow → VerbRow) → 
 verb_changed world object place change = with_verbs world object (changed_at place change)
 
 abbrev pub verb_info_set : World → ObjNo → ℕ → ObjNo → VerbBits → Name → World
-verb_info_set world object place owner bits names = verb_changed world object place (λ verb. record verb { owner = owner; bits = bits; names = names })
+verb_info_set world object place owner bits names =
+    verb_changed world object place (λ verb. record verb { owner = owner; bits = bits; names = names })
 
 abbrev pub verb_args_set : World → ObjNo → ℕ → ArgSpec → World
 verb_args_set world object place args = verb_changed world object place (λ verb. record verb { args = args })

@@ -3,7 +3,8 @@ use Rattle.std.specs.Prelude.{Bool, true, not, ◌&&◌, ◌||◌}
 use Rattle.moo_value.specs.declared.value.ObjNo.{ObjNo}
 use Rattle.moo_rows.specs.declared.row.ObjRow.{ObjRow}
 use Rattle.moo_world.specs.declared.change.Change.{Change}
-use Rattle.moo_world.specs.declared.change.Change.TheVariants.{Name, Owner, Location, Player, Programmer, Wizard, Readable, Writable, Fertile, Accept}
+use Rattle.moo_world.specs.declared.change.Change.TheVariants.{Name, Owner, Location, Player, Programmer}
+use Rattle.moo_world.specs.declared.change.Change.TheVariants.{Wizard, Readable, Writable, Fertile, Accept}
 use Rattle.moo_world.specs.Arguments.{is_number, is_text}
 use Rattle.moo_world.specs.Objects.{nothing, same_object}
 use Rattle.moo_world.specs.Rights.{is_within}
@@ -29,11 +30,12 @@ with_row world object change = object_changed world object (λ entry. record ent
 abbrev pub field_changed : World → ObjNo → Change → World
 field_changed world object change = with_row world object (changed change)
 
--- The change leaves a well formed world: a location is #-1, or an object outside the one that is moved; a name is a text; owners, and the at
--- most 1,000 objects of an accept list, have numbers of 32 bits.
+-- The change leaves a well formed world: a location is #-1, or an object outside the one that is moved; a name is a text; owners, and the
+-- at most 1,000 objects of an accept list, have numbers of 32 bits.
 abbrev pub is_allowed_change : World → ObjNo → Change → Bool
 is_allowed_change world object (Name name) = is_text name
 is_allowed_change world object (Owner owner) = is_number owner
-is_allowed_change world object (Location destination) = (is_object world destination || same_object nothing destination) && not (is_within world destination object)
+is_allowed_change world object (Location destination) =
+    (is_object world destination || same_object nothing destination) && not (is_within world destination object)
 is_allowed_change world object (Accept list) = accept_fits list
 is_allowed_change world object change = true

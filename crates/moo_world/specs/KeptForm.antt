@@ -21,15 +21,18 @@ arguments_fit call = list_all fits call.args
 
 -- if a call is answered in a well formed world, the world that it leaves is well formed
 abbrev pub CallsKeepForm : Type 0
-CallsKeepForm = (world next : World) (programmer : ObjNo) (call : Call) (answer : Value) → IsWellFormed world → arguments_fit call ≡ true → world_call world programmer call ≡ Done answer next → IsWellFormed next
+CallsKeepForm = (world next : World) (programmer : ObjNo) (call : Call) (answer : Value) → IsWellFormed world → arguments_fit call ≡ true →
+    world_call world programmer call ≡ Done answer next → IsWellFormed next
 
 -- and so are the world and the petitions that any call of a batch leaves, those of petitions among them
 abbrev pub RequestsKeepForm : Type 0
-RequestsKeepForm = (state next : State) (programmer : ObjNo) (call : Call) (answer : Value) → IsFormed state → arguments_fit call ≡ true → batch_call state programmer call ≡ Done answer next → IsFormed next
+RequestsKeepForm = (state next : State) (programmer : ObjNo) (call : Call) (answer : Value) → IsFormed state → arguments_fit call ≡ true →
+    batch_call state programmer call ≡ Done answer next → IsFormed next
 
 -- after any batches, accepted or not, a world and petitions that were well formed are well formed
 abbrev pub RunsKeepForm : Type 0
-RunsKeepForm = (state : State) (batches : List Batch) → IsFormed state → list_all (λ batch. list_all arguments_fit batch.calls) batches ≡ true → IsFormed (after state batches)
+RunsKeepForm = (state : State) (batches : List Batch) → IsFormed state →
+    list_all (λ batch. list_all arguments_fit batch.calls) batches ≡ true → IsFormed (after state batches)
 
 -- ---- what is given
 

@@ -33,8 +33,8 @@ abbrev pub matches_at : Option ℕ → Name → Name → Bool
 matches_at None name word = same_name name word
 matches_at (Some star) name word = matches_around (take star name) (drop (star + 1) name) word
 
--- Without a star, the word is the name. With one, the word is the part before the star and any first letters of the part after it. If nothing
--- is after the star, the word begins with the part before it.
+-- Without a star, the word is the name. With one, the word is the part before the star and any first letters of the part after it. If
+-- nothing is after the star, the word begins with the part before it.
 abbrev pub matches : Name → Name → Bool
 matches name word = matches_at (position is_star name) name word
 

@@ -6,8 +6,13 @@ use Rattle.std.proofs.lemmas.Option.{none-some, same_Some}
 use Rattle.moo_world.specs.Objects.{same_text, same_text-Decides, folded}
 use Rattle.moo_world.specs.declared.name.CallName.{CallName}
 use Rattle.moo_world.specs.declared.name.PetitionCall.{PetitionCall}
-use Rattle.moo_world.specs.declared.name.PetitionCall.TheVariants.{Petition as to_petition, Petitions as to_list, Grant as to_grant, Decline as to_decline}
-use Rattle.moo_world.specs.declared.name.CallName.TheVariants.{Valid, Parent, Children, IsPlayer, Players, MaxObject, Get, Properties, PropertyInfo, IsClearProperty, Verbs, VerbInfo, VerbArgs, AcceptList, Create, Chparent, Recycle, Move, SetPlayerFlag, Set, AddProperty, DeleteProperty, SetPropertyInfo, ClearProperty, AddVerb, DeleteVerb, SetVerbInfo, SetVerbArgs, SetAccept, Petition, Petitions, Grant, Decline}
+use Rattle.moo_world.specs.declared.name.PetitionCall.TheVariants.{Petition as to_petition, Petitions as to_list}
+use Rattle.moo_world.specs.declared.name.PetitionCall.TheVariants.{Grant as to_grant, Decline as to_decline}
+use Rattle.moo_world.specs.declared.name.CallName.TheVariants.{Valid, Parent, Children, IsPlayer, Players, MaxObject, Get, Properties}
+use Rattle.moo_world.specs.declared.name.CallName.TheVariants.{PropertyInfo, IsClearProperty, Verbs, VerbInfo, VerbArgs, AcceptList}
+use Rattle.moo_world.specs.declared.name.CallName.TheVariants.{Create, Chparent, Recycle, Move, SetPlayerFlag, Set, AddProperty}
+use Rattle.moo_world.specs.declared.name.CallName.TheVariants.{DeleteProperty, SetPropertyInfo, ClearProperty, AddVerb, DeleteVerb}
+use Rattle.moo_world.specs.declared.name.CallName.TheVariants.{SetVerbInfo, SetVerbArgs, SetAccept, Petition, Petitions, Grant, Decline}
 
 -- the name of a call, in lower case
 abbrev pub spelling : CallName → List ℕ

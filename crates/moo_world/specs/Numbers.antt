@@ -20,7 +20,8 @@ not_of object row = option_and_then (λ (property : PropRow). if same_object pro
 pub data KeepsProps (next : ℕ) (old new : FinMap prop_cmp PropRow) : Type 0 where
   props_stay : new ≡ old → KeepsProps next old new
   prop_added : (row : PropRow) → new ≡ insert old (prop_id next) row → KeepsProps next old new
-  prop_renamed : (id : PropId) (row : PropRow) (name : Name) → get old id ≡ Some row → new ≡ insert old id (record row { name = name }) → KeepsProps next old new
+  prop_renamed : (id : PropId) (row : PropRow) (name : Name) → get old id ≡ Some row → new ≡ insert old id (record row { name = name }) →
+      KeepsProps next old new
   prop_removed : (id : PropId) → new ≡ remove old id → KeepsProps next old new
   props_dropped : (object : ObjNo) → ((id : PropId) → get new id ≡ not_of object (get old id)) → KeepsProps next old new
 
@@ -30,7 +31,8 @@ pub data KeepsVerbs (next : ℕ) (old new : FinMap verb_cmp VerbRow) : Type 0 wh
   verb_added : (object : ObjNo) (row : VerbRow) → new ≡ insert old (object, verb_id next) row → KeepsVerbs next old new
   verb_changed : (key : ObjNo × VerbId) (row : VerbRow) → is_some (get old key) ≡ true → new ≡ insert old key row → KeepsVerbs next old new
   verb_removed : (key : ObjNo × VerbId) → new ≡ remove old key → KeepsVerbs next old new
-  verbs_dropped : (object : ObjNo) → ((key : ObjNo × VerbId) → get new key ≡ (if same_object object key.0 then None else get old key)) → KeepsVerbs next old new
+  verbs_dropped : (object : ObjNo) → ((key : ObjNo × VerbId) → get new key ≡ (if same_object object key.0 then None else get old key)) →
+      KeepsVerbs next old new
 
 -- and no counter falls
 pub record KeepsNumbers (old new : Maps) : Type 0 where
@@ -46,7 +48,9 @@ IsSameButSlots old new = new ≡ record old { slots = new.slots }
 -- over any time, a number once given is not given again: under a number that was given there is a property of its definer,
 -- or a verb of its object, that was there before
 pub record NumbersStay (old new : Maps) : Type 0 where
-  pub props : (id : PropId) (row : PropRow) → id.0 < old.head.next_prop → get new.props id ≡ Some row → (was : PropRow) × (get old.props id ≡ Some was) × (was.definer ≡ row.definer)
-  pub verbs : (object : ObjNo) (id : VerbId) → id.0 < old.head.next_verb → is_some (get new.verbs (object, id)) ≡ true → is_some (get old.verbs (object, id)) ≡ true
+  pub props : (id : PropId) (row : PropRow) → id.0 < old.head.next_prop → get new.props id ≡ Some row → (was : PropRow)
+      × (get old.props id ≡ Some was) × (was.definer ≡ row.definer)
+  pub verbs : (object : ObjNo) (id : VerbId) → id.0 < old.head.next_verb → is_some (get new.verbs (object, id)) ≡ true →
+      is_some (get old.verbs (object, id)) ≡ true
   pub next_prop : old.head.next_prop ≤ new.head.next_prop
   pub next_verb : old.head.next_verb ≤ new.head.next_verb

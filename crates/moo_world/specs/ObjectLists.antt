@@ -37,4 +37,6 @@ subtree_of world object = filter (λ other. is_among object (chain world other))
 
 -- the object or a descendant of it defines a property of the same name as one that the new parent has
 abbrev pub shares_property_name : World → ObjNo → ObjNo → Bool
-shares_property_name world object new_parent = list_any (λ (property : Property). is_some (property_named (defined_by_any world (chain world new_parent)) (folded property.1))) (defined_by_any world (subtree_of world object))
+shares_property_name world object new_parent =
+    list_any (λ (property : Property). is_some (property_named (defined_by_any world (chain world new_parent)) (folded property.1)))
+    (defined_by_any world (subtree_of world object))

@@ -1,5 +1,6 @@
 -- What quotas count, and what only a wizard may do.
-use Rattle.std.specs.Prelude.{◌≡◌, ℤ, pos, ◌+ℤ◌, int_lt, true, false, ◌&&◌, ◌||◌, is_some, Option, None, Some, Result, Ok, Err, if◌then◌else◌}
+use Rattle.std.specs.Prelude.{◌≡◌, ℤ, pos, ◌+ℤ◌, int_lt, true, false, ◌&&◌, ◌||◌, is_some}
+use Rattle.std.specs.Prelude.{Option, None, Some, Result, Ok, Err, if◌then◌else◌}
 use Rattle.moo_value.specs.declared.code.Code.{Code}
 use Rattle.moo_value.specs.declared.value.ObjNo.{ObjNo}
 use Rattle.moo_value.specs.declared.value.Value.{Value}
@@ -28,7 +29,8 @@ SameRights world next object =
 
 -- the folded name that a slot of another object has after the object's property of one name was given a new one
 abbrev pub name_changed : World → ObjNo → Name → Name → ObjNo → Name → Name
-name_changed world object old_name new_name other slot_name = if is_among object (chain world other) && same_text (folded old_name) slot_name then folded new_name else slot_name
+name_changed world object old_name new_name other slot_name =
+    if is_among object (chain world other) && same_text (folded old_name) slot_name then folded new_name else slot_name
 
 -- the same after the property got the new name, if any
 abbrev pub name_given : World → ObjNo → Name → Option Name → ObjNo → Name → Name
@@ -41,27 +43,36 @@ name_by world (Err code) other slot_name = slot_name
 
 -- the same after a call: set_property_info alone gives other names
 abbrev pub name_after : World → Call → ObjNo → Name → Name
-name_after world call other slot_name = elim call.name [ SetPropertyInfo ↦ name_by world (new_property_info call.args) other slot_name | _ ↦ slot_name ]
+name_after world call other slot_name =
+    elim call.name [ SetPropertyInfo ↦ name_by world (new_property_info call.args) other slot_name | _ ↦ slot_name ]
 
 -- no rights of an object that stays have changed and no owner of a slot that stays, by its new name; and what is made is the
 -- programmer's, with none of the bits
 pub record KeepsOwnership (world next : World) (programmer : ObjNo) (new_name_of : ObjNo → Name → Name) : Type 0 where
   pub rights : (object : ObjNo) → is_object world object ≡ true → is_object next object ≡ true → SameRights world next object
-  pub slots : (object : ObjNo) (name : Name) (slot slot_after : Slot) → slot_of world object name ≡ Some slot → slot_of next object (new_name_of object name) ≡ Some slot_after → slot.definer ≡ slot_after.definer → slot_after.owner ≡ slot.owner
-  pub made : (object : ObjNo) → is_object world object ≡ false → is_object next object ≡ true → (owner_of next object ≡ programmer) × (row_passes (λ row. row.player) next object ≡ false) × (row_passes (λ row. row.programmer) next object ≡ false) × (row_passes (λ row. row.wizard) next object ≡ false)
+  pub slots : (object : ObjNo) (name : Name) (slot slot_after : Slot) → slot_of world object name ≡ Some slot →
+      slot_of next object (new_name_of object name) ≡ Some slot_after → slot.definer ≡ slot_after.definer → slot_after.owner ≡ slot.owner
+  pub made : (object : ObjNo) → is_object world object ≡ false → is_object next object ≡ true → (owner_of next object ≡ programmer)
+      × (row_passes (λ row. row.player) next object ≡ false) × (row_passes (λ row. row.programmer) next object ≡ false)
+      × (row_passes (λ row. row.wizard) next object ≡ false)
 
 -- a call of a programmer who isn't a wizard
 abbrev pub NoWizardKeepsOwnership : Type 0
-NoWizardKeepsOwnership = (world next : World) (programmer : ObjNo) (call : Call) (answer : Value) → IsWellFormed world → is_wizard world programmer ≡ false → world_call world programmer call ≡ Done answer next → KeepsOwnership world next programmer (name_after world call)
+NoWizardKeepsOwnership = (world next : World) (programmer : ObjNo) (call : Call) (answer : Value) → IsWellFormed world →
+    is_wizard world programmer ≡ false → world_call world programmer call ≡ Done answer next →
+    KeepsOwnership world next programmer (name_after world call)
 
 -- and the calls of petitions change no world, unless a wizard grants
 abbrev pub PetitionsLeaveTheWorld : Type 0
-PetitionsLeaveTheWorld = (state next : State) (programmer : ObjNo) (call : Call) (answer : Value) → is_wizard state.world programmer ≡ false → is_some (petition_call call.name) ≡ true → batch_call state programmer call ≡ Done answer next → next.world ≡ state.world
+PetitionsLeaveTheWorld = (state next : State) (programmer : ObjNo) (call : Call) (answer : Value) →
+    is_wizard state.world programmer ≡ false → is_some (petition_call call.name) ≡ true →
+    batch_call state programmer call ≡ Done answer next → next.world ≡ state.world
 
 -- an accepted create lowers the quota of the intended owner by one, and makes one object, of that owner, and no other
 abbrev pub CreateTakesOne : Type 0
 CreateTakesOne =
-    (world next : World) (programmer parent owner : ObjNo) (answer : Value) (quota : ℤ) → IsWellFormed world → same_object nothing owner ≡ false → quota_of world owner ≡ Some quota → create world programmer parent owner ≡ Done answer next →
+    (world next : World) (programmer parent owner : ObjNo) (answer : Value) (quota : ℤ) → IsWellFormed world →
+    same_object nothing owner ≡ false → quota_of world owner ≡ Some quota → create world programmer parent owner ≡ Done answer next →
     (quota_of next owner ≡ Some (quota +ℤ -1))
     × ((object : ObjNo) × (answer ≡ Obj object) × (is_object world object ≡ false) × (owner_of next object ≡ owner)
     × ((other : ObjNo) → is_object next other ≡ (same_object object other || is_object world other))
@@ -70,6 +81,7 @@ CreateTakesOne =
 -- an accepted recycle gives one back to the former owner, whose quota is read when the object is gone
 abbrev pub RecycleGivesOne : Type 0
 RecycleGivesOne =
-    (world next : World) (programmer object : ObjNo) (answer : Value) (quota : ℤ) → IsWellFormed world → recycle world programmer object ≡ Done answer next →
+    (world next : World) (programmer object : ObjNo) (answer : Value) (quota : ℤ) → IsWellFormed world →
+    recycle world programmer object ≡ Done answer next →
     quota_of (recycled world object) (owner_of world object) ≡ Some quota → int_lt quota (pos 9223372036854775807) ≡ true →
     quota_of next (owner_of world object) ≡ Some (quota +ℤ pos 1)

@@ -33,7 +33,8 @@ are_shallow calls = nat_le (nesting (a_list calls)) 30
 -- 1 to 64 calls in at most 30 levels, each a list that begins with a string, with values within their limits; and the number of the
 -- programmer who asks has 32 bits
 abbrev pub petition_fits : PetitionRow → Bool
-petition_fits row = is_number row.who && (list_all is_named (spread row.calls) && (are_few row.calls && (are_shallow row.calls && all_within_limits row.calls)))
+petition_fits row = is_number row.who
+    && (list_all is_named (spread row.calls) && (are_few row.calls && (are_shallow row.calls && all_within_limits row.calls)))
 
 -- each petition's number is below that of the next, and it holds what petitions may
 pub record PetitionsStand (petitions : FinMap petition_cmp PetitionRow) (next : ℕ) : Type 0 where

@@ -6,7 +6,8 @@ use Rattle.moo_rows.specs.declared.row.ObjectSpec.TheVariants.{This, Any as any_
 use Rattle.moo_rows.specs.declared.row.Preposition.{Preposition}
 use Rattle.moo_rows.specs.declared.row.Preposition.TheVariants.{None as no_preposition, Any as any_preposition, Set}
 use Rattle.moo_rows.specs.declared.row.PrepositionSet.{PrepositionSet}
-use Rattle.moo_rows.specs.declared.row.PrepositionSet.TheVariants.{With, At, InFrontOf, In, OnTopOf, OutOf, Over, Through, Under, Behind, Beside, For, Is, As, Off}
+use Rattle.moo_rows.specs.declared.row.PrepositionSet.TheVariants.{With, At, InFrontOf, In, OnTopOf, OutOf, Over}
+use Rattle.moo_rows.specs.declared.row.PrepositionSet.TheVariants.{Through, Under, Behind, Beside, For, Is, As, Off}
 
 -- the phrases of a set, with slashes between them
 abbrev pub set_text : PrepositionSet → List ℕ

@@ -1,9 +1,9 @@
 -- What each call on properties does: its checks, in their order, and then its answer and the world that it leaves. How to read a definition
 -- is explained at the head of Calls.
 -- From the LambdaMOO Programmer's Manual: 'Properties on Objects' in the chapter on the database, 'Getting and Setting the Values of
--- Properties', and 'Operations on Properties' in the part on built-in functions. The manual doesn't give the order of the checks: it is that of
--- the lines here. Three things are this server's own: that `get` and `set` are calls, for the expression `object.name` and the assignment to it;
--- that a new owner has to be an object; and that the present name in another case isn't a new name.
+-- Properties', and 'Operations on Properties' in the part on built-in functions. The manual doesn't give the order of the checks: it is
+-- that of the lines here. Three things are this server's own: that `get` and `set` are calls, for the expression `object.name` and the
+-- assignment to it; that a new owner has to be an object; and that the present name in another case isn't a new name.
 use Rattle.std.specs.Prelude.{Bool, true, false, not, ◌&&◌, ◌||◌, nat_lt, [], ◌∷◌, Option, Some, None, Result, Ok, Err, unwrap_or}
 use Rattle.std.specs.List.{list_any}
 use Rattle.moo_value.specs.declared.value.ObjNo.{ObjNo}
@@ -23,7 +23,8 @@ use Rattle.moo_world.specs.Outcomes.{Outcome, Done, require_room, require◌else
 use Rattle.moo_world.specs.Arguments.{Info}
 use Rattle.moo_world.specs.Answers.{zero, flag, list_of, text_list}
 use Rattle.moo_world.specs.BuiltIns.{built_in, field_of}
-use Rattle.moo_world.specs.Rights.{is_wizard, controls, may_set_name, may_make_owner, may_read_object, may_write_object, may_read_slot, may_write_slot}
+use Rattle.moo_world.specs.Rights.{is_wizard, controls, may_set_name, may_make_owner}
+use Rattle.moo_world.specs.Rights.{may_read_object, may_write_object, may_read_slot, may_write_slot}
 use Rattle.moo_world.specs.Changes.{clashes, property_added, property_removed, property_renamed, value_set, cleared, info_set}
 use Rattle.moo_world.specs.Fields.{field_changed}
 use Rattle.moo_world.specs.Codes.{Code, E_PERM, E_INVARG, E_PROPNF, E_INVIND, E_TYPE}

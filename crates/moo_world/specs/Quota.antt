@@ -1,7 +1,7 @@
 -- The quota of an owner.
--- From the LambdaMOO Programmer's Manual: 'Fundamental Operations on Objects', `create` and `recycle`. That no quota is asked for if #-1 was
--- given as owner is as in LambdaMOO 1.8. That `recycle` reads the quota after the object is gone, and that a quota at the greatest integer
--- stays, are this server's own.
+-- From the LambdaMOO Programmer's Manual: 'Fundamental Operations on Objects', `create` and `recycle`. That no quota is asked for if #-1
+-- was given as owner is as in LambdaMOO 1.8. That `recycle` reads the quota after the object is gone, and that a quota at the greatest
+-- integer stays, are this server's own.
 use Rattle.std.specs.Prelude.{ℤ, pos, ◌+ℤ◌, int_lt, Bool, true, false, ◌||◌, codes, Option, Some, None, unwrap_or, if◌then◌else◌}
 use Rattle.std.specs.Option.{option_map}
 use Rattle.moo_value.specs.declared.value.ObjNo.{ObjNo}
@@ -25,11 +25,17 @@ abbrev pub quota_of : World → ObjNo → Option ℤ
 quota_of world owner = quota_in (read_of world owner quota_name)
 
 abbrev pub set_slot : Name → SlotState → WorldObject → WorldObject
-set_slot name state entry = record entry { slot = λ slot_name. if same_text name slot_name then option_map (λ (slot : Slot). record slot { state = state }) (entry.slot slot_name) else entry.slot slot_name }
+set_slot name state entry =
+    record entry {
+      slot = λ slot_name. if same_text name slot_name
+          then option_map (λ (slot : Slot). record slot { state = state }) (entry.slot slot_name)
+          else entry.slot slot_name;
+    }
 
 -- so much is added to the quota of an owner, if it has one: its own slot is set, and that slot's owner and bits stay
 abbrev pub quota_changed : World → ObjNo → ℤ → World
-quota_changed world owner amount = elim (quota_of world owner) [ None ↦ world | Some had ↦ object_changed world owner (set_slot quota_name (Set (Int (had +ℤ amount)))) ]
+quota_changed world owner amount =
+    elim (quota_of world owner) [ None ↦ world | Some had ↦ object_changed world owner (set_slot quota_name (Set (Int (had +ℤ amount)))) ]
 
 abbrev pub has_quota_left : World → ObjNo → Bool
 has_quota_left world owner = unwrap_or (option_map (λ quota. int_lt (pos 0) quota) (quota_of world owner)) true
@@ -43,4 +49,7 @@ charged world owner = if same_object nothing owner then world else quota_changed
 
 -- a quota at the greatest integer stays
 abbrev pub quota_returned : World → ObjNo → World
-quota_returned world owner = if unwrap_or (option_map (λ quota. int_lt quota (pos 9223372036854775807)) (quota_of world owner)) false then quota_changed world owner (pos 1) else world
+quota_returned world owner =
+    if unwrap_or (option_map (λ quota. int_lt quota (pos 9223372036854775807)) (quota_of world owner)) false
+    then quota_changed world owner (pos 1)
+    else world

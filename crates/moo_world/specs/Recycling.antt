@@ -6,8 +6,8 @@ use Rattle.moo_value.specs.declared.value.ObjNo.{ObjNo}
 use Rattle.moo_world.specs.Objects.{nothing, same_object}
 use Rattle.moo_world.specs.World.{World, WorldObject, parent_of, rebuilt}
 
--- What becomes of another object if this one is gone. If it was a child, the parent of the one that is gone is its parent. If it was inside,
--- it is nowhere.
+-- What becomes of another object if this one is gone. If it was a child, the parent of the one that is gone is its parent. If it was
+-- inside, it is nowhere.
 abbrev pub released : ObjNo → ObjNo → WorldObject → WorldObject
 released gone gone_parent entry = record entry {
   row = record entry.row {

@@ -1,5 +1,6 @@
 -- The calls of petitions, and the outcome of any call of a batch. Petitions are this server's own: LambdaMOO has none.
-use Rattle.std.specs.Prelude.{◌≡◌, ℕ, ◌+◌, ◌<◌, ◌≤◌, ℤ, pos, negsuc, nat_lt, Bool, ◌||◌, List, [], ◌∷◌, map, Option, Some, None, is_some, Result, Ok, Err, if◌then◌else◌}
+use Rattle.std.specs.Prelude.{◌≡◌, ℕ, ◌+◌, ◌<◌, ◌≤◌, ℤ, pos, negsuc, nat_lt, Bool, ◌||◌, List, [], ◌∷◌}
+use Rattle.std.specs.Prelude.{map, Option, Some, None, is_some, Result, Ok, Err, if◌then◌else◌}
 use Rattle.std.specs.Option.{option_map, option_and_then}
 use Rattle.std.specs.List.{filter, list_all}
 use Rattle.std.specs.FinMap.{FinMap, get, insert, remove, entries}
@@ -13,7 +14,8 @@ use Rattle.moo_rows.specs.declared.row.PetitionRow.{PetitionRow}
 use Rattle.moo_rows.specs.Maps.{Maps, petition_cmp}
 use Rattle.moo_world.specs.declared.call.Call.{Call}
 use Rattle.moo_world.specs.declared.name.PetitionCall.{PetitionCall}
-use Rattle.moo_world.specs.declared.name.PetitionCall.TheVariants.{Petition as to_petition, Petitions as to_list, Grant as to_grant, Decline as to_decline}
+use Rattle.moo_world.specs.declared.name.PetitionCall.TheVariants.{Petition as to_petition, Petitions as to_list}
+use Rattle.moo_world.specs.declared.name.PetitionCall.TheVariants.{Grant as to_grant, Decline as to_decline}
 use Rattle.moo_world.specs.Answers.{zero, list_of}
 use Rattle.moo_world.specs.Arguments.{no_values}
 use Rattle.moo_world.specs.Names.{petition_call, call_name_of}
@@ -96,13 +98,18 @@ held_step world programmer held = elim (held_call held) [ None ↦ Failed E_INVA
 -- all of them, one after another, up to the first that fails
 abbrev pub held_steps : World → ObjNo → List Value → Outcome World
 held_steps world programmer [] = Done zero world
-held_steps world programmer (held ∷ rest) = elim (held_step world programmer held) [ Done answer next ↦ held_steps next programmer rest | Failed code ↦ Failed code | Full ↦ Full ]
+held_steps world programmer (held ∷ rest) =
+    elim (held_step world programmer held) [ Done answer next ↦ held_steps next programmer rest | Failed code ↦ Failed code | Full ↦ Full ]
 
 -- ---- the calls of petitions
 
 -- the state with one petition more
 abbrev pub asked : State → ObjNo → Values → State
-asked state programmer calls = record state { petitions = insert state.petitions (petition_id state.next_petition) (record { who = programmer; calls = calls }); next_petition = state.next_petition + 1 }
+asked state programmer calls = record state {
+  petitions = insert state.petitions (petition_id state.next_petition)
+      (record { who = programmer; calls = calls });
+  next_petition = state.next_petition + 1;
+}
 
 -- each of them is a call on the world
 abbrev pub are_on_world : Values → Bool
@@ -129,7 +136,8 @@ listed (id, row) = list_of (Int (pos id.0) ∷ Obj row.who ∷ a_list row.calls 
 
 -- all of them for a wizard, else the programmer's own, in the order of their numbers
 abbrev pub petitions : State → ObjNo → Outcome State
-petitions state programmer = Done (list_of (map listed (filter (λ (id, row). is_wizard state.world programmer || same_object row.who programmer) (entries state.petitions)))) state
+petitions state programmer = Done (list_of (map listed (filter
+    (λ (id, row). is_wizard state.world programmer || same_object row.who programmer) (entries state.petitions)))) state
 
 -- the petition goes, and then its calls are made on the wizard's authority
 abbrev pub grant : State → ObjNo → ℤ → Outcome State
@@ -169,5 +177,6 @@ batch_call state programmer call = do
 
 -- A number is given once. If a petition is found later under a number that was given before, it is the one that was there.
 pub record PetitionsStay (old new : State) : Type 0 where
-  pub same : (id : PetitionId) (row : PetitionRow) → id.0 < old.next_petition → get new.petitions id ≡ Some row → get old.petitions id ≡ Some row
+  pub same : (id : PetitionId) (row : PetitionRow) → id.0 < old.next_petition → get new.petitions id ≡ Some row →
+      get old.petitions id ≡ Some row
   pub next : old.next_petition ≤ new.next_petition

@@ -1,5 +1,6 @@
 -- The world that rows show. The rows are seen by what a look-up of each map answers, and the counters.
-use Rattle.std.specs.Prelude.{◌≡◌, ℕ, zero, suc, ◌<◌, ◌==◌, ◌&&◌, true, List, [], ◌∷◌, ◌++◌, Option, Some, None, is_some, slice_get, if◌then◌else◌}
+use Rattle.std.specs.Prelude.{◌≡◌, ℕ, zero, suc, ◌<◌, ◌==◌, ◌&&◌, true, List, [], ◌∷◌, ◌++◌}
+use Rattle.std.specs.Prelude.{Option, Some, None, is_some, slice_get, if◌then◌else◌}
 use Rattle.std.specs.Option.{option_map, option_and_then}
 use Rattle.std.specs.List.{filter_map}
 use Rattle.moo_value.specs.declared.value.ObjNo.{ObjNo}
@@ -30,7 +31,8 @@ numbers_below (suc number) = numbers_below number ++ number ∷ []
 
 -- the name of a property, if the object defines it
 abbrev pub name_on : LookUps → ObjNo → ℕ → Option Name
-name_on rows object id = option_and_then (λ property. if same_object property.definer object then Some property.name else None) (rows.prop id)
+name_on rows object id =
+    option_and_then (λ property. if same_object property.definer object then Some property.name else None) (rows.prop id)
 
 -- the slot that a row shows, of a property of this definer
 abbrev pub slot_seen : ObjNo → SlotRow → Slot
@@ -38,7 +40,9 @@ slot_seen definer slot = record { definer = definer; owner = slot.owner; bits = 
 
 -- the slot on the object of a property, if this is its folded name
 abbrev pub slot_on : LookUps → ObjNo → Name → ℕ → Option Slot
-slot_on rows object name id = option_and_then (λ property. if same_text (folded property.name) name then option_map (slot_seen property.definer) (rows.slot object id) else None) (rows.prop id)
+slot_on rows object name id =
+    option_and_then (λ property. if same_text (folded property.name) name
+    then option_map (slot_seen property.definer) (rows.slot object id) else None) (rows.prop id)
 
 -- the object of a row: its definitions by ascending property number, its verbs by ascending verb number
 abbrev pub object_shown : LookUps → ObjNo → ObjRow → WorldObject
@@ -62,9 +66,13 @@ world_shown rows = record {
 pub record AreSound (rows : LookUps) : Type 0 where
   pub props_below : (id : ℕ) → is_some (rows.prop id) ≡ true → (0 < id) × (id < rows.head.next_prop)
   pub definers : (id : ℕ) (property : PropRow) → rows.prop id ≡ Some property → is_some (rows.object property.definer) ≡ true
-  pub slots : (object : ObjNo) (id : ℕ) → is_some (rows.slot object id) ≡ true → (is_some (rows.object object) ≡ true) × (is_some (rows.prop id) ≡ true)
-  pub one_name : (object : ObjNo) (first second : ℕ) (p q : PropRow) → is_some (rows.slot object first) ≡ true → is_some (rows.slot object second) ≡ true → rows.prop first ≡ Some p → rows.prop second ≡ Some q → folded p.name ≡ folded q.name → first ≡ second
-  pub verbs : (object : ObjNo) (id : ℕ) → is_some (rows.verb object id) ≡ true → (is_some (rows.object object) ≡ true) × (0 < id) × (id < rows.head.next_verb)
+  pub slots : (object : ObjNo) (id : ℕ) → is_some (rows.slot object id) ≡ true → (is_some (rows.object object) ≡ true)
+      × (is_some (rows.prop id) ≡ true)
+  pub one_name : (object : ObjNo) (first second : ℕ) (p q : PropRow) → is_some (rows.slot object first) ≡ true →
+      is_some (rows.slot object second) ≡ true → rows.prop first ≡ Some p → rows.prop second ≡ Some q → folded p.name ≡ folded q.name →
+      first ≡ second
+  pub verbs : (object : ObjNo) (id : ℕ) → is_some (rows.verb object id) ≡ true → (is_some (rows.object object) ≡ true) × (0 < id)
+      × (id < rows.head.next_verb)
 
 -- ---- maps
 
@@ -103,7 +111,9 @@ abbrev pub with_object_row : LookUps → ObjNo → ObjRow → LookUps
 with_object_row rows object row = record rows { object = λ other. if same_object object other then Some row else rows.object other }
 
 abbrev pub with_slot_row : LookUps → ObjNo → ℕ → SlotRow → LookUps
-with_slot_row rows object id row = record rows { slot = λ other other_id. if same_object object other && (id == other_id) then Some row else rows.slot other other_id }
+with_slot_row rows object id row =
+    record rows { slot = λ other other_id. if same_object object other && (id == other_id) then Some row else rows.slot other other_id }
 
 abbrev pub less_slot : LookUps → ObjNo → ℕ → LookUps
-less_slot rows object id = record rows { slot = λ other other_id. if same_object object other && (id == other_id) then None else rows.slot other other_id }
+less_slot rows object id =
+    record rows { slot = λ other other_id. if same_object object other && (id == other_id) then None else rows.slot other other_id }

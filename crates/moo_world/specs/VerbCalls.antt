@@ -1,8 +1,8 @@
 -- What each call on verbs does: its checks, in their order, and then its answer and the world that it leaves. How to read a definition is
 -- explained at the head of Calls.
 -- From the LambdaMOO Programmer's Manual: 'Operations on Verbs' in the part on built-in functions. The manual doesn't give the order of the
--- checks: it is that of the lines here. Two things are this server's own: that `add_verb` answers 0; and that by `set_verb_info` a programmer
--- who may write a verb may become its owner, and, unless a wizard, can name no other owner.
+-- checks: it is that of the lines here. Two things are this server's own: that `add_verb` answers 0; and that by `set_verb_info` a
+-- programmer who may write a verb may become its owner, and, unless a wizard, can name no other owner.
 use Rattle.std.specs.Prelude.{nat_lt, [], ◌∷◌, map}
 use Rattle.moo_value.specs.declared.value.ObjNo.{ObjNo}
 use Rattle.moo_value.specs.declared.value.Value.TheVariants.{Obj, Str}

@@ -40,4 +40,5 @@ object_spec_of text = find (λ spec. same_name text (object_spec_text spec)) (Th
 
 abbrev pub args_of : Name → Name → Name → Option ArgSpec
 args_of dobj prep iobj =
-    option_and_then (λ d. option_and_then (λ p. option_map (λ i. record { dobj = d; prep = p; iobj = i }) (object_spec_of iobj)) (prep_of prep)) (object_spec_of dobj)
+    option_and_then (λ d. option_and_then (λ p. option_map (λ i. record { dobj = d; prep = p; iobj = i }) (object_spec_of iobj))
+    (prep_of prep)) (object_spec_of dobj)

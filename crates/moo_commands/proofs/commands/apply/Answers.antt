@@ -1,37 +1,11 @@
-use Rattle.moo_commands.{proofs.Words.{IfOk, inr, refl, sym, subst, ◌∙◌, Works, NoBatches, texts_by, AppliesText, StopsApplying, MayLead, EndsTask}, proofs.Tasks.{given_input, given_file, text_stops, unchanged, unmoved}}
+use Rattle.moo_commands.proofs.Words.{sym, subst, texts_by, AppliesText, MayLead, EndsTask}
 use Rattle.moo_commands.proofs.commands.apply.Goals as goal
 
-pub returns-then-eq-clause-done : goal.returns-then-eq-clause-done
-returns-then-eq-clause-done g c known s stands =
-    let input = g.R.Read.remaining c.args.input.now in
-    let files = g.H.BatchFiles.text c.args.host.now in
-    subst (λ text. IfOk c.run_text.result (λ status. EndsTask g.S.Store known c.args.world.now c.run_text.new.world (λ end. AppliesText (MayLead g.S.Store known c.args.world.now c.run_text.new.world) s end text (g.W.Write.contents c.args.output.now) (g.W.Write.contents c.run_text.new.output) status)))
-    (sym (given_input c.args.batches.now input files (sym c.eq.ensures ∙ c.if-eq.true))) (c.run_text.ensures.done known s stands)
+pub returns-in-Ok-clause-applies : goal.returns-in-Ok-clause-applies
+returns-in-Ok-clause-applies g c opened known s stands =
+    let text = texts_by (g.S.Input.Read.remaining c.args.session.now.input) (g.S.Host.BatchFiles.text c.args.session.now.host) c.args.batches.path.now in
+    subst (λ status. EndsTask g.B.Store known c.args.world.now c.apply_batches.new.world (λ end. AppliesText (MayLead g.B.Store known c.args.world.now c.apply_batches.new.world) c.args.batches.options.stop s end text (g.S.Output.Write.contents c.args.session.now.output) (g.S.Output.Write.contents c.apply_batches.new.session.output) status))
+    (sym c.course_status.ensures) (c.in-Ok.ensures.ran opened known s stands)
 
-pub returns-in-Ok-clause-done : goal.returns-in-Ok-clause-done
-returns-in-Ok-clause-done g c known s stands =
-    let input = g.R.Read.remaining c.args.input.now in
-    let files = g.H.BatchFiles.text c.args.host.now in
-    subst (λ text. IfOk c.run_text-in-Ok.result (λ status. EndsTask g.S.Store known c.args.world.now c.run_text-in-Ok.new.world (λ end. AppliesText (MayLead g.S.Store known c.args.world.now c.run_text-in-Ok.new.world) s end text (g.W.Write.contents c.args.output.now) (g.W.Write.contents c.run_text-in-Ok.new.output) status)))
-    (c.in-Ok.ensures ∙ sym (given_file c.args.batches.now input files (sym c.eq.ensures ∙ c.if-eq.false))) (c.run_text-in-Ok.ensures.done known s stands)
-
-pub returns-in-Err-clause-stops : goal.returns-in-Err-clause-stops
-returns-in-Err-clause-stops g c known s stands =
-    let output = g.W.Write.contents c.args.output.now in
-    unchanged g.S.Store known c.args.world.now s (λ end. StopsApplying (MayLead g.S.Store known c.args.world.now c.args.world.now) s end NoBatches (texts_by (g.R.Read.remaining c.args.input.now) (g.H.BatchFiles.text c.args.host.now) c.args.batches.now) output output)
-    (c.leaves.ensures known (Works s) stands)
-    (inr (refl, refl, refl, unmoved g.S.Store known c.args.world.now s (g.met.S.Store.settled c.args.world.now.connection.store) c.has_good_rows.ensures stands))
-
-pub returns-then-eq-clause-stops : goal.returns-then-eq-clause-stops
-returns-then-eq-clause-stops g c known s stands =
-    let input = g.R.Read.remaining c.args.input.now in
-    let files = g.H.BatchFiles.text c.args.host.now in
-    text_stops g.S.Store known c.args.world.now c.run_text.new.world c.run_text.result s input (texts_by input files c.args.batches.now) (g.W.Write.contents c.args.output.now) (g.W.Write.contents c.run_text.new.output)
-    (given_input c.args.batches.now input files (sym c.eq.ensures ∙ c.if-eq.true)) (c.run_text.ensures.stops known s stands)
-
-pub returns-in-Ok-clause-stops : goal.returns-in-Ok-clause-stops
-returns-in-Ok-clause-stops g c known s stands =
-    let input = g.R.Read.remaining c.args.input.now in
-    let files = g.H.BatchFiles.text c.args.host.now in
-    text_stops g.S.Store known c.args.world.now c.run_text-in-Ok.new.world c.run_text-in-Ok.result s (g.H.Text.Read.remaining c.in-Ok.file) (texts_by input files c.args.batches.now) (g.W.Write.contents c.args.output.now) (g.W.Write.contents c.run_text-in-Ok.new.output)
-    (given_file c.args.batches.now input files (sym c.eq.ensures ∙ c.if-eq.false) ∙ sym c.in-Ok.ensures) (c.run_text-in-Ok.ensures.stops known s stands)
+pub returns-in-Err-clause-applies : goal.returns-in-Err-clause-applies
+returns-in-Err-clause-applies g c opened known s stands = c.in-Err.ensures.ran opened known s stands

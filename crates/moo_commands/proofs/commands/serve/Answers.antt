@@ -23,18 +23,18 @@ module _ {S : Type 0} (g : Ghosts S) (known : Bool) (was world : World S) (clean
       → EndsTask g known was world (λ end. StopsServing ports port count s end failure old new × ((batches others : List Batch) × Led batches others))
   service_stops fault failure is it = record { end = it.end; clean = clean; crash = it.crash; ends = (stopped ports port count s it.end fault failure old new is it.ends, (batches, others, led)) }
 
-pub returns-in-Ok-clause-done : goal.returns-in-Ok-clause-done
-returns-in-Ok-clause-done g c known s stands =
-    let between = attended g.P.Ports g.P.Source.Arrivals g.P.Source.Reader.Read g.P.Source.Writer.Write c.args.ports.now c.serve_port.new.ports in
+pub returns-in-Ok-clause-serves : goal.returns-in-Ok-clause-serves
+returns-in-Ok-clause-serves g c known s stands =
+    let between = attended g.S.Host.Ports g.S.Host.Source.Arrivals g.S.Host.Source.Reader.Read g.S.Host.Source.Writer.Write c.args.session.now.host c.serve_port.new.ports in
     let moved = c.serve_port.ensures.moved in
-    service_done g.S.Store known c.args.world.now c.serve_port.new.world c.serve_port.ensures.clean between c.args.service.port c.args.service.count s (g.W.Write.contents c.args.output.now) (g.W.Write.contents c.serve_port.new.output)
-    (MayLead g.S.Store known c.args.world.now c.serve_port.new.world) moved.0 moved.1 (moved_led g.S.Store known c.args.world.now c.serve_port.new.world s c.has_good_rows.ensures stands moved.0 moved.1 moved.2)
+    service_done g.B.Store known c.args.world.now c.serve_port.new.world c.serve_port.ensures.clean between c.args.service.port c.args.service.count s (g.S.Output.Write.contents c.args.session.now.output) (g.S.Output.Write.contents c.serve_port.new.output)
+    (MayLead g.B.Store known c.args.world.now c.serve_port.new.world) moved.0 moved.1 (moved_led g.B.Store known c.args.world.now c.serve_port.new.world s c.has_good_rows.ensures stands moved.0 moved.1 moved.2)
     tt (c.in-Ok.ensures.serves known (Works s) stands)
 
-pub returns-in-Err-clause-stops : goal.returns-in-Err-clause-stops
-returns-in-Err-clause-stops g c known s stands =
-    let between = attended g.P.Ports g.P.Source.Arrivals g.P.Source.Reader.Read g.P.Source.Writer.Write c.args.ports.now c.serve_port.new.ports in
+pub returns-in-Err-clause-serves : goal.returns-in-Err-clause-serves
+returns-in-Err-clause-serves g c known s stands =
+    let between = attended g.S.Host.Ports g.S.Host.Source.Arrivals g.S.Host.Source.Reader.Read g.S.Host.Source.Writer.Write c.args.session.now.host c.serve_port.new.ports in
     let moved = c.serve_port.ensures.moved in
-    service_stops g.S.Store known c.args.world.now c.serve_port.new.world c.serve_port.ensures.clean between c.args.service.port c.args.service.count s (g.W.Write.contents c.args.output.now) (g.W.Write.contents c.serve_port.new.output)
-    (MayLead g.S.Store known c.args.world.now c.serve_port.new.world) moved.0 moved.1 (moved_led g.S.Store known c.args.world.now c.serve_port.new.world s c.has_good_rows.ensures stands moved.0 moved.1 moved.2)
+    service_stops g.B.Store known c.args.world.now c.serve_port.new.world c.serve_port.ensures.clean between c.args.service.port c.args.service.count s (g.S.Output.Write.contents c.args.session.now.output) (g.S.Output.Write.contents c.serve_port.new.output)
+    (MayLead g.B.Store known c.args.world.now c.serve_port.new.world) moved.0 moved.1 (moved_led g.B.Store known c.args.world.now c.serve_port.new.world s c.has_good_rows.ensures stands moved.0 moved.1 moved.2)
     c.in-Err.fault c.from.result c.from.ensures (c.in-Err.ensures.serves known (Works s) stands)

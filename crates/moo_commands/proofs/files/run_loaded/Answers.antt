@@ -1,5 +1,6 @@
-use Rattle.moo_commands.{proofs.Words.{inl, inr, refl, true, sym, subst, ◌∙◌, over_files, image_at, state_of, given_to, StandsFor, BeginsWith}, proofs.Beginning.{begins_dumped, numbered_dumped, held_rows, refuses_dump, reads_dump, keeps_input, of_other_texts, fails_to_begin, unmade_begins, fresh_begins, load_begins, never_other}, proofs.Connections.{surely}, proofs.Refusals.{fails_at_once, tells_fault}}
+use Rattle.moo_commands.{proofs.Words.{inl, inr, refl, true, sym, subst, ◌∙◌, over_files, image_at, state_of, Run, given_to, StandsFor, LeavesState, BeginsWith}, proofs.Beginning.{begins_dumped, numbered_dumped, held_rows, refuses_dump, reads_dump, keeps_input, of_other_texts, load_begins, never_other}, proofs.Connections.{surely}, proofs.Refusals.{tells_fault}, proofs.Making.{made_over, unmade_over}}
 use Rattle.moo_commands.proofs.files.run_loaded.Goals as goal
+use Rattle.moo_files.{specs.Making.{Empty, HalfMade}, proofs.MakingLemmas.{taken_never, occupied_never, trees_or_made, table_kept, state_kept}}
 use Rattle.moo_load.specs.RowsOf.{AreRowsOf}
 
 -- the dump shows no world, and the file isn't opened
@@ -24,53 +25,38 @@ returns-in-Err-clause-runs g c =
 pub returns-in-Ok-load_from-clause-runs : goal.returns-in-Ok-load_from-clause-runs
 returns-in-Ok-load_from-clause-runs g c =
     let given = given_to g.S.Input.Read g.S.Host.BatchFiles g.S.Host.Ports g.S.Host.Source.Arrivals g.S.Host.Source.Reader.Read g.S.Host.Source.Writer.Write c.args.session.now.input c.args.session.now.host c.run_in_files.new.session.host in
+    let run : Run = record { given = given; before = g.S.Output.Write.contents c.args.session.now.output; after = g.S.Output.Write.contents c.run_in_files.new.session.output; status = c.run_in_files.new.session.status } in
     let s = state_of c.in-Ok.rows.maps in
-    let stands = c.in-Ok-load_from.ensures.stands in
+    let made = c.in-Ok-load_from.ensures.makes in
     let world = c.in-Ok-load_from.world in
-    let same = stands.is_at.rows stands.works in
+    let same = made.stands.is_at.rows made.stands.works in
     let ran = c.run_in_files.ensures in
-    record {
-      anew = λ anew. (
-        world.rows.maps,
-        record {
-          good = ran.good stands.works;
-          world = subst (BeginsWith c.args.task.action given) (sym same) (begins_dumped c.args.task.action given c.args.dump.now s c.requires.load c.requires.word c.in-Ok.ensures.dumped (held_rows c.in-Ok.rows.maps c.in-Ok.ensures.good c.in-Ok.ensures.limit));
-          numbers = numbered_dumped c.args.task.action world.rows.maps c.requires.load (subst (λ rows. AreRowsOf (state_of rows) rows) (sym c.in-Ok-load_from.ensures.rows) c.in-Ok.ensures.numbered);
-        },
-        of_other_texts c.args.task c.requires.load (state_of world.rows.maps) _ given _ _ _ _ (surely _ _ _ _ _ _ _ (ran.runs true (state_of world.rows.maps) (subst (StandsFor over_files true world) (sym same) stands))) (λ rests. rests),
-      );
-      taken = λ t anew holds clean. c.in-Ok-load_from.ensures.taken t holds (ran.clean true s stands clean);
-      over = λ other held holds. never_other c.args.task c.requires.load other;
-      sound = λ other. never_other c.args.task c.requires.load other;
-      room = λ anew clean. c.in-Ok-load_from.ensures.room (ran.clean true s stands clean);
-      occupied = λ trees anew holds any clean. c.in-Ok-load_from.ensures.occupied trees holds any (ran.clean true s stands clean);
-      opened = λ other. never_other c.args.task c.requires.load other;
-    }
+    made_over c.args.task (image_at g.S.File.Start) run (load_begins c.args.task c.requires.load) world c.run_in_files.result
+    (record {
+      good = ran.good made.stands.works;
+      world = subst (BeginsWith c.args.task.action given) (sym same) (begins_dumped c.args.task.action given c.args.dump.now s c.requires.load c.requires.word c.in-Ok.ensures.dumped (held_rows c.in-Ok.rows.maps c.in-Ok.ensures.good c.in-Ok.ensures.limit));
+      numbers = numbered_dumped c.args.task.action world.rows.maps c.requires.load (subst (λ rows. AreRowsOf (state_of rows) rows) (sym made.same) c.in-Ok.ensures.numbered);
+    })
+    (of_other_texts c.args.task c.requires.load (state_of world.rows.maps) _ given _ _ _ _ (surely _ _ _ _ _ _ _ (ran.runs true (state_of world.rows.maps) (subst (StandsFor over_files true world) (sym same) made.stands))) (λ rests. rests))
+    (ran.clean true s made.stands) (taken_never c.in-Ok.rows.maps (image_at g.S.File.Start) world made) (occupied_never c.in-Ok.rows.maps (image_at g.S.File.Start) world made) made.room
 
 pub returns-in-Err-load_from-clause-runs : goal.returns-in-Err-load_from-clause-runs
 returns-in-Err-load_from-clause-runs g c =
     let fault = c.in-Err-load_from.fault in
+    let unmade = c.in-Err-load_from.ensures.makes in
     let image = image_at g.S.File.Start in
+    let rest = c.in-Err-load_from.remains in
     let given = given_to g.S.Input.Read g.S.Host.BatchFiles g.S.Host.Ports g.S.Host.Source.Arrivals g.S.Host.Source.Reader.Read g.S.Host.Source.Writer.Write c.args.session.now.input c.args.session.now.host c.args.session.now.host in
     let s = state_of c.in-Ok.rows.maps in
     let begins = begins_dumped c.args.task.action given c.args.dump.now s c.requires.load c.requires.word c.in-Ok.ensures.dumped (held_rows c.in-Ok.rows.maps c.in-Ok.ensures.good c.in-Ok.ensures.limit) in
     let old = g.S.Output.Write.contents c.args.session.now.output in
     let new = g.S.Output.Write.contents c.report-session-in-Err-load_from.new.output in
     let status = c.report-session-in-Err-load_from.result in
-    let reports = tells_fault fault c.refusal.result old new status (inl c.refusal.ensures) c.report-session-in-Err-load_from.ensures in
-    record {
-      anew = λ anew. fails_to_begin c.args.task (record { given = given; before = old; after = new; status = status }) (fails_at_once fault (record { given = given; before = old; after = new; status = status }) c.in-Err-load_from.ensures.fault reports);
-      over = λ other held holds. never_other c.args.task c.requires.load other;
-      opened = λ other. never_other c.args.task c.requires.load other;
-      left = c.in-Err-load_from.ensures.refused;
-      spared = λ trees anew holds any. c.in-Err-load_from.ensures.kept trees holds any;
-      unmade = λ trees anew holds clean. unmade_begins c.args.task.action given s begins trees image c.in-Err-load_from.remains (c.in-Err-load_from.ensures.trees trees holds clean);
-      spares = λ some whole. c.in-Err-load_from.ensures.spared some (whole (load_begins c.args.task c.requires.load));
-      fresh = λ anew none clean. fresh_begins c.args.task.action given s begins image c.in-Err-load_from.remains (c.in-Err-load_from.ensures.blank none clean);
-      begun = λ anew half clean. fresh_begins c.args.task.action given s begins image c.in-Err-load_from.remains (c.in-Err-load_from.ensures.begun half clean);
-      rests = refl;
-      told = inl (fault, c.in-Err-load_from.ensures.stopped, reports);
-    }
+    let run : Run = record { given = given; before = old; after = new; status = status } in
+    unmade_over c.args.task (image_at g.S.File.Start) run (load_begins c.args.task c.requires.load) fault c.in-Err-load_from.remains s begins refl
+    (tells_fault fault c.refusal.result old new status (inl c.refusal.ensures) c.report-session-in-Err-load_from.ensures)
+    unmade.of_store unmade.stopped (table_kept (λ found. LeavesState found s) image fault rest unmade) (trees_or_made (λ found. LeavesState found s) image fault rest unmade)
+    (unmade.kept Empty) (unmade.kept HalfMade) unmade.spared (state_kept (λ found. LeavesState found s) image fault rest unmade)
 
 pub read_world-requires : goal.read_world-requires
 read_world-requires g c = record { read = λ other. c.requires.read c.args.dump.now (reads_dump c.args.task c.args.dump.now c.requires.load c.requires.word other) }

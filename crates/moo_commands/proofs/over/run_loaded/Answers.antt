@@ -8,12 +8,12 @@ returns-in-Ok-load_in-clause-runs g c =
     inr (
       s,
       begins_dumped c.args.task.action given c.args.dump.now s c.requires.load c.requires.word c.in-Ok.ensures.dumped (held_rows c.in-Ok.rows.maps c.in-Ok.ensures.good c.in-Ok.ensures.limit),
-      of_other_texts c.args.task c.requires.load s _ given _ _ _ _ (surely_ends _ _ _ _ _ _ _ (c.run_in.ensures.runs true s c.in-Ok-load_in.ensures.stands)) (λ rests. rests),
+      of_other_texts c.args.task c.requires.load s _ given _ _ _ _ (surely_ends _ _ _ _ _ _ _ (c.run_in.ensures.runs true s c.in-Ok-load_in.ensures.loads.stands)) (λ rests. rests),
     )
 
 pub returns-in-Err-load_in-clause-runs : goal.returns-in-Err-load_in-clause-runs
 returns-in-Err-load_in-clause-runs g c =
-    inl (refl, (c.from.result, inl (of_making c.in-Err-load_in.fault c.from.result c.from.ensures c.in-Err-load_in.ensures.fault), c.report-session-in-Err-load_in.ensures))
+    inl (refl, (c.from.result, inl (of_making c.in-Err-load_in.fault c.from.result c.from.ensures c.in-Err-load_in.ensures.loads.kind), c.report-session-in-Err-load_in.ensures))
 
 pub read_world-requires : goal.read_world-requires
 read_world-requires g c = record { read = λ other. c.requires.read c.args.dump.now (reads_dump c.args.task c.args.dump.now c.requires.load c.requires.word other) }

@@ -6,5 +6,5 @@ use Rattle.moo_files.proofs.making.make_to_stay.Goals as goal
 
 pub returns-in-Ok-clause-left : goal.returns-in-Ok-clause-left
 returns-in-Ok-clause-left g c clean trees lies =
-    let it = c.leaves.ensures true (Works (state_of (rows_made c.args.rows))) c.in-Ok.ensures.stands refl clean trees lies in
+    let it = c.leaves.ensures true (Works (state_of (rows_made c.args.rows))) c.in-Ok.ensures.loads.stands refl clean trees lies in
     subst (LeavesState trees) it.1 it.2

@@ -1,43 +1,44 @@
-use Rattle.moo_files.{proofs.Words.{inl, ◌≡◌, refl, sym, subst, over_files, file_state, image_at, Adopts, store_of, IsKept}, specs.Contents.{HoldsState}, specs.Opened.{Contents, Nothing, Database, Unfit}, proofs.ContentsLemmas.{was_clean, rests_held, shows_held, left_held, left_none, empty_other, foreign_other, unsound_other, reads_ours, reads_something, own_tables, kept_or_migrated}, proofs.RefusalLemmas.{takes_for_ours, unfit_sound, unfit_of_store, says_nothing}, proofs.RemainsLemmas.{keeps_more}}
+use Rattle.moo_files.{proofs.Words.{inl, ◌≡◌, refl, sym, subst, over_files, file_state, image_at, Adopts, store_of}, specs.Contents.{HoldsState}, specs.Opened.{Contents, Nothing, Database, Unfit}, proofs.ContentsLemmas.{was_clean, rests_held, shows_held, left_held, left_none, empty_other, foreign_other, unsound_other, reads_ours, reads_something, own_tables, kept_or_migrated}, proofs.RefusalLemmas.{unfit_sound, unfit_of_store, says_nothing, refuses_unconnected}}
+use Rattle.moo_store.proofs.AdoptLemmas.{left_still}
 use Rattle.moo_files.proofs.opening.open_from.Goals as goal
 
 -- ---- a World was opened
 
 pub returns-in-Ok-adopt_files-clause-opened : goal.returns-in-Ok-adopt_files-clause-opened
 returns-in-Ok-adopt_files-clause-opened g c = record {
-  good = c.in-Ok-adopt_files.ensures.rows.0;
-  stands = c.in-Ok-adopt_files.ensures.rows.1;
-  works = c.in-Ok-adopt_files.ensures.works;
+  good = c.in-Ok-adopt_files.ensures.adopts.good;
+  stands = c.in-Ok-adopt_files.ensures.adopts.stands;
+  works = c.in-Ok-adopt_files.ensures.adopts.works;
   sound = λ clean.
       let conn = c.in-Ok.conn in
-      let early = was_clean (file_state conn) (store_of over_files c.in-Ok-adopt_files.world) (Adopts (file_state conn)) c.in-Ok-adopt_files.ensures.crash clean in
-      let opened = c.in-Ok.ensures.opened early in
-      reads_ours (image_at g.T.Start) (file_state conn) opened.0 opened.1 (c.in-Ok.ensures.found early) (λ others. c.in-Ok-adopt_files.ensures.other others);
+      let early = was_clean (file_state conn) (store_of over_files c.in-Ok-adopt_files.world) (Adopts (file_state conn)) c.in-Ok-adopt_files.ensures.adopts.crash clean in
+      let opened = c.in-Ok.ensures.connects.opened early in
+      reads_ours (image_at g.T.Start) (file_state conn) opened.0 opened.1 (c.in-Ok.ensures.connects.found early) c.in-Ok-adopt_files.ensures.adopts.ours;
 }
 
 pub returns-in-Ok-adopt_files-clause-opens : goal.returns-in-Ok-adopt_files-clause-opens
 returns-in-Ok-adopt_files-clause-opens g c Nothing none clean =
     let conn = c.in-Ok.conn in
-    let early = was_clean (file_state conn) (store_of over_files c.in-Ok-adopt_files.world) (Adopts (file_state conn)) c.in-Ok-adopt_files.ensures.crash clean in
-    let opened = c.in-Ok.ensures.opened early in
-    c.in-Ok-adopt_files.ensures.other (empty_other (image_at g.T.Start) (file_state conn) opened.0 opened.1 (c.in-Ok.ensures.found early) none)
+    let early = was_clean (file_state conn) (store_of over_files c.in-Ok-adopt_files.world) (Adopts (file_state conn)) c.in-Ok-adopt_files.ensures.adopts.crash clean in
+    let opened = c.in-Ok.ensures.connects.opened early in
+    c.in-Ok-adopt_files.ensures.adopts.ours (empty_other (image_at g.T.Start) (file_state conn) opened.0 opened.1 (c.in-Ok.ensures.connects.found early) none)
 returns-in-Ok-adopt_files-clause-opens g c (Database trees) holds clean =
     let conn = c.in-Ok.conn in
     let image = image_at g.T.Start in
     let store = store_of over_files c.in-Ok-adopt_files.world in
-    let early = was_clean (file_state conn) store (Adopts (file_state conn)) c.in-Ok-adopt_files.ensures.crash clean in
-    let opened = c.in-Ok.ensures.opened early in
-    let found = c.in-Ok.ensures.found early in
+    let early = was_clean (file_state conn) store (Adopts (file_state conn)) c.in-Ok-adopt_files.ensures.adopts.crash clean in
+    let opened = c.in-Ok.ensures.connects.opened early in
+    let found = c.in-Ok.ensures.connects.found early in
     record {
-      ours = λ others. c.in-Ok-adopt_files.ensures.other (foreign_other image (file_state conn) trees opened.0 opened.1 found holds others);
+      ours = λ others. c.in-Ok-adopt_files.ensures.adopts.ours (foreign_other image (file_state conn) trees opened.0 opened.1 found holds others);
       state = λ s leaves.
           let held : HoldsState image s = record { trees = trees; holds = holds; such = leaves } in
           let shows = shows_held image (file_state conn) s opened.0 opened.1 found held in
-          (c.in-Ok-adopt_files.ensures.stands s shows clean, c.in-Ok-adopt_files.ensures.left s shows (left_held image (file_state conn) s opened.0 found c.in-Ok.ensures.left held) clean);
+          (c.in-Ok-adopt_files.ensures.adopts.state s shows clean, left_still (file_state conn) store s c.in-Ok-adopt_files.ensures.adopts.crash shows (left_held image (file_state conn) s opened.0 found c.in-Ok.ensures.connects.left held) clean);
       tables = λ tables leaves.
           let rests = rests_held image (file_state conn) tables opened.0 opened.1 found (record { trees = trees; holds = holds; such = leaves }) in
-          ((c.in-Ok-adopt_files.ensures.shown clean tables rests).0, c.in-Ok-adopt_files.ensures.rests clean tables rests);
-      kept = kept_or_migrated image (file_state conn) store trees opened.0 opened.1 found c.in-Ok.ensures.left holds clean c.in-Ok-adopt_files.ensures.crash;
+          (c.in-Ok-adopt_files.ensures.adopts.shown tables rests clean, c.in-Ok-adopt_files.ensures.adopts.rests tables rests clean);
+      kept = kept_or_migrated image (file_state conn) store trees opened.0 opened.1 found c.in-Ok.ensures.connects.left holds clean c.in-Ok-adopt_files.ensures.adopts.crash;
     }
 returns-in-Ok-adopt_files-clause-opens g c Unfit none clean = none ((returns-in-Ok-adopt_files-clause-opened g c).sound clean)
 
@@ -48,57 +49,45 @@ returns-in-Err-adopt_files-clause-refused g c = record {
   stopped = tt;
   spared = λ some clean.
       let conn = c.in-Ok.conn in
-      let early = was_clean (file_state conn) (file_state c.in-Err-adopt_files.conn) (Adopts (file_state conn)) c.in-Err-adopt_files.ensures.crash_refused clean in
-      let opened = c.in-Ok.ensures.opened early in
-      reads_something (image_at g.T.Start) (file_state conn) opened.0 opened.1 (c.in-Ok.ensures.found early) some;
+      let early = was_clean (file_state conn) (file_state c.in-Err-adopt_files.conn) (Adopts (file_state conn)) c.in-Err-adopt_files.ensures.adopts.crash clean in
+      let opened = c.in-Ok.ensures.connects.opened early in
+      reads_something (image_at g.T.Start) (file_state conn) opened.0 opened.1 (c.in-Ok.ensures.connects.found early) some;
 }
 
 pub returns-in-Err-adopt_files-clause-refuses : goal.returns-in-Err-adopt_files-clause-refuses
 returns-in-Err-adopt_files-clause-refuses g c Nothing nothing clean =
     let conn = c.in-Ok.conn in
     let image = image_at g.T.Start in
-    let early = was_clean (file_state conn) (file_state c.in-Err-adopt_files.conn) (Adopts (file_state conn)) c.in-Err-adopt_files.ensures.crash_refused clean in
-    let opened = c.in-Ok.ensures.opened early in
-    let found = c.in-Ok.ensures.found early in
-    let other = c.in-Err-adopt_files.ensures.other (empty_other image (file_state conn) opened.0 opened.1 found nothing) in
-    (other.0, λ trees lies. inl (left_none image (file_state conn) opened.0 found c.in-Ok.ensures.left nothing trees (subst (λ h. (file_state h).may_leave trees) other.1 lies)))
+    let early = was_clean (file_state conn) (file_state c.in-Err-adopt_files.conn) (Adopts (file_state conn)) c.in-Err-adopt_files.ensures.adopts.crash clean in
+    let opened = c.in-Ok.ensures.connects.opened early in
+    let found = c.in-Ok.ensures.connects.found early in
+    let other = c.in-Err-adopt_files.ensures.adopts.other (empty_other image (file_state conn) opened.0 opened.1 found nothing) in
+    (other.0, λ trees lies. inl (left_none image (file_state conn) opened.0 found c.in-Ok.ensures.connects.left nothing trees (subst (λ h. (file_state h).may_leave trees) other.1 lies)))
 returns-in-Err-adopt_files-clause-refuses g c (Database trees) holds clean =
     let conn = c.in-Ok.conn in
     let last = c.in-Err-adopt_files.conn in
     let image = image_at g.T.Start in
-    let early = was_clean (file_state conn) (file_state last) (Adopts (file_state conn)) c.in-Err-adopt_files.ensures.crash_refused clean in
-    let opened = c.in-Ok.ensures.opened early in
-    let found = c.in-Ok.ensures.found early in
+    let early = was_clean (file_state conn) (file_state last) (Adopts (file_state conn)) c.in-Err-adopt_files.ensures.adopts.crash clean in
+    let opened = c.in-Ok.ensures.connects.opened early in
+    let found = c.in-Ok.ensures.connects.found early in
     record {
-      tables = λ tables leaves. c.in-Err-adopt_files.ensures.fault clean tables (rests_held image (file_state conn) tables opened.0 opened.1 found (record { trees = trees; holds = holds; such = leaves }));
-      state = λ s leaves. c.in-Err-adopt_files.ensures.whole s (shows_held image (file_state conn) s opened.0 opened.1 found (record { trees = trees; holds = holds; such = leaves })) clean;
-      other = λ others. (c.in-Err-adopt_files.ensures.other (foreign_other image (file_state conn) trees opened.0 opened.1 found holds others)).0;
-      ours = λ ours other. own_tables image (file_state conn) trees opened.0 opened.1 found holds ours (λ version is. c.in-Err-adopt_files.ensures.own version is other);
+      tables = λ tables leaves. c.in-Err-adopt_files.ensures.adopts.says tables (rests_held image (file_state conn) tables opened.0 opened.1 found (record { trees = trees; holds = holds; such = leaves })) clean;
+      state = λ s leaves. c.in-Err-adopt_files.ensures.adopts.whole s (shows_held image (file_state conn) s opened.0 opened.1 found (record { trees = trees; holds = holds; such = leaves })) clean;
+      other = λ others. (c.in-Err-adopt_files.ensures.adopts.other (foreign_other image (file_state conn) trees opened.0 opened.1 found holds others)).0;
+      ours = λ ours other. own_tables image (file_state conn) trees opened.0 opened.1 found holds ours (λ version is. c.in-Err-adopt_files.ensures.adopts.own version is other);
       malformed = tt;
-      kept = kept_or_migrated image (file_state conn) (file_state last) trees opened.0 opened.1 found c.in-Ok.ensures.left holds clean c.in-Err-adopt_files.ensures.crash_refused;
+      kept = kept_or_migrated image (file_state conn) (file_state last) trees opened.0 opened.1 found c.in-Ok.ensures.connects.left holds clean c.in-Err-adopt_files.ensures.adopts.crash;
     }
 returns-in-Err-adopt_files-clause-refuses g c Unfit none clean =
     let conn = c.in-Ok.conn in
-    let early = was_clean (file_state conn) (file_state c.in-Err-adopt_files.conn) (Adopts (file_state conn)) c.in-Err-adopt_files.ensures.crash_refused clean in
-    let opened = c.in-Ok.ensures.opened early in
-    (c.in-Err-adopt_files.ensures.other (unsound_other (image_at g.T.Start) (file_state conn) opened.0 opened.1 (c.in-Ok.ensures.found early) none)).0
+    let early = was_clean (file_state conn) (file_state c.in-Err-adopt_files.conn) (Adopts (file_state conn)) c.in-Err-adopt_files.ensures.adopts.crash clean in
+    let opened = c.in-Ok.ensures.connects.opened early in
+    (c.in-Err-adopt_files.ensures.adopts.other (unsound_other (image_at g.T.Start) (file_state conn) opened.0 opened.1 (c.in-Ok.ensures.connects.found early) none)).0
 
 -- ---- no connection was opened
 
-pub returns-in-Err-clause-refused : goal.returns-in-Err-clause-refused
-returns-in-Err-clause-refused g c = record { stopped = c.in-Err.ensures.stopped; spared = c.in-Err.ensures.spared }
-
 pub returns-in-Err-clause-refuses : goal.returns-in-Err-clause-refuses
-returns-in-Err-clause-refuses g c Nothing nothing clean = (c.in-Err.ensures.fault, c.in-Err.ensures.blank nothing clean)
-returns-in-Err-clause-refuses g c (Database trees) holds clean = record {
-  tables = λ tables leaves. says_nothing tables c.in-Err.fault c.in-Err.ensures.fault;
-  state = λ s leaves. c.in-Err.ensures.fault;
-  other = λ others. c.in-Err.ensures.fault;
-  ours = λ ours. takes_for_ours c.in-Err.fault c.in-Err.remains (c.in-Err.ensures.own trees holds clean);
-  malformed = c.in-Err.ensures.malformed trees holds clean;
-  kept = keeps_more (λ found. found ≡ trees) (IsKept trees) (λ found same. inl same) (image_at g.T.Start) c.in-Err.remains (c.in-Err.ensures.kept trees holds clean);
-}
-returns-in-Err-clause-refuses g c Unfit none clean = c.in-Err.ensures.fault
+returns-in-Err-clause-refuses g c held holds clean = refuses_unconnected (image_at g.T.Start) c.in-Err.fault c.in-Err.remains c.in-Err.ensures.fault held (c.in-Err.ensures.unconnects held holds clean)
 
 -- ---- `sqlite` wasn't asked
 

@@ -7,6 +7,9 @@ returns-in-Refused-clause-comes g c known stand at = (stand, at, rw c.in-Refused
 pub returns-in-Calls-clause-comes : goal.returns-in-Calls-clause-comes
 returns-in-Calls-clause-comes g c known stand at = rw c.in-Calls.is (c.take_batch.ensures.comes known stand at)
 
+pub returns-in-Each-clause-comes : goal.returns-in-Each-clause-comes
+returns-in-Each-clause-comes g c known stand at = (stand, at, rw c.in-Each.is (c.ask_each.ensures known stand at))
+
 pub returns-in-Question-clause-comes : goal.returns-in-Question-clause-comes
 returns-in-Question-clause-comes g c known stand at = (stand, at, rw c.in-Question.is (c.ask_question.ensures known stand at))
 
@@ -15,6 +18,9 @@ returns-in-Refused-clause-moved g c = rw c.in-Refused.is (written_none g.S.Store
 
 pub returns-in-Calls-clause-moved : goal.returns-in-Calls-clause-moved
 returns-in-Calls-clause-moved g c = rw c.in-Calls.is c.take_batch.ensures.moved
+
+pub returns-in-Each-clause-moved : goal.returns-in-Each-clause-moved
+returns-in-Each-clause-moved g c = rw c.in-Each.is (written_none g.S.Store c.args.world.now (g.met.S.Store.settled c.args.world.now.connection.store))
 
 pub returns-in-Question-clause-moved : goal.returns-in-Question-clause-moved
 returns-in-Question-clause-moved g c = rw c.in-Question.is (written_none g.S.Store c.args.world.now (g.met.S.Store.settled c.args.world.now.connection.store))

@@ -2,7 +2,7 @@ use Rattle.moo_http.proofs.Consulting.{told_by_rows, told_closed}
 use Rattle.moo_http.proofs.consult.ask_question.Goals as goal
 
 pub ask_rows-requires : goal.ask_rows-requires
-ask_rows-requires g c = c.in-Some.ensures.good.formed.tree
+ask_rows-requires g c = c.in-Some.ensures.good
 
 pub returns-in-Some : goal.returns-in-Some
 returns-in-Some g c known stand at =

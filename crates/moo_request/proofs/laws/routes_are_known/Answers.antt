@@ -4,4 +4,4 @@ use Rattle.matchit.proofs.OnLiterals.{matchit_on_literals}
 
 pub returns : goal.returns
 unfolding matchit_on_literals service_rows
-returns c = record { batch = refl; ask = refl; seq = refl; object = refl; topics = refl; deeper = refl; bare = refl; unknown = refl; root = refl; empty = refl }
+returns c = record { batch = refl; ask = refl; each = refl; seq = refl; object = refl; topics = refl; deeper = refl; bare = refl; unknown = refl; root = refl; empty = refl }

@@ -9,10 +9,11 @@ returns c =
     let code : c.as_str.result.now ≡ decimal c.args.status = search rules in
     let length : c.as_str-2.result.now ≡ decimal c.args.size = search rules in
     let allow : c.as_str-3.result.now ≡ allowed = search rules in
-    let named = line_end ++ (codes "content-type: application/json" ++ (line_end ++ codes "content-length: ")) in
+    let typed = line_end ++ codes "content-type: " in
+    let named = line_end ++ codes "content-length: " in
     let close = line_end ++ (codes "connection: close" ++ line_end) in
     IfOk-weaker c.concat.result _ _
     (λ text is.
-    is ∙ (λ i. codes "HTTP/1.1 " ++ (code i ++ (codes " " ++ (c.reason.ensures i ++ (named ++ (length i ++ (close ++ (allow i ++ (line_end ++ [])))))))))
-    ∙ pieces_are (codes "HTTP/1.1 ") (decimal c.args.status) (codes " ") (reason_of c.args.status) line_end (codes "content-type: application/json") (codes "content-length: ") (decimal c.args.size) (codes "connection: close") allowed)
+    is ∙ (λ i. codes "HTTP/1.1 " ++ (code i ++ (codes " " ++ (c.reason.ensures i ++ (typed ++ (c.args.kind.now ++ (named ++ (length i ++ (close ++ (allow i ++ (line_end ++ [])))))))))))
+    ∙ pieces_are (codes "HTTP/1.1 ") (decimal c.args.status) (codes " ") (reason_of c.args.status) line_end (codes "content-type: ") c.args.kind.now (codes "content-length: ") (decimal c.args.size) (codes "connection: close") allowed)
     c.concat.ensures.ok

@@ -1,41 +1,66 @@
-use Rattle.moo_store.{proofs.Words.{◌≡◌, ◌+◌, inr, vec_len, refl, sym, ◌∙◌, subst, arith, true, false, Ok, Err, ⊤, OutOfMemory, Closed, acknowledged, added, LeavesLed, store_of, World, IsGood}, proofs.Running.{when_ok, starts, goes_on, answers, is_at_end, stops, left_at, fails_of, runs_one, runs_through, runs_stopped, next_in_hand, fewer, stood, all_answered, has_failed, no_memory, same_fault}, proofs.Untouched.{is_over, wrote_at_start, wrote_on, wrote_stopped, same_stopped, led_over, led_stopped}, proofs.Stopped.{faults_same, faults_then, stopped_since, was_open}}
+use Rattle.std.proofs.lemmas.Bool.{true≢false}
+use Rattle.moo_store.{proofs.Words.{◌≡◌, ◌+◌, inl, inr, vec_len, refl, sym, ◌∙◌, subst, arith, true, false, Ok, Err, ⊤, OutOfMemory, Closed, acknowledged, added, LeavesLed, store_of, World, IsGood}, proofs.Running.{when_ok, starts, goes_on, answers, is_at_end, stops, left_at, fails_of, runs_one, runs_through, runs_stopped, next_in_hand, fewer, stood, all_answered, has_failed, no_memory, same_fault, never_failed}, proofs.Untouched.{is_over, wrote_at_start, wrote_on, wrote_stopped, same_stopped, led_over, led_stopped}, proofs.Stopped.{faults_same, faults_then, stopped_since, was_open}}
 use Rattle.moo_store.proofs.world.World.run.Goals as goal
 
 -- before the first batch
-
-pub returns-then-self-clause-replies : goal.returns-then-self-clause-replies
-returns-then-self-clause-replies g c known s it =
-    let p = starts g.S.Store c.args.self.now c.args.batches.now c.args.replies.now.items c.args.replies.now.items refl in
-    answers g.S.Store c.args.self.now c.args.self.now c.args.batches.now 0 c.args.replies.now.items c.args.replies.now.items p known s it
-
-pub returns-then-self-clause-world : goal.returns-then-self-clause-world
-returns-then-self-clause-world g c known s it =
-    let p = starts g.S.Store c.args.self.now c.args.batches.now c.args.replies.now.items c.args.replies.now.items refl in
-    is_at_end g.S.Store c.args.self.now c.args.self.now c.args.batches.now 0 c.args.replies.now.items c.args.replies.now.items p known s it
-
-pub returns-then-self-clause-left : goal.returns-then-self-clause-left
-returns-then-self-clause-left g c s it =
-    let p = starts g.S.Store c.args.self.now c.args.batches.now c.args.replies.now.items c.args.replies.now.items refl in
-    left_at {T = Unit {0}} g.S.Store c.args.self.now _ (Err Closed) ⊤ (g.met.S.Store.settled c.args.self.now.connection.store)
-    (is_at_end g.S.Store c.args.self.now c.args.self.now c.args.batches.now 0 c.args.replies.now.items c.args.replies.now.items p true s it)
+pub returns-then-self : goal.returns-then-self
+returns-then-self g c =
+    let old = c.args.self.now in
+    let all = c.args.batches.now in
+    let before = c.args.replies.now.items in
+    let p = starts g.S.Store old all before before refl in
+    let at = is_at_end g.S.Store old old all 0 before before p in
+    let failed : old.failed ≡ true = subst (λ (w : World _). w.failed ≡ true) c.self.view_is c.if-self.true in
+    record {
+      runs = record {
+        adds = record { stood = stood g.S.Store old old all 0 before before p; each = tt; fewer = λ works. absurd (true≢false (sym failed ∙ works)) };
+        turns = runs_through g.S.Store old old all 0 before before (Err Closed) (λ P Q p. p) p;
+        states = λ known s it. record { answered = answers g.S.Store old old all 0 before before p known s it; at = at known s it };
+        leaves = λ s it. record {
+          left = left_at {T = Unit {0}} g.S.Store old _ (Err Closed) ⊤ (g.met.S.Store.settled old.connection.store) (at true s it);
+          cells = λ clean known tables rests. (wrote_at_start g.S.Store old all before before refl).written clean tables (is_over g.S.Store true old s tables refl it clean rests);
+          cause = λ clean. tt;
+        };
+        led = λ s it. absurd (true≢false (sym failed ∙ it.works));
+        still = record { same = λ none. refl; memory = λ is. (refl, refl); closed = λ closed. (refl, refl, refl) };
+        fault = inr (inr refl);
+        failed = inr failed;
+        clean = λ clean. clean;
+        kept = faults_same (store_of g.S.Store old);
+      };
+    }
 
 -- no room for the replies
-
-pub returns-then-is_err-clause-replies : goal.returns-then-is_err-clause-replies
-returns-then-is_err-clause-replies g c known s it =
-    let p = starts g.S.Store c.args.self.now c.args.batches.now c.args.replies.now.items c.reserve.new.self.items c.reserve.ensures.items in
-    answers g.S.Store c.args.self.now c.args.self.now c.args.batches.now 0 c.args.replies.now.items c.reserve.new.self.items p known s it
-
-pub returns-then-is_err-clause-world : goal.returns-then-is_err-clause-world
-returns-then-is_err-clause-world g c known s it =
-    let p = starts g.S.Store c.args.self.now c.args.batches.now c.args.replies.now.items c.reserve.new.self.items c.reserve.ensures.items in
-    is_at_end g.S.Store c.args.self.now c.args.self.now c.args.batches.now 0 c.args.replies.now.items c.reserve.new.self.items p known s it
-
-pub returns-then-is_err-clause-left : goal.returns-then-is_err-clause-left
-returns-then-is_err-clause-left g c s it =
-    let p = starts g.S.Store c.args.self.now c.args.batches.now c.args.replies.now.items c.reserve.new.self.items c.reserve.ensures.items in
-    left_at {T = Unit {0}} g.S.Store c.args.self.now _ (Err OutOfMemory) ⊤ (g.met.S.Store.settled c.args.self.now.connection.store)
-    (is_at_end g.S.Store c.args.self.now c.args.self.now c.args.batches.now 0 c.args.replies.now.items c.reserve.new.self.items p true s it)
+pub returns-then-is_err : goal.returns-then-is_err
+returns-then-is_err g c =
+    let old = c.args.self.now in
+    let all = c.args.batches.now in
+    let before = c.args.replies.now.items in
+    let behind = c.reserve.new.self.items in
+    let p = starts g.S.Store old all before behind c.reserve.ensures.items in
+    let at = is_at_end g.S.Store old old all 0 before behind p in
+    let cells = wrote_at_start g.S.Store old all before behind c.reserve.ensures.items in
+    let works : old.failed ≡ false = subst (λ (w : World _). w.failed ≡ false) c.self.view_is c.if-self.false in
+    record {
+      runs = record {
+        adds = record { stood = stood g.S.Store old old all 0 before behind p; each = tt; fewer = λ works other. absurd (other refl) };
+        turns = runs_through g.S.Store old old all 0 before behind (Err OutOfMemory) (λ P Q p. p) p;
+        states = λ known s it. record { answered = answers g.S.Store old old all 0 before behind p known s it; at = at known s it };
+        leaves = λ s it. record {
+          left = left_at {T = Unit {0}} g.S.Store old _ (Err OutOfMemory) ⊤ (g.met.S.Store.settled old.connection.store) (at true s it);
+          cells = λ clean known tables rests. cells.written clean tables (is_over g.S.Store true old s tables refl it clean rests);
+          cause = λ clean. tt;
+        };
+        led = λ s it clean.
+            led_over g.S.Store old old s all _ _ (g.met.S.Store.settled old.connection.store) it
+            (subst (λ (w : World _). w.failed ≡ false → IsGood w.rows.maps) c.self.view_is c.self.invariant.1 it.works) cells clean;
+        still = record { same = λ none. refl; memory = λ is. (refl, c.reserve.ensures.items); closed = λ failed. absurd (true≢false (sym failed ∙ works)) };
+        fault = inr (inl refl);
+        failed = inl refl;
+        clean = λ clean. clean;
+        kept = faults_same (store_of g.S.Store old);
+      };
+    }
 
 -- one batch after another
 
@@ -57,152 +82,92 @@ loop-batch-preserved g c = record {
   room = let longer : vec_len c.push.new.self ≡ vec_len c.loop-batch.replies + 1 = rw c.unwrap.ensures at c.push.ensures.len in omega (arith, longer, c.loop-batch.invariant.room, c.push.ensures.capacity, c.loop-batch-test.true);
 }
 
-pub returns-in-Err-clause-replies : goal.returns-in-Err-clause-replies
-returns-in-Err-clause-replies g c known s it = answers g.S.Store c.args.self.now c.loop-batch.self c.args.batches.now c.loop-batch.batch-index c.args.replies.now.items c.loop-batch.replies.items c.loop-batch.invariant.progress known s it
+-- a batch met a fault
+pub returns-in-Err : goal.returns-in-Err
+returns-in-Err g c =
+    let old = c.args.self.now in
+    let mid = c.loop-batch.self in
+    let new = c.run_one.new.self in
+    let all = c.args.batches.now in
+    let count = c.loop-batch.batch-index in
+    let before = c.args.replies.now.items in
+    let behind = c.loop-batch.replies.items in
+    let batch = c.batch-item.result in
+    let fault = c.in-Err.fault in
+    let low = c.loop-batch-test.true in
+    let p = c.loop-batch.invariant.progress in
+    let cells = c.loop-batch.invariant.cells in
+    let fails = fails_of g.S.Store mid new (Err fault) c.in-Err.ensures.closed c.in-Err.ensures.fails in
+    let runs = runs_one g.S.Store mid new batch (Err fault) fails c.in-Err.ensures.stands in
+    let works : old.failed ≡ false = subst (λ (w : World _). w.failed ≡ false) c.self.view_is c.if-self.false in
+    let stopped = stops (Unit {0}) g.S.Store old mid new all count before behind batch fault low c.batch-item.is p runs in
+    record {
+      runs = record {
+        adds = record { stood = stood g.S.Store old mid all count before behind p; each = tt; fewer = λ works other. fewer g.S.Store old mid all count before behind low p };
+        turns = runs_stopped g.S.Store old mid new all count before behind batch fault low c.batch-item.is fails c.in-Err.ensures.stands p;
+        states = λ known s it. record { answered = answers g.S.Store old mid all count before behind p known s it; at = stopped known s it };
+        leaves = λ s it. record {
+          left = left_at {T = Unit {0}} g.S.Store new _ (Err fault) _ (g.met.S.Store.settled new.connection.store) (stopped true s it);
+          cells = λ clean known tables rests.
+              wrote_stopped (Unit {0}) g.S.Store old mid new all (added before behind) batch fault cells fails c.in-Err.ensures.cells clean known tables
+              (is_over g.S.Store true old s tables refl it (cells.clean (c.in-Err.ensures.cells.clean clean)) rests);
+          cause = λ clean.
+              let at = is_at_end g.S.Store old mid all count before behind p true s it in
+              stopped_since (store_of g.S.Store old) (store_of g.S.Store mid) (store_of g.S.Store new) fault c.loop-batch.invariant.kept
+              (λ e is. was_open mid.failed (store_of g.S.Store mid) fault e is (λ failed. (c.in-Err.ensures.closed failed).0) (λ works. (at.shown refl works (c.in-Err.ensures.cells.clean clean)).rests.is_open))
+              (c.in-Err.ensures.cause clean (λ works. at.shown refl works));
+        };
+        led = λ s it clean.
+            subst (LeavesLed (store_of g.S.Store new) old.rows.maps (acknowledged all (added before behind)))
+            (sym (next_in_hand g.S.Store old mid all count before behind batch low c.batch-item.is p))
+            (led_stopped g.S.Store old mid new s all (added before behind) batch _ fault (g.met.S.Store.settled new.connection.store) it
+            (subst (λ (w : World _). w.failed ≡ false → IsGood w.rows.maps) c.self.view_is c.self.invariant.1 it.works) cells fails c.in-Err.ensures.cells clean);
+        still = record {
+          same = same_stopped (Unit {0}) g.S.Store old mid new all (added before behind) fault cells fails;
+          memory = λ is. absurd (no_memory g.S.Store mid new fault (same_fault fault OutOfMemory is) fails);
+          closed = λ failed. absurd (true≢false (sym failed ∙ works));
+        };
+        fault = c.in-Err.ensures.fault;
+        failed = inr (has_failed g.S.Store mid new fault fails);
+        clean = λ clean. cells.clean (c.in-Err.ensures.cells.clean clean);
+        kept = faults_then (store_of g.S.Store old) (store_of g.S.Store mid) (store_of g.S.Store new) c.loop-batch.invariant.kept c.in-Err.ensures.kept;
+      };
+    }
 
-pub returns-in-Err-clause-world : goal.returns-in-Err-clause-world
-returns-in-Err-clause-world g c known s it =
-    stops (Unit {0}) g.S.Store c.args.self.now c.loop-batch.self c.run_one.new.self c.args.batches.now c.loop-batch.batch-index c.args.replies.now.items c.loop-batch.replies.items c.batch-item.result c.in-Err.fault
-    c.loop-batch-test.true c.batch-item.is c.loop-batch.invariant.progress (runs_one g.S.Store c.loop-batch.self c.run_one.new.self c.batch-item.result (Err c.in-Err.fault) (fails_of g.S.Store c.loop-batch.self c.run_one.new.self (Err c.in-Err.fault) c.in-Err.ensures.closed c.in-Err.ensures.fails) c.in-Err.ensures.stands) known s it
-
-pub returns-in-Err-clause-left : goal.returns-in-Err-clause-left
-returns-in-Err-clause-left g c s it =
-    left_at {T = Unit {0}} g.S.Store c.run_one.new.self _ (Err c.in-Err.fault) _ (g.met.S.Store.settled c.run_one.new.self.connection.store)
-    (stops (Unit {0}) g.S.Store c.args.self.now c.loop-batch.self c.run_one.new.self c.args.batches.now c.loop-batch.batch-index c.args.replies.now.items c.loop-batch.replies.items c.batch-item.result c.in-Err.fault
-    c.loop-batch-test.true c.batch-item.is c.loop-batch.invariant.progress (runs_one g.S.Store c.loop-batch.self c.run_one.new.self c.batch-item.result (Err c.in-Err.fault) (fails_of g.S.Store c.loop-batch.self c.run_one.new.self (Err c.in-Err.fault) c.in-Err.ensures.closed c.in-Err.ensures.fails) c.in-Err.ensures.stands) true s it)
-
-pub returns-clause-replies : goal.returns-clause-replies
-returns-clause-replies g c known s it = answers g.S.Store c.args.self.now c.loop-batch.self c.args.batches.now c.loop-batch.batch-index c.args.replies.now.items c.loop-batch.replies.items c.loop-batch.invariant.progress known s it
-
-pub returns-clause-world : goal.returns-clause-world
-returns-clause-world g c known s it = is_at_end g.S.Store c.args.self.now c.loop-batch.self c.args.batches.now c.loop-batch.batch-index c.args.replies.now.items c.loop-batch.replies.items c.loop-batch.invariant.progress known s it
-
-pub returns-clause-left : goal.returns-clause-left
-returns-clause-left g c s it =
-    left_at {T = Unit {0}} g.S.Store c.loop-batch.self _ (Ok tt) ⊤ (g.met.S.Store.settled c.loop-batch.self.connection.store)
-    (is_at_end g.S.Store c.args.self.now c.loop-batch.self c.args.batches.now c.loop-batch.batch-index c.args.replies.now.items c.loop-batch.replies.items c.loop-batch.invariant.progress true s it)
-
--- what was written
-
-pub returns-then-self-clause-cells : goal.returns-then-self-clause-cells
-returns-then-self-clause-cells g c s it clean known tables rests =
-    (wrote_at_start g.S.Store c.args.self.now c.args.batches.now c.args.replies.now.items c.args.replies.now.items refl).written clean tables (is_over g.S.Store true c.args.self.now s tables refl it clean rests)
-
-pub returns-then-is_err-clause-cells : goal.returns-then-is_err-clause-cells
-returns-then-is_err-clause-cells g c s it clean known tables rests =
-    (wrote_at_start g.S.Store c.args.self.now c.args.batches.now c.args.replies.now.items c.reserve.new.self.items c.reserve.ensures.items).written clean tables (is_over g.S.Store true c.args.self.now s tables refl it clean rests)
-
-pub returns-in-Err-clause-cells : goal.returns-in-Err-clause-cells
-returns-in-Err-clause-cells g c s it clean known tables rests =
-    wrote_stopped (Unit {0}) g.S.Store c.args.self.now c.loop-batch.self c.run_one.new.self c.args.batches.now (added c.args.replies.now.items c.loop-batch.replies.items) c.batch-item.result c.in-Err.fault c.loop-batch.invariant.cells (fails_of g.S.Store c.loop-batch.self c.run_one.new.self (Err c.in-Err.fault) c.in-Err.ensures.closed c.in-Err.ensures.fails) c.in-Err.ensures.cells
-    clean known tables (is_over g.S.Store true c.args.self.now s tables refl it (c.loop-batch.invariant.cells.clean (c.in-Err.ensures.cells.clean clean)) rests)
-
-pub returns-clause-cells : goal.returns-clause-cells
-returns-clause-cells g c s it clean known tables rests = c.loop-batch.invariant.cells.written clean tables (is_over g.S.Store true c.args.self.now s tables refl it (c.loop-batch.invariant.cells.clean clean) rests)
-
--- what a crash leaves of the rows
-
-pub returns-then-self-clause-led : goal.returns-then-self-clause-led
-returns-then-self-clause-led g c s it clean = let no : true ≡ false = sym (subst (λ (w : World _). w.failed ≡ true) c.self.view_is c.if-self.true) ∙ it.works in absurd cc
-
-pub returns-then-is_err-clause-led : goal.returns-then-is_err-clause-led
-returns-then-is_err-clause-led g c s it clean =
-    led_over g.S.Store c.args.self.now c.args.self.now s c.args.batches.now _ _ (g.met.S.Store.settled c.args.self.now.connection.store) it
-    (subst (λ (w : World _). w.failed ≡ false → IsGood w.rows.maps) c.self.view_is c.self.invariant.1 it.works)
-    (wrote_at_start g.S.Store c.args.self.now c.args.batches.now c.args.replies.now.items c.reserve.new.self.items c.reserve.ensures.items) clean
-
-pub returns-in-Err-clause-led : goal.returns-in-Err-clause-led
-returns-in-Err-clause-led g c s it clean =
-    let done = acknowledged c.args.batches.now (added c.args.replies.now.items c.loop-batch.replies.items) in
-    subst (LeavesLed (store_of g.S.Store c.run_one.new.self) c.args.self.now.rows.maps done)
-    (sym (next_in_hand g.S.Store c.args.self.now c.loop-batch.self c.args.batches.now c.loop-batch.batch-index c.args.replies.now.items c.loop-batch.replies.items c.batch-item.result c.loop-batch-test.true c.batch-item.is c.loop-batch.invariant.progress))
-    (led_stopped g.S.Store c.args.self.now c.loop-batch.self c.run_one.new.self s c.args.batches.now (added c.args.replies.now.items c.loop-batch.replies.items) c.batch-item.result _ c.in-Err.fault (g.met.S.Store.settled c.run_one.new.self.connection.store) it
-    (subst (λ (w : World _). w.failed ≡ false → IsGood w.rows.maps) c.self.view_is c.self.invariant.1 it.works)
-    c.loop-batch.invariant.cells (fails_of g.S.Store c.loop-batch.self c.run_one.new.self (Err c.in-Err.fault) c.in-Err.ensures.closed c.in-Err.ensures.fails) c.in-Err.ensures.cells clean)
-
-pub returns-clause-led : goal.returns-clause-led
-returns-clause-led g c s it clean =
-    led_over g.S.Store c.args.self.now c.loop-batch.self s c.args.batches.now _ _ (g.met.S.Store.settled c.loop-batch.self.connection.store) it
-    (subst (λ (w : World _). w.failed ≡ false → IsGood w.rows.maps) c.self.view_is c.self.invariant.1 it.works) c.loop-batch.invariant.cells clean
-
--- where none was acknowledged
-
-pub returns-in-Err-clause-same : goal.returns-in-Err-clause-same
-returns-in-Err-clause-same g c =
-    same_stopped (Unit {0}) g.S.Store c.args.self.now c.loop-batch.self c.run_one.new.self c.args.batches.now (added c.args.replies.now.items c.loop-batch.replies.items) c.in-Err.fault c.loop-batch.invariant.cells (fails_of g.S.Store c.loop-batch.self c.run_one.new.self (Err c.in-Err.fault) c.in-Err.ensures.closed c.in-Err.ensures.fails)
-
-pub returns-clause-same : goal.returns-clause-same
-returns-clause-same g c = c.loop-batch.invariant.cells.same
-
--- where the World stands
-
-pub returns-then-self-clause-turns : goal.returns-then-self-clause-turns
-returns-then-self-clause-turns g c =
-    let p = starts g.S.Store c.args.self.now c.args.batches.now c.args.replies.now.items c.args.replies.now.items refl in
-    runs_through g.S.Store c.args.self.now c.args.self.now c.args.batches.now 0 c.args.replies.now.items c.args.replies.now.items (Err Closed) (λ P Q p. p) p
-
-pub returns-then-is_err-clause-turns : goal.returns-then-is_err-clause-turns
-returns-then-is_err-clause-turns g c =
-    let p = starts g.S.Store c.args.self.now c.args.batches.now c.args.replies.now.items c.reserve.new.self.items c.reserve.ensures.items in
-    runs_through g.S.Store c.args.self.now c.args.self.now c.args.batches.now 0 c.args.replies.now.items c.reserve.new.self.items (Err OutOfMemory) (λ P Q p. p) p
-
-pub returns-in-Err-clause-turns : goal.returns-in-Err-clause-turns
-returns-in-Err-clause-turns g c =
-    runs_stopped g.S.Store c.args.self.now c.loop-batch.self c.run_one.new.self c.args.batches.now c.loop-batch.batch-index c.args.replies.now.items c.loop-batch.replies.items c.batch-item.result c.in-Err.fault
-    c.loop-batch-test.true c.batch-item.is
-    (fails_of g.S.Store c.loop-batch.self c.run_one.new.self (Err c.in-Err.fault) c.in-Err.ensures.closed c.in-Err.ensures.fails) c.in-Err.ensures.stands c.loop-batch.invariant.progress
-
-pub returns-clause-turns : goal.returns-clause-turns
-returns-clause-turns g c =
-    runs_through g.S.Store c.args.self.now c.loop-batch.self c.args.batches.now c.loop-batch.batch-index c.args.replies.now.items c.loop-batch.replies.items (Ok tt) (λ P Q p. p) c.loop-batch.invariant.progress
-
-pub returns-in-Err-clause-fewer : goal.returns-in-Err-clause-fewer
-returns-in-Err-clause-fewer g c works other =
-    fewer g.S.Store c.args.self.now c.loop-batch.self c.args.batches.now c.loop-batch.batch-index c.args.replies.now.items c.loop-batch.replies.items c.loop-batch-test.true c.loop-batch.invariant.progress
-
-pub returns-in-Err-clause-clean : goal.returns-in-Err-clause-clean
-returns-in-Err-clause-clean g c clean = c.loop-batch.invariant.cells.clean (c.in-Err.ensures.cells.clean clean)
-
-pub returns-clause-clean : goal.returns-clause-clean
-returns-clause-clean g c = c.loop-batch.invariant.cells.clean
-
--- why the store stopped it
-
-pub returns-then-self-clause-kept : goal.returns-then-self-clause-kept
-returns-then-self-clause-kept g c = faults_same (store_of g.S.Store c.args.self.now)
-
-pub returns-then-is_err-clause-kept : goal.returns-then-is_err-clause-kept
-returns-then-is_err-clause-kept g c = faults_same (store_of g.S.Store c.args.self.now)
-
-pub returns-in-Err-clause-kept : goal.returns-in-Err-clause-kept
-returns-in-Err-clause-kept g c = faults_then (store_of g.S.Store c.args.self.now) (store_of g.S.Store c.loop-batch.self) (store_of g.S.Store c.run_one.new.self) c.loop-batch.invariant.kept c.in-Err.ensures.kept
-
-pub returns-clause-kept : goal.returns-clause-kept
-returns-clause-kept g c = c.loop-batch.invariant.kept
-
-pub returns-in-Err-clause-cause : goal.returns-in-Err-clause-cause
-returns-in-Err-clause-cause g c s it clean =
-    let mid = store_of g.S.Store c.loop-batch.self in
-    let at = is_at_end g.S.Store c.args.self.now c.loop-batch.self c.args.batches.now c.loop-batch.batch-index c.args.replies.now.items c.loop-batch.replies.items c.loop-batch.invariant.progress true s it in
-    stopped_since (store_of g.S.Store c.args.self.now) mid (store_of g.S.Store c.run_one.new.self) c.in-Err.fault c.loop-batch.invariant.kept
-    (λ e is. was_open c.loop-batch.self.failed mid c.in-Err.fault e is (λ failed. (c.in-Err.ensures.closed failed).0) (λ works. (at.shown refl works (c.in-Err.ensures.cells.clean clean)).rests.is_open))
-    (c.in-Err.ensures.cause clean (λ works. at.shown refl works))
-
--- the replies
-
-pub returns-in-Err-clause-stood : goal.returns-in-Err-clause-stood
-returns-in-Err-clause-stood g c = stood g.S.Store c.args.self.now c.loop-batch.self c.args.batches.now c.loop-batch.batch-index c.args.replies.now.items c.loop-batch.replies.items c.loop-batch.invariant.progress
-
-pub returns-clause-stood : goal.returns-clause-stood
-returns-clause-stood g c = stood g.S.Store c.args.self.now c.loop-batch.self c.args.batches.now c.loop-batch.batch-index c.args.replies.now.items c.loop-batch.replies.items c.loop-batch.invariant.progress
-
-pub returns-clause-each : goal.returns-clause-each
-returns-clause-each g c = all_answered g.S.Store c.args.self.now c.loop-batch.self c.args.batches.now c.loop-batch.batch-index c.args.replies.now.items c.loop-batch.replies.items c.loop-batch.invariant.progress (omega (arith, c.loop-batch-test.false, c.loop-batch.auto.batch-index-end))
-
--- the fault of a batch
-
-pub returns-in-Err-clause-failed : goal.returns-in-Err-clause-failed
-returns-in-Err-clause-failed g c = inr (has_failed g.S.Store c.loop-batch.self c.run_one.new.self c.in-Err.fault (fails_of g.S.Store c.loop-batch.self c.run_one.new.self (Err c.in-Err.fault) c.in-Err.ensures.closed c.in-Err.ensures.fails))
-
-pub returns-in-Err-clause-memory : goal.returns-in-Err-clause-memory
-returns-in-Err-clause-memory g c is = absurd (no_memory g.S.Store c.loop-batch.self c.run_one.new.self c.in-Err.fault (same_fault c.in-Err.fault OutOfMemory is) (fails_of g.S.Store c.loop-batch.self c.run_one.new.self (Err c.in-Err.fault) c.in-Err.ensures.closed c.in-Err.ensures.fails))
+-- each batch has a reply
+pub returns : goal.returns
+returns g c =
+    let old = c.args.self.now in
+    let new = c.loop-batch.self in
+    let all = c.args.batches.now in
+    let count = c.loop-batch.batch-index in
+    let before = c.args.replies.now.items in
+    let behind = c.loop-batch.replies.items in
+    let p = c.loop-batch.invariant.progress in
+    let cells = c.loop-batch.invariant.cells in
+    let at = is_at_end g.S.Store old new all count before behind p in
+    let works : old.failed ≡ false = subst (λ (w : World _). w.failed ≡ false) c.self.view_is c.if-self.false in
+    record {
+      runs = record {
+        adds = record {
+          stood = stood g.S.Store old new all count before behind p;
+          each = all_answered g.S.Store old new all count before behind p (omega (arith, c.loop-batch-test.false, c.loop-batch.auto.batch-index-end));
+          fewer = λ works. tt;
+        };
+        turns = runs_through g.S.Store old new all count before behind (Ok tt) (λ P Q p. p) p;
+        states = λ known s it. record { answered = answers g.S.Store old new all count before behind p known s it; at = at known s it };
+        leaves = λ s it. record {
+          left = left_at {T = Unit {0}} g.S.Store new _ (Ok tt) ⊤ (g.met.S.Store.settled new.connection.store) (at true s it);
+          cells = λ clean known tables rests. cells.written clean tables (is_over g.S.Store true old s tables refl it (cells.clean clean) rests);
+          cause = λ clean. tt;
+        };
+        led = λ s it clean.
+            led_over g.S.Store old new s all _ _ (g.met.S.Store.settled new.connection.store) it
+            (subst (λ (w : World _). w.failed ≡ false → IsGood w.rows.maps) c.self.view_is c.self.invariant.1 it.works) cells clean;
+        still = record { same = cells.same; memory = λ is. absurd (never_failed tt OutOfMemory is); closed = λ failed. absurd (true≢false (sym failed ∙ works)) };
+        fault = tt;
+        failed = tt;
+        clean = cells.clean;
+        kept = c.loop-batch.invariant.kept;
+      };
+    }

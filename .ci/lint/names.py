@@ -1,0 +1,65 @@
+"""That pages name what there is: each path in them is one of the repository, and each name of code is a word of its sources."""
+from __future__ import annotations
+
+import re
+import subprocess
+from pathlib import Path
+from typing import Iterator, Optional
+
+TOP = Path(__file__).resolve().parents[2]
+PAGES = ("CONTRIBUTING.md", "docs/DECISIONS.md", "docs/DEFINITIONS.md", "docs/TOUR.md")
+QUOTED = re.compile(r"`([^`]+)`")
+SOURCE = re.compile(r"\.(rt|antt|py)$|^[^.]*$")
+FILE = re.compile(r"^[\w./-]*\w\.(rt|antt|py|md|edit|txt|dump|service)$")
+FOLDER = re.compile(r"^[\w.-]+(/[\w.-]+)+/?$")
+# A word of several parts: of lower case with underscores, or with a capital inside.
+NAME = re.compile(r"\b(?:[a-z][a-z0-9]*(?:_[a-z0-9]+)+|[A-Z][a-z]+(?:[A-Z][a-z]*)+)\b")
+WORD = re.compile(r"[A-Za-z_][A-Za-z_0-9]*")
+# What a reader puts a name of its own for.
+MARKS = {"CRATE", "FILE", "FUNCTION", "FOLDER", "NAME", "WORD"}
+# Calls and types of the libraries below.
+FOREIGN = {"query_all"}
+
+
+def files() -> list[str]:
+    """The paths of all files that git knows or doesn't ignore, and that are there."""
+    words = ["git", "ls-files", "--cached", "--others", "--exclude-standard"]
+    listed = subprocess.run(words, cwd=TOP, stdout=subprocess.PIPE, text=True, check=True)
+    return [line for line in listed.stdout.splitlines() if (TOP / line).is_file()]
+
+
+def words_of(paths: list[str]) -> set[str]:
+    """Every word of the sources among these files, and of their paths."""
+    words: set[str] = set()
+    for path in paths:
+        words |= set(WORD.findall(path))
+        if SOURCE.search(path.rsplit("/", 1)[-1]):
+            words |= set(WORD.findall((TOP / path).read_text(errors="replace")))
+    return words
+
+
+def is_there(path: str, paths: list[str]) -> bool:
+    """Whether a path, or the end of one, is that of a file or a folder."""
+    part = f"/{path.removeprefix('./').strip('/')}"
+    return any(f"/{file}".endswith(part) or f"{part}/" in f"/{file}" for file in paths)
+
+
+def complaint(text: str, paths: list[str], words: set[str]) -> Optional[str]:
+    """What is wrong with the names of a page, or nothing."""
+    wrong: list[str] = []
+    for number, line in enumerate(text.splitlines(), 1):
+        for quoted in QUOTED.findall(line):
+            if FILE.match(quoted) or FOLDER.match(quoted):
+                if not MARKS & set(WORD.findall(quoted)) and not is_there(quoted, paths):
+                    wrong.append(f"line {number}: there is no {quoted}")
+            else:
+                wrong += [f"line {number}: no source has {name}" for name in NAME.findall(quoted) if name not in words | FOREIGN]
+    return "; ".join(wrong) or None
+
+
+def cases() -> Iterator[tuple[str, Optional[str]]]:
+    """The name of each case, and what is wrong with it."""
+    paths = files()
+    words = words_of([path for path in paths if not path.startswith(("docs/", "mutants/"))])
+    for page in PAGES:
+        yield page, complaint((TOP / page).read_text(), paths, words)

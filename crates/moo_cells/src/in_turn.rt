@@ -1,0 +1,227 @@
+//! The rows of a world, from the tables of a connection, one table after another: only the cells of one table are held at a time.
+//!
+//! What is wrong with tables isn't told here. Whoever wants to know it reads them all (`read_tables` of `moo_tables`, `read_cells`).
+
+ghost use Rattle.std.specs.Prelude.{◌≡◌, ◌<◌, ◌^◌, IfOk, IfSome, OnOk, OnErr, true, false};
+ghost use Rattle.std.specs.FinMap.{empty};
+ghost use Rattle.sqlite.specs.Held.{state};
+ghost use Rattle.sqlite.specs.State.{HasCleanDisk};
+ghost use Rattle.moo_rows.specs.Maps.{Maps, no_maps};
+ghost use Rattle.moo_world.specs.Rows.{IsGood};
+ghost use Rattle.moo_tables.specs.Tables.{Tables, schema_of};
+ghost use Rattle.moo_tables.specs.Inside.{AreKeyed, Rests, ReadsTables, FailsToRead};
+ghost use Rattle.moo_damage.specs.Limits.{AreWithin};
+ghost use Rattle.moo_cells.specs.Shows.{ShowsRows};
+ghost use Rattle.moo_cells.specs.Taken.{TakesObjects, TakesProps, TakesSlots, TakesVerbs, TakesTables};
+
+use crate::head::read_head;
+use crate::rows::under;
+use crate::tables::{read_objects, read_petitions, read_props, read_slots, read_verbs};
+use moo_damage::damage_of;
+use moo_memory::Flat;
+use moo_tables::{
+    Version, are_numbered, are_paired, object_cells_of, prop_cells_of, slot_cells_of,
+    small_cells_of, verb_cells_of,
+};
+use sqlite::{Alter, Connection, Error, Row};
+use std::alloc::Global;
+
+/// The rows with what each row of the table `object` shows, of which they have none yet; None if some row shows nothing, or if memory ran
+/// out.
+fn take_objects<S: Alter>(
+    alloc: Global,
+    conn: &mut Connection<S>,
+    version: Version,
+    mut rows: Flat,
+) -> Result<Option<Flat>, Error>
+    requires { rows.maps.objects ≡ empty }
+    ensures outside { (state S.Store conn.old).in_transaction ≡ false → (state S.Store conn.new).in_transaction ≡ false }
+    ensures read { OnOk result (ReadsTables (schema_of version) (state S.Store conn.old) (state S.Store conn.new)) }
+    ensures taken { IfOk result (λ o. IfSome o (λ after.
+        TakesObjects version (state S.Store conn.old) (state S.Store conn.new) rows.maps after.maps)) }
+    ensures failed { OnErr result (FailsToRead (schema_of version) (state S.Store conn.old) (state S.Store conn.new)) }
+{
+    let cells = object_cells_of(alloc, conn, version)?;
+    if !are_numbered(&cells) {
+        return Ok(None);
+    }
+    match read_objects(alloc, version, cells, &mut rows) {
+        Ok(()) => Ok(Some(rows)),
+        Err(_) => Ok(None),
+    }
+}
+
+/// The rows with what each row of the table `prop` shows, of which they have none yet; None if some row shows nothing, or if memory ran
+/// out.
+fn take_props<S: Alter>(
+    alloc: Global,
+    conn: &mut Connection<S>,
+    version: Version,
+    mut rows: Flat,
+) -> Result<Option<Flat>, Error>
+    requires { rows.maps.props ≡ empty }
+    ensures outside { (state S.Store conn.old).in_transaction ≡ false → (state S.Store conn.new).in_transaction ≡ false }
+    ensures read { OnOk result (ReadsTables (schema_of version) (state S.Store conn.old) (state S.Store conn.new)) }
+    ensures taken { IfOk result (λ o. IfSome o (λ after.
+        TakesProps version (state S.Store conn.old) (state S.Store conn.new) rows.maps after.maps)) }
+    ensures failed { OnErr result (FailsToRead (schema_of version) (state S.Store conn.old) (state S.Store conn.new)) }
+{
+    let cells = prop_cells_of(alloc, conn, version)?;
+    if !are_numbered(&cells) {
+        return Ok(None);
+    }
+    match read_props(alloc, version, cells, &mut rows) {
+        Ok(()) => Ok(Some(rows)),
+        Err(_) => Ok(None),
+    }
+}
+
+/// The rows with what each row of the table `slot` shows, of which they have none yet; None if some row shows nothing, or if memory ran
+/// out.
+fn take_slots<S: Alter>(
+    alloc: Global,
+    conn: &mut Connection<S>,
+    version: Version,
+    mut rows: Flat,
+) -> Result<Option<Flat>, Error>
+    requires { rows.maps.slots ≡ empty }
+    ensures outside { (state S.Store conn.old).in_transaction ≡ false → (state S.Store conn.new).in_transaction ≡ false }
+    ensures read { OnOk result (ReadsTables (schema_of version) (state S.Store conn.old) (state S.Store conn.new)) }
+    ensures taken { IfOk result (λ o. IfSome o (λ after.
+        TakesSlots version (state S.Store conn.old) (state S.Store conn.new) rows.maps after.maps)) }
+    ensures failed { OnErr result (FailsToRead (schema_of version) (state S.Store conn.old) (state S.Store conn.new)) }
+{
+    let cells = slot_cells_of(alloc, conn, version)?;
+    if !are_paired(&cells) {
+        return Ok(None);
+    }
+    match read_slots(alloc, version, cells, &mut rows) {
+        Ok(()) => Ok(Some(rows)),
+        Err(_) => Ok(None),
+    }
+}
+
+/// The rows with what each row of the table `verb` shows, of which they have none yet; None if some row shows nothing, or if memory ran
+/// out.
+fn take_verbs<S: Alter>(
+    alloc: Global,
+    conn: &mut Connection<S>,
+    version: Version,
+    mut rows: Flat,
+) -> Result<Option<Flat>, Error>
+    requires { rows.maps.verbs ≡ empty }
+    ensures outside { (state S.Store conn.old).in_transaction ≡ false → (state S.Store conn.new).in_transaction ≡ false }
+    ensures read { OnOk result (ReadsTables (schema_of version) (state S.Store conn.old) (state S.Store conn.new)) }
+    ensures taken { IfOk result (λ o. IfSome o (λ after.
+        TakesVerbs version (state S.Store conn.old) (state S.Store conn.new) rows.maps after.maps)) }
+    ensures failed { OnErr result (FailsToRead (schema_of version) (state S.Store conn.old) (state S.Store conn.new)) }
+{
+    let cells = verb_cells_of(alloc, conn, version)?;
+    if !are_paired(&cells) {
+        return Ok(None);
+    }
+    match read_verbs(alloc, version, cells, &mut rows) {
+        Ok(()) => Ok(Some(rows)),
+        Err(_) => Ok(None),
+    }
+}
+
+/// The rows with what the four large tables show, if they have a head alone before; None if some row shows nothing, or if memory ran out.
+fn take_tables<S: Alter>(
+    alloc: Global,
+    conn: &mut Connection<S>,
+    version: Version,
+    rows: Flat,
+) -> Result<Option<Flat>, Error>
+    requires { rows.maps ≡ record no_maps { head = rows.maps.head } }
+    ensures outside { (state S.Store conn.old).in_transaction ≡ false → (state S.Store conn.new).in_transaction ≡ false }
+    ensures read { OnOk result (ReadsTables (schema_of version) (state S.Store conn.old) (state S.Store conn.new)) }
+    ensures taken { IfOk result (λ o. IfSome o (λ after.
+        TakesTables version (state S.Store conn.old) (state S.Store conn.new) rows.maps after.maps)) }
+    ensures failed { OnErr result (FailsToRead (schema_of version) (state S.Store conn.old) (state S.Store conn.new)) }
+{
+    let objects = take_objects(alloc, conn, version, rows)?;
+    let Some(one) = objects else {
+        return Ok(None);
+    };
+    let props = take_props(alloc, conn, version, one)?;
+    let Some(two) = props else {
+        return Ok(None);
+    };
+    let slots = take_slots(alloc, conn, version, two)?;
+    let Some(three) = slots else {
+        return Ok(None);
+    };
+    let verbs = take_verbs(alloc, conn, version, three)?;
+    Ok(verbs)
+}
+
+/// Whether the first column of each of three tables is a whole number that rises from row to row.
+pub(crate) fn are_each_numbered(one: &[Row], two: &[Row], three: &[Row]) -> bool
+    ensures one { result ≡ true → AreKeyed one.now }
+    ensures two { result ≡ true → AreKeyed two.now }
+    ensures three { result ≡ true → AreKeyed three.now }
+{
+    are_numbered(one) && are_numbered(two) && are_numbered(three)
+}
+
+/// The rows within their limits that the tables show; None if they show no such rows, or if memory ran out.
+fn take_rows<S: Alter>(
+    alloc: Global,
+    conn: &mut Connection<S>,
+    version: Version,
+) -> Result<Option<Flat>, Error>
+    ensures outside { (state S.Store conn.old).in_transaction ≡ false → (state S.Store conn.new).in_transaction ≡ false }
+    ensures read { OnOk result (ReadsTables (schema_of version) (state S.Store conn.old) (state S.Store conn.new)) }
+    ensures shown { HasCleanDisk (state S.Store conn.new) → IfOk result (λ o. IfSome o (λ rows. (tables : Tables) →
+        Rests (state S.Store conn.old) tables → tables.version ≡ version → ShowsRows tables rows.maps)) }
+    ensures within { IfOk result (λ o. IfSome o (λ rows. AreWithin rows.maps)) }
+    ensures limit { IfOk result (λ o. IfSome o (λ rows. rows.maps.head.seq < 2 ^ 63)) }
+    ensures failed { OnErr result (FailsToRead (schema_of version) (state S.Store conn.old) (state S.Store conn.new)) }
+{
+    let (head, petition, petition_head) = small_cells_of(alloc, conn, version)?;
+    if !are_each_numbered(&head, &petition, &petition_head) {
+        return Ok(None);
+    }
+    let Ok(first) = read_head(version, &head, &petition_head) else {
+        return Ok(None);
+    };
+    let all = take_tables(alloc, conn, version, under(alloc, first))?;
+    let Some(mut rows) = all else {
+        return Ok(None);
+    };
+    match read_petitions(alloc, version, petition, &mut rows) {
+        Ok(()) => Ok(Some(rows)),
+        Err(_) => Ok(None),
+    }
+}
+
+/// The rows that the tables of a connection show, if they are those of a world; None if they aren't, or if memory ran out.
+///
+/// Nothing is written. After a fault of the store the tables are as they were, unless the fault shut the connection.
+pub fn read_in_turn<S: Alter>(
+    alloc: Global,
+    conn: &mut Connection<S>,
+    version: Version,
+) -> Result<Option<Flat>, Error>
+    ensures outside { (state S.Store conn.old).in_transaction ≡ false → (state S.Store conn.new).in_transaction ≡ false }
+    ensures read { OnOk result (ReadsTables (schema_of version) (state S.Store conn.old) (state S.Store conn.new)) }
+    ensures shown { HasCleanDisk (state S.Store conn.new) → IfOk result (λ o. IfSome o (λ rows. (tables : Tables) →
+        Rests (state S.Store conn.old) tables → tables.version ≡ version → ShowsRows tables rows.maps)) }
+    // What is read is good whatever the tables hold.
+    ensures good { IfOk result (λ o. IfSome o (λ rows. IsGood rows.maps)) }
+    ensures limit { IfOk result (λ o. IfSome o (λ rows. rows.maps.head.seq < 2 ^ 63)) }
+    // Good rows that the tables show are the ones that are read.
+    ensures one { HasCleanDisk (state S.Store conn.new) → IfOk result (λ o. IfSome o (λ rows. (tables : Tables) (m : Maps) →
+        Rests (state S.Store conn.old) tables → tables.version ≡ version → ShowsRows tables m → IsGood m → rows.maps ≡ m)) }
+    ensures failed { OnErr result (FailsToRead (schema_of version) (state S.Store conn.old) (state S.Store conn.new)) }
+{
+    let taken = take_rows(alloc, conn, version)?;
+    let Some(rows) = taken else {
+        return Ok(None);
+    };
+    match damage_of(alloc, &rows) {
+        Ok(None) => Ok(Some(rows)),
+        _ => Ok(None),
+    }
+}

@@ -1,0 +1,174 @@
+-- What follows of what making a world does, whatever that is; and how it is made and refused.
+use Rattle.moo_files.proofs.Words.{◌≡◌, ◌≢◌, ◌⊎◌, inl, inr, List, [], ◌∷◌, Result, Ok, Err, IfOk, IfErr, refl, sym, ap, subst, ◌∙◌, true, Trees, HasCleanDisk, Survives, Opens, IsLive, Held, IsEmpty, IsNothing, over_files, file_state, Ghosts, FileStore, Files, Image, outcomes, image_of, Leftover, Maps, State, LeavesState, Left, store_of, no_schema, Error, IsOfStore, StoreFault, IsBlank, SparesFiles, HoldsTrees, HoldsState, HasAnyTable, HoldsNoTable, IsCleanRemains, IsUnopened, KeepsSuch, KeepsNothingBut, Spares, Remains}
+use Rattle.sqlite.specs.Schema.{Schema}
+use Rattle.moo_world.specs.Judge.{state_of}
+use Rattle.moo_tables.proofs.SchemaLemmas.{some_tables, one_schema}
+use Rattle.moo_store.{specs.Kept.{World}, specs.World.{StandsFor}, specs.declared.fault.StoreFault.TheVariants.{Store, OutOfMemory}}
+use Rattle.moo_files.{specs.Connected.{IsNewOrFound, OnlyLeaves}, specs.Making.{Site, Empty, HalfMade, Filled, IsSite, TakesWorld, KeepsSite, IsMadeIn, IsUnmadeIn, Makes}, specs.Remains.{MayStopAs, StillHolds}, proofs.OpenedLemmas.{ok_map, err_map}, proofs.RemainsLemmas.{keeps_more, blank_more, spared_keeps, spared_blank, spared_begun, unopened_keeps, unopened_blank}, proofs.ContentsLemmas.{finds_held, any_table, left_only, left_new, left_begun, or_committed}}
+use Rattle.moo_files.specs.declared.remains.Remains.TheVariants as remains
+
+-- ---- what is left of files in which no world was begun
+
+module _ {T D : Type 0} {g : Ghosts D} where
+  site_more : (P Q : Trees → Type 0) → ((trees : Trees) → P trees → Q trees) → (image : Image) (r : Remains T D g) (site : Site) → KeepsSite P site image r → KeepsSite Q site image r
+  site_more P Q goes image r Empty it = blank_more P Q goes image r it
+  site_more P Q goes image r HalfMade it = blank_more P Q goes image r it
+  site_more P Q goes image r (Filled trees) it =
+      keeps_more (λ found. (found ≡ trees) ⊎ ((¬ HasAnyTable trees) × P found)) (λ found. (found ≡ trees) ⊎ ((¬ HasAnyTable trees) × Q found))
+      (λ found kept. elim kept [ inl same ↦ inl same | inr made ↦ inr (made.0, goes found made.1) ]) image r it
+
+  pub unmade_more : (P Q : Trees → Type 0) → ((trees : Trees) → P trees → Q trees) → (image : Image) (fault : StoreFault) (r : Remains T D g) → IsUnmadeIn P image fault r → IsUnmadeIn Q image fault r
+  unmade_more P Q goes image fault r it = record {
+    of_store = it.of_store;
+    stopped = it.stopped;
+    spared = it.spared;
+    kept = λ site is clean. site_more P Q goes image r site (it.kept site is clean);
+  }
+
+  -- a database that is kept as it is
+  same_site : (image : Image) (r : Remains T D g) (trees : Trees) → KeepsSuch (λ found. found ≡ trees) image r → KeepsSite (λ _. ⊥) (Filled trees) image r
+  same_site image r trees it = keeps_more (λ found. found ≡ trees) (λ found. (found ≡ trees) ⊎ ((¬ HasAnyTable trees) × ⊥)) (λ found same. inl same) image r it
+
+  -- of files that weren't opened
+  pub unopened_site : (image : Image) (r : Remains T D g) → IsUnopened r → (site : Site) → IsSite image site → KeepsSite (λ _. ⊥) site image r
+  unopened_site image r unopened Empty nothing = unopened_blank image r unopened (inl nothing)
+  unopened_site image r unopened HalfMade begun = unopened_blank image r unopened (inr begun)
+  unopened_site image r unopened (Filled trees) holds = same_site image r trees (unopened_keeps image r trees unopened holds)
+
+-- of files that `sqlite` couldn't open
+pub spared_site : (T : Type 0) {D : Type 0} {g : Ghosts D} (image : Image) (files : Files D) → image_of g files ≡ image → ((now : Image) → outcomes g files.log files.db now → now ≡ image) → (rest : Leftover D g) → SparesFiles files rest
+    → (site : Site) → IsSite image site → KeepsSite {T = T} (λ _. ⊥) site image (remains.Leftover rest)
+spared_site T image files same only rest spares Empty nothing = spared_blank image files same only rest spares nothing
+spared_site T image files same only rest spares HalfMade begun = spared_begun image files same only rest spares begun
+spared_site T image files same only rest spares (Filled trees) holds = same_site {T = T} image (remains.Leftover rest) trees (spared_keeps image files same only rest trees spares holds)
+
+-- ---- what is left of files in which one was
+
+-- what a new world can't be made for says nothing of tables
+pub of_loading : {fault : StoreFault} {P : Type 0} → ((fault ≡ OutOfMemory) × P) ⊎ ((error : Error) × (fault ≡ Store error)) → IsOfStore fault
+of_loading (inl (is, kept)) = subst IsOfStore (sym is) tt
+of_loading (inr (error, is)) = subst IsOfStore (sym is) tt
+
+list_cases : {A : Type 0} (xs : List A) → (xs ≡ []) ⊎ (xs ≢ [])
+list_cases [] = inl refl
+list_cases (x ∷ xs) = inr (λ is. cc)
+
+-- a database has tables, or it has none
+schema_cases : (schema : Schema) → (schema ≡ no_schema) ⊎ (schema ≢ no_schema)
+schema_cases schema = elim (list_cases schema.tables) [
+  | inl tables ↦ elim (list_cases schema.indexes) [
+    | inl indexes ↦ elim (list_cases schema.views) [
+      | inl views ↦ inl (ap (λ t. record schema { tables = t }) tables ∙ ap (λ i. record schema { tables = []; indexes = i }) indexes ∙ ap (λ v. record schema { tables = []; indexes = []; views = v }) views)
+      | inr some ↦ inr (λ is. some (ap (λ (s : Schema). s.views) is))
+    ]
+    | inr some ↦ inr (λ is. some (ap (λ (s : Schema). s.indexes) is))
+  ]
+  | inr some ↦ inr (λ is. some (ap (λ (s : Schema). s.tables) is))
+]
+
+module _ {D : Type 0} {g : Ghosts D} (image : Image) (old : Held (FileStore D g)) (opens : Opens (file_state old)) (live : IsLive (file_state old)) (found : IsNewOrFound image (file_state old)) where
+  pub takes_world : ¬ ((file_state old).now.schema ≢ no_schema) → (site : Site) → IsSite image site → TakesWorld site
+  takes_world empty Empty nothing = tt
+  takes_world empty HalfMade begun = tt
+  takes_world empty (Filled trees) holds = λ any. empty (any_table image (file_state old) trees opens live (finds_held image (file_state old) trees found holds) holds any)
+
+  module _ (Made : Trees → Type 0) (new : Held (FileStore D g)) (only : OnlyLeaves (file_state old)) (taken : (file_state old).now.schema ≢ no_schema → new ≡ old) (crash : (new ≡ old) ⊎ Survives (file_state old) (file_state new) Made) (clean : HasCleanDisk (file_state new)) where
+    filled_site : (trees : Trees) → HoldsTrees image trees → (left : Trees) → (file_state new).may_leave left → (left ≡ trees) ⊎ ((¬ HasAnyTable trees) × Made left)
+    filled_site trees holds left lies =
+        let finds = finds_held image (file_state old) trees found holds in
+        let was = left_only image (file_state old) trees opens finds only holds in
+        elim (schema_cases (file_state old).now.schema) [
+          | inl none ↦ elim (or_committed old new Made (λ now. now ≡ trees) crash clean was left lies) [
+            | inl same ↦ inl same
+            | inr made ↦ inr (λ any. any_table image (file_state old) trees opens live finds holds any none, made)
+          ]
+          | inr some ↦ inl (was left (subst (λ h. (file_state h).may_leave left) (taken some) lies))
+        ]
+
+    pub keeps_site : (T : Type 0) (site : Site) → IsSite image site → KeepsSite {T = T} Made site image (remains.Connection new)
+    keeps_site T Empty nothing = or_committed old new Made IsEmpty crash clean (left_new image (file_state old) opens found only nothing)
+    keeps_site T HalfMade begun = or_committed old new Made IsEmpty crash clean (left_begun image (file_state old) opens found only begun)
+    keeps_site T (Filled trees) holds = filled_site trees holds
+
+-- ---- the laws
+
+-- what shows a state has a table
+state_has_table : (trees : Trees) (s : State) → LeavesState trees s → HasAnyTable trees
+state_has_table trees s it none =
+    let version = it.leaves.tables.version in
+    some_tables version (sym (one_schema version trees no_schema it.leaves.leaves.sound none))
+
+module _ {D : Type 0} {g : Ghosts D} (rows : Maps) (image : Image) (world : World (FileStore D g)) (made : IsMadeIn rows image world) where
+  pub occupied_never : (trees : Trees) → HoldsTrees image trees → HasAnyTable trees → HasCleanDisk (store_of over_files world) → ⊥
+  occupied_never trees holds any clean = made.over (Filled trees) holds clean any
+
+  pub taken_never : (s : State) → HoldsState image s → HasCleanDisk (store_of over_files world) → ⊥
+  taken_never s holds = occupied_never holds.trees holds.holds (state_has_table holds.trees s holds.such)
+
+module _ {T D : Type 0} {g : Ghosts D} (Made : Trees → Type 0) (image : Image) (fault : StoreFault) (rest : Remains T D g) (unmade : IsUnmadeIn Made image fault rest) where
+  pub trees_or_made : (trees : Trees) → HoldsTrees image trees → IsCleanRemains rest → KeepsSuch (λ found. (found ≡ trees) ⊎ Made found) image rest
+  trees_or_made trees holds clean =
+      keeps_more (λ found. (found ≡ trees) ⊎ ((¬ HasAnyTable trees) × Made found)) (λ found. (found ≡ trees) ⊎ Made found)
+      (λ found kept. elim kept [ inl same ↦ inl same | inr made ↦ inr made.1 ]) image rest (unmade.kept (Filled trees) holds clean)
+
+  pub table_kept : (trees : Trees) → HoldsTrees image trees → HasAnyTable trees → IsCleanRemains rest → KeepsSuch (λ found. found ≡ trees) image rest
+  table_kept trees holds any clean =
+      keeps_more (λ found. (found ≡ trees) ⊎ ((¬ HasAnyTable trees) × Made found)) (λ found. found ≡ trees)
+      (λ found kept. elim kept [ inl same ↦ same | inr made ↦ absurd (made.0 any) ]) image rest (unmade.kept (Filled trees) holds clean)
+
+  pub state_kept : (s : State) → HoldsState image s → IsCleanRemains rest → StillHolds image rest s
+  state_kept s holds clean =
+      keeps_more (λ found. found ≡ holds.trees) (λ trees. LeavesState trees s) (λ found same. subst (λ trees. LeavesState trees s) (sym same) holds.such) image rest
+      (table_kept holds.trees holds.holds (state_has_table holds.trees s holds.such) clean)
+
+module _ {T D : Type 0} {g : Ghosts D} (rows : Maps) (image : Image) where
+  pub is_made : (r : Result (World (FileStore D g)) (StoreFault × Remains T D g)) → Makes rows image r → IfOk r (IsMadeIn rows image)
+  is_made (Ok world) it = it
+  is_made (Err e) it = tt
+
+  pub is_unmade : (r : Result (World (FileStore D g)) (StoreFault × Remains T D g)) → Makes rows image r → IfErr r (λ e. IsUnmadeIn (λ found. LeavesState found (state_of rows)) image e.0 e.1)
+  is_unmade (Ok world) it = tt
+  is_unmade (Err e) it = it
+
+module _ {T D : Type 0} {g : Ghosts D} (rows : Maps) (image : Image) (r : Result (World (FileStore D g)) (StoreFault × Remains T D g)) (it : Makes rows image r) where
+  pub made_stands : IfOk r (λ world. StandsFor over_files true world (state_of rows))
+  made_stands = ok_map r _ _ (λ world made. made.stands) (is_made rows image r it)
+
+  pub made_rows : IfOk r (λ world. world.rows.maps ≡ rows)
+  made_rows = ok_map r _ _ (λ world made. made.same) (is_made rows image r it)
+
+  pub made_crash : IfOk r (λ world. HasCleanDisk (store_of over_files world) → Left (store_of over_files world) (state_of rows))
+  made_crash = ok_map r _ _ (λ world made. made.left) (is_made rows image r it)
+
+  pub made_room : IfOk r (λ world. HasCleanDisk (store_of over_files world) → HoldsNoTable image)
+  made_room = ok_map r _ _ (λ world made. made.room) (is_made rows image r it)
+
+  pub made_occupied : (trees : Trees) → HoldsTrees image trees → HasAnyTable trees → IfOk r (λ world. HasCleanDisk (store_of over_files world) → ⊥)
+  made_occupied trees holds any = ok_map r _ _ (λ world made. occupied_never rows image world made trees holds any) (is_made rows image r it)
+
+  pub made_taken : (s : State) → HoldsState image s → IfOk r (λ world. HasCleanDisk (store_of over_files world) → ⊥)
+  made_taken s holds = ok_map r _ _ (λ world made. taken_never rows image world made s holds) (is_made rows image r it)
+
+  pub unmade_fault : IfErr r (λ e. IsOfStore e.0)
+  unmade_fault = err_map r _ _ (λ e unmade. unmade.of_store) (is_unmade rows image r it)
+
+  pub unmade_stopped : IfErr r (λ e. MayStopAs e.0 e.1)
+  unmade_stopped = err_map r _ _ (λ e unmade. unmade.stopped) (is_unmade rows image r it)
+
+  pub unmade_spared : ¬ IsNothing image → ¬ IsBlank image → IfErr r (λ e. IsCleanRemains e.1 → Spares image e.1)
+  unmade_spared some begun = err_map r _ _ (λ e unmade. unmade.spared some begun) (is_unmade rows image r it)
+
+  pub unmade_blank : IsNothing image → IfErr r (λ e. IsCleanRemains e.1 → KeepsNothingBut (λ found. LeavesState found (state_of rows)) image e.1)
+  unmade_blank nothing = err_map r _ _ (λ e unmade. unmade.kept Empty nothing) (is_unmade rows image r it)
+
+  pub unmade_begun : IsBlank image → IfErr r (λ e. IsCleanRemains e.1 → KeepsNothingBut (λ found. LeavesState found (state_of rows)) image e.1)
+  unmade_begun begun = err_map r _ _ (λ e unmade. unmade.kept HalfMade begun) (is_unmade rows image r it)
+
+  pub unmade_trees : (trees : Trees) → HoldsTrees image trees → IfErr r (λ e. IsCleanRemains e.1 → KeepsSuch (λ found. (found ≡ trees) ⊎ LeavesState found (state_of rows)) image e.1)
+  unmade_trees trees holds = err_map r _ _ (λ e unmade. trees_or_made (λ found. LeavesState found (state_of rows)) image e.0 e.1 unmade trees holds) (is_unmade rows image r it)
+
+  pub unmade_kept : (trees : Trees) → HoldsTrees image trees → HasAnyTable trees → IfErr r (λ e. IsCleanRemains e.1 → KeepsSuch (λ found. found ≡ trees) image e.1)
+  unmade_kept trees holds any = err_map r _ _ (λ e unmade. table_kept (λ found. LeavesState found (state_of rows)) image e.0 e.1 unmade trees holds any) (is_unmade rows image r it)
+
+  pub unmade_refused : (s : State) → HoldsState image s → IfErr r (λ e. IsCleanRemains e.1 → StillHolds image e.1 s)
+  unmade_refused s holds = err_map r _ _ (λ e unmade. state_kept (λ found. LeavesState found (state_of rows)) image e.0 e.1 unmade s holds) (is_unmade rows image r it)

@@ -1,0 +1,56 @@
+-- How far a text was answered that stops at the first answer that isn't `accepted`.
+use Rattle.moo_store.{proofs.Words.{◌≡◌, ℕ, ◌≤◌, Bool, true, false, IsTrue, List, [], ◌∷◌, ◌++◌, Option, refl, sym, arith, items, Ghosts, store_of, IsGood, Side, untouched, Next, Answer, Batch, says_accepted, AreAccepted, EndAtFirst, EndsEarly, StandsAt, Stand, RunsBatch, World, RunsAndAnswers, accepted, faulted, AppliesFirst}, proofs.Crashes.{IsSettled, crash_leaves}, proofs.Following.{early-follows}, proofs.Going.{Going, gives_front}, proofs.Items.{turns_written, keeps_rest, keeps_led}, proofs.Untouched.{written_none}}
+
+-- one answer more
+pub accepted_on : (answers : List Answer) (a : Answer) → AreAccepted answers → says_accepted a ≡ true → AreAccepted (answers ++ a ∷ [])
+accepted_on [] a all one = (one, tt)
+accepted_on (x ∷ xs) a all one = (all.0, accepted_on xs a all.1 one)
+
+-- the last answer isn't `accepted`
+pub at_first : (answers : List Answer) (a : Answer) → AreAccepted answers → says_accepted a ≡ false → EndAtFirst (answers ++ a ∷ [])
+at_first answers a all one = record { before = answers; last = a; are = refl; firsts = all; refused = one }
+
+-- a text that wasn't to stop didn't
+pub not_stopped : (stopped : Bool) → (stopped ≡ true → false ≡ true) → stopped ≡ false
+not_stopped false stops = refl
+not_stopped true stops = sym (stops refl)
+
+-- a text that was to stop
+module _ {A : Type 0} (P : A → Batch → Answer → A → Type 0) (old : A) (text before : Option (List ℕ)) where
+  -- these items are answered; if it is to stop, each answer is `accepted`
+  abbrev pub GoingUntil : Bool → A → Side → Option (List ℕ) → ℕ → ℕ → Type 0
+  GoingUntil stop now side written b l = (p : Going P old text before now side written b l) × (stop ≡ true → AreAccepted p.answers)
+
+  pub ends_early : (now : A) (side : Side) (written : Option (List ℕ)) (b l : ℕ) (p : Going P old text before now side written b l) → EndAtFirst p.answers → EndsEarly P old now text before written b l
+  ends_early now side written b l p first = record {
+    given = p.read.given;
+    ended = side.ended;
+    front = gives_front text 1073741824 side p.read.given p.read.gives;
+    short = omega (arith, p.read.room);
+    done = p.done;
+    whole = λ rest none. (items (side.ahead ++ rest), p.read.holds rest none);
+    answers = p.answers;
+    turns = p.turns;
+    first = first;
+    wrote = p.wrote;
+    batches_are = p.batches_are;
+    lost_are = p.lost_are;
+  }
+
+-- ---- a World
+
+module _ {S : Type 0} (g : Ghosts S) (settled : (w : World S) → IsSettled (store_of g w)) where
+  pub applies_first : (old new : World S) (text before behind : Option (List ℕ)) (b l : ℕ) → (old.failed ≡ false → IsGood old.rows.maps) → EndsEarly (RunsAndAnswers g) old new text before behind b l → (known : Bool) (stand : Stand) → StandsAt g known old stand
+      → AppliesFirst g known stand text before behind old new b l
+  applies_first old new text before behind b l good e known stand at =
+      let run = early-follows (RunsAndAnswers g) RunsBatch (StandsAt g known) (λ old new stand batch a it one. one.stands known stand it) old new stand text before behind b l at e in
+      let wrote = turns_written g old old new [] [] e.done e.answers (written_none g old (settled old)) e.turns in
+      record {
+        new = run.0;
+        stands = run.1;
+        early = run.2;
+        crash = crash_leaves g known new run.0 (settled new) run.1;
+        clean = wrote.clean;
+        cells = keeps_rest g known old new stand (accepted e.done e.answers) (faulted e.done e.answers) wrote at;
+        led = keeps_led g known old new stand (accepted e.done e.answers) (faulted e.done e.answers) wrote good at;
+      }

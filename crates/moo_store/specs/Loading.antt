@@ -1,0 +1,48 @@
+-- What making the tables of a world answers.
+use Rattle.std.specs.Prelude.{◌≡◌, ◌≢◌, ◌⊎◌, IsTrue, true, false, Ok, Err}
+use Rattle.sqlite.specs.declared.error.Error.{Error}
+use Rattle.sqlite.specs.declared.error.Error.TheVariants.{SqliteFailure}
+use Rattle.sqlite.specs.declared.error.ErrorCode.TheVariants.{NameTaken}
+use Rattle.sqlite.specs.State.{State as Database, HasCleanDisk, Survives}
+use Rattle.sqlite.specs.Held.{Held, state}
+use Rattle.sqlite.specs.Store.{Ghosts}
+use Rattle.moo_rows.specs.Maps.{Maps}
+use Rattle.moo_world.specs.Judge.{state_of}
+use Rattle.moo_tables.specs.Tables.{no_schema}
+use Rattle.moo_tables.specs.Inside.{RestsAt}
+use Rattle.moo_store.specs.Kept.{World}
+use Rattle.moo_store.specs.Opening.{Adoption}
+use Rattle.moo_store.specs.States.{LeavesState}
+use Rattle.moo_store.specs.World.{store_of, StandsFor}
+use Rattle.moo_store.specs.declared.fault.StoreFault.{StoreFault}
+use Rattle.moo_store.specs.declared.fault.StoreFault.TheVariants.{Store, OutOfMemory}
+
+-- the fault of a database that has a table, an index or a view already
+abbrev pub name_taken : StoreFault
+name_taken = Store (SqliteFailure NameTaken)
+
+-- a crash leaves what it could leave before, or the state of these rows
+abbrev pub SurvivesOr : Maps → Database → Database → Type 0
+SurvivesOr rows old new = Survives old new (λ trees. LeavesState trees (state_of rows))
+
+module _ {S : Type 0} (g : Ghosts S) where
+  -- The tables of these rows were made in a database that had none. The World over them has the very rows, with their numbers.
+  pub record IsLoaded (rows : Maps) (conn : Held S) (world : World S) : Type 0 where
+    pub empty : ¬ ((state g conn).now.schema ≢ no_schema)
+    pub stands : StandsFor g true world (state_of rows)
+    pub same : world.rows.maps ≡ rows
+    pub crash : SurvivesOr rows (state g conn) (store_of g world)
+
+  -- They weren't made. A database that has tables is refused, and comes back as it is; so it does if memory runs out. Otherwise the
+  -- store failed: its tables are those before, and a crash may leave those of the rows.
+  pub record IsUnloaded (rows : Maps) (conn : Held S) (fault : StoreFault) (last : Held S) : Type 0 where
+    pub taken : (state g conn).now.schema ≢ no_schema → (fault ≡ name_taken) × (last ≡ conn)
+    pub kind : ((fault ≡ OutOfMemory) × (last ≡ conn)) ⊎ ((error : Error) × (fault ≡ Store error))
+    pub outside : (state g last).in_transaction ≡ false
+    pub undone : (last ≡ conn)
+        ⊎ (HasCleanDisk (state g last) → IsTrue (state g last).is_open → RestsAt (state g last) (state g conn).committed)
+    pub crash : (last ≡ conn) ⊎ SurvivesOr rows (state g conn) (state g last)
+
+  abbrev pub Loads : Maps → Held S → Adoption S → Type 0
+  Loads rows conn (Ok world) = IsLoaded rows conn world
+  Loads rows conn (Err e) = IsUnloaded rows conn e.0 e.1

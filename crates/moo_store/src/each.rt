@@ -1,0 +1,84 @@
+//! Asking batches, each of which sees the World as it is at present.
+
+ghost use Rattle.std.specs.Prelude.{◌≡◌, ◌≢◌, false, Bool, IfOk, IfErr, IsErrOf, IsTrue, option_map};
+ghost use Rattle.moo_world.specs.Judge.{judge};
+ghost use Rattle.moo_store.specs.Answered.{answer_of, answers_alone};
+ghost use Rattle.moo_store.specs.World.{StandsFor};
+
+use crate::fault::StoreFault;
+use crate::world::World;
+use moo_text::Reply;
+use moo_world::Batch;
+use sqlite::Alter;
+use std::alloc::AllocError;
+
+/// A reply, unless it is a lack of memory.
+fn kept(reply: Reply) -> Result<Reply, AllocError>
+    ensures { IfOk result (λ same. (same ≡ reply) × (reply ≢ Reply.NoMemory)) }
+{
+    match reply {
+        Reply::NoMemory => Err(AllocError),
+        other => Ok(other),
+    }
+}
+
+/// What a batch would come to at present.
+fn ask_kept<S: Alter + Drop>(world: &World<S>, batch: &Batch) -> Result<Reply, AllocError>
+    ensures { (known : Bool) (s : _) → StandsFor S.Store known world.now s →
+        IfOk result (λ reply. reply ≡ answer_of s (judge s batch.now)) }
+{
+    match world.ask(batch) {
+        Ok(reply) => kept(reply),
+        Err(_) => Err(AllocError),
+    }
+}
+
+/// What a batch would come to at present, if there is one.
+fn ask_alone<S: Alter + Drop>(
+    world: &World<S>,
+    batch: &Option<Batch>,
+) -> Result<Option<Reply>, AllocError>
+    ensures { (known : Bool) (s : _) → StandsFor S.Store known world.now s →
+        IfOk result (λ reply. reply ≡ option_map (λ batch. answer_of s (judge s batch)) batch.now) }
+{
+    match batch {
+        Some(batch) => Ok(Some(ask_kept(world, batch)?)),
+        None => Ok(None),
+    }
+}
+
+/// What each of these batches would come to at present.
+fn ask_all<S: Alter + Drop>(
+    world: &World<S>,
+    batches: &[Option<Batch>],
+) -> Result<Vec<Option<Reply>>, AllocError>
+    ensures { (known : Bool) (s : _) → StandsFor S.Store known world.now s →
+        IfOk result (λ replies. replies.items ≡ answers_alone s batches.now) }
+{
+    let mut replies = Vec::new(world.alloc);
+    for batch in batches {
+        replies.push(ask_alone(world, batch)?)?;
+    }
+    Ok(replies)
+}
+
+impl<S: Alter + Drop> World<S> {
+    /// What each of these batches would come to at present, as if it alone were asked: none sees another. If there is none in a place,
+    /// there is no reply in it. Nothing changes.
+    ///
+    /// OutOfMemory if memory runs out. Closed if the World had failed.
+    pub fn ask_each(&self, batches: &[Option<Batch>]) -> Result<Vec<Option<Reply>>, StoreFault>
+        ensures replies { (known : Bool) (s : _) → StandsFor S.Store known self.now s →
+            IfOk result (λ replies. replies.items ≡ answers_alone s batches.now) }
+        ensures fault { self.now.failed ≡ false → IfErr result (λ fault. fault ≡ StoreFault.OutOfMemory) }
+        ensures closed { IsTrue self.now.failed → IsErrOf result StoreFault.Closed }
+    {
+        if self.failed {
+            return Err(StoreFault::Closed);
+        }
+        match ask_all(self, batches) {
+            Ok(replies) => Ok(replies),
+            Err(_) => Err(StoreFault::OutOfMemory),
+        }
+    }
+}
