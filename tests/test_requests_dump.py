@@ -76,6 +76,8 @@ class DumpOfAFile(ProgramTest):
         resource.prlimit(service.process.pid, resource.RLIMIT_AS, free)
         whole = said(service, DUMP)
         self.case("all are served", service.end(), (0, "served 3 failed 0\n"))
-        self.case("the line of the log", [line.split(" GMT: ")[1] for line in service.told.splitlines()], ["/dump: 503: out of memory"])
+        # Opening may take so long that lines tell how much was read.
+        log = [line.partition(" GMT: ")[2] for line in service.told.splitlines() if " GMT: " in line]
+        self.case("the line of the log", log, ["/dump: 503: out of memory"])
         self.case("it is large", len(whole) > 60_000_000, True)
         self.case("with memory it is the dump", whole == dumped(run("dump", "large.db")[1]), True)
