@@ -483,8 +483,8 @@ class Disks(WriterTest):
         self.assertEqual(self.write("make").said["seq"], 1)
         self.assertEqual(self.kinds(), ["base", "intent", "done"])
 
-    def test_an_outcome_finds_no_room(self):
-        self.begin()
+    def fill_at_the_batch(self):
+        """Lets the disk fill up as the first batch is sent. A list that then has the function which makes room, and the sending of before."""
         room, sent = [], self.world.sent
 
         def filling(method, path, body=None, wait=None):
@@ -493,6 +493,11 @@ class Disks(WriterTest):
             return sent(method, path, body, wait)
 
         self.world.sent = filling
+        return room, sent
+
+    def test_an_outcome_finds_no_room(self):
+        self.begin()
+        room, _ = self.fill_at_the_batch()
         self.assertEqual(self.write("make").said["seq"], 1)
         self.assertEqual(self.kinds(), ["base", "intent"])
         with self.assertRaises(Busy):
@@ -503,14 +508,7 @@ class Disks(WriterTest):
 
     def test_an_outcome_that_was_never_written(self):
         self.begin()
-        room, sent = [], self.world.sent
-
-        def filling(method, path, body=None, wait=None):
-            if path == "/batch?why" and not room:
-                room.append(self.full())
-            return sent(method, path, body, wait)
-
-        self.world.sent = filling
+        room, sent = self.fill_at_the_batch()
         self.write("make")
         room[0]()
         self.world.sent = sent
