@@ -4,10 +4,14 @@
     docs/draw_architecture.py            writes docs/architecture.svg
     docs/draw_architecture.py --check    writes nothing; its status is 1 if the picture isn't that of the text
 """
+
+from __future__ import annotations
+
 import sys
 import textwrap
 from html import escape
 from pathlib import Path
+from typing import List, Tuple
 
 HERE = Path(__file__).resolve().parent
 TEXT, PICTURE = HERE / "architecture.txt", HERE / "architecture.svg"
@@ -19,10 +23,14 @@ STYLE = """text { font: 12px sans-serif; fill: #333 } .crate { font: bold 12px m
 .layer { font: bold 14px sans-serif; fill: #111 } .band { fill: #eef3f8 } .box { fill: #fff; stroke: #8aa5bf }
 .arrow { stroke: #666; fill: none } .head { fill: #666 }"""
 
+# Crates with what they hold; and a layer: its name, what it is for, and its boxes.
+Box = Tuple[List[str], str]
+Layer = Tuple[str, str, List[Box]]
 
-def layers_of(text):
+
+def layers_of(text: str) -> list[Layer]:
     """Each layer: its name, what it is for, and its boxes, each with its crates and what they hold."""
-    layers = []
+    layers: list[Layer] = []
     for line in text.splitlines():
         if not line.strip() or line.startswith("#"):
             continue
@@ -34,23 +42,24 @@ def layers_of(text):
     return layers
 
 
-def crates_of(text):
+def crates_of(text: str) -> list[str]:
     """All crates that the picture has."""
     return [crate for _, _, boxes in layers_of(text) for crates, _ in boxes for crate in crates]
 
 
-def text_at(left, top, words, kind=""):
+def text_at(left: float, top: float, words: str, kind: str = "") -> str:
+    """The shape of a text at a place."""
     named = f' class="{kind}"' if kind else ""
     return f'<text{named} x="{left:g}" y="{top:g}">{escape(words)}</text>'
 
 
-def box_lines(box, width):
+def box_lines(box: Box, width: float) -> list[tuple[str, str]]:
     """The lines of a box that is so wide, each with its kind."""
     crates, about = box
     return [(crate, "crate") for crate in crates] + [(line, "") for line in textwrap.wrap(about, int((width - 2 * PAD) / LETTER))]
 
 
-def draw_layer(layer, top):
+def draw_layer(layer: Layer, top: int) -> tuple[list[str], int]:
     """The shapes of a layer, and where it ends."""
     name, about, boxes = layer
     left, room = MARGIN + LABEL, WIDTH - 2 * MARGIN - LABEL - GAP
@@ -69,14 +78,16 @@ def draw_layer(layer, top):
     return shapes, top + height + 2 * ABOVE_BOXES
 
 
-def draw_arrow(top):
+def draw_arrow(top: int) -> tuple[list[str], int]:
     """An arrow from one layer to the next, and where that begins."""
     x = MARGIN + LABEL / 2
     return [f'<path class="arrow" d="M{x:g} {top}v12"/>', f'<path class="head" d="M{x - 4:g} {top + 11}h8l-4 6z"/>'], top + 20
 
 
-def picture_of(text):
-    shapes, top = [], MARGIN
+def picture_of(text: str) -> str:
+    """The whole picture."""
+    shapes: list[str] = []
+    top = MARGIN
     for i, layer in enumerate(layers_of(text)):
         if i:
             arrow, top = draw_arrow(top)
@@ -91,7 +102,8 @@ def picture_of(text):
     )
 
 
-def main(words):
+def main(words: list[str]) -> int:
+    """Writes the picture, or says whether it is that of the text."""
     picture = picture_of(TEXT.read_text())
     if words == ["--check"]:
         return 0 if PICTURE.is_file() and PICTURE.read_text() == picture else 1

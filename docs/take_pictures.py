@@ -6,6 +6,9 @@
 It needs what `make demo` needs, and chromium, chromium-driver and python3-selenium. The pictures go to FOLDER, or else to docs/. They have
 few colours, so that they are small.
 """
+
+from __future__ import annotations
+
 import collections
 import os
 import re
@@ -14,6 +17,7 @@ import subprocess
 import sys
 import zlib
 from pathlib import Path
+from typing import Any, Optional, Tuple
 
 TOP = Path(__file__).resolve().parents[1]
 sys.dont_write_bytecode = True
@@ -23,7 +27,7 @@ from tests.support.browser import browser, lacking, picture  # noqa: E402
 MAKING = "/do/create?parent=generic+lamp&names=lantern%0Atorch&place=Ada%27s+Hut"
 # The file, who looks, the path, the browser, and how many pixels of the page are kept from the top; None: all. If the path is that of a
 # form its button 'Preview' is pressed.
-PICTURES = (
+PICTURES: tuple[tuple[str, str, str, dict[str, Any], Optional[int]], ...] = (
     ("page-world.png", "wizard", "/", {"width": 900, "height": 700}, 1040),
     ("page-object.png", "ada", "/o/24", {"width": 900, "height": 700}, 720),
     ("page-history.png", "wizard", "/history", {"width": 900, "height": 600}, None),
@@ -33,21 +37,24 @@ PICTURES = (
     ("page-object-narrow.png", "ada", "/o/24", {"width": 320, "height": 640}, 1000),
 )
 COLOURS = 48
+Pixel = Tuple[int, ...]
 
 
-def main():
+def main() -> None:
+    """Takes all pictures."""
     if why := lacking():
         sys.exit(why)
     folder = Path(sys.argv[1]) if len(sys.argv) > 1 else TOP / "docs"
     demo = subprocess.Popen([TOP / "web/moo-demo", "--port", "0"], stdout=subprocess.PIPE, text=True)
     try:
         said = ""
+        assert demo.stdout
         while "Ctrl-C" not in said:
             line = demo.stdout.readline()
             if not line:
                 sys.exit("the demo doesn't start")
             said += line
-        home = re.search(r"http://127\.0\.0\.1:\d+", said)[0]
+        (home, *_) = re.findall(r"http://127\.0\.0\.1:\d+", said)
         passwords = dict(re.findall(r"^    (\w+) +([0-9a-f]{8}) ", said, re.M))
         for name, who, path, how, height in PICTURES:
             take(folder / name, home, path, (who, passwords[who]), how, height)
@@ -57,7 +64,7 @@ def main():
         demo.wait()
 
 
-def take(file, home, path, person, how, height):
+def take(file: Path, home: str, path: str, person: tuple[str, str], how: dict[str, Any], height: Optional[int]) -> None:
     """Takes one picture, as this person."""
     driver = browser(**how)
     try:
@@ -73,7 +80,7 @@ def take(file, home, path, person, how, height):
     file.write_bytes(with_few_colours(file.read_bytes()))
 
 
-def with_few_colours(png):
+def with_few_colours(png: bytes) -> bytes:
     """The same picture with at most `COLOURS` colours: the most frequent ones; each other becomes the nearest of these."""
     width, height, lines = pixels_of(png)
     counts = collections.Counter(pixel for line in lines for pixel in line)
@@ -85,16 +92,17 @@ def with_few_colours(png):
     return b"\x89PNG\r\n\x1a\n" + b"".join(chunk(kind, text) for kind, text in chunks.items())
 
 
-def nearest(colour, palette):
+def nearest(colour: Pixel, palette: list[Pixel]) -> int:
     """The place in a palette of the colour that is nearest to one."""
     return min(range(len(palette)), key=lambda place: sum((one - other) ** 2 for one, other in zip(palette[place], colour)))
 
 
-def chunk(kind, text):
+def chunk(kind: bytes, text: bytes) -> bytes:
+    """A chunk of a PNG."""
     return struct.pack(">I", len(text)) + kind + text + struct.pack(">I", zlib.crc32(kind + text))
 
 
-def pixels_of(png):
+def pixels_of(png: bytes) -> tuple[int, int, list[list[Pixel]]]:
     """The width, the height and the lines of pixels of a picture with 8 bits of red, green and blue, and perhaps of opacity."""
     place, data = 8, b""
     while place < len(png):
@@ -106,7 +114,8 @@ def pixels_of(png):
         place += length + 12
     size = {2: 3, 6: 4}[colours]
     assert depth == 8
-    raw, former, lines = zlib.decompress(data), bytes(width * size), []
+    raw, former = zlib.decompress(data), bytes(width * size)
+    lines: list[list[Pixel]] = []
     for row in range(height):
         start = row * (width * size + 1)
         former = unfiltered(raw[start], raw[start + 1 : start + 1 + width * size], former, size)
@@ -114,7 +123,7 @@ def pixels_of(png):
     return width, height, lines
 
 
-def unfiltered(kind, line, former, size):
+def unfiltered(kind: int, line: bytes, former: bytes, size: int) -> bytes:
     """A line of a picture without its filter (the PNG specification, section 9)."""
     made = bytearray(line)
     for at, byte in enumerate(line):

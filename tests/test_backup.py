@@ -20,13 +20,11 @@ import time
 import unittest
 
 from tests.support import processes
-from tests.support.operating import KeptService, SECONDS, TOOLS, checked, make_world, said, tool, use_tools
+from tests.support.operating import KeptService, SECONDS, TOOLS, checked, make_world, said, tool
 from tests.support.program import MOO
 
-use_tools()
-
-import moo_client  # noqa: E402
-from moo_client import Moo, Obj  # noqa: E402
+import moo_client
+from moo_client import Moo, Obj
 
 COPIES = int(os.environ.get("COPIES", 4))
 FIRST = 'batch as #3\ncreate(#1)\nadd_property(#4, "mark", "", {#3, ""})\nend\n'
@@ -130,6 +128,25 @@ class AtRest(Copies):
         self.assertTrue(copy.name.endswith("-seq2"), copy.name)
         self.assertEqual(children(self.restored(copy)), made)
 
+    def test_a_link_to_the_world(self):
+        """The log is beside the file, and not beside the link. What the log alone holds is in the copy, under the link's name."""
+        service = KeptService(self.file)
+        self.addCleanup(service.stop)
+        made = Moo(service.port).run([("create", Obj(4))] * 20, as_=3)
+        service.stop()
+        (self.room / "disk").mkdir()
+        for end in ("", "-wal"):
+            (self.room / f"world.db{end}").rename(self.room / f"disk/real.db{end}")
+        self.file.symlink_to("disk/real.db")
+        copy = self.copied()
+        self.assertEqual(sorted(path.name for path in copy.iterdir()), ["SHA256SUMS", "SOURCE", "world.db", "world.db-wal"])
+        self.assertTrue(copy.name.endswith("-seq2"), copy.name)
+        self.assertEqual(children(self.restored(copy)), made)
+        # By its own path it is the same world, which may have its copies there.
+        self.file.unlink()
+        self.file.symlink_to(self.room / "disk/real.db")
+        self.copied()
+
     def test_no_run_begins_while_it_copies(self):
         """Another program that opens the world before each file is copied is refused."""
         module = tool("moo-backup")
@@ -176,6 +193,18 @@ class AtRest(Copies):
         self.assert_not_copied(f"is a copy of {ours}: give {self.file} a folder of its own", "--keep", "1")
         self.folder = self.room / "copies of the neighbour"
         self.copied("--keep", "1")
+
+    def test_names_of_any_bytes(self):
+        """A folder's name needn't be UTF-8, nor need what a stranger wrote into a copy be."""
+        here = self.room / os.fsdecode(b"caf\xe9")
+        here.mkdir()
+        for path in self.room.glob("world.db*"):
+            path.rename(here / path.name)
+        self.file, self.folder = here / "world.db", self.room / "copies"
+        for _ in range(2):
+            copy = self.copied("--keep", "1")
+        (copy / "SOURCE").write_bytes(b"\xff\xfe\n")
+        self.assert_not_copied(f"{copy.name} is a copy of ")
 
     def test_weeks_and_months(self):
         """The newest copies stay, and the last one of each of the newest weeks and months. Weeks begin on Mondays."""

@@ -12,12 +12,11 @@ import tempfile
 import threading
 import unittest
 
-from tests.support.operating import KeptService, Pace, SECONDS, checked, make_world, said, use_tools
+from tests.support.front import StandIn
+from tests.support.operating import KeptService, Pace, SECONDS, checked, make_world, said
 
-use_tools()
-
-import moo_client  # noqa: E402
-from moo_client import ErrorValue, Moo, Obj  # noqa: E402
+import moo_client
+from moo_client import ErrorValue, Moo, Obj
 
 CLIENTS = 4
 KILLS = int(os.environ.get("KILLS", 200))
@@ -329,6 +328,38 @@ class Writer(threading.Thread):
                 self.made.append(self.world.run(calls, as_=3)[0])
         except Exception as error:  # a thread's own failure is the test's
             self.wrong = repr(error)
+
+
+class Strangers(WithService):
+    """Another program has the port, or had it for a moment."""
+
+    def test_what_it_answers_is_not_believed(self):
+        there = StandIn(self.port)
+        self.addCleanup(there.close)
+        world = Moo(there.port, patience=0.2)
+        answers = ((200, {}), (200, []), (200, {"seq": "1", "answers": ["#4"]}), (409, {}), (409, {"error": "stale"}), (404, None))
+        for status, body in answers:
+            there.answers_all = (status, body)
+            for name, call in (
+                ("seq", world.seq),
+                ("run", lambda: world.run(["max_object()"], as_=3)),
+                ("each", lambda: world.each(["max_object()"], as_=3)),
+                ("object", lambda: world.object(3)),
+                ("objects", lambda: list(world.objects())),
+            ):
+                with self.subTest(name, status=status, body=body), self.assertRaises(moo_client.Unreachable):
+                    call()
+
+    def test_a_batch_acts_once_all_the_same(self):
+        there = StandIn(self.port)
+        self.addCleanup(there.close)
+        world = Moo(there.port, alone=True, patience=SECONDS)
+        for number, moment in enumerate(("before", "after")):
+            answers = iter([(200, {}), (200, {"answers": 3, "seq": 1})])
+            there.fault = lambda now, moment=moment, answers=answers: next(answers, None) if now == moment else None
+            with self.subTest(moment):
+                self.assertEqual(world.run([("create", Obj(1))], as_=3), [Obj(4 + CLIENTS + number)])
+                self.assertEqual(world.seq(), 2 + number)
 
 
 class Kills(WithService):

@@ -25,14 +25,21 @@ class Files(ProgramTest):
         self.case("the opening world is dumped", run("dump", "world.db"), (0, f"seq 0\ntop #3\n{dumped.OPENING}end\n"))
 
     def test_who_may_read_a_new_world(self):
-        """Both files have mode 0644, less what the umask takes: OPERATING says so."""
+        """Both files have mode 0600, whatever the umask lets through: OPERATING says so. A file that is there keeps its mode."""
         self.addCleanup(os.umask, os.umask(0))
-        for mask, mode in ((0, 0o644), (0o077, 0o600)):
+        run("init", "first.db")
+        Path("world.txt").write_text(run("dump", "first.db")[1])
+        for mask in (0, 0o022, 0o077):
             os.umask(mask)
-            name = f"{mask}.db"
-            run("init", name)
-            modes = [Path(name + end).stat().st_mode & 0o777 for end in ("", "-wal")]
-            self.case(f"with the umask {mask:03o}", modes, [mode, mode])
+            for words in (("init", f"{mask}.db"), ("load", f"{mask}l.db", "world.txt")):
+                run(*words)
+                modes = [Path(words[1] + end).stat().st_mode & 0o777 for end in ("", "-wal")]
+                self.case(f"{words[0]} with the umask {mask:03o}", modes, [0o600, 0o600])
+        os.umask(0)
+        Path("shared.db").touch(0o640)
+        run("init", "shared.db")
+        modes = [Path("shared.db" + end).stat().st_mode & 0o777 for end in ("", "-wal")]
+        self.case("an empty file that its group may read", modes, [0o640, 0o640])
 
     def test_batches(self):
         make("world.db")

@@ -4,6 +4,7 @@
 """
 
 import gzip
+import hashlib
 import json
 import os
 import pathlib
@@ -11,6 +12,7 @@ import re
 import shlex
 import shutil
 import signal
+import socket
 import stat
 import subprocess
 import sys
@@ -24,6 +26,7 @@ import urllib.request
 from tests.support.operating import SECONDS, TOOLS, tool
 from tests.support.program import MOO, TOP
 from tests.support.service import free_port
+from tests.support.terminal import Terminal
 from tests.support.web import DEBIANS_PYTHON, lacking
 
 INSTALLED = {
@@ -31,6 +34,7 @@ INSTALLED = {
     "bin/moo-backup": 0o755,
     "bin/moo-shell": 0o755,
     "bin/moo-watch": 0o755,
+    "lib/moo/moo-alone": 0o755,
     "lib/moo/moo-end": 0o755,
     "lib/moo/moo-tell": 0o755,
     "lib/systemd/system/moo@.service": 0o644,
@@ -89,6 +93,11 @@ def ran(*words, **options):
     return done.stdout
 
 
+def sums(*paths):
+    """The checksums of files. Their bytes would be compared for hours if they differed."""
+    return [hashlib.sha256(path.read_bytes()).hexdigest() for path in paths]
+
+
 def modes(top):
     """Each file below a folder, with its mode."""
     return {str(path.relative_to(top)): stat.S_IMODE(path.stat().st_mode) for path in top.rglob("*") if path.is_file()}
@@ -137,7 +146,7 @@ class Install(InFolder):
         self.assertIn(" /opt/moo/lib/moo/moo-end ", (top / "lib/systemd/system/moo-watch@.service").read_text())
 
     def test_the_program_as_it_is(self):
-        self.assertEqual((self.install() / "bin/moo").read_bytes(), pathlib.Path(MOO).read_bytes())
+        self.assertEqual(sums(self.install() / "bin/moo"), sums(pathlib.Path(MOO)))
 
     def test_manuals_are_whole(self):
         prefix = self.install()
@@ -274,6 +283,21 @@ class Units(InFolder):
                 self.assertRegex(text, r"(?m)^PrivateNetwork=yes$")
         for name in ("moo", "moo-watch"):
             self.assertNotIn("PrivateNetwork", (self.units / f"{name}@.service").read_text(), "a world without a front stays as it is")
+
+    @wants("unshare")
+    def test_outside_its_network_nothing_starts(self):
+        """A socket of ours plays the one that systemd holds in the network of the machine."""
+        held = self.room / "notify"
+        for file in (self.prefix / "lib/moo-web/alone/moo.conf", self.units / "moo-web@.service"):
+            check = shlex.split(re.search(r"(?m)^ExecStartPre=(.*)$", file.read_text())[1])
+            with self.subTest(file.name), socket.socket(socket.AF_UNIX, socket.SOCK_DGRAM) as sock:
+                self.assertEqual(ran(*check, held), "")
+                sock.bind(str(held))
+                outside = subprocess.run([*check, held], stdout=subprocess.PIPE, stderr=subprocess.PIPE, text=True)
+                self.assertEqual((outside.returncode, outside.stdout), (1, ""))
+                self.assertRegex(outside.stderr, r"^moo-alone: not in a network of its own, .*\n$")
+                self.assertEqual(ran("unshare", "--map-root-user", "--net", *check, held), "")
+                held.unlink()
 
     def test_the_port_of_the_front_is_held_by_systemd(self):
         self.assertIn("\nListenStream=127.0.0.1:8088\n", (self.units / "moo-web@.socket").read_text())
@@ -496,6 +520,30 @@ class Completion(InFolder):
                 self.assertEqual(self.offered(*words), offers)
 
 
+@wants("zsh")
+class CompletionOfZsh(InFolder):
+    """What zsh makes of words for moo-shell. In its place a function is run, which says what it was given."""
+
+    def test_what_is_completed(self):
+        for name in ("world.db", "build.moo", "token"):
+            (self.room / name).touch()
+        shell = Terminal(["zsh", "-f"], {**os.environ, "TERM": "xterm", "PROMPT": "> ", "ZDOTDIR": str(self.room)}, str(self.room))
+        self.addCleanup(shell.end)
+        self.addCleanup(shell.process.kill)
+        shell.line(f"fpath=({TOP}/packaging $fpath); autoload -U compinit; compinit -u -D; moo-shell() {{ print -l -- said: $@ end:; }}")
+        cases = (
+            ("--dr\t", ["--dry-run"]),
+            ("-f bu\t wor\t", ["-f", "build.moo", "world.db"]),
+            ("--tok\t tok\t --we\t https://x/", ["--token", "token", "--web", "https://x/"]),
+            ("--nam\t n --po\t 80", ["--names", "n", "--port", "80"]),
+        )
+        for typed, wanted in cases:
+            with self.subTest(typed):
+                shell.line(f"moo-shell {typed}")
+                shown = shell.until("\nend:").replace("\r", "")
+                self.assertEqual(shown.rpartition("\nsaid:\n")[2].removesuffix("\nend:").split("\n"), wanted)
+
+
 @wants("dpkg-deb")
 class Package(InFolder):
     """`make deb`."""
@@ -539,7 +587,7 @@ class Package(InFolder):
         for name, mode in INSTALLED.items():
             self.assertEqual(held.pop(f"usr/{name.replace('site-functions', 'vendor-completions')}"), mode)
         self.assertEqual({name.rpartition("/")[0] for name in held}, {"usr/share/doc/moo", "usr/share/lintian/overrides"})
-        self.assertEqual((self.room / "top/usr/bin/moo").read_bytes(), pathlib.Path(MOO).read_bytes())
+        self.assertEqual(sums(self.room / "top/usr/bin/moo"), sums(pathlib.Path(MOO)))
         self.assertEqual(ran(self.room / "top/usr/bin/moo", "init", ":memory:"), "created\n")
 
     def test_its_checksums(self):
@@ -548,7 +596,7 @@ class Package(InFolder):
             ran("md5sum", "--quiet", "--strict", "-c", "DEBIAN/md5sums", cwd=self.room / path.name)
 
     def test_the_same_sources_and_moment_make_the_same_package(self):
-        self.assertEqual([path.read_bytes() for path in self.make_package(self.room)], [self.package.read_bytes(), self.web.read_bytes()])
+        self.assertEqual(sums(*self.make_package(self.room)), sums(self.package, self.web))
 
     @wants("lintian")
     def test_lintian_finds_no_error(self):

@@ -19,6 +19,7 @@ import time
 import unittest
 from unittest import mock
 
+from tests.support import TOOLS
 from tests.support.lambdamoo_worlds import (
     CLEAR,
     ERRORS,
@@ -37,19 +38,16 @@ from tests.support.lambdamoo_worlds import (
     read_database,
     read_dump,
 )
+from tests.support.program import MOO, TOP
 
-TOP = pathlib.Path(__file__).resolve().parent.parent
-TOOLS = TOP / "tools"
-MOO = str(pathlib.Path(os.environ.get("MOO", TOP / "crates/moo/out/moo")).resolve())
+import from_lambdamoo
+import to_lambdamoo
+
 EXAMPLE = (TOP / "examples/minimal.db").read_text()
 EXAMPLE_DUMP = (TOP / "examples/minimal.dump").read_text()
 LARGE = int(os.environ.get("LAMBDAMOO_OBJECTS", "2000"))
 WORLDS = int(os.environ.get("LAMBDAMOO_WORLDS", "100"))
 SECONDS = 120
-
-with mock.patch.object(sys, "path", [str(TOOLS), *sys.path]):
-    import from_lambdamoo
-    import to_lambdamoo
 
 
 def ran(tool, *words, text=""):

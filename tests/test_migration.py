@@ -141,6 +141,7 @@ class Migration(ProgramTest):
         for name, command, said in [
             ("check", lambda: run("check", "old.db"), whole),
             ("ask", lambda: run("ask", "old.db", "-", text=asked), (0, accepted(2, "21", "#7"))),
+            ("rehearse", lambda: run("rehearse", "old.db", "-", text=asked + asked), (0, accepted(3, "21", "#7") + accepted(4, "21", "#7"))),
             ("dump", lambda: run("dump", "old.db")[0], 0),
             ("apply without a batch", lambda: run("apply", "old.db", "-"), (0, "")),
             (

@@ -150,15 +150,15 @@ class RequestCuts(RequestTest):
         self.case("all that come byte by byte are served", service.end(), (0, "served 3 failed 0\n"))
 
     def test_queue(self):
-        """Three clients wait at once; the last one sends first."""
+        """Three clients are there at once; the last one sends first, and each waits for its answer."""
         service = Service(MOO, ":memory:", 3)
         peers = [service.peer() for _ in range(3)]
+        came = []
         for peer, request in reversed(list(zip(peers, (SEQ_QUESTION, BATCH, SEQ_QUESTION)))):
             peer.sendall(request)
-        came = [heard_to_the_end(peer)[0] for peer in peers]
-        for peer in peers:
+            came.append(heard_to_the_end(peer)[0])
             peer.close()
-        self.case("clients are served in the order in which they connect", came, [seq(0), BATCH_ANSWER, seq(1)])
+        self.case("who sends first is served first, whoever connected first", came, [seq(0), BATCH_ANSWER, seq(1)])
         self.case("all three of them", service.end(), (0, "served 3 failed 0\n"))
 
     def test_next_client(self):

@@ -25,6 +25,11 @@ end
 """
 
 
+def words_of(lines: list[str]) -> list[str]:
+    """The words of lines, which the shell breaks as the terminal wants it."""
+    return " ".join(lines).split()
+
+
 class Typed(ProgramTest):
     """Lines that are typed at a prompt on world.db."""
 
@@ -127,7 +132,7 @@ class Lines(Typed):
             told = self.done(shell, line)
             words = ("show", "tree", "places", "find", "petitions", "as", "seq", "dump")
             self.case(f"{line} lists the words", [each for each in words if not any(row.startswith(f"  \\{each}") for row in told)], [])
-        self.case("of a call it is the program's own", self.done(shell, "\\help create"), self.lines_of_help("  create("))
+        self.case("of a call it is the program's own", words_of(self.done(shell, "\\help create")), words_of(self.lines_of_help("  create(")))
         self.case("of an error too", self.done(shell, "\\help e_args"), ["  E_ARGS  too many values, or too few"])
         self.case("an unknown word", self.done(shell, "\\help creat"), ["there is no help on creat (did you mean create?)"])
         self.leave(shell)

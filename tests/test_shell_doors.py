@@ -101,6 +101,45 @@ class Ports(Served):
         self.case("not without a dump", (came.status, "this service has no dump" in came.complaint, self.seq()), (1, True, 1))
 
 
+class Strangers(Served):
+    """Another program has the port: it is told in a line."""
+
+    def test_from_the_beginning_on(self) -> None:
+        there = self.stand_in()
+        for status, body in ((200, {}), (200, [1]), (200, {"seq": "1"}), (200, {"seq": True}), (200, {"seq": -1}), (404, None), (409, {})):
+            there.answers_all = (status, body)
+            came = run_shell("--port", str(there.port), text="create(#1)\n")
+            one_line = (came.status, came.written, came.complaint.count("\n"))
+            self.case(f"{status} {body}: a line", one_line, (1, "", 1))
+            self.case(f"{status} {body}: it says so", f"the service at port {there.port} isn't one of moo: " in came.complaint, True)
+
+    def test_in_the_middle(self) -> None:
+        there = self.stand_in()
+        texts = ("\\seq", "\\show #4", "\\tree", "\\petitions", "\\ask create(#1)", "begin\n$a = create(#1)\nrecycle($a)\nend")
+        bodies: tuple[tuple[int, Any], ...] = (
+            (200, {"seq": "1"}), (200, {"answers": [], "each": [], "seq": 1, "objects": [{}], "next": 1}), (409, {"error": "stale"}),
+            (200, {"answers": [4], "each": [{}], "seq": 1}), (409, {"error": "E_PERM", "call": "x"}), (400, {"error": "malformed", "call": 9}),
+        )  # fmt: skip
+        for status, body in bodies:
+            there.answers_all = None
+            shell = at_prompt("--port", str(there.port))
+            there.answers_all = (status, body)
+            for text in texts:
+                shell.line(text)
+                shell.until("\n#3> ")
+            shell.type("\x04")
+            self.case(f"the prompt goes on after {status} {body}", (shell.end(), "Traceback" in shell.shown), (0, False))
+
+    def test_a_batch(self) -> None:
+        there = self.stand_in()
+        for body in ({}, {"answers": [], "seq": 2}, {"answers": "#7", "seq": 2}):
+            there.fault = lambda moment, body=body: (200, body) if moment == "before" else None
+            came = run_shell("--port", str(there.port), text="create(#4)\n")
+            self.case(f"{body}: no answer is written", (came.status, came.written), (1, ""))
+            self.case(f"{body}: it says so", "another program answers there" in came.complaint, True)
+        self.case("nothing has acted", self.seq(), 1)
+
+
 class Writers(Served):
     """Batches act at most once, whatever else happens."""
 

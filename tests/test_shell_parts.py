@@ -8,16 +8,15 @@ import subprocess
 import tempfile
 import unittest
 
+from tests.support import TOOLS
 from tests.support.cases import ProgramTest
-from tests.support.operating import TOOLS, use_tools
 from tests.support.program import MOO, TOP
 
-use_tools()
-
-from moo_shell import files, lines, looks, manual, prompt  # noqa: E402
-from moo_shell.lines import Line  # noqa: E402
-from moo_shell.told import Failed  # noqa: E402
-from moo_shell.world import Thing  # noqa: E402
+from moo_shell import files, helping, lines, looks, manual, prompt
+from moo_shell.commands import COMMANDS_BY_HELP
+from moo_shell.lines import Line
+from moo_shell.told import Failed
+from moo_shell.world import Thing
 
 
 class Parts(ProgramTest):
@@ -72,6 +71,30 @@ class Parts(ProgramTest):
         for text, wanted in cases:
             self.case(f"the hint of {text}", lines.hint(text), wanted)
 
+    def test_advice(self) -> None:
+        """What people write who come from other prompts."""
+        brackets = "a call has its name and its values in brackets, as create(#1); \\help lists the calls"
+        cases = (
+            ("show #4", "did you mean \\show #4?"),
+            ("tree", "did you mean \\tree?"),
+            ("begin here", "`begin` stands alone on its line"),
+            ("batch as 3", "`batch as #3` begins a batch of #3"),
+            ("$lamp", "\\show $lamp shows it"),
+            ("#4", "\\show #4 shows it"),
+            ("hall = create(#1)", "a name begins with a $, as $hall = create(#1)"),
+            ("#4.light", 'a property is read by get(#4, "light")'),
+            ("$lamp.light = {1, 2}", 'a property is set by set($lamp, "light", {1, 2})'),
+            ("#4:look_self()", "moo keeps verbs and runs none"),
+            ("# words", "a comment begins with //"),
+            ("look", brackets),
+            ("@create #1", brackets),
+            ("create #1", brackets),
+        )
+        for text, wanted in cases:
+            self.case(f"the advice of {text}", lines.advice(text, ("show", "tree")), wanted)
+        for text, wanted in (("#4.light + 1", 'a property is read by get(#4, "light")'), ("#4", ""), ("{1, 2}", "")):
+            self.case(f"the expression {text}", lines.expression_advice(text), wanted)
+
     def test_calls_that_are_being_typed(self) -> None:
         cases = (
             ("get(", ("get", [""])),
@@ -104,6 +127,22 @@ class Parts(ProgramTest):
         errors = "E_ARGS E_INVARG E_INVIND E_NACC E_PERM E_PROPNF E_QUOTA E_RECMOVE E_TYPE E_VERBNF".split()
         self.case("every error", sorted(found.reasons), errors)
         self.case("without a program", manual.manual_of(None).calls, {})
+
+
+    def test_help_on_a_narrow_terminal(self) -> None:
+        """Its lines fit, no word of it is lost, and calls stay apart. What fits stays as it is."""
+        found = manual.manual_of(MOO)
+        told = {word: helping.help_on(found, COMMANDS_BY_HELP, word) for word in [*helping.TOPICS, *helping.ASIDE, *found.calls]}
+        told["all of it"] = helping.overview(found, COMMANDS_BY_HELP)
+        for width in (60, 80):
+            shown = {word: helping.fitted(text, width) for word, text in told.items()}
+            self.case(f"no line is over {width}", [word for word, text in shown.items() if max(map(len, text.splitlines())) > width], [])
+            self.case(f"all words at {width}", [word for word in told if told[word].split() != shown[word].split()], [])
+            begun = [line for line in shown["calls"].splitlines() if re.match("  [a-z_]+[(]", line)]
+            self.case(f"a line for each entry at {width}", len(begun), len(re.findall("^  [a-z_]+[(]", told["calls"], re.MULTILINE)))
+        wide = [word for word, text in helping.TOPICS.items() if helping.fitted(text, 80) != text]
+        self.case("what is the shell's own fits 80", wide, [])
+        self.case("without a terminal", helping.fitted(told["calls"], None), told["calls"])
 
 
 class Types(unittest.TestCase):

@@ -6,6 +6,7 @@ import contextlib
 import errno
 import os
 import signal
+import stat
 import subprocess
 import tempfile
 import time
@@ -154,6 +155,8 @@ class Scripts(OnWorld):
     def test_a_refused_batch(self) -> None:
         came = run_script('begin\n$a = create(#1)\nset($a, "name", "a")\nset($a, "name", 4)\n$b = create($a)\nend\nset($a, "name", "b")\n')
         self.told("the line of its call", came, 4, 'set(#4, "name", 4): E_TYPE')
+        came = run_script('begin\n$a = create(#1)\nset($a, "nme", "a")\nend\n')
+        self.told("what its call may have meant", came, 3, "E_PROPNF", "(did you mean name?)")
         self.world_is("nothing of it acted", 0, 4)
 
     def test_names(self) -> None:
@@ -260,6 +263,16 @@ class Rehearsals(OnWorld):
         self.case("no dump is written", run_script("\\dump out.txt\n", "--dry-run").status, 0)
         self.case("nor a file", os.path.exists("out.txt"), False)
 
+    def test_on_a_link(self) -> None:
+        """The log of a world that was killed is beside the file, and not beside a link to it."""
+        service = Service(MOO, "world.db", 1000)
+        run_shell("--port", str(service.port), text="create(#1)\n")
+        service.kill()
+        os.mkdir("elsewhere")
+        os.symlink("../world.db", "elsewhere/link.db")
+        came = run_shell("--dry-run", "elsewhere/link.db", text="max_object()\n\\seq\n")
+        self.case("it has what the log holds", came.written.splitlines()[:2], ["#4", "2"])
+
     def test_while_the_world_is_served(self) -> None:
         service = Service(MOO, "world.db", 1000)
         came = run_script("create(#1)\n", "--dry-run")
@@ -287,6 +300,14 @@ class Mistakes(OnWorld):
             ('set(#4, "name", "Café")', ["malformed: ", "'é'"]),
             ("set(#4, 'name', 3)", ["malformed: "]),
             ("END", ["`end` without `begin`"]),
+            ("show #4", ["malformed: show #4 isn't a call: did you mean \\show #4?"]),
+            ("#4", ["malformed: #4 isn't a call: \\show #4 shows it"]),
+            ("$lamp", ["$lamp has no value"]),
+            ("$lamp = #4.light", ['#4.light isn\'t a value: a property is read by get(#4, "light")']),
+            ('$lamp = "light', ['"light isn\'t a value: a text without its closing "']),
+            ("lamp = create(#1)", ["a name begins with a $, as $lamp = create(#1)"]),
+            ("\\show", ["which object? #5 is one"]),
+            ("begin\ntree", ["malformed: tree isn't a call: did you mean \\tree?"]),
             ("\\shwo #4", ["\\shwo isn't a word of the shell (did you mean \\show?)"]),
             ("\\show box", ["box isn't an object"]),
             ("\\as 77", ["#77 isn't an object"]),
@@ -342,6 +363,7 @@ class Mistakes(OnWorld):
         came = run_script("create(#1)\n\\dump out.txt\n\\dump\ncreate(#1)\n")
         self.case("it is that of the program", (came.status, Path("out.txt").read_text() in came.written), (0, True))
         self.case("and loads", run("load", "new.db", "out.txt"), (0, "loaded seq 1 objects 5\n"))
+        self.case("nobody else may read it", stat.S_IMODE(os.stat("out.txt").st_mode), 0o600)
         self.told("a file that is there stays", run_script("\\dump out.txt\n"), 1, "out.txt is there already")
 
 

@@ -192,7 +192,7 @@ class Scene(WithFront):
                 bram.follow("Rename")
                 bram.fill("f-name", name)
                 bram.press("Preview")
-                bram.sees("This would be refused. You may not write this. E_PERM", "moo says: #5 neither owns #8 nor is a wizard.")
+                bram.sees("This would be refused. You may not write this. E_PERM", "moo says: Bram #5 neither owns Lamp #8 nor is a wizard.")
                 bram.press("Ask a wizard for it instead")
                 bram.sees("A wizard would be asked for this", f"Lamp #8 is called “{name}”.")
                 bram.press("Send the petition")

@@ -12,7 +12,7 @@ from tests.support.web import use_web
 
 use_web()
 
-from moo_web.history import History  # noqa: E402
+from moo_web.history import History, call_about  # noqa: E402
 from moo_web.journal import Journal  # noqa: E402
 from moo_web.segments import accepted_in, line_of  # noqa: E402
 
@@ -67,6 +67,15 @@ class Finds(HistoryTest):
         batch = self.history.found("ben", None, 1).batches[0]
         said = (batch.who, batch.programmer, batch.calls, batch.answers, batch.t)
         self.assertEqual(said, ("ben", 6, ["recycle(#5)"], ["0"], 1_800_000_004))
+
+    def test_the_call_that_is_about_an_object(self):
+        self.accept("ada", 4, ['set(#5, "name", "six")', "create(#1)", "create(#1)", 'set(#7, "name", "#8")'], ["0", "#6", "#7", "0"])
+        (batch,) = self.history.found(None, None, 1).batches
+        for number, call in ((None, 0), (5, 0), (6, 1), (7, 2), (1, 1), (9, 0), (55, 0)):
+            with self.subTest(number=number):
+                self.assertEqual(call_about(batch, number), batch.calls[call])
+        self.assertEqual(call_about(batch._replace(calls=[], kept={}), 5), "")
+        self.assertEqual(call_about(batch._replace(kept={"answers_sum": ""}), 7), batch.calls[3], "the answers weren't kept")
 
     def test_a_grant_is_about_what_was_asked_for(self):
         self.accept("ada", 4, ['petition({{"recycle", #5}})', "max_object()"], ["7", "#9"])

@@ -221,12 +221,12 @@ class Looks(SiteTest):
         text = self.reader("ada").get("/o/8/property?name=colour").text
         self.assertIn('Ada\'s chest #8 "red" Ada #4 rc', text)
         self.assertIn('generic box #6 "brown" Wizard #3 rc', text)
-        self.assertIn("clear: it has the value above", self.reader("ada").get("/o/8/property?name=SIZE").text)
+        self.assertIn("clear: its parent’s value counts", self.reader("ada").get("/o/8/property?name=SIZE").text)
 
     def test_a_value_from_an_object_that_may_not_be_read(self):
         """The value may be read on the child, and not on the object from which it is."""
         self.write("wizard", 'set_property_info(#6, "size", {#3, "c"})', 'set_property_info(#8, "size", {#4, "c"})')
-        self.assertIn("size 3 above, not shown to you Ada #4 c", self.reader("ada").get("/o/8").text)
+        self.assertIn("size 3 further up, not shown to you Ada #4 c", self.reader("ada").get("/o/8").text)
         self.assertIn("size 3 generic box #6 Ada #4 c", self.reader("wizard").get("/o/8").text)
 
     def test_a_value_from_further_up(self):
@@ -234,7 +234,7 @@ class Looks(SiteTest):
         self.write("wizard", 'set(#1, "r", 1)', 'add_property(#1, "tone", "high", {#3, "rc"})')
         self.assertIn('tone "high" Root Class #1 Ada #4 rc', self.reader("ada").get("/o/8").text)
         self.write("wizard", 'set(#6, "tone", "low")', 'set_property_info(#6, "tone", {#3, ""})')
-        self.assertIn('tone "low" above, not shown to you Ada #4 rc', self.reader("ada").get("/o/8").text)
+        self.assertIn('tone "low" further up, not shown to you Ada #4 rc', self.reader("ada").get("/o/8").text)
         self.assertIn('tone "low" generic box #6 Ada #4 rc', self.reader("wizard").get("/o/8").text)
 
     def test_an_object(self):
@@ -294,7 +294,11 @@ class Looks(SiteTest):
             with self.subTest(wanted=wanted):
                 self.assertIn(wanted, text)
         self.write("wizard", 'add_property(#4, "ownership_quota", 7, {#4, "r"})')
-        self.assertIn("Your quota lets you make 7 more.", self.reader("ada").get("/").text)
+        self.write("ada", 'set(#9, "size", 4)', "max_object()")
+        text = self.reader("ada").get("/").text
+        for wanted in ("You may make 7 more objects.", "ada The property “size” of small box #9 becomes 4. and 1 more"):
+            with self.subTest(wanted=wanted):
+                self.assertIn(wanted, text)
 
     def test_search(self):
         reader = self.reader("ben")

@@ -1,11 +1,13 @@
 """The people of a front: accounts, passwords, sessions, tokens and their ends, and the waits after failures (web/moo_web/people.py)."""
 
+import contextlib
 import os
 import pathlib
 import sqlite3
 import stat
 import tempfile
 import unittest
+from unittest import mock
 
 from tests.support.operating import KeptService, make_world
 from tests.support.web import PASSWORD, program, use_web
@@ -53,6 +55,11 @@ class WithPeople(unittest.TestCase):
         with self.assertRaises(WrongPassword):
             self.sign_in("wrong", *given, **how)
 
+    def fail_with(self, password, name):
+        """A try that fails because of this password."""
+        with self.assertRaises(WrongPassword):
+            self.sign_in(password, name=name)
+
     def wait_of(self, *given, **how):
         """How long a try has to wait."""
         with self.assertRaises(TooMany) as raised:
@@ -73,6 +80,18 @@ class Accounts(WithPeople):
             with self.subTest(name=name, password=password[:10]), self.assertRaises(WrongPassword):
                 self.sign_in(password, name=name)
 
+    def test_whether_there_is_somebody_isnt_told_by_the_time(self):
+        """scrypt is what takes time: it runs once, over as much, whether there is such a person or not."""
+        self.people.add("ben", 5, PASSWORD)
+        self.people.disable("ben")
+        for password in ("wrong", "x" * passwords.LONGEST, "x" * 100_000):
+            spent = []
+            for name in ("ada", "nobody", "ben", "no name at all"):
+                with mock.patch.object(passwords.hashlib, "scrypt", wraps=passwords.hashlib.scrypt) as scrypt:
+                    self.fail_with(password, name)
+                spent.append([(len(call.args[0]), call.kwargs["n"]) for call in scrypt.call_args_list])
+            self.assertEqual(spent, [[(min(len(password), passwords.LONGEST), passwords.COST)]] * 4)
+
     def test_accounts_that_cannot_be(self):
         for name, number, password in (
             ("ada", 5, "x"), ("Ada", 5, "x"), ("", 5, "x"), ("a b", 5, "x"), ("-a", 5, "x"), ("a" * 65, 5, "x"), ("é", 5, "x"),
@@ -81,6 +100,18 @@ class Accounts(WithPeople):
             with self.subTest(name=name, number=number), self.assertRaises(Wrong):
                 self.people.add(name, number, password)
         self.assertEqual([one.name for one in self.people.all()], ["ada"])
+
+    def test_a_change_that_fails_at_its_end_leaves_nothing(self):
+        """Another program reads the file for long. The next change is done."""
+        self.people.base.execute("PRAGMA busy_timeout = 1")
+        with contextlib.closing(sqlite3.connect(self.file, isolation_level=None)) as reader:
+            reader.execute("BEGIN")
+            reader.execute("SELECT * FROM person").fetchall()
+            with self.assertRaises(sqlite3.OperationalError):
+                self.people.disable("ada")
+            self.assertFalse(self.people.all()[0].is_disabled)
+        self.people.disable("ada")
+        self.assertTrue(self.people.all()[0].is_disabled)
 
     def test_nobody_of_that_name(self):
         for change in (self.people.disable, self.people.enable, self.people.make_token, self.people.end_tokens):
@@ -126,6 +157,19 @@ class Ends(WithPeople):
             self.assertTrue(self.people.session(secret))
         self.clock.now += HOUR + 1
         self.assertIsNone(self.people.session(secret))
+
+    def test_a_use_that_cannot_be_noted_is_one(self):
+        """As on a full disk."""
+        signed = self.sign_in()
+        self.people.base.execute("PRAGMA query_only = ON")
+        self.clock.now += HOUR
+        self.assertEqual(self.people.session(signed.secret), signed.session)
+        self.people.base.execute("PRAGMA query_only = OFF")
+        self.clock.now += 11 * HOUR
+        self.assertEqual(self.people.session(signed.secret), signed.session)
+        self.people.base.execute("PRAGMA query_only = ON")
+        self.clock.now += 12 * HOUR + 1
+        self.assertIsNone(self.people.session(signed.secret))
 
     def test_what_is_over_is_forgotten(self):
         self.sign_in()
@@ -234,6 +278,17 @@ class Waits(WithPeople):
             self.fail(name=f"name{number}")
         self.assertEqual(self.wait_of(name="ada"), 1)
         self.assertTrue(self.sign_in(address=AWAY))
+
+    def test_what_is_no_name_takes_no_room(self):
+        """A form may have a megabyte of it, and many addresses may send such forms."""
+        for number in range(100):
+            try:
+                self.sign_in(address=f"203.0.113.{number}", name="x" * 10_000 + str(number))
+            except (WrongPassword, TooMany):
+                self.clock.now += 10
+        remembered = [*self.people.pair_waits.failures, *self.people.place_waits.failures, *self.people.strangers.left]
+        self.assertGreater(len(remembered), 100)
+        self.assertLess(max(map(len, remembered)), 100)
 
     def test_a_wait_is_not_a_try(self):
         for _ in range(5):

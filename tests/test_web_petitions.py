@@ -53,11 +53,38 @@ class Petitions(FormsTest):
         bram.send("Ask a wizard for it", text='set(#5, "wizard", 1)')
         bram.send("Send the petition")
         page = wizard.get("/petitions")
-        self.has(page, "It can’t be granted as it is", "chparent(#6, #8)", "Bram #5 becomes a wizard, who has every right.")
-        self.assertEqual(len(re.findall(r'<li class="grave">', page.html)), 3)
+        self.has(
+            page, "It can’t be granted as it is: chparent(Generic Thing #6 , Lamp #8 ) of petition 1",
+            "Bram #5 becomes a wizard, who has every right."
+        )  # fmt: skip
+        self.assertEqual(page.text.count("take care"), 3)
         self.assertEqual(
             [button[2].split()[0] for form in page.forms for button in form.buttons if button[0] == "go"], ["Decline", "Grant", "Decline"]
         )
+
+    def test_what_gives_rights_away_is_marked(self):
+        bram, wizard = self.somebody("bram"), self.somebody("wizard")
+        bram.get("/batch")
+        calls = (
+            'set(#6, "W", 1)', 'set(#6, "f", 0)', 'set_property_info(#8, "weight", {#5, "rw"})',
+            'set_verb_info(#8, 1, {#5, "rw", "light"})', 'delete_verb(#8, 1)',
+        )  # fmt: skip
+        harmless = ('set(#8, "weight", 2)', 'set(#8, "name", "Lamp, take two")', "move(#8, #7)")
+        self.has(bram.send("Ask a wizard for it", text="\n".join(calls + harmless)), "A wizard would be asked for this")
+        bram.send("Send the petition")
+        self.assertEqual(wizard.get("/petitions").text.count("take care"), len(calls))
+
+    def test_a_wizard_sees_the_calls_whole(self):
+        """However long they are: the last words of a call may be those that give rights away."""
+        bram, wizard = self.somebody("bram"), self.somebody("wizard")
+        call = f'add_property(#8, "diary", "{"so long " * 5000}", {{#5, "rw"}})'
+        bram.get("/batch")
+        bram.send("Ask a wizard for it", text=call)
+        bram.send("Send the petition")
+        whole = re.compile(r'Lamp #8 ?, "diary", "(so long ){5000}", {Bram #5 ?, "rw"}')
+        for reader, path in ((wizard, "/petitions"), (bram, "/petitions"), (bram, "/history/0")):
+            with self.subTest(path=path):
+                self.assertTrue(whole.search(reader.get(path).text))
 
     def test_one_takes_ones_own_back(self):
         bram = self.somebody("bram")
@@ -95,7 +122,7 @@ class Quotas(FormsTest):
         ada.get("/do/create?parent=%236")
         page = ada.send("Preview", names="One")
         self.is_done(ada.send("Do it"))
-        self.has(ada.get("/do/create?parent=%236"), "You may make 0 more objects.")
+        self.has(ada.get("/do/create?parent=%236"), "You may make no more objects: your quota is used up. Ask for a higher one")
         self.change(wizard, "quota", "?object=%234", quota="20")
         self.has(ada.get("/do/create"), "You may make 20 more objects.")
         self.assertEqual(ada.get("/quotas").status, 403)

@@ -118,6 +118,10 @@ class Passwords(SessionsTest):
         statuses = [self.change(reader, old=f"guess {number}").status for number in range(7)]
         self.assertEqual(statuses, [403] * 5 + [429] * 2)
 
+    def test_blanks_around_a_name_are_left_out(self):
+        """Telephones put one after a word."""
+        self.assertEqual(self.reader().sign_in(" Wizard\t").status, 303)
+
     def test_wrong_sign_ins_wait(self):
         reader = self.reader()
         answers = [reader.sign_in("wizard", "wrong") for _ in range(6)]

@@ -43,6 +43,14 @@ __all__ = (
 # A call: its text, or its name and what it is given.
 Call = Union[str, tuple[Any, ...], list[Any]]
 
+# What a good answer of each route has besides the number of the world.
+ANSWERS = {
+    "/seq": ("seq", int),
+    "/batch": ("answers", list),
+    "/ask": ("answers", list),
+    "/each": ("each", list),
+    "/objects/": ("objects", list),
+}
 LONGEST_BODY = 1_048_576
 FIRST_PAUSE, LONGEST_PAUSE = 0.01, 0.25
 
@@ -289,6 +297,18 @@ def raise_refusal(status: int, said: dict[str, Any]) -> NoReturn:
     raise BadRequest(f"{status}: {error}", why)
 
 
+def is_of_moo(path: str, status: int, said: Any) -> bool:
+    """Whether an answer may be moo's. Another program may have the port, for instance between two runs of the service."""
+    if not isinstance(said, dict):
+        return path == "/dump" and status == 200
+    if status != 200:
+        return isinstance(said.get("error"), str) and (said["error"] != "stale" or isinstance(said.get("seq"), int))
+    if path.startswith("/object/"):
+        return isinstance(said.get("name"), str)
+    key, kind = ANSWERS[path.partition("?")[0].rstrip("-0123456789")]
+    return isinstance(said.get("seq"), int) and isinstance(said.get(key), kind)
+
+
 class Deadline:
     """The end of one's patience, and the pauses up to it."""
 
@@ -297,6 +317,7 @@ class Deadline:
         self.pause = FIRST_PAUSE
 
     def is_over(self) -> bool:
+        """Whether it has come."""
         return time.monotonic() >= self.end
 
     def rest(self) -> None:
@@ -448,6 +469,8 @@ class Moo:
                 raise LostAnswer from error
         finally:
             connection.close()
+        if not is_of_moo(path, status, said):
+            raise LostAnswer
         if status == 200:
             return said
         if said.get("error") == "fault":

@@ -9,6 +9,7 @@ import sys
 from collections.abc import Iterable, Iterator
 from typing import Dict, List, Tuple
 
+from dump_reasons import of_bytes, of_line, of_preposition, of_value
 from lambdamoo_files import (
     CLEAR,
     CONNECTIONS,
@@ -80,6 +81,9 @@ ENDING = """\
 The status is 0 if the database was written, 1 if a file is broken (with its
 line), 2 if the words are wrong.
 """
+
+NOT_HERE = "a dump doesn't have such a line here"
+VALUES = '12, #4, "a text", E_PERM or {1, #2}'
 
 # The texts that a dump has, each spelled in one way.
 DECIMAL = r"(?:0|-?[1-9][0-9]{0,18})"
@@ -189,18 +193,22 @@ class Dump:
         line = self.lines.next()
         found = re.fullmatch(pattern, line)
         if not found:
-            raise self.strange(line)
+            raise self.lines.broken(f"{of_bytes(line) or 'a dump begins with a line `seq N` and a line `top #N`'}: {shown(line)}")
         return int(found[1])
 
     def strange(self, line: str) -> Broken:
         """The fault of a line that no dump has there."""
-        return self.lines.broken(f"a dump doesn't have such a line here: {shown(line)}")
+        return self.lines.broken(f"{of_line(line) or NOT_HERE}: {shown(line)}")
 
     def parts(self, pattern: re.Pattern[str], line: str, rank: int) -> tuple[Item, re.Match[str]]:
         """The parts of a line about the present object. A line of a lower rank can't follow one of a higher rank."""
         found = pattern.fullmatch(line)
-        if not found or rank < self.rank or self.item is None or found[1] != self.number:
+        if not found:
             raise self.strange(line)
+        if self.item is None or found[1] != self.number:
+            raise self.lines.broken(f"a line about #{found[1]} comes after that of another object: {shown(line)}")
+        if rank < self.rank:
+            raise self.lines.broken(f"properties come first, then slots, then verbs: {shown(line)}")
         self.rank = rank
         return self.item, found
 
@@ -255,7 +263,7 @@ class Dump:
         item, found = self.parts(VERB_LINE, line, VERB_RANK)
         _, names, owner, letters, direct, preposition, indirect = found.groups()
         if preposition not in PREPOSITION_NUMBERS:
-            raise self.lines.broken(f"{shown(preposition)} isn't a preposition")
+            raise self.lines.broken(of_preposition(preposition))
         rights = rights_number(VERB_RIGHTS, letters) + (PLACE_NUMBERS[direct] << 4) + (PLACE_NUMBERS[indirect] << 6)
         names = plain(names)
         if not names.strip(" "):
@@ -283,7 +291,8 @@ class Dump:
 
     def no_value(self, text: str) -> Broken:
         """The fault of a text that isn't a literal."""
-        return self.lines.broken(f"a dump doesn't have such a value: {shown(text)}")
+        why = of_value(text)
+        return self.lines.broken(f"{why}: {shown(text)}" if why else f"{shown(text)} isn't a value: {VALUES}")
 
     def add_value(self, text: str, start: int, depth: int, lines: list[str], losses: Losses) -> int:
         """Adds the lines of the value that starts at a place of the text, in lists so deep, and answers the place after it."""

@@ -1,15 +1,18 @@
 """That the pages agree with the repository: the front page's demo, the picture and its crates, links, and the mutants of REFUSED."""
+from __future__ import annotations
+
 import re
 import subprocess
 import sys
 from pathlib import Path
+from typing import Iterator
 
 TOP = Path(__file__).resolve().parents[2]
 LONGEST_README = 120
 PAGES = [*sorted(TOP.glob("*.md")), *sorted(TOP.glob("docs/*.md"))]
 
 
-def demo():
+def demo() -> tuple[list[str], list[str]]:
     """The two columns of the front page's demo, without empty lines."""
     lines = (TOP / "README.md").read_text().splitlines()
     first = next(number for number, line in enumerate(lines) if line.lstrip().startswith("$ cat examples/lantern.txt"))
@@ -19,13 +22,14 @@ def demo():
     return [left for left, _ in shown if left], [reply for _, reply in shown if reply]
 
 
-def lines_of(name):
+def lines_of(name: str) -> list[str]:
+    """The lines of an example that aren't empty."""
     return [line for line in (TOP / "examples" / name).read_text().splitlines() if line]
 
 
-def picture():
+def picture() -> list[list[str]]:
     """The crates of each layer of the picture, from the top down."""
-    layers = []
+    layers: list[list[str]] = []
     for line in (TOP / "docs/architecture.txt").read_text().splitlines():
         if line.startswith(" "):
             layers[-1] += line.partition(":")[0].split()
@@ -34,27 +38,28 @@ def picture():
     return layers
 
 
-def uses_of_crates():
+def uses_of_crates() -> dict[str, list[str]]:
     """The repository's crates that each crate of crates.txt uses."""
     lines = [line.partition("#")[0] for line in (TOP / "crates.txt").read_text().splitlines()]
     uses = {line.partition(":")[0].split()[0]: line.partition(":")[2].split() for line in lines if line.strip()}
     return {crate: [used for used in names if used in uses] for crate, names in uses.items()}
 
 
-def crates_against_the_order(uses):
+def crates_against_the_order(uses: dict[str, list[str]]) -> list[str]:
     """Each use of a crate of a higher layer."""
     height = {crate: -number for number, layer in enumerate(picture()) for crate in layer}
     return [f"{crate} uses {used}" for crate, names in uses.items() for used in names if height.get(used, 0) > height.get(crate, 0)]
 
 
-def broken_links():
+def broken_links() -> Iterator[str]:
+    """Each link of a page that leads nowhere."""
     for page in PAGES:
         for target in re.findall(r"\]\(([^)#:]+)(?:#[^)]*)?\)", page.read_text()):
             if not (page.parent / target).exists():
                 yield f"{page.name}: {target}"
 
 
-def refused():
+def refused() -> Iterator[tuple[str, object]]:
     """What is wrong with the mutants that REFUSED lists."""
     made = subprocess.run([TOP / ".ci/refused", "--check"], stderr=subprocess.PIPE, text=True)
     yield "REFUSED's tables are what the mutants say", made.stderr.strip()
@@ -64,7 +69,7 @@ def refused():
     yield "README counts those of the gate", f"tries {len(of_gate)} mutants" not in (TOP / "README.md").read_text()
 
 
-def cases():
+def cases() -> Iterator[tuple[str, object]]:
     """The name of each case, and what is wrong with it."""
     texts, replies = demo()
     yield "README is short", len((TOP / "README.md").read_text().splitlines()) > LONGEST_README

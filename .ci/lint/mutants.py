@@ -1,13 +1,18 @@
 """That the mutants still fit: each text that one replaces is in its file once; and mutants/gate names mutants that there are."""
+from __future__ import annotations
+
 from pathlib import Path
+from typing import Iterator, Optional, Union
 
 TOP = Path(__file__).resolve().parents[2]
 MUTANTS = TOP / "mutants"
 
 
-def misfit(edit):
+def misfit(edit: Path) -> Optional[str]:
     """Why an edit can't be made, or nothing if it can."""
-    file, old, texts = None, None, {}
+    file: Optional[Path] = None
+    old: Optional[str] = None
+    texts: dict[Path, str] = {}
     for line in edit.read_text().splitlines():
         word, _, rest = line.partition(": ")
         if word == "file":
@@ -27,12 +32,12 @@ def misfit(edit):
     return None if texts else "it changes nothing"
 
 
-def wrong_lines(lines):
+def wrong_lines(lines: list[str]) -> list[str]:
     """The lines of mutants/gate that name no mutant, or one that another line names too."""
     return [line for line in lines if lines.count(line) > 1 or not (MUTANTS / f"{line}.edit").is_file()]
 
 
-def cases():
+def cases() -> Iterator[tuple[str, Union[None, str, list[str]]]]:
     """The name of each case, and what is wrong with it."""
     for edit in sorted(MUTANTS.glob("*/*.edit")):
         yield f"{edit.parent.name}, {edit.stem}", misfit(edit)

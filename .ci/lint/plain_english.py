@@ -6,6 +6,8 @@ Only what is a slip at every place can be looked for. 'Where' for a place is rig
 is for a reader to find. Code, and what is between backquotes, isn't looked at. The crates are counted and not tested yet
 (CRATES_ARE_TESTED).
 """
+from __future__ import annotations
+
 import ast
 import io
 import re
@@ -13,6 +15,7 @@ import sys
 import tokenize
 from collections import defaultdict
 from pathlib import Path
+from typing import Callable, Iterable, Iterator, Optional
 
 TOP = Path(__file__).resolve().parents[2]
 # True when each crate's comments are plain: then a slip there fails as one in a page does.
@@ -58,12 +61,15 @@ SLIPS = [
     (r"\b(?:what|whatever|which) [^.,;:|]{1,40} (?:comes?|came) to(?=[.,;:|)]|$)", "'what it answers', 'its outcome'"),
     (r"\blazy bod(?:y|ies)\b", "'an implementation that does nothing'"),
 ]
-SLIPS = [(re.compile(pattern), better) for pattern, better in SLIPS]
+PATTERNS = [(re.compile(pattern), better) for pattern, better in SLIPS]
+
+# What finds the words of a file in its text.
+Reader = Callable[[str], Iterator[str]]
 
 
-def blocks(lines):
+def blocks(lines: Iterable[str]) -> Iterator[str]:
     """The paragraphs of lines, each as one text."""
-    text = []
+    text: list[str] = []
     for line in [*lines, ""]:
         if line.strip():
             text.append(line.strip())
@@ -72,9 +78,10 @@ def blocks(lines):
             text = []
 
 
-def words_of_page(text):
+def words_of_page(text: str) -> Iterator[str]:
     """The paragraphs of a page in Markdown without its code, its headings and its links' targets; each cell of a table by itself."""
-    lines, is_code = [], False
+    lines: list[str] = []
+    is_code = False
     for line in text.splitlines():
         if line.startswith("```"):
             is_code = not is_code
@@ -90,12 +97,12 @@ def words_of_page(text):
         yield re.sub(r"\]\([^)]*\)", "]", block).replace("*", "")
 
 
-def words_of_manual(text):
+def words_of_manual(text: str) -> Iterator[str]:
     """The lines of a manual page, with the words of its macros."""
     yield from blocks([re.sub(r'^\.[A-Z]+ ?|"', "", line).replace("\\-", "-") for line in text.splitlines()])
 
 
-def words_of_python(text):
+def words_of_python(text: str) -> Iterator[str]:
     """The docstrings and the comments of a file of Python."""
     for node in ast.walk(ast.parse(text)):
         if isinstance(node, (ast.Module, ast.ClassDef, ast.FunctionDef, ast.AsyncFunctionDef)) and (told := ast.get_docstring(node)):
@@ -108,29 +115,30 @@ def words_of_python(text):
     yield from blocks([comments.get(number, "") for number in range(1, last + 1)])
 
 
-def words_after(mark):
+def words_after(mark: str) -> Reader:
     """What reads the comments of a file in which each begins with a mark."""
     begins = re.compile(rf"(?:^|\s){mark} ?(.*)")
 
-    def words(text):
+    def words(text: str) -> Iterator[str]:
         found = [begins.search(line) for line in text.splitlines()]
         yield from blocks([match[1] if match else "" for match in found])
 
     return words
 
 
-def words_of_scenes(text):
+def words_of_scenes(text: str) -> Iterator[str]:
+    """The lines of scenes that say what they show."""
     return (line[2:] for line in text.splitlines() if line.startswith("- "))
 
 
-def words_of_help(text):
+def words_of_help(text: str) -> Iterator[str]:
     """The comments and the texts of a source file whose texts are help."""
     yield from words_after(r"//[/!]?")(text)
     for told in re.findall(r'"((?:[^"\\]|\\.)*)"', text, re.DOTALL):
         yield from blocks(told.splitlines())
 
 
-def reader_of(file, text):
+def reader_of(file: Path, text: str) -> Optional[Reader]:
     """What finds the words of a file, if it has any to look at."""
     if file.suffix == ".md":
         return words_of_page
@@ -153,7 +161,7 @@ def reader_of(file, text):
     return None
 
 
-def slips_of(file):
+def slips_of(file: Path) -> Iterator[str]:
     """Each slip in a file, with the words round it, and what is better."""
     try:
         text = file.read_text()
@@ -163,31 +171,32 @@ def slips_of(file):
     reader = reader_of(file, text)
     for block in reader(text) if reader and (name, "") not in ALLOWED else ():
         words = re.sub(r"`[^`]*`", "CODE", block)
-        for pattern, better in SLIPS:
+        for pattern, better in PATTERNS:
             for found in pattern.finditer(words):
                 near = words[max(found.start() - 30, 0) : found.end() + 30]
                 if not any(name == allowed and right in near for allowed, right in ALLOWED):
                     yield f"{near!r}: {better}"
 
 
-def files_in(*folders):
+def files_in(*folders: str) -> list[Path]:
+    """The files in folders at the top, and below them, that aren't made by a build."""
     found = [file for folder in folders for file in (TOP / folder).rglob("*")]
     return sorted(file for file in found if file.is_file() and not {"__pycache__", "out", "must-fail"} & set(file.parts))
 
 
-def pages():
+def pages() -> list[Path]:
     """All files but those of the crates."""
     return sorted(TOP.glob("*.md")) + [TOP / "Makefile"] + files_in("docs", "tests", "tools", "web", "bench", "packaging", "mutants", ".ci")
 
 
-def sources():
+def sources() -> list[Path]:
     """The code and the definitions of the crates, without proofs."""
     return [file for file in files_in("crates") if "proofs" not in file.parts]
 
 
-def cases():
+def cases() -> Iterator[tuple[str, list[str]]]:
     """The name of each case, a folder or a page at the top, and what is wrong with it."""
-    folders = defaultdict(list)
+    folders: dict[str, list[str]] = defaultdict(list)
     for file in pages() + (sources() if CRATES_ARE_TESTED else []):
         name = file.relative_to(TOP)
         folders[name.parts[0]] += [f"{name}: {slip}" for slip in slips_of(file)]

@@ -1,7 +1,10 @@
 """That a word means one thing: no two files of specs/ define the same one, and docs/DEFINITIONS.md has words that there are."""
+from __future__ import annotations
+
 import re
 from collections import defaultdict
 from pathlib import Path
+from typing import Iterator, Union
 
 TOP = Path(__file__).resolve().parents[2]
 DEFINED = re.compile(r"(?:abbrev |unfoldable )?pub (?:record |data )?([A-Za-z]\w*)[ :]")
@@ -12,9 +15,9 @@ NO_WORDS = {"abbrev", "data", "mod", "record", "unfoldable", "use"}
 TWO_THINGS = {"World", "changed"}
 
 
-def words_defined():
+def words_defined() -> dict[str, set[str]]:
     """The files that define each word, by their names below crates/."""
-    files = defaultdict(set)
+    files: dict[str, set[str]] = defaultdict(set)
     for file in sorted((TOP / "crates").glob("moo*/specs/**/*.antt")):
         for line in file.read_text().splitlines():
             found = DEFINED.match(line) or DEFINED_WITHIN.match(line)
@@ -23,19 +26,19 @@ def words_defined():
     return files
 
 
-def words_declared():
+def words_declared() -> set[str]:
     """What a source file declares, a struct, an enum or a trait, is a word too."""
     sources = (TOP / "crates").glob("moo*/src/**/*.rt")
     return {word for source in sources for word in re.findall(r"(?:struct|enum|trait) (\w+)", source.read_text())}
 
 
-def words_told():
+def words_told() -> list[str]:
     """The words that begin the rows of DEFINITIONS."""
     rows = [row.split("|")[1] for row in (TOP / "docs/DEFINITIONS.md").read_text().splitlines() if row.startswith("| `")]
     return sorted({word for row in rows for text in re.findall(r"`([^`]*)`", row) for word in re.findall(r"[A-Za-z]\w+", text)})
 
 
-def cases():
+def cases() -> Iterator[tuple[str, Union[dict[str, list[str]], list[str]]]]:
     """The name of each case, and what is wrong with it."""
     files, declared = words_defined(), words_declared()
     yield "a word of specs/ means one thing", {

@@ -1,4 +1,7 @@
-"""That the types of tools/, bench/, packaging/, tests/support/ and web/ agree, by Debian's mypy. Without it this is left out."""
+"""That the types of tools/, bench/, packaging/, tests/support/, web/, docs/ and the scripts of .ci/ agree, by Debian's mypy.
+
+Without mypy this is left out. It can't read .ci/lint/, since this file has the name of a module of the standard library.
+"""
 from __future__ import annotations
 
 import shutil
@@ -9,7 +12,7 @@ from typing import Iterator, Optional
 
 TOP = Path(__file__).resolve().parents[2]
 MYPY = "/usr/bin/mypy"
-WHAT = ("tools", "bench", "packaging", "tests/support", "web", "web/moo_web")
+WHAT = ("tools", "bench", "packaging", "tests/support", "web", "web/moo_web", "docs", ".ci")
 
 
 def is_script(path: Path) -> bool:

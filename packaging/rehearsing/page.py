@@ -20,7 +20,7 @@ BLOCKS = {
     "settings": ("Run", "printf 'PORT="),
     "start": ("Run", "systemctl enable --now"),
     "install the front": ("Let people in", "apt-get install ./out/moo-web"),
-    "start the front": ("Let people in", "for unit in moo moo-watch"),
+    "start the front": ("Let people in", "systemctl stop moo-watch@world.timer"),
     "a second journal": ("Let people in", "install -d -o moo-web -g moo-web -m 700 /srv/journal2"),
     "get at it": ("Let people in", 'alone="nsenter'),
     "a text of batches": ("Let people in", "systemctl stop moo-web@world.socket"),
@@ -74,7 +74,7 @@ def block(name: str) -> list[str]:
     return found[0]
 
 
-def free_port() -> int:
+def steady_port() -> int:
     """A port that nobody listens on now, and that no other program gets by chance: it isn't one that the system gives away."""
     while True:
         port = random.randrange(20_000, 30_000)
@@ -84,7 +84,7 @@ def free_port() -> int:
 
 
 # The ports of a world and of its front: those of the page may be taken here.
-PORT, WEB_PORT = free_port(), free_port()
+PORT, WEB_PORT = steady_port(), steady_port()
 
 
 def here(lines: list[str]) -> list[str]:

@@ -75,6 +75,7 @@ class FormsTest(PagesTest):
             self.assertEqual(page.status, status, page.text[:500])
 
     def is_done(self, page: Page) -> None:
+        """The page is that of a batch that was accepted."""
         self.assertRegex(page.path, r"/done/\d+(\?said=\w+)?$", page.text[:900])
         self.assertEqual(page.status, 200)
 

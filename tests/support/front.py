@@ -19,12 +19,14 @@ class StandIn:
     """A service on a port of its own, until `close`.
 
     `fault` is asked before each request to `/batch` is passed on, and after it: it may answer `drop`, which closes the connection, or a
-    status and a body that are answered in place of the program's. `seen` are the paths that were asked for.
+    status and a body that are answered in place of the program's. `answers_all`, a status and a body, is answered to each request if it is
+    set. `seen` are the paths that were asked for.
     """
 
     def __init__(self, port: int, routes: bool = True, token: Optional[str] = None, person: int = 3, dump: str = "", why: str = "") -> None:
         self.inner, self.routes, self.token, self.person, self.dump, self.why = port, routes, token, person, dump, why
         self.fault: Callable[[str], Any] = lambda moment: None
+        self.answers_all: Optional[tuple[int, Any]] = None
         self.seen: list[str] = []
         outer = self
 
@@ -53,6 +55,8 @@ class StandIn:
         """Answers a request with this body."""
         path = handler.path
         self.seen.append(path)
+        if self.answers_all:
+            return send(handler, *self.answers_all)
         if self.token is not None:
             if handler.headers["authorization"] != f"Bearer {self.token}":
                 return send(handler, 401, {"error": "unauthorized"})

@@ -100,6 +100,7 @@ class Guest:
         self.port, self.cookie = port, cookie
 
     def asked(self, method: str, path: str, fields: dict[str, str] | None = None) -> tuple[int, bytes]:
+        """The status and the body of an answer. Its cookie is kept."""
         connection = http.client.HTTPConnection("127.0.0.1", self.port, timeout=SECONDS)
         try:
             connection.request(method, path, urllib.parse.urlencode(fields) if fields else None, {"Cookie": self.cookie})
@@ -112,6 +113,7 @@ class Guest:
         return answer.status, text
 
     def sign_in(self, name: str) -> None:
+        """Signs in by the password that the people of the tests have."""
         status, _ = self.asked("POST", "/in", {"name": name, "password": PASSWORD, "to": "/"})
         if status != 303:
             raise AssertionError(f"signing in was answered {status}")

@@ -8,16 +8,15 @@ import pathlib
 import random
 import re
 import subprocess
-import sys
 import threading
 import time
 from types import ModuleType
 from typing import Optional
 
-from tests.support.program import MOO, TOP
+from tests.support import TOOLS
+from tests.support.program import MOO
 from tests.support.service import CANNOT_LISTEN, free_port
 
-TOOLS = TOP / "tools"
 # How long is waited for what comes at once on a machine that has time.
 SECONDS = 300
 
@@ -110,15 +109,8 @@ class KeptService:
         self.keeper.join(SECONDS)
 
 
-def use_tools() -> None:
-    """Makes the modules of tools/ known."""
-    sys.dont_write_bytecode = True
-    sys.path.insert(0, str(TOOLS))
-
-
 def tool(name: str, folder: pathlib.Path = TOOLS) -> ModuleType:
     """A program of tools/ or of another folder as a module."""
-    sys.dont_write_bytecode = True
     loader = importlib.machinery.SourceFileLoader(name.replace("-", "_"), str(folder / name))
     spec = importlib.util.spec_from_loader(loader.name, loader)
     assert spec

@@ -95,6 +95,7 @@ class Answer:
 
     @property
     def text(self) -> str:
+        """The words of the page."""
         return str(self.read.text)
 
 
@@ -135,6 +136,7 @@ class Reader:
             self.cookies[name] = value
 
     def get(self, path: str, **lines: str) -> Answer:
+        """Asks for a page."""
         return self.asked("GET", path, b"", **lines)
 
     def post(self, path: str, fields: dict[str, str], **lines: str) -> Answer:
@@ -143,6 +145,7 @@ class Reader:
         return self.asked("POST", path, urllib.parse.urlencode(fields).encode(), **(how | lines))
 
     def sign_in(self, name: str, password: str = PASSWORD, to: str = "/") -> Answer:
+        """Sends the form that people sign in by."""
         return self.post("/in", {"name": name, "password": password, "to": to})
 
     def token(self, path: str = "/you") -> str:
@@ -204,6 +207,7 @@ class PagesTest(unittest.TestCase):
     now = 1_800_000_000.0
 
     def clock(self) -> float:
+        """The seconds that it is now."""
         return self.now
 
     def reader(self, name: str | None = None, address: str = HOME) -> Reader:

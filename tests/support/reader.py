@@ -101,6 +101,7 @@ class Page(html.parser.HTMLParser):
             self.take_field(self.form, tag, at)
 
     def take_field(self, form: Form, tag: str, at: dict[str, str]) -> None:
+        """A field of a form, with what is in it."""
         kind, name = at.get("type", "text"), at.get("name", "")
         if tag == "input" and kind in ("checkbox", "radio"):
             form.ticks.setdefault(name, []).append(at.get("value", "on"))

@@ -8,19 +8,12 @@ import struct
 import subprocess
 from typing import IO, Optional
 
+from moo_shell.service import free_port
 from tests.support.processes import start
 
 # How long is waited for what comes at once on a machine that has time.
 PATIENCE = 300
 CANNOT_LISTEN = "moo: cannot listen\n"
-
-
-def free_port() -> int:
-    """A port that nobody listens on now."""
-    with socket.socket() as probe:
-        probe.bind(("127.0.0.1", 0))
-        port: int = probe.getsockname()[1]
-        return port
 
 
 class Service:

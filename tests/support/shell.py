@@ -9,11 +9,9 @@ import tempfile
 import time
 from pathlib import Path
 
-from tests.support.operating import TOOLS, use_tools
+from tests.support import TOOLS
 from tests.support.program import MOO, Ended
 from tests.support.terminal import Terminal
-
-use_tools()
 
 PATIENCE = 240
 SHELL = [sys.executable, str(TOOLS / "moo-shell"), "--moo", MOO]

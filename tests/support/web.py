@@ -14,7 +14,7 @@ import unittest
 from typing import Any, Callable, Optional, Sequence
 
 from tests.support import processes
-from tests.support.operating import SECONDS, use_tools
+from tests.support.operating import SECONDS
 from tests.support.program import MOO, TOP
 from tests.support.service import free_port
 
@@ -24,8 +24,7 @@ PASSWORD = "a password"
 
 
 def use_web() -> None:
-    """Makes the modules of web/ known, and those of tools/, on which they are."""
-    use_tools()
+    """Makes the modules of web/ known. Those of tools/, on which they are, are known already."""
     sys.path.insert(0, str(WEB))
 
 

@@ -9,9 +9,10 @@ from typing import Optional
 
 from moo_shell import looks
 from moo_shell.batches import Item, Refused
-from moo_shell.helping import ASIDE, TOPICS, help_on, overview
+from moo_shell.files import write_new
+from moo_shell.helping import ASIDE, TOPICS, fitted, help_on, overview
 from moo_shell.lines import counted, did_you_mean, read_line, unquoted
-from moo_shell.service import Service
+from moo_shell.service import OwnService
 from moo_shell.session import Session
 from moo_shell.told import Failed
 
@@ -68,6 +69,7 @@ def ask(session: Session, text: str) -> None:
         line = read_line(text)
         if line.kind != "call":
             raise Failed("\\ask CALL: a call is tried, as \\ask create(#1)")
+        session.test_call(line.text)
         items, who = [Item(line.text, line.name, session.place)], session.who
         if session.open is not None:
             items, who = [*session.open, *items], session.open_who
@@ -139,8 +141,7 @@ def dump(session: Session, text: str) -> None:
         session.output.note(f"{path} isn't written: this is a copy of the world")
         return
     try:
-        with open(path, "x") as file:
-            file.write(told)
+        write_new(path, told)
     except OSError as error:
         raise Failed(f"{path}: {error.strerror}") from None
 
@@ -152,7 +153,7 @@ def dump_of(session: Session) -> str:
         return reply.text
     if not reply.is_missing:
         raise Failed(f"{session.door.where()} gives no dump: {reply.error}")
-    if isinstance(session.door, Service):
+    if isinstance(session.door, OwnService):
         return session.door.dump()
     raise Failed("this service has no dump: `moo dump FILE` makes one when the service has ended")
 
@@ -164,7 +165,8 @@ def include(session: Session, text: str) -> None:
 
 def show_help(session: Session, text: str) -> None:
     """The overview, or what help says about a word."""
-    session.output.show(help_on(session.manual, COMMANDS_BY_HELP, text) if text else overview(session.manual, COMMANDS_BY_HELP))
+    told = help_on(session.manual, COMMANDS_BY_HELP, text) if text else overview(session.manual, COMMANDS_BY_HELP)
+    session.output.show(fitted(told, session.output.width()))
 
 
 def list_batch(session: Session, _: str) -> None:
@@ -189,6 +191,7 @@ def fix(session: Session, text: str) -> None:
     line = read_line(text)
     if line.kind != "call":
         raise Failed("\\fix CALL: the call that takes the place of the refused one")
+    session.test_call(line.text)
     session.fix(Item(line.text, line.name, session.place))
 
 

@@ -12,6 +12,7 @@ import time
 from typing import Any, Optional
 from urllib.parse import urlsplit
 
+from moo_shell.shapes import is_of_moo
 from moo_shell.told import Failed
 
 LONGEST_BODY = 1_048_576
@@ -105,7 +106,14 @@ class Door:
                 raise LostAnswer(str(error)) from None
         finally:
             connection.close()
-        return self.judged(reply)
+        reply = self.judged(reply)
+        if not is_of_moo(route, reply.status, reply.said):
+            raise self.stranger()
+        return reply
+
+    def stranger(self) -> Failed:
+        """Why an answer can't be used that no service of moo gives."""
+        return Failed(f"{self.where()} isn't one of moo: another program answers there")
 
     def judged(self, reply: Reply) -> Reply:
         """The answer, if it says how the request ended."""
@@ -136,11 +144,22 @@ class Door:
 
     def ask(self, who: int, calls: list[str], at: Optional[int] = None) -> Reply:
         """What a batch would answer; nothing changes."""
-        return self.tried("POST", "/ask?why", self.body(who, calls, at))
+        return self.for_each(calls, self.tried("POST", "/ask?why", self.body(who, calls, at)))
 
     def batch(self, who: int, calls: list[str], at: Optional[int]) -> Reply:
         """Runs a batch. It is sent once."""
-        return self.once("POST", "/batch?why", self.body(who, calls, at))
+        return self.for_each(calls, self.once("POST", "/batch?why", self.body(who, calls, at)))
+
+    def each(self, who: int, calls: list[str]) -> Reply:
+        """What each call alone would answer."""
+        return self.for_each(calls, self.tried("POST", "/each?why", self.body(who, calls, None)), "each")
+
+    def for_each(self, calls: list[str], reply: Reply, key: str = "answers") -> Reply:
+        """The answer, which has to have one for each call if it is a good one, and else names one of them."""
+        place = reply.said.get("call", 0)
+        if len(reply.said[key]) != len(calls) if reply.is_good else place > len(calls):
+            raise self.stranger()
+        return reply
 
     def seq(self, patience: float = PATIENCE) -> int:
         """The number of accepted batches."""

@@ -47,23 +47,31 @@ def write_whole(path: Path, text: str) -> None:
         raise
 
 
+def write_new(path: Path, text: str) -> None:
+    """Writes a new file that nobody else may read, since it may hold all of a world. It fails if the file is there."""
+    with open(path, "x", opener=lambda name, flags: os.open(name, flags, 0o600)) as file:
+        file.write(text)
+
+
 def copy_world(world: Path, folder: Path) -> Path:
     """Copies both files of a world that nobody has open, and gives the copy.
 
-    The file is opened once and read through that: closing a second opening of it would give the lock away.
+    The file is opened once and read through that: closing a second opening of it would give the lock away. If it is a link, its log is
+    beside what the link leads to.
     """
     copy = folder / world.name
+    source = world.resolve()
     try:
-        with open(world, "rb") as file:
+        with open(source, "rb") as file:
             try:
                 fcntl.lockf(file, fcntl.LOCK_SH | fcntl.LOCK_NB, SHARED_SIZE, SHARED_FIRST)
             except OSError:
                 raise Failed(f"{world}: in use by another program") from None
             with open(copy, "xb") as target:
                 shutil.copyfileobj(file, target)
-            log = world.with_name(world.name + "-wal")
+            log = source.with_name(source.name + "-wal")
             if log.exists():
-                shutil.copyfile(log, copy.with_name(log.name))
+                shutil.copyfile(log, copy.with_name(copy.name + "-wal"))
     except OSError as error:
         raise Failed(f"{world}: {error.strerror}") from None
     return copy

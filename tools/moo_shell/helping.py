@@ -2,76 +2,91 @@
 
 from __future__ import annotations
 
+import re
 import textwrap
-from collections.abc import Mapping
+from collections.abc import Iterator, Mapping
+from typing import Optional
 
 from moo_shell.lines import did_you_mean
 from moo_shell.manual import Manual
 from moo_shell.told import Failed
 
-WIDTH = 100
+WIDTH = 79
 
 LINES = """\
 A line is
-  create(#1)            a call, which is a batch of its own: it acts whole or not at all
+  create(#1)            a call, a batch of its own: it acts whole or not at all
   $hall = create(#1)    the same, and $hall stands for the answer from then on
   $price = 12           a name for a value
-  begin .. end          the calls between them are one batch: all of them act, or none
+  begin .. end          the calls between them are one batch: all act, or none
   include FILE          the lines of a file
   // words              a comment, also after a call
   \\WORD                 one of these words:"""
 
 TOPICS = {
     "batches": """\
-`begin` opens a batch, each line after it is a call, and `end` sends it. It acts whole or not at all: if a call is refused nothing has
-changed. A call may use the name of an earlier one's answer in the same batch:
+`begin` opens a batch, each line after it is a call, and `end` sends it. It
+acts whole or not at all: if a call is refused nothing has changed. A call may
+use the name of an earlier one's answer in the same batch:
 
   begin
   $hall = create(#1)
   set($hall, "name", "The Hall")
   end
 
-\\ask alone tries the batch so far, \\list shows it, \\undo drops its last call, \\abandon or Ctrl-C drops all of it. If it is refused,
-\\fix CALL sends it again with CALL in the place of the call that was refused.
-A text for `moo apply` is read too: `batch as #3` begins a batch of #3, with `at M` for the world of number M alone.""",
+\\ask alone tries the batch so far, \\list shows it, \\undo drops its last call,
+\\abandon or Ctrl-C drops all of it. If it is refused, \\fix CALL sends it again
+with CALL in the place of the call that was refused.
+A text for `moo apply` is read too: `batch as #3` begins a batch of #3, with
+`at M` for the world of number M alone.""",
     "names": """\
-A name is a $ and letters, digits or _, as $hall. `$hall = create(#1)` gives it the answer of a call, `$hall = #5` a value. It stands for
-that value in calls, also in lists, but not in texts. Large and small letters differ. \\names lists the names. They last for the session;
-\\names FILE, or --names FILE, keeps them in a file.""",
+A name is a $ and letters, digits or _, as $hall. `$hall = create(#1)` gives it
+the answer of a call, `$hall = #5` a value. It stands for that value in calls,
+also in lists, but not in texts. Large and small letters differ. \\names lists
+the names. They last for the session; \\names FILE, or --names FILE, keeps them
+in a file.""",
     "scripts": """\
-`moo-shell -f build.moo world.db` does the lines of a file as if they were typed. It stops at the first line that is refused, with its file,
-its line and the reason; what came before it stays. With --dry-run it does all of it on a copy of the world, says what it would make, and
-changes nothing. `include FILE` reads FILE from the folder of the file that it is written in.""",
+`moo-shell -f build.moo world.db` does the lines of a file as if they were
+typed. It stops at the first line that is refused, with its file, its line and
+the reason; what came before it stays. With --dry-run it does all of it on a
+copy of the world, says what it would make, and changes nothing. `include FILE`
+reads FILE from the folder of the file that it is written in.""",
     "classes": """\
-A class is an object that others are made under. They inherit its properties, until a property is set on one of them:
+A class is an object that others are made under. They inherit its properties,
+until a property is set on one of them:
 
   $lamp = create(#1)
-  add_property($lamp, "light", 0, {#3, "rc"})   // owner and perms: \\help rights
-  set($lamp, "f", 1)                            // anybody may make objects under it
+  add_property($lamp, "light", 0, {#3, "rc"})  // owner, perms: \\help rights
+  set($lamp, "f", 1)                 // anybody may make objects under it
   $mine = create($lamp)
   set($mine, "light", 1)""",
     "places": """\
-Anything can be a place. A place takes what its accept list names, and all that is under that; or what the list of its nearest ancestor
-that has one names. A wizard's move needs no list.
+Anything can be a place. A place takes what its accept list names, and all that
+is under that; or what the list of its nearest ancestor that has one names. A
+wizard's move needs no list.
 
   $hall = create(#1)
-  set_accept($hall, {#1})                       // whatever is under #1
-  move(#3, $hall)                               // \\places shows who is where""",
+  set_accept($hall, {#1})            // whatever is under #1
+  move(#3, $hall)                    // \\places shows who is where""",
     "people": """\
-A builder is an object that calls: \\as N makes the calls that follow those of #N. A quota bounds how many objects one may own:
+A builder is an object that calls: \\as N makes the calls that follow those of
+#N. A quota bounds how many objects one may own. Its property is made once for a
+world, and only an integer in it bounds anything:
 
-  add_property(#1, "ownership_quota", "", {#3, ""})   // once for a world; only an integer bounds anything
-  $ada = create(#1, #-1)                              // the owner #-1: it owns itself
+  add_property(#1, "ownership_quota", "", {#3, ""})
+  $ada = create(#1, #-1)             // the owner #-1: it owns itself
   set_player_flag($ada, 1)
   set($ada, "ownership_quota", 5)
 
-Each create lowers the owner's quota by 1, each recycle gives 1 back. At 0 a create is refused: E_QUOTA.""",
+Each create lowers the owner's quota by 1, each recycle gives 1 back. At 0 a
+create is refused: E_QUOTA.""",
     "petitions": """\
 Who may not do something asks a wizard for it. The calls are written as lists:
 
   petition({{"set", #4, "name", "Ada"}, {"move", #4, #2}})
 
-\\petitions shows them with their numbers, `\\ask grant(1)` tries what a grant would do, and `grant(1)` or `decline(1)` ends one.""",
+\\petitions shows them with their numbers, `\\ask grant(1)` tries what a grant
+would do, and `grant(1)` or `decline(1)` ends one.""",
 }
 ASIDE = {"rights": "PERMS", "values": "Values", "calls": "Calls", "errors": "Why a call"}
 
@@ -107,3 +122,40 @@ def help_on(manual: Manual, commands: Mapping[str, tuple[str, str]], word: str) 
         known = [*commands, *TOPICS, *ASIDE, *manual.calls, *manual.reasons]
         raise Failed(f"there is no help on {word}{did_you_mean(word, known)}")
     return "\n\n".join(found)
+
+
+def hanging(line: str) -> int:
+    """Where the words of an entry begin: after its last wide gap, or else a little further in than the line."""
+    gaps = [found.end() for found in re.finditer(r"(?<=\S)\s{2,}(?=\S)", line)]
+    return gaps[-1] if gaps else len(line) - len(line.lstrip()) + 4
+
+
+def paragraphs(text: str) -> Iterator[str]:
+    """A text as lines of any length: an entry with those that go on with it, a paragraph, or an empty line.
+
+    A line that ends with a sentence is taken for the end of a paragraph.
+    """
+    last = ""
+    for line in text.splitlines():
+        is_prose = line[:1].strip() and last[-1:] not in (".", ":")
+        if last and (line.startswith(" " * 8) if last.startswith(" ") else is_prose):
+            last = f"{last} {line.strip()}"
+            continue
+        if last:
+            yield last
+        last = line
+        if not line:
+            yield ""
+    if last:
+        yield last
+
+
+def fitted(text: str, width: Optional[int]) -> str:
+    """A text that is broken between words if it has a line that is longer than the terminal's. None: there is no terminal."""
+    if width is None or all(len(line) <= width for line in text.splitlines()):
+        return text
+    lines = []
+    for paragraph in paragraphs(text):
+        indent = min(hanging(paragraph), width // 2) if paragraph.startswith(" ") else 0
+        lines.append(textwrap.fill(paragraph, width, subsequent_indent=" " * indent, break_on_hyphens=False))
+    return "\n".join(lines)

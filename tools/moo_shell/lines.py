@@ -118,9 +118,37 @@ def read_line(line: str) -> Line:
     found = ASSIGNMENT.fullmatch(text)
     if found:
         return Line("call" if call_name(found[2]) else "value", text=found[2], name=found[1])
-    if text.lower() in ("help", "quit", "exit", "include"):
+    if text.lower() in ("help", "?", "quit", "exit", "include"):
         return Line("command", word=text.lower())
     return Line("call", text=text)
+
+
+def advice(text: str, words: Iterable[str] = ()) -> str:
+    """What is likely meant by a line that isn't a call, as people write it who come from other prompts. `words` are those of the shell."""
+    first = text.partition(" ")[0].lower()
+    if first in words:
+        return f"did you mean \\{text}?"
+    if first in ("begin", "end"):
+        return f"`{first}` stands alone on its line"
+    if first == "batch":
+        return "`batch as #3` begins a batch of #3"
+    if re.fullmatch(r"\$\w+|#-?\d+", text):
+        return f"\\show {text} shows it"
+    named = re.fullmatch(r"([A-Za-z_]\w*)\s*=\s*(\S.*)", text)
+    if named:
+        return f"a name begins with a $, as ${named[1]} = {named[2]}"
+    return expression_advice(text) or hint(text)
+
+
+def expression_advice(text: str) -> str:
+    """What to write for an expression of LambdaMOO: `#4.light`, `#4.light = 1` or `#4:look()`."""
+    found = re.fullmatch(r"(\$[A-Za-z_]\w*|#-?\d+)(?:(:)|\.)(\w+)\s*(?:=\s*(\S.*))?.*", text)
+    if not found:
+        return ""
+    thing, colon, name, value = found.groups()
+    if colon:
+        return "moo keeps verbs and runs none"
+    return f'a property is set by set({thing}, "{name}", {value})' if value else f'a property is read by get({thing}, "{name}")'
 
 
 def strange_letter(text: str) -> str:
@@ -134,6 +162,15 @@ def hint(text: str) -> str:
         return "a comment begins with //"
     if strange_letter(text):
         return f"'{strange_letter(text)}' is a letter that worlds don't hold: only tabs, spaces and printing ASCII"
+    if unfinished(text):
+        return unfinished(text)
+    if not call_name(text):
+        return "a call has its name and its values in brackets, as create(#1); \\help lists the calls"
+    return ""
+
+
+def unfinished(text: str) -> str:
+    """What a text, a list or a call lacks that isn't closed; or nothing."""
     for kind, piece in pieces(text):
         if kind == "text" and (len(piece) == 1 or not re.fullmatch(r'"(?:[^"\\]|\\.)*"', piece, re.DOTALL)):
             return 'a text without its closing "'
@@ -143,6 +180,4 @@ def hint(text: str) -> str:
             return f"{what} without its {closing}"
         if others.count(opening) < others.count(closing):
             return f"a {closing} without its {opening}"
-    if not call_name(text):
-        return "a call has its name and its values in brackets, as create(#1); \\help lists the calls"
     return ""

@@ -219,7 +219,7 @@ class Prompt:
             self.session.output.complain(str(failed))
             return
         self.session.output.complain(f"call {failed.call}: {failed}")
-        self.session.output.note("nothing of the batch was done; \\fix CALL sends it again with another call in that place")
+        self.session.output.note("nothing of it was done; \\fix CALL sends it with another call in that place")
 
     def at_end_of_input(self) -> None:
         """Ctrl-D drops the open batch; without one it ends the shell."""

@@ -65,7 +65,7 @@ def free_port() -> int:
         return int(probe.getsockname()[1])
 
 
-class Service(Door):
+class OwnService(Door):
     """A service of the shell's own, and the door to it."""
 
     def __init__(self, program: str, file: str) -> None:

@@ -3,8 +3,9 @@
 from __future__ import annotations
 
 import collections
+import contextlib
 import re
-from collections.abc import Callable
+from collections.abc import Callable, Collection
 from pathlib import Path
 from typing import Optional
 
@@ -12,7 +13,18 @@ from moo_client import read
 from moo_shell.batches import Batches, Done, Item, Refused
 from moo_shell.door import Door
 from moo_shell.files import read_lines, write_whole
-from moo_shell.lines import Line, call_name, did_you_mean, filled, names_in, read_line, strange_letter
+from moo_shell.lines import (
+    Line,
+    advice,
+    call_name,
+    did_you_mean,
+    expression_advice,
+    filled,
+    names_in,
+    read_line,
+    strange_letter,
+    unfinished,
+)
 from moo_shell.manual import Manual
 from moo_shell.told import Failed, Output
 from moo_shell.world import BUILT_IN, World
@@ -31,7 +43,7 @@ def is_value(text: str) -> bool:
 
 
 class Session:
-    """Does the lines of a prompt or of scripts. `run_word` does the `\\` words.
+    """Does the lines of a prompt or of scripts. `run_word` does the `\\` words, which are `words`.
 
     `is_script` is whether the lines come from a script: then answers are bare. `is_copy` is whether the world is a copy: then no other
     file is written. `refused` is the last batch, if it was refused at a call: its calls, who calls, its number, and which call that was.
@@ -39,9 +51,10 @@ class Session:
     """
 
     def __init__(
-        self, door: Door, manual: Manual, output: Output, run_word: RunWord, is_script: bool = True, is_copy: bool = False
-    ) -> None:
-        self.door, self.manual, self.output, self.run_word = door, manual, output, run_word
+        self, door: Door, manual: Manual, output: Output, run_word: RunWord, words: Collection[str],
+        is_script: bool = True, is_copy: bool = False,
+    ) -> None:  # fmt: skip
+        self.door, self.manual, self.output, self.run_word, self.words = door, manual, output, run_word, words
         self.is_script, self.is_copy = is_script, is_copy
         self.world = World(door)
         self.batches = Batches(door, manual)
@@ -80,14 +93,26 @@ class Session:
             self.run_word(self, line.word, line.text)
 
     def take_call(self, item: Item) -> None:
-        """A call: a batch of one, or a part of the open batch."""
+        """A call: a batch of one, or a part of the open batch. A line that can't be one is refused at once, and isn't in the batch."""
+        self.test_call(item.text)
         if self.open is None:
             self.run([item], self.who, None)
             return
-        known = {*self.names, *(earlier.name for earlier in self.open if earlier.name)}
-        for name in sorted(names_in(item.text) - known):
-            raise Failed(f"{name} has no value{did_you_mean(name, known)}")
+        self.test_names(item.text)
         self.open.append(item)
+
+    def test_call(self, text: str) -> None:
+        """Fails if a line has no name of a call with a bracket after it, and says what may be meant."""
+        if not call_name(text):
+            self.test_names(text)
+            shown = text if len(text) <= 80 else text[:78] + ".."
+            raise Failed(f"malformed: {shown} isn't a call: {advice(text, self.words)}")
+
+    def test_names(self, text: str) -> None:
+        """Fails if a line uses a name that has no value, and that no call of the open batch has."""
+        known = {*self.names, *(earlier.name for earlier in self.open or [] if earlier.name)}
+        for name in sorted(names_in(text) - known):
+            raise Failed(f"{name} has no value{did_you_mean(name, known)}")
 
     def take_value(self, line: Line) -> None:
         """A name for a value that is written out."""
@@ -96,7 +121,7 @@ class Session:
             raise Failed(f"a batch holds calls alone: give {line.name} its value before `begin`")
         value = filled(line.text, self.names)
         if not is_value(value):
-            raise Failed(f"{value} isn't a value: \\help values")
+            raise Failed(f"{value} isn't a value: " + (expression_advice(line.text) or unfinished(line.text) or "\\help values"))
         self.names[line.name] = value
 
     def begin(self, line: Line) -> None:
@@ -148,13 +173,12 @@ class Session:
             return refused
         text = items[refused.call - 1].text
         found = re.match(r'\s*\w+\s*\(\s*(#\d+|\$\w+)\s*,\s*"([^"\\]*)"', text)
-        try:
-            number = self.number(found[1]) if found else None
-            if found and number is not None:
-                built_in = BUILT_IN if call_name(text) in ("get", "set") else ()
-                refused.reason += did_you_mean(found[2], [*self.world.properties(number), *built_in])
-        except Failed:
-            pass
+        if found:
+            known = set(BUILT_IN) if call_name(text) in ("get", "set") else set()
+            # An object that the batch was to make isn't there.
+            with contextlib.suppress(Failed):
+                known.update(self.world.properties(self.number(found[1])))
+            refused.reason += did_you_mean(found[2], sorted(known))
         return refused
 
     def write_answers(self, items: list[Item], done: Done) -> None:
@@ -179,7 +203,8 @@ class Session:
         value = filled(text.strip(), self.names)
         found = re.fullmatch(r"#?(-?\d+)", value)
         if not found:
-            raise Failed(f"{text or 'nothing'} isn't an object: #5 is one, or a name such as $hall that stands for one")
+            which = f"{text} isn't an object:" if text.strip() else "which object?"
+            raise Failed(f"{which} #5 is one, or a name such as $hall that stands for one")
         return int(found[1])
 
     def include(self, name: str) -> None:

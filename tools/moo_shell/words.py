@@ -13,13 +13,13 @@ from pathlib import Path
 from typing import NoReturn, Optional
 
 from moo_shell.batches import Unsure
-from moo_shell.commands import dump_of, run_command
+from moo_shell.commands import COMMANDS, dump_of, run_command
 from moo_shell.door import Door, Front
 from moo_shell.files import copy_world, load_copy
 from moo_shell.manual import manual_of
 from moo_shell.prompt import Prompt
 from moo_shell.script import greatest, run_script, would_make
-from moo_shell.service import Service, find_program, look_at
+from moo_shell.service import OwnService, find_program, look_at
 from moo_shell.session import Session
 from moo_shell.told import Failed, Output
 
@@ -85,9 +85,9 @@ def needed(program: Optional[str]) -> str:
     return program
 
 
-def served(stack: contextlib.ExitStack, program: str, file: str) -> Service:
+def served(stack: contextlib.ExitStack, program: str, file: str) -> OwnService:
     """A service of the shell's own, that ends with the shell."""
-    service = Service(program, file)
+    service = OwnService(program, file)
     stack.callback(service.end)
     return service
 
@@ -107,7 +107,7 @@ def opened(stack: contextlib.ExitStack, said: argparse.Namespace, program: Optio
     if said.web:
         raise Failed("--dry-run wants the whole world, and a front doesn't say who calls: use it with FILE or --port")
     folder = Path(stack.enter_context(tempfile.TemporaryDirectory(prefix="moo-shell-")))
-    dump = dump_of(Session(door, manual_of(None), Output(), run_command))
+    dump = dump_of(Session(door, manual_of(None), Output(), run_command, COMMANDS))
     return served(stack, needed(program), str(load_copy(needed(program), dump, folder)))
 
 
@@ -117,7 +117,8 @@ def run(said: argparse.Namespace) -> None:
     with contextlib.ExitStack() as stack:
         is_typed = not said.scripts and sys.stdin.isatty()
         door = opened(stack, said, program)
-        session = Session(door, manual_of(program), Output(said.quiet), run_command, is_script=not is_typed, is_copy=said.dry_run)
+        output = Output(said.quiet)
+        session = Session(door, manual_of(program), output, run_command, COMMANDS, is_script=not is_typed, is_copy=said.dry_run)
         session.world.who = said.who
         if said.names:
             session.keep_names(said.names)

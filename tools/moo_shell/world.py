@@ -30,7 +30,10 @@ class Answer:
 
     def value(self) -> Any:
         """The value; None of an error."""
-        return read(self.text) if self.is_good else None
+        try:
+            return read(self.text) if self.is_good else None
+        except ValueError:
+            raise Failed(f"the service answers what isn't a value: {self.text[:80]}") from None
 
 
 @dataclasses.dataclass(frozen=True)
@@ -104,7 +107,7 @@ class World:
     def piece(self, calls: list[str]) -> list[Answer]:
         """The same of at most as many calls as a request takes."""
         if self.has_each is not False:
-            reply = self.door.tried("POST", "/each?why", self.door.body(self.who, calls, None))
+            reply = self.door.each(self.who, calls)
             self.has_each = not reply.is_missing
             if self.has_each:
                 return [answer_of(said) for said in good(reply)["each"]]

@@ -30,7 +30,7 @@ def read_words(words: list[str]) -> argparse.Namespace:
     """What the command line says."""
     parser = argparse.ArgumentParser(prog="moo-people", usage=USAGE, description="The people of a front.", epilog=MORE)
     parser.add_argument("folder", metavar="FOLDER")
-    commands = parser.add_subparsers(dest="command", required=True, metavar="COMMAND")
+    commands = parser.add_subparsers(dest="command", required=True, metavar="COMMAND", prog="moo-people FOLDER")
     adding = commands.add_parser("add", help="a new person, with the number of their object", usage="moo-people FOLDER add NAME NUMBER")
     adding.add_argument("name", metavar="NAME")
     adding.add_argument("number", metavar="NUMBER", type=object_number)

@@ -43,7 +43,7 @@ class World:
         found = re.fullmatch(r"ok seq (\d+) objects \d+\n", ran.stdout)
         if not found:
             kind = Ended if IN_USE in ran.stderr else Failed
-            raise kind(f"{file} isn't a whole world that can be opened: {(ran.stdout + ran.stderr).strip()}")
+            raise kind(f"{file} isn't a whole world that can be opened: {(ran.stderr or ran.stdout).strip()}")
         self.seq = int(found[1])
 
     def run(self, batch: Accepted) -> None:

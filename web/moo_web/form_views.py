@@ -171,6 +171,8 @@ def typed_at_first(form: Form, typed: Mapping[str, str], answers: Mapping[str, A
     found = dict(typed)
     for field in form.fields:
         if keys_of(field, typed):
+            if field.kind in ("object", "place") and typed.get(field.key, "").isdigit():
+                found[field.key] = f"#{typed[field.key]}"
             continue
         value = part_of(field, answers.get(field.key))
         if value is None or not isinstance(value, (int, str, list, Obj, ErrorValue)):

@@ -54,6 +54,16 @@ class Decided(NamedTuple):
         return any(call.lstrip().lower().startswith("grant") and str(self.number) in NUMBER.findall(call) for call in self.ended.calls)
 
 
+def call_about(accepted: Accepted, number: int | None) -> str:
+    """The first call of a batch that names an object or makes it; else, and of no object, the first one. Empty: it has no call."""
+    answers = accepted.answers or [""] * len(accepted.calls)
+    for call, answer in zip(accepted.calls, answers):
+        is_made = call.lstrip().lower().startswith("create") and answer == f"#{number}"
+        if number is None or is_made or number in {int(each) for each in OBJECT.findall(call)}:
+            return call
+    return accepted.calls[0] if accepted.calls else ""
+
+
 class Open(NamedTuple):
     """An intent that was read, and the place of its line."""
 

@@ -28,11 +28,12 @@ from moo_web.app import App, Reply, Request, TooLarge
 from moo_web.asking import Asker, Moved
 from moo_web.definers import Definers
 from moo_web.door import Unreachable
-from moo_web.history import History
+from moo_web.history import History, call_about
 from moo_web.index import Index
 from moo_web.limits import Rate, network_of
 from moo_web.moments import Zone, zone_of
 from moo_web.people import People, Session
+from moo_web.telling import in_words
 from moo_web.things import World
 from moo_web.writer import Writer
 
@@ -190,6 +191,7 @@ class Pages:
         self.templates = jinja2.Environment(
             loader=loader, autoescape=True, undefined=jinja2.StrictUndefined, trim_blocks=True, lstrip_blocks=True, auto_reload=False
         )
+        self.templates.globals |= {"call_about": call_about, "whole": showing.WHOLE, "in_words": in_words}
         self.sheet = (HERE / "static" / "style.css").read_bytes()
         self.mark = hashlib.sha256(self.sheet).hexdigest()[:12]
         app.for_people = self.error

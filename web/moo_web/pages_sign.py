@@ -48,7 +48,8 @@ class Sign:
         form = request.form(LONGEST_KEPT)
         if request.length > LONGEST_BODY and "kept" not in form:
             raise TooLarge
-        name, to, kept = form.get("name", ""), sessions.local_path(form.get("to", "/")), form.get("kept", "")
+        # Telephones put a blank after a word.
+        name, to, kept = form.get("name", "").strip(), sessions.local_path(form.get("to", "/")), form.get("kept", "")
         try:
             signed = self.pages.people.sign_in(name, form.get("password", ""), request.address)
         except WrongPassword:

@@ -23,11 +23,10 @@ def written(password: str, cost: int, block: int, lanes: int, salt: bytes) -> st
 
 
 def is_right(password: str, kept: str) -> bool:
-    """Whether a password is the one of which this was kept."""
-    if len(password) > LONGEST:
-        return False
+    """Whether a password is the one of which this was kept. One that is too long takes as long."""
     _, cost, block, lanes, salt, _ = kept.split(":")
-    return hmac.compare_digest(written(password, int(cost), int(block), int(lanes), bytes.fromhex(salt)), kept)
+    got = written(password[:LONGEST], int(cost), int(block), int(lanes), bytes.fromhex(salt))
+    return hmac.compare_digest(got, kept) and len(password) <= LONGEST
 
 
 def is_of_today(kept: str) -> bool:

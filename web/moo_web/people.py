@@ -130,10 +130,12 @@ class People:
             self.base.execute("BEGIN IMMEDIATE")
             try:
                 yield
+                self.base.execute("COMMIT")
             except BaseException:
-                self.base.execute("ROLLBACK")
+                # On a full disk SQLite has done it by itself.
+                if self.base.in_transaction:
+                    self.base.execute("ROLLBACK")
                 raise
-            self.base.execute("COMMIT")
 
     def row(self, query: str, *given: Any) -> Any:
         """The first row of a query, or None."""
@@ -222,13 +224,14 @@ class People:
         """A new session. `WrongPassword`, `TooMany`, `Crowded`: there is none.
 
         Who fails waits, by the name and the address together, and by the address. With a name that many strangers try, those wait who come
-        from a place at which its person hasn't signed in lately. So nobody can keep a person out of a place that is theirs.
+        from a place at which its person hasn't signed in lately. So nobody can keep a person out of a place that is theirs. What can't be
+        a name is the name of nobody, and isn't remembered: it may be long.
         """
-        place = network_of(address)
-        pair = f"{name.lower()} {place}"
+        place, known = network_of(address), name.lower() if NAME.fullmatch(name) else ""
+        pair = f"{known} {place}"
         self.wait_for(max(self.pair_waits.wait(pair), self.place_waits.wait(place)))
         is_stranger = not self.is_place_of(name, place)
-        if is_stranger and not self.strangers.is_open(name.lower()):
+        if is_stranger and not self.strangers.is_open(known):
             raise TooMany(1 / STRANGERS_A_SECOND)
         if not self.turns.acquire(timeout=LONGEST_TURN):
             raise Crowded
@@ -240,7 +243,7 @@ class People:
             self.pair_waits.fail(pair)
             self.place_waits.fail(place)
             if is_stranger:
-                self.strangers.take(name.lower())
+                self.strangers.take(known)
             raise WrongPassword
         self.pair_waits.succeed(pair)
         return signed
@@ -292,7 +295,8 @@ class People:
         if not found:
             return None
         if now - found[3] > SEEN_EVERY:
-            with self.change():
+            # On a full disk people go on reading. The session ends earlier then.
+            with contextlib.suppress(sqlite3.OperationalError), self.change():
                 self.base.execute("UPDATE session SET seen = ? WHERE hash = ?", (now, kept))
         return Session(Person(found[0], found[1]), found[2])
 

@@ -12,6 +12,8 @@ from moo_web.things import Thing, World
 
 LONGEST_NAME = 80
 LONGEST_VALUE = 1200
+# More than the calls and answers of a batch have that are kept.
+WHOLE = 1 << 22
 PIECES = re.compile(r'("(?:[^"\\]|\\.)*"|#-?\d{1,10})')
 UNNAMED = Markup('<i class="dim">unnamed</i>')
 
@@ -40,10 +42,11 @@ def value(world: World, given: Any, longest: int = LONGEST_VALUE) -> Markup:
 def call(world: World, text: str, longest: int = LONGEST_VALUE) -> Markup:
     """A call or a value, its objects as links. After so many letters it is cut, and says so."""
     shown, left = Markup(), longest
-    for piece in PIECES.split(text):
+    for place, piece in enumerate(PIECES.split(text)):
         if left <= 0:
             break
-        if piece.startswith("#") and int(piece[1:]) in world.things:
+        # What is between two pieces may begin with # too.
+        if place % 2 and piece.startswith("#") and int(piece[1:]) in world.things:
             shown += link(world, int(piece[1:]))
             left -= len(piece) + len(world.things[int(piece[1:])].name)
         else:

@@ -8,10 +8,14 @@ from typing import Any, Callable
 
 from markupsafe import Markup, escape
 from moo_client import Obj, written
+from moo_shell.world import written_call
 
 from moo_web.typed import clipped, parts_of
 
 Link = Callable[[int], Markup]
+# So many calls of a petition are told one by one.
+FEW = 3
+LONGEST_OF_MANY = 1000
 # By the name of a call: a sentence for its values, `{0}` being the first, and `{0.link}` an object that is linked.
 SENTENCES = {
     "create": "A new object is made under {0}.",
@@ -42,7 +46,9 @@ BUILT_IN = {
     "w": "Everybody may add and delete properties and verbs of {0}.|Others may not add or delete properties and verbs of {0} any more.",
     "f": "Everybody may make objects under {0}.|Others may not make objects under {0} any more.",
 }
-GRAVE = re.compile(r'\s*(?:set\s*\([^,]*,\s*"(?:wizard|owner|programmer)"|recycle\b|set_player_flag\b|delete_|chparent\b)', re.IGNORECASE)
+GIVING = r"set_player_flag\b|set_property_info\b|set_verb_info\b"
+LOSING = r"recycle\b|delete_|chparent\b"
+GRAVE = re.compile(rf'\s*(?:set\s*\([^,]*,\s*"(?:wizard|owner|programmer|w|f)"|{GIVING}|{LOSING})', re.IGNORECASE)
 
 
 def linked(link: Link, calls: Sequence[tuple[str, str]]) -> Link:
@@ -88,6 +94,15 @@ def sentence_of(name: str, given: list[Any]) -> str:
     return SENTENCES.get(name, "")
 
 
+def told_petition(calls: list[Any], link: Link) -> Markup:
+    """A petition in plain words: its calls, if they are few and have words."""
+    if 0 < len(calls) <= FEW and all(isinstance(each, list) and each and str(each[0]).lower() != "petition" for each in calls):
+        sentences = [told(written_call(each), link) for each in calls]
+        if all(sentences):
+            return Markup("A wizard is asked for this: {}").format(Markup(" ").join(sentences))
+    return Markup("A wizard is asked for {} call{}.").format(len(calls), "" if len(calls) == 1 else "s")
+
+
 def told(call: str, link: Link) -> Markup:
     """A call in plain words; empty if there are none for it."""
     parts = parts_of(call)
@@ -98,7 +113,12 @@ def told(call: str, link: Link) -> Markup:
     if not sentence or sentence.count("{2}") > len(given) - 2 > -1 or sentence.count("{1}") > len(given) - 1 or not given:
         return Markup()
     if name == "petition" and isinstance(given[0], list):
-        count = len(given[0])
-        return Markup("A wizard is asked for {} call{}.").format(count, "" if count == 1 else "s")
+        return told_petition(given[0], link)
     words = str(Markup(sentence).format(*(shown(value, link) for value in given)))
-    return Markup(re.sub(r"^<b>the", "<b>The", words))
+    # A text that ends as a sentence does needs no second full stop.
+    return Markup(re.sub(r"^<b>the", "<b>The", re.sub(r"([.!?]”)\.$", r"\1", words)))
+
+
+def in_words(call: str, link: Link) -> Markup:
+    """The same of a call among many; empty too if it is long."""
+    return told(call, link) if len(call) <= LONGEST_OF_MANY else Markup()

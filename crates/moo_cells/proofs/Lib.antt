@@ -6,6 +6,7 @@ pub mod Table
 pub mod Within
 pub mod Beside
 pub mod Keys
+pub mod Apart
 pub mod Ranks
 pub mod HeadLemmas
 pub mod RowsLemmas

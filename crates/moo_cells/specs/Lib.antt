@@ -4,6 +4,7 @@ pub mod Reading
 pub mod Columns
 pub mod Unread
 pub mod Holding
+pub mod Apart
 pub mod Each
 pub mod Compared
 pub mod Head

@@ -14,6 +14,7 @@ ghost use Rattle.moo_damage.specs.Limits.{AreWithin};
 ghost use Rattle.moo_cells.specs.Shows.{ShowsRows};
 ghost use Rattle.moo_cells.specs.Taken.{TakesObjects, TakesProps, TakesSlots, TakesVerbs, TakesTables};
 
+use crate::filling::in_filling_order;
 use crate::head::read_head;
 use crate::rows::under;
 use crate::tables::{read_objects, read_petitions, read_props, read_slots, read_verbs};
@@ -45,7 +46,7 @@ fn take_objects<S: Alter>(
     if !are_numbered(&cells) {
         return Ok(None);
     }
-    match read_objects(alloc, version, cells, &mut rows) {
+    match read_objects(alloc, version, in_filling_order(cells), &mut rows) {
         Ok(()) => Ok(Some(rows)),
         Err(_) => Ok(None),
     }
@@ -70,7 +71,7 @@ fn take_props<S: Alter>(
     if !are_numbered(&cells) {
         return Ok(None);
     }
-    match read_props(alloc, version, cells, &mut rows) {
+    match read_props(alloc, version, in_filling_order(cells), &mut rows) {
         Ok(()) => Ok(Some(rows)),
         Err(_) => Ok(None),
     }
@@ -95,7 +96,7 @@ fn take_slots<S: Alter>(
     if !are_paired(&cells) {
         return Ok(None);
     }
-    match read_slots(alloc, version, cells, &mut rows) {
+    match read_slots(alloc, version, in_filling_order(cells), &mut rows) {
         Ok(()) => Ok(Some(rows)),
         Err(_) => Ok(None),
     }
@@ -120,7 +121,7 @@ fn take_verbs<S: Alter>(
     if !are_paired(&cells) {
         return Ok(None);
     }
-    match read_verbs(alloc, version, cells, &mut rows) {
+    match read_verbs(alloc, version, in_filling_order(cells), &mut rows) {
         Ok(()) => Ok(Some(rows)),
         Err(_) => Ok(None),
     }

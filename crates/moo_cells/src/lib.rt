@@ -9,6 +9,7 @@ mod cells;
 mod comparing;
 mod counter;
 mod fault;
+mod filling;
 mod head;
 mod in_turn;
 mod laws;

@@ -1,12 +1,10 @@
 //! Cells that were read.
 
+use crate::filling::BLOCK;
 use sqlite::Row;
 use std::alloc::{AllocError, Global};
 
-/// How many rows of cells are kept.
-const KEPT: usize = 100;
-
-/// The cells of the rows that were read last. They are let go many at a time, so that the memory that they leave is in one piece.
+/// The cells of the rows that were read last. They are let go a block at a time, so that the memory that they leave is in one piece.
 ///
 /// If those of each row were let go alone, the name of the next row would take the place of the text among them, and the rest would
 /// stay a gap that is too small for a node of a map: of 200,000 objects 28 MB of gaps.
@@ -24,7 +22,7 @@ impl Spent {
 
     /// Keeps the cells of one row more, and lets the others go if they are many. An `Err` means that memory ran out.
     pub(crate) fn add(&mut self, cells: Row) -> Result<(), AllocError> {
-        if self.cells.len() >= KEPT {
+        if self.cells.len() >= BLOCK {
             self.cells.clear();
         }
         self.cells.push(cells)?;

@@ -1,18 +1,23 @@
 -- From what a crash left of a run to the next run.
-use Rattle.moo_commands.{proofs.Words.{◌≡◌, ◌≢◌, ◌⊎◌, inl, inr, ℕ, zero, suc, Bool, true, false, List, length, Option, codes, refl, sym, ap, subst, true≢false, false_from_ne_true, ◌||◌, bytes_eq, Ghosts, Image, HasCleanDisk, Held, file_state, Maps, Batch, IsGood, State, state_of, LeavesLed, LeavesRows, LeavesState, Task, Given, Run, makes_world, begins_anew, HoldsRows, RunsRows, RanFrom, RanOver, RefusedOver, EndsWith, RunsOver, IsClosedEnd, RunsClosed}, specs.Again.{Started, StartedRows, LeadTo, TakesUp, TakesRows, IsLeftAfter, CrashesTo, LeadsOn, ClosesOn, IsFoundIn, ClosesTo}, proofs.Connections.{runs_when, unled}, specs.declared.ends.Ends.{Ends}}
+use Rattle.moo_commands.{proofs.Words.{◌≡◌, ◌≢◌, ◌⊎◌, inl, inr, ℕ, zero, suc, Bool, true, false, List, length, Option, codes, refl, sym, ap, subst, true≢false, false_from_ne_true, ◌||◌, bytes_eq, Ghosts, Image, HasCleanDisk, Held, file_state, Maps, Batch, IsGood, State, state_of, LeavesLed, LeavesRows, LeavesState, Task, Given, Run, makes_world, begins_anew, HoldsRows, RunsRows, RanFrom, RanOver, RefusedOver, EndsWith, RunsOver, IsClosedEnd, RunsClosed}, specs.Again.{Started, StartedRows, LeadTo, TakesUp, TakesRows, IsLeftAfter, IsFoundOf, CrashesTo, LeadsOn, ClosesOn, IsFoundIn, ClosesTo}, proofs.Connections.{runs_when, unled}, specs.declared.ends.Ends.{Ends}}
 use Rattle.moo_commands.specs.declared.ends.Ends.TheVariants as variant
 use Rattle.sqlite_store.specs.declared.store.FileStore.{FileStore}
-use Rattle.sqlite.{specs.State.{State as Database}, specs.Schema.{Schema}, specs.Tree.{Trees}, specs.declared.file.Leftover.{Leftover}}
+use Rattle.sqlite.{specs.State.{State as Database}, specs.Schema.{Schema}, specs.Tree.{Trees}, specs.Held.{AreDatabases}, specs.Files.{IsCleanLeft}, specs.declared.file.Leftover.{Leftover}}
 use Rattle.sqlite.specs.declared.file.Leftover.TheVariants as left
 use Rattle.moo_tables.{specs.declared.version.Version.{Version}, specs.declared.version.Version.TheVariants.{First, Second}, specs.Tables.{Tables, schema_of, no_schema}, specs.Inside.{Leaves}, proofs.SchemaLemmas.{one_schema}}
 use Rattle.moo_cells.{proofs.CellsLemmas.{one_good}, proofs.GoodRows.{good_within}}
-use Rattle.moo_files.{specs.Contents.{HoldsSuch, HoldsState, HasAnyTable, IsKept, IsLeftBy}, specs.Remains.{IsCleanRemains, LeftoverKeeps, KeepsSuch, StillHolds}, specs.Closing.{IsLeftOf, IsClosedFrom}, specs.declared.remains.Remains.{Remains}, proofs.AgainLemmas.{held_after}, proofs.RemainsLemmas.{keeps_more}}
+use Rattle.moo_files.{specs.Contents.{HoldsSuch, HoldsState, HasAnyTable, IsKept, IsLeftBy}, specs.Remains.{IsCleanRemains, LeftoverKeeps, KeepsSuch, StillHolds}, specs.Closing.{IsLeftOf, IsClosedFrom}, specs.declared.remains.Remains.{Remains}, specs.Stop.{AreNumbered}, proofs.AgainLemmas.{held_after}, proofs.RemainsLemmas.{keeps_more}, proofs.StopLemmas.{left_by_store, such_by_bytes, state_is_database, states_are_databases}}
 use Rattle.moo_files.specs.Opened.{Database as a_database}
 use Rattle.moo_files.specs.declared.remains.Remains.TheVariants as remains
 
 later_false : (a b : Bool) → (a || b) ≡ false → b ≡ false
 later_false true b either = absurd (true≢false either)
 later_false false b either = either
+
+-- files that weren't opened are found as they were
+pub same_untouched : (image next : Image) → (next ≡ image) ⊎ (next ≡ image) → next ≡ image
+same_untouched image next (inl same) = same
+same_untouched image next (inr same) = same
 
 -- a task that doesn't begin anew is on a file
 on_file : (task : Task) → begins_anew task ≡ false → bytes_eq task.file.now (codes ":memory:") ≡ false
@@ -26,11 +31,14 @@ started_rows_map task image given From Then on it = ((λ other rows holds. on ro
 
 module _ {D : Type 0} {g : Ghosts D} where
   -- what is found after a connection was closed is what a crash might have left before
-  pub found_left : (T : Type 0) (store : Database) (left_over : Leftover D g) (next : Image) → IsLeftOf store left_over → IsFoundIn {T = T} (remains.Leftover left_over) next → IsLeftBy store next
-  found_left T store (left.Files now) next of (inl is) = subst (IsLeftBy store) (sym is) of.0
-  found_left T store (left.Files now) next of (inr out) = of.1 next out
-  found_left T store (left.Unopened now) next of found = absurd of
-  found_left T store (left.Store now) next of found = record { trees = found.trees; holds = found.holds; such = of found.trees found.such }
+  pub found_left : (T : Type 0) (store : Database) (left_over : Leftover D g) (next : Image) → AreDatabases store.may_leave → IsCleanLeft left_over → IsLeftOf store left_over
+      → IsFoundIn {T = T} (remains.Leftover left_over) next → IsLeftBy store next
+  found_left T store (left.Files now) next sound clean of (inl is) = subst (IsLeftBy store) (sym is) of.0
+  found_left T store (left.Files now) next sound clean of (inr out) = of.1 next out
+  found_left T store (left.Unopened now) next sound clean of found = absurd of
+  found_left T store (left.Store now) next sound clean of found =
+      let it = left_by_store now next clean (λ trees may. sound trees (of trees may)) found in
+      record { trees = it.trees; holds = it.holds; such = of it.trees it.such }
 
 -- ---- rows
 
@@ -52,6 +60,12 @@ kept_rows rows good old new shown (inl same) = subst (λ trees. LeavesRows trees
 kept_rows rows good old new shown (inr moved) =
     let found = moved.sound shown.tables shown.leaves in
     subst (LeavesRows new) (one_good shown.tables found.0 rows found.2 (good_within found.0 found.1) shown.shows good) found.3
+
+-- and so it is a database
+kept_is_database : (rows : Maps) → IsGood rows → (old : Trees) → LeavesRows old rows → AreDatabases (IsKept old)
+kept_is_database rows good old shown new kept =
+    let it = kept_rows rows good old new shown kept in
+    (schema_of it.tables.version, it.leaves.sound)
 
 -- what a crash left of a store holds rows that its batches lead to
 led_on : (store : Database) (rows : Maps) (next : Image) (Next : Maps → Type 0) → ((end : Maps) → HoldsRows next end → Next end) → (batches others : List Batch) → LeavesLed store rows batches others
@@ -94,7 +108,7 @@ module _ {T D : Type 0} {g : Ghosts D} where
   pub takes_up : (words : List (List ℕ)) (image : Image) (ends : Ends T D g) (run : Run)
       → RunsOver words image ends run → (s : State) → HoldsState image s → TakesUp words s ends run
   takes_up words image (variant.Ran conn) run (inl (task, named, alone, runs, it)) s holds = inl (task, named, λ other clean. ((ran_file task image conn run it).over other (a_database holds.trees) holds.holds clean).state s holds.such)
-  takes_up words image (variant.Refused rest) run (inl (task, named, alone, runs, it)) s holds = inl (task, named, λ other clean. ((refused_file task image rest run it).over other (a_database holds.trees) holds.holds clean).state s holds.such)
+  takes_up words image (variant.Refused rest) run (inl (task, named, alone, runs, it)) s holds = inl (task, named, λ other clean. (refused_file task image rest run it).cause other s holds clean)
   takes_up words image (variant.NoFile start) run (inl (task, named, alone, runs, it)) s holds = inl (task, named, λ other. absurd (it.file (on_file task other)))
   takes_up words image ends run (inr (some, rests, usage, none)) s holds = inr (some, usage, none)
 
@@ -106,6 +120,25 @@ module _ {T D : Type 0} {g : Ghosts D} where
   still_such P image (remains.Leftover (left.Unopened now)) next keeps holds left = (keeps next left.0).1 left.1
   still_such P image (remains.Leftover (left.Store now)) next keeps holds left = record { trees = left.trees; holds = left.holds; such = keeps left.trees left.such }
   still_such P image (remains.Connection conn) next keeps holds left = record { trees = left.trees; holds = left.holds; such = keeps left.trees left.such }
+
+  -- and so does any that is found of them
+  pub such_after : (P : Trees → Type 0) (image : Image) (rest : Remains T D g) (next : Image) → AreDatabases P → IsCleanRemains rest → AreNumbered rest → KeepsSuch P image rest → HoldsSuch P image → IsFoundOf image rest next
+      → HoldsSuch P next
+  such_after P image rest next sound clean numbered keeps holds (inl bytes) = such_by_bytes P image rest next sound clean numbered holds keeps bytes
+  such_after P image rest next sound clean numbered keeps holds (inr left) = still_such P image rest next keeps holds left
+
+  -- files that are closed have no connection, and before that its trees were numbered
+  pub closed_numbered : (was now : Remains T D g) → IsClosedFrom was now → AreNumbered now
+  closed_numbered (remains.Untouched start) now is = subst AreNumbered (sym is) tt
+  closed_numbered (remains.NotOpened seal) now is = subst AreNumbered (sym is) tt
+  closed_numbered (remains.Leftover rest) now is = subst AreNumbered (sym is) tt
+  closed_numbered (remains.Connection conn) now (rest, is, copied, closes) = subst AreNumbered (sym is) tt
+
+  pub was_numbered : (was now : Remains T D g) → IsClosedFrom was now → IsCleanRemains now → AreNumbered was
+  was_numbered (remains.Untouched start) now is clean = tt
+  was_numbered (remains.NotOpened seal) now is clean = tt
+  was_numbered (remains.Leftover rest) now is clean = tt
+  was_numbered (remains.Connection conn) now (rest, is, copied, closes) clean = (closes (subst IsCleanRemains is clean)).2
 
   -- files whose words were refused keep their state
   pub refused_left : (words : List (List ℕ)) (image : Image) (rest : Remains T D g) (run : Run)
@@ -151,6 +184,14 @@ module _ {T D : Type 0} {g : Ghosts D} where
       let still = still_such (IsKept holds.1.trees) image rest next keeps (record { trees = holds.1.trees; holds = holds.1.holds; such = inl refl }) left in
       (holds.0, record { trees = still.trees; holds = still.holds; such = kept_rows rows holds.0 holds.1.trees still.trees holds.1.such still.such })
 
+  -- and so does any that is found of them
+  pub rows_after : (image : Image) (rest : Remains T D g) (next : Image) (rows : Maps) (holds : HoldsRows image rows) → IsCleanRemains rest → AreNumbered rest → KeepsSuch (IsKept holds.1.trees) image rest → IsFoundOf image rest next
+      → HoldsRows next rows
+  rows_after image rest next rows holds clean numbered keeps found =
+      let sound = kept_is_database rows holds.0 holds.1.trees holds.1.such in
+      let still = such_after (IsKept holds.1.trees) image rest next sound clean numbered keeps (record { trees = holds.1.trees; holds = holds.1.holds; such = inl refl }) found in
+      (holds.0, record { trees = still.trees; holds = still.holds; such = kept_rows rows holds.0 holds.1.trees still.trees holds.1.such still.such })
+
   pub leads_on : (words : List (List ℕ)) (image : Image) (ends : Ends T D g) (run : Run) (next : Image) (Next : Maps → Type 0)
       → RunsOver words image ends run → ((rows : Maps) → HoldsRows next rows → Next rows) → LeadsOn words image ends run next Next
   leads_on words image (variant.Ran conn) run next Next (inl (task, named, alone, runs, it)) goes = λ clean. (
@@ -192,7 +233,12 @@ module _ {T D : Type 0} {g : Ghosts D} where
         let ran = crashes_to words image (variant.Ran conn) run next Next over goes both.0 in (
           ran.0,
           ran.1,
-          started_map ran.0 image run.given _ _ (λ s run. (run.0, λ found. run.1 (found_left T (file_state conn) rest next both.1 (subst (λ it. IsFoundIn it next) is found)))) ran.2,
+          started_map ran.0 image run.given _ _ (λ s run. (
+            run.0,
+            λ found.
+                let sound = states_are_databases (file_state conn) run.0.end (run.0.crash both.0) in
+                run.1 (found_left T (file_state conn) rest next sound (subst IsCleanRemains is clean) both.1 (subst (λ it. IsFoundIn it next) is found)),
+          )) ran.2,
         ),
   )
   closes_by words image (variant.Refused was) closed run next Next over from goes = (
@@ -201,7 +247,7 @@ module _ {T D : Type 0} {g : Ghosts D} where
     from,
     λ clean s holds found.
         let kept = kept_closed (λ trees. LeavesState trees s) image was closed from clean (λ early. refused_left words image was run over s holds early) in
-        let still = still_such (λ trees. LeavesState trees s) image closed next kept holds found in
+        let still = such_after (λ trees. LeavesState trees s) image closed next (state_is_database s) clean (closed_numbered was closed from) kept holds found in
         (still, goes s still),
   )
   closes_by words image (variant.NoFile start) closed run next Next over is goes = (
@@ -209,7 +255,7 @@ module _ {T D : Type 0} {g : Ghosts D} where
     over,
     is,
     λ clean s holds found.
-        let still = subst (λ it. HoldsState it s) (sym (subst (λ it. IsLeftAfter image it next) is found)) holds in
+        let still = subst (λ it. HoldsState it s) (sym (same_untouched image next (subst (λ it. IsFoundOf image it next) is found))) holds in
         (still, goes s still),
   )
 
@@ -230,7 +276,9 @@ module _ {T D : Type 0} {g : Ghosts D} where
           ran.1,
           started_rows_map ran.0 image run.given _ _
               (λ rows run. runs_when _ _ _ _ _ _ _ _ _ _ (λ clean. clean) (λ end clean crash. crash)
-              (λ batches others clean led found. led (found_left T (file_state conn) rest next both.1 (subst (λ it. IsFoundIn it next) is found))) run)
+              (λ batches others sure led found.
+              let sound = states_are_databases (file_state conn) run.end (run.crash both.0) in
+              led (found_left T (file_state conn) rest next sound (subst IsCleanRemains is clean) both.1 (subst (λ it. IsFoundIn it next) is found))) run)
               ran.2,
         ),
   )
@@ -240,7 +288,7 @@ module _ {T D : Type 0} {g : Ghosts D} where
     from,
     λ clean rows holds found.
         let kept = kept_closed (IsKept holds.1.trees) image was closed from clean (λ early. refused_rows words image was run over rows holds early) in
-        let still = still_rows image closed next rows holds kept found in
+        let still = rows_after image closed next rows holds clean (closed_numbered was closed from) kept found in
         (still, goes rows still),
   )
   closes_by_rows words image (variant.NoFile start) closed run next Next over is goes = (
@@ -248,7 +296,7 @@ module _ {T D : Type 0} {g : Ghosts D} where
     over,
     is,
     λ clean rows holds found.
-        let still = subst (λ it. HoldsRows it rows) (sym (subst (λ it. IsLeftAfter image it next) is found)) holds in
+        let still = subst (λ it. HoldsRows it rows) (sym (same_untouched image next (subst (λ it. IsFoundOf image it next) is found))) holds in
         (still, goes rows still),
   )
 

@@ -1,6 +1,7 @@
 -- The world that a task begins with.
 use Rattle.moo_commands.{proofs.Words.{◌≡◌, ◌⊎◌, inl, inr, ℕ, List, Option, Some, Bor, codes, refl, sym, ap, subst, ◌∙◌, ◌<◌, ◌^◌, true, false, ◌||◌, bytes_eq, true≢false, Maps, opening_maps, IsGood, State, state_of, Ghosts, Image, IsHeld, Stand, LeavesState, Task, Given, Run, Leads, makes_world, begins_anew, is_load, dump_word, is_input, reads_input, ReadsFile, IsDumpedAs, BeginsWith, BeginsNumbered, RunsFrom, FailsAtOnce, RefusesDump, FailsToBegin, RunsNew, Failure}, proofs.Connections.{unseen}}
 use Rattle.sqlite.specs.Tree.{Trees}
+use Rattle.moo_commands.specs.Run.{RefusesTask, TellsLack}
 use Rattle.moo_load.specs.RowsOf.{AreRowsOf}
 use Rattle.moo_files.{specs.Remains.{KeepsSuch, KeepsNothingBut}, specs.declared.remains.Remains.{Remains}, proofs.RemainsLemmas.{keeps_more, blank_more}}
 use Rattle.moo_words.{specs.declared.task.Action.{Action}, specs.declared.task.Action.TheVariants.{Load}, specs.Tasks.{text_word}}
@@ -27,8 +28,8 @@ numbered_dumped (Load dump) rows loads numbered = numbered
 numbered_dumped action rows loads numbered = absurd (true≢false (sym loads))
 
 -- why its dump gives no world
-pub refuses_dump : (action : Action) (given : Given) (dump : List ℕ) (failure : Failure) → dump_word action ≡ dump → RefusesDump (given.text dump) failure → RefusesDump (given.text (dump_word action)) failure
-refuses_dump action given dump failure is it = subst (λ word. RefusesDump (given.text word) failure) (sym is) it
+pub refuses_dump : (action : Action) (given : Given) (dump : List ℕ) (failure : Failure) → dump_word action ≡ dump → RefusesDump (given.text dump) failure → TellsLack given.lacks dump failure → RefusesTask given action failure
+refuses_dump action given dump failure is it lack = subst (λ word. RefusesDump (given.text word) failure × TellsLack given.lacks word failure) (sym is) (it, lack)
 
 load_makes : (action : Action) → is_load action ≡ true → makes_world action ≡ true
 load_makes (Load dump) loads = refl

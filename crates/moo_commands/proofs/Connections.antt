@@ -102,8 +102,8 @@ module _ {S : Type 0} (g : Ghosts S) (known : Bool) (was world : World S) (conn 
 -- what is known if more is known of the disk, and less is said of the batches
 stops_when : (action : Action) (s : State) (end : Stand) (failure : Failure) (Led Then : Leads) → ((batches others : List Batch) → Led batches others → Then batches others) → (Clean More : Type 0) → (More → Clean) → (run : Run)
     → StopsTask action s end failure Led Clean run → StopsTask action s end failure Then More run
-stops_when (Apply texts) s end failure Led Then lead Clean More on run (inl (fault, is, ran, led)) = inl (fault, is, ran, lead _ _ led)
-stops_when (Apply texts) s end failure Led Then lead Clean More on run (inr (is, same, unwritten, led)) = inr (is, same, unwritten, lead _ _ led)
+stops_when (Apply texts) s end failure Led Then lead Clean More on run (inl (fault, is, ran, led), lack) = (inl (fault, is, ran, lead _ _ led), lack)
+stops_when (Apply texts) s end failure Led Then lead Clean More on run (inr (is, same, unwritten, led), lack) = (inr (is, same, unwritten, lead _ _ led), lack)
 stops_when Check s end failure Led Then lead Clean More on run (e, inl (fault, is, of_store, same)) = (e, inl (fault, is, (λ more. of_store (on more)), same))
 stops_when Check s end failure Led Then lead Clean More on run (e, inr front) = (e, inr front)
 stops_when (Serve service) s end failure Led Then lead Clean More on run (stops, (batches, others, led)) = (stops, (batches, others, lead batches others led))

@@ -1,5 +1,5 @@
 -- Why a dump gives no world.
-use Rattle.moo_commands.proofs.Words.{◌≡◌, ◌≢◌, ◌<◌, ◌≤◌, ℕ, List, length, Option, Some, None, IfSome, refl, sym, subst, ◌∙◌, arith, State, IsHeld, read_failure, load_failure, RefusesDump, Failure, NoBatches}
+use Rattle.moo_commands.proofs.Words.{◌≡◌, ◌≢◌, ◌<◌, ◌≤◌, ℕ, List, length, Option, Some, None, IfSome, refl, sym, subst, ◌∙◌, arith, State, IsHeld, read_failure, load_failure, RefusesDump, Failure, NoBatches, NoMemory, Read, TooLong, NotADump, Damaged}
 use Rattle.moo_dump.specs.Dump.{dump as dump_of}
 use Rattle.moo_load.{specs.declared.input.InputFault.{InputFault}, specs.declared.fault.LoadFault.{LoadFault}}
 use Rattle.moo_load.specs.declared.input.InputFault.TheVariants as read_fault
@@ -35,3 +35,14 @@ module _ (bytes : List ℕ) (limit : length bytes ≤ 1073741824) where
   no_dump None (load_fault.Damaged kind key) failure is whole complete = subst (RefusesDump None) (sym is) (tt, tt)
   no_dump (Some all) (load_fault.NotADump line why) failure is whole complete = subst (RefusesDump (Some all)) (sym is) (tt, λ s held same short. absurd (complete (λ e. cc) short_enough s held (same ∙ sym whole)))
   no_dump (Some all) (load_fault.Damaged kind key) failure is whole complete = subst (RefusesDump (Some all)) (sym is) (tt, λ s held same short. absurd (complete (λ e. cc) short_enough s held (same ∙ sym whole)))
+
+-- what is wrong with a text that was opened isn't that its file can't be opened
+pub input_opened : (fault : InputFault) (failure : Failure) → failure ≡ read_failure fault → failure ≢ NoBatches
+input_opened read_fault.Read failure is e = let bad : Read ≡ NoBatches = sym is ∙ e in cc
+input_opened read_fault.TooLong failure is e = let bad : TooLong ≡ NoBatches = sym is ∙ e in cc
+input_opened read_fault.OutOfMemory failure is e = let bad : NoMemory ≡ NoBatches = sym is ∙ e in cc
+
+pub dump_opened : (fault : LoadFault) (failure : Failure) → failure ≡ load_failure fault → failure ≢ NoBatches
+dump_opened (load_fault.NotADump line why) failure is e = let bad : NotADump line ≡ NoBatches = sym is ∙ e in cc
+dump_opened (load_fault.Damaged kind key) failure is e = let bad : Damaged kind key ≡ NoBatches = sym is ∙ e in cc
+dump_opened load_fault.OutOfMemory failure is e = let bad : NoMemory ≡ NoBatches = sym is ∙ e in cc

@@ -1,10 +1,10 @@
 -- From a run over a file to the run over what is found after it.
-use Rattle.moo_commands.{proofs.Words.{◌≡◌, ◌⊎◌, inl, inr, ℕ, false, List, codes, sym, subst, ⊤, false_from_ne_true, ◌||◌, bytes_eq, Ghosts, Image, HasCleanDisk, Held, file_state, Maps, State, state_of, Stand, CrashLeaves, LeavesState, Leads, Task, Run, makes_world, begins_anew, Done, StopsTask, HoldsRows, RanFrom, RunsFrom, RunsOver, IsClosedEnd, Failure}, specs.Again.{Started, StartedRows, LeadTo, IfRan, IsLeftAfter, IsFoundIn}, specs.FileRuns.{ServedTo}, proofs.Connections.{runs_when}, proofs.AgainLemmas.{started_map, started_rows_map, found_left, ran_file, still_such, refused_left, refused_rows, still_rows, kept_closed, crashes_to, leads_on}, proofs.Stopped.{left_at_end, early_clean}, specs.declared.ends.Ends.{Ends}}
+use Rattle.moo_commands.{proofs.Words.{◌≡◌, ◌⊎◌, inl, inr, ℕ, false, List, codes, sym, subst, ⊤, false_from_ne_true, ◌||◌, bytes_eq, Ghosts, Image, HasCleanDisk, Held, file_state, Maps, State, state_of, Stand, CrashLeaves, LeavesState, Leads, Task, Run, makes_world, begins_anew, Done, StopsTask, HoldsRows, RanFrom, RunsFrom, RunsOver, IsClosedEnd, Failure}, specs.Again.{Started, StartedRows, LeadTo, IfRan, IsFoundOf, IsFoundIn}, specs.FileRuns.{ServedTo}, proofs.Connections.{runs_when}, proofs.AgainLemmas.{started_map, started_rows_map, found_left, ran_file, refused_left, refused_rows, such_after, rows_after, closed_numbered, was_numbered, same_untouched, kept_closed, crashes_to, leads_on}, proofs.Stopped.{left_at_end, early_clean}, specs.declared.ends.Ends.{Ends}}
 use Rattle.moo_commands.specs.declared.ends.Ends.TheVariants as variant
 use Rattle.sqlite_store.specs.declared.store.FileStore.{FileStore}
 use Rattle.moo_store.specs.Stand.{MayLeave}
 use Rattle.moo_words.{specs.Tasks.{NamesTask}, specs.declared.task.Action.TheVariants.{Serve}, specs.declared.task.Service.{Service}}
-use Rattle.moo_files.{specs.Contents.{HoldsState, IsKept, IsLeftBy}, specs.Remains.{IsCleanRemains}, specs.Stop.{DiskLeaves}, specs.Closing.{IsClosedFrom}, specs.Opened.{Database as a_database}, specs.declared.remains.Remains.{Remains}, proofs.AgainLemmas.{held_after}}
+use Rattle.moo_files.{specs.Contents.{HoldsState, IsKept, IsLeftBy}, specs.Remains.{IsCleanRemains}, specs.Stop.{DiskLeaves}, specs.Closing.{IsClosedFrom}, specs.Opened.{Database as a_database}, specs.declared.remains.Remains.{Remains}, proofs.AgainLemmas.{held_after}, proofs.StopLemmas.{state_is_database, states_are_databases}}
 use Rattle.moo_files.specs.declared.remains.Remains.TheVariants as remains
 
 -- ---- a service
@@ -38,7 +38,7 @@ serves_found task service is other = subst (λ action. (makes_world action || by
 module _ {T D : Type 0} {g : Ghosts D} where
   -- what may be found after a run
   abbrev pub FoundAfter : Image → Ends T D g → Remains T D g → Image → Type 0
-  FoundAfter image ends closed next = IfRan ends (λ conn. DiskLeaves conn next ⊎ IsFoundIn closed next) (λ rest. IsLeftAfter image rest next ⊎ IsLeftAfter image closed next)
+  FoundAfter image ends closed next = IfRan ends (λ conn. DiskLeaves conn next ⊎ IsFoundIn closed next) (λ rest. IsFoundOf image rest next ⊎ IsFoundOf image closed next)
 
   -- if a task ran over the file, it is a database that the connection may leave
   left_of : (conn : Held (FileStore D g)) (closed : Remains T D g) (end : Stand) (next : Image) → IsClosedFrom (remains.Connection conn) closed → IsCleanRemains closed → CrashLeaves (file_state conn) end
@@ -48,7 +48,7 @@ module _ {T D : Type 0} {g : Ghosts D} where
       left_at_end conn end next both.0 both.2 leaves lies
   left_of conn closed end next (rest, is, copied, closes) clean leaves (inr found) =
       let both = closes (subst IsCleanRemains is clean) in
-      found_left T (file_state conn) rest next both.1 (subst (λ it. IsFoundIn it next) is found)
+      found_left T (file_state conn) rest next (states_are_databases (file_state conn) end leaves) (subst IsCleanRemains is clean) both.1 (subst (λ it. IsFoundIn it next) is found)
 
   clean_before : (conn : Held (FileStore D g)) (closed : Remains T D g) → IsClosedFrom (remains.Connection conn) closed → IsCleanRemains closed → HasCleanDisk (file_state conn)
   clean_before conn closed from clean = early_clean (remains.Connection conn) closed from clean
@@ -66,13 +66,16 @@ module _ {T D : Type 0} {g : Ghosts D} where
         ran.1,
         started_map ran.0 image run.given _ _ (λ s it. let lies = it.1 (left_of conn closed it.0.end next from clean (it.0.crash early) found) in (it.0, lies.0, lies.1, lies.3)) ran.2,
       )
-  goes_by words image (variant.Refused was) closed run next Then over from clean (inl left) goes = λ s holds. (crashes_to words image (variant.Refused was) run next Then over goes (early_clean was closed from clean) s holds left).1
-  goes_by words image (variant.Refused was) closed run next Then over from clean (inr left) goes = λ s holds.
+  goes_by words image (variant.Refused was) closed run next Then over from clean (inl found) goes = λ s holds.
+      let early = early_clean was closed from clean in
+      let kept = refused_left words image was run over s holds early in
+      goes s (such_after (λ trees. LeavesState trees s) image was next (state_is_database s) early (was_numbered was closed from clean) kept holds found)
+  goes_by words image (variant.Refused was) closed run next Then over from clean (inr found) goes = λ s holds.
       let kept = kept_closed (λ trees. LeavesState trees s) image was closed from clean (λ early. refused_left words image was run over s holds early) in
-      goes s (still_such (λ trees. LeavesState trees s) image closed next kept holds left)
-  goes_by words image (variant.NoFile start) closed run next Then over is clean (inl same) goes = λ s holds. goes s (subst (λ it. HoldsState it s) (sym same) holds)
-  goes_by words image (variant.NoFile start) closed run next Then over is clean (inr left) goes = λ s holds.
-      goes s (subst (λ it. HoldsState it s) (sym (subst (λ it. IsLeftAfter image it next) is left)) holds)
+      goes s (such_after (λ trees. LeavesState trees s) image closed next (state_is_database s) clean (closed_numbered was closed from) kept holds found)
+  goes_by words image (variant.NoFile start) closed run next Then over is clean (inl found) goes = λ s holds. goes s (subst (λ it. HoldsState it s) (sym (same_untouched image next found)) holds)
+  goes_by words image (variant.NoFile start) closed run next Then over is clean (inr found) goes = λ s holds.
+      goes s (subst (λ it. HoldsState it s) (sym (same_untouched image next (subst (λ it. IsFoundOf image it next) is found))) holds)
 
   pub goes_by_rows : (words : List (List ℕ)) (image : Image) (ends : Ends T D g) (closed : Remains T D g) (run : Run) (next : Image) (Then : Maps → Type 0)
       → RunsOver words image ends run → IsClosedEnd ends closed → IsCleanRemains closed → FoundAfter image ends closed next → ((rows : Maps) → HoldsRows next rows → Then rows)
@@ -89,13 +92,15 @@ module _ {T D : Type 0} {g : Ghosts D} where
             (λ batches others sure led. let lies = led (left_of conn closed it.end next from clean (it.crash early) found) in (lies.0, lies.1, lies.3)) it)
             ran.2,
       )
-  goes_by_rows words image (variant.Refused was) closed run next Then over from clean (inl left) goes = λ rows holds. (leads_on words image (variant.Refused was) run next Then over goes (early_clean was closed from clean) rows holds left).1
-  goes_by_rows words image (variant.Refused was) closed run next Then over from clean (inr left) goes = λ rows holds.
+  goes_by_rows words image (variant.Refused was) closed run next Then over from clean (inl found) goes = λ rows holds.
+      let early = early_clean was closed from clean in
+      goes rows (rows_after image was next rows holds early (was_numbered was closed from clean) (refused_rows words image was run over rows holds early) found)
+  goes_by_rows words image (variant.Refused was) closed run next Then over from clean (inr found) goes = λ rows holds.
       let kept = kept_closed (IsKept holds.1.trees) image was closed from clean (λ early. refused_rows words image was run over rows holds early) in
-      goes rows (still_rows image closed next rows holds kept left)
-  goes_by_rows words image (variant.NoFile start) closed run next Then over is clean (inl same) goes = λ rows holds. goes rows (subst (λ it. HoldsRows it rows) (sym same) holds)
-  goes_by_rows words image (variant.NoFile start) closed run next Then over is clean (inr left) goes = λ rows holds.
-      goes rows (subst (λ it. HoldsRows it rows) (sym (subst (λ it. IsLeftAfter image it next) is left)) holds)
+      goes rows (rows_after image closed next rows holds clean (closed_numbered was closed from) kept found)
+  goes_by_rows words image (variant.NoFile start) closed run next Then over is clean (inl found) goes = λ rows holds. goes rows (subst (λ it. HoldsRows it rows) (sym (same_untouched image next found)) holds)
+  goes_by_rows words image (variant.NoFile start) closed run next Then over is clean (inr found) goes = λ rows holds.
+      goes rows (subst (λ it. HoldsRows it rows) (sym (same_untouched image next (subst (λ it. IsFoundOf image it next) is found))) holds)
 
   pub goes_by_service : (words : List (List ℕ)) (image : Image) (ends : Ends T D g) (closed : Remains T D g) (run : Run) (next : Image) (Then : State → Type 0)
       → RunsOver words image ends run → IsClosedEnd ends closed → IsCleanRemains closed → FoundAfter image ends closed next → ((t : State) → HoldsState next t → Then t)

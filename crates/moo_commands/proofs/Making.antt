@@ -47,4 +47,5 @@ module _ {T D : Type 0} {g : Ghosts D} (task : Task) (image : Image) (run : Run)
     begun = λ _ half clean. fresh_begins task.action run.given s begins image rest (begun half clean);
     rests = rests;
     told = inl (fault, stopped, reports);
+    cause = λ other. never task anew other;
   }

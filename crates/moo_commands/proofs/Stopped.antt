@@ -1,8 +1,8 @@
 -- From what the disk left of a run that was stopped to the next run.
-use Rattle.moo_commands.{proofs.Words.{ℕ, List, Option, subst, Ghosts, Image, HasCleanDisk, Held, file_state, Maps, State, CrashLeaves, Stand, Run, HoldsRows, RunsOver, IsClosedEnd, RunsClosed}, specs.Again.{TakesUp, TakesRows, StopsTo, StopsOn}, proofs.Connections.{runs_when}, proofs.AgainLemmas.{started_map, started_rows_map, crashes_to, leads_on, takes_up, takes_rows}, specs.declared.ends.Ends.{Ends}}
+use Rattle.moo_commands.{proofs.Words.{ℕ, List, Option, subst, Ghosts, Image, HasCleanDisk, Held, file_state, Maps, State, CrashLeaves, LeavesState, Stand, Run, HoldsRows, RunsOver, IsClosedEnd, RunsClosed}, specs.Again.{TakesUp, TakesRows, StopsTo, StopsOn}, proofs.Connections.{runs_when}, proofs.AgainLemmas.{started_map, started_rows_map, crashes_to, leads_on, takes_up, takes_rows, refused_left, refused_rows, such_after, rows_after, was_numbered, same_untouched}, specs.declared.ends.Ends.{Ends}}
 use Rattle.moo_commands.specs.declared.ends.Ends.TheVariants as variant
 use Rattle.sqlite_store.specs.declared.store.FileStore.{FileStore}
-use Rattle.moo_files.{specs.Contents.{HoldsState, IsLeftBy}, specs.Remains.{IsCleanRemains}, specs.Stop.{DiskLeaves, HasNumberedTrees}, specs.Closing.{IsClosedFrom}, specs.declared.remains.Remains.{Remains}, proofs.StopLemmas.{left_by_disk, states_are_databases}}
+use Rattle.moo_files.{specs.Contents.{HoldsState, IsLeftBy}, specs.Remains.{IsCleanRemains}, specs.Stop.{DiskLeaves, HasNumberedTrees}, specs.Closing.{IsClosedFrom}, specs.declared.remains.Remains.{Remains}, proofs.StopLemmas.{left_by_disk, state_is_database, states_are_databases}}
 use Rattle.moo_files.specs.declared.remains.Remains.TheVariants as remains
 
 module _ {D : Type 0} {g : Ghosts D} where
@@ -36,13 +36,17 @@ module _ {T D : Type 0} {g : Ghosts D} where
     variant.Refused was,
     over,
     from,
-    λ clean s holds left. crashes_to words image (variant.Refused was) run next Next over goes (early_clean was closed from clean) s holds left,
+    λ clean s holds found.
+        let early = early_clean was closed from clean in
+        let kept = refused_left words image was run over s holds early in
+        let still = such_after (λ trees. LeavesState trees s) image was next (state_is_database s) early (was_numbered was closed from clean) kept holds found in
+        (still, goes s still),
   )
   stops_by words image (variant.NoFile start) closed run next Next over is goes = (
     variant.NoFile start,
     over,
     is,
-    λ clean s holds same. crashes_to words image (variant.NoFile start) run next Next over goes tt s holds same,
+    λ clean s holds found. crashes_to words image (variant.NoFile start) run next Next over goes tt s holds (same_untouched image next found),
   )
 
   stops_by_rows : (words : List (List ℕ)) (image : Image) (ends : Ends T D g) (closed : Remains T D g) (run : Run) (next : Image) (Next : Maps → Type 0)
@@ -66,13 +70,16 @@ module _ {T D : Type 0} {g : Ghosts D} where
     variant.Refused was,
     over,
     from,
-    λ clean rows holds left. leads_on words image (variant.Refused was) run next Next over goes (early_clean was closed from clean) rows holds left,
+    λ clean rows holds found.
+        let early = early_clean was closed from clean in
+        let still = rows_after image was next rows holds early (was_numbered was closed from clean) (refused_rows words image was run over rows holds early) found in
+        (still, goes rows still),
   )
   stops_by_rows words image (variant.NoFile start) closed run next Next over is goes = (
     variant.NoFile start,
     over,
     is,
-    λ clean rows holds same. leads_on words image (variant.NoFile start) run next Next over goes tt rows holds same,
+    λ clean rows holds found. leads_on words image (variant.NoFile start) run next Next over goes tt rows holds (same_untouched image next found),
   )
 
 -- ---- two runs, by what each is given

@@ -1,8 +1,11 @@
 -- From what was done to a World to how a task ends.
-use Rattle.moo_commands.proofs.Words.{◌≡◌, inl, inr, ℕ, ◌≤◌, Bool, true, false, List, [], Option, Result, Ok, Err, IfOk, IfErr, OnOk, MatchResult, refl, sym, ap, subst, arith, IsTrue, if◌then◌else◌, codes, bytes_eq, HasCleanDisk, Survives, Batch, IsGood, State, World, Stand, Works, store_of, StandsFor, CrashLeaves, text_failure, Texts, texts_by, None, Some, true≢false, ◌∙◌, lost_status, course_status, AppliesText, RehearsesText, StopsRehearsing, StopsApplying, RunsText, MayLead, EndsTask, Failure}
+use Rattle.moo_commands.proofs.Words.{◌≡◌, ◌≢◌, NoBatches, NoMemory, Read, Write, TooLong, inl, inr, ℕ, ◌≤◌, Bool, true, false, List, [], Option, Result, Ok, Err, IfOk, IfErr, OnOk, MatchResult, refl, sym, ap, subst, arith, IsTrue, if◌then◌else◌, codes, bytes_eq, HasCleanDisk, Survives, Batch, IsGood, State, World, Stand, Works, store_of, StandsFor, CrashLeaves, text_failure, Texts, texts_by, None, Some, true≢false, ◌∙◌, lost_status, course_status, AppliesText, RehearsesText, StopsRehearsing, StopsApplying, RunsText, MayLead, EndsTask, Failure}
 use Rattle.sqlite.{specs.State.{State as Database}, specs.Store.{Ghosts}}
 use Rattle.moo_text.specs.declared.fault.TextFault.{TextFault}
-use Rattle.moo_commands.specs.Texts.{OpenedBy}
+use Rattle.moo_commands.specs.Texts.{OpenedBy, LacksBy}
+use Rattle.moo_commands.specs.Run.{TellsLack}
+use Rattle.std.specs.Prelude.{IsErr}
+use Rattle.moo_text.specs.declared.fault.TextFault.TheVariants as text_fault
 use Rattle.moo_store.specs.declared.course.Course.{Course}
 use Rattle.moo_store.specs.Stopping.{AreAccepted, AppliesFirst, CompletesUntil, HaltsUntil, EndsEarly}
 use Rattle.moo_store.specs.Rehearsed.{RehearsesBatch}
@@ -129,3 +132,24 @@ still_there g known was world s P same leaves p = record {
   crash = subst (λ conn. IsTrue known → HasCleanDisk (state g conn) → CrashLeaves (state g conn) (Works s)) (sym same) leaves;
   ends = p;
 }
+
+-- ---- a file that can't be opened
+
+-- what stops an open text isn't that its file can't be opened
+pub text_opened : (fault : TextFault) (failure : Failure) → failure ≡ text_failure fault → failure ≢ NoBatches
+text_opened text_fault.Read failure is e = let bad : Read ≡ NoBatches = sym is ∙ e in cc
+text_opened text_fault.Write failure is e = let bad : Write ≡ NoBatches = sym is ∙ e in cc
+text_opened text_fault.OutOfMemory failure is e = let bad : NoMemory ≡ NoBatches = sym is ∙ e in cc
+text_opened text_fault.Long failure is e = let bad : TooLong ≡ NoBatches = sym is ∙ e in cc
+
+pub never_lacks : {A : Type 0} (lacks : List ℕ → Type 0) (word : List ℕ) (r : Result A Failure) → IfErr r (λ failure. failure ≢ NoBatches) → IfErr r (TellsLack lacks word)
+never_lacks lacks word (Ok a) opened = tt
+never_lacks lacks word (Err failure) opened = λ e. absurd (opened e)
+
+pub lacks_file : {F E : Type 0} (lacks : List ℕ → Type 0) (word : List ℕ) (opened : Option (Result F E)) (r : Result F E) (error : E) → opened ≡ Some r → r ≡ Err error → LacksBy lacks word opened → lacks word
+lacks_file {F = F} {E = E} lacks word opened r error is failed by = subst (λ (o : Result F E). IsErr o → lacks word) failed (subst (LacksBy lacks word) is by) refl
+
+-- a result, and more of its failure
+pub with_failure : {A E : Type 0} (r : Result A E) (P : A → Type 0) (R T : E → Type 0) → MatchResult r P R → IfErr r T → MatchResult r P (λ e. R e × T e)
+with_failure (Ok a) P R T it more = it
+with_failure (Err e) P R T it more = (it, more)

@@ -18,14 +18,14 @@ use Rattle.moo_store.specs.Led.{BatchesLead}
 use Rattle.moo_store.specs.World.{CrashLeaves}
 use Rattle.moo_files.specs.Contents.{HoldsSuch, HoldsState, HasNoSums, IsLeftBy}
 use Rattle.moo_files.specs.Remains.{IsCleanRemains}
-use Rattle.moo_files.specs.Stop.{DiskLeaves}
+use Rattle.moo_files.specs.Stop.{DiskLeaves, LeftStoreLeaves, BytesLeave}
 use Rattle.moo_files.specs.declared.remains.Remains.{Remains}
 use Rattle.moo_files.specs.declared.remains.Remains.TheVariants as remains
 use Rattle.moo_words.specs.declared.task.Task.{Task}
-use Rattle.moo_words.specs.Tasks.{NamesTask, mistakes}
+use Rattle.moo_words.specs.Tasks.{NamesTask}
 use Rattle.moo_commands.specs.Given.{Given, Run}
-use Rattle.moo_commands.specs.Run.{begins_anew, BeginsWith, BeginsFrom, RunsFrom, FailsAtOnce, EndsUsage}
-use Rattle.moo_commands.specs.Ends.{MatchFile, HasNoFile, HoldsRows, RunsRows, RanFrom, RunsOver, IsClosedEnd}
+use Rattle.moo_commands.specs.Run.{begins_anew, BeginsWith, BeginsFrom, RunsFrom, EndsUsage}
+use Rattle.moo_commands.specs.Ends.{MatchFile, HasNoFile, HoldsRows, RunsRows, RanFrom, RunsOver, FailsFor, IsClosedEnd}
 use Rattle.moo_commands.specs.declared.ends.Ends.{Ends}
 use Rattle.moo_commands.specs.declared.ends.Ends.TheVariants as variant
 
@@ -52,8 +52,8 @@ module _ {T D : Type 0} {g : Ghosts D} where
   TakesUp words s ends run =
       ((task : Task) × NamesTask words task × (begins_anew task ≡ false → MatchFile ends
       (λ conn. HasCleanDisk (file_state conn) → RanFrom task s conn run)
-      (λ remains. IsCleanRemains remains → FailsAtOnce run)))
-      ⊎ ((1 < length words) × EndsUsage (mistakes words) run.before run.after run.status × HasNoFile ends)
+      (λ remains. IsCleanRemains remains → FailsFor task.file.now remains run)))
+      ⊎ ((1 < length words) × EndsUsage words run.before run.after run.status × HasNoFile ends)
 
   -- As `TakesUp`: the words name a task, and if it takes up its file and runs, it runs from these rows. Or they have a mistake.
   abbrev pub TakesRows : List (List ℕ) → Maps → Ends T D g → Run → Type 0
@@ -81,6 +81,10 @@ module _ {T D : Type 0} {g : Ghosts D} where
   IsLeftAfter image (remains.Leftover (left.Store now)) next = HoldsSuch (recovers now) next
   IsLeftAfter image (remains.Connection conn) next = IsLeftBy (file_state conn) next
 
+  -- what may be found of them, whenever the process stops: any bytes that the disk leaves, or what a crash leaves
+  abbrev pub IsFoundOf : Image → Remains T D g → Image → Type 0
+  IsFoundOf image rest next = BytesLeave image rest next ⊎ IsLeftAfter image rest next
+
   -- The words were run beside the file that held this image. If the disk is clean and the next image is what a crash left, that holds a
   -- state of which `Next` is true: if a task ran over it, from a state to an end, one that this end may leave; if none did, the state that
   -- the file held.
@@ -102,10 +106,11 @@ module _ {T D : Type 0} {g : Ghosts D} where
       (λ remains. IsCleanRemains remains → (rows : Maps) → HoldsRows image rows → IsLeftAfter image remains next →
       HoldsRows next rows × Next rows)
 
-  -- the image is what the files hold once their connection is closed, or what a crash leaves of them, or of their log if closing failed
+  -- The image is what the files hold once their connection is closed, or any bytes that the disk leaves of them then. If closing failed, it
+  -- is any bytes that the disk leaves of the store that came back, as long as the trees of that are numbered.
   abbrev pub IsFoundIn : Remains T D g → Image → Type 0
   IsFoundIn (remains.Leftover (left.Files now)) next = (next ≡ image_of g now) ⊎ outcomes g now.log now.db next
-  IsFoundIn (remains.Leftover (left.Store now)) next = HoldsSuch (recovers now) next
+  IsFoundIn (remains.Leftover (left.Store now)) next = LeftStoreLeaves now next
   IsFoundIn closed next = ⊥
 
   -- the same, if the file was closed before the next run, with a crash or without one
@@ -113,7 +118,7 @@ module _ {T D : Type 0} {g : Ghosts D} where
   ClosesTo words image closed run next Next = (ends : Ends T D g) × RunsOver words image ends run × IsClosedEnd ends closed × IfRan ends
       (λ conn. IsCleanRemains closed → (task : Task) × NamesTask words task × Started task image run.given (λ s.
       (ran : RanFrom task s conn run) × (IsFoundIn closed next → (t : State) × MayLeave ran.end t × HoldsState next t × Next t)))
-      (λ remains. IsCleanRemains closed → (s : State) → HoldsState image s → IsLeftAfter image closed next → HoldsState next s × Next s)
+      (λ remains. IsCleanRemains closed → (s : State) → HoldsState image s → IsFoundOf image closed next → HoldsState next s × Next s)
 
   -- As `LeadsOn`, if the file was closed before the next run.
   abbrev pub ClosesOn : List (List ℕ) → Image → Remains T D g → Run → Image → (Maps → Type 0) → Type 0
@@ -121,16 +126,16 @@ module _ {T D : Type 0} {g : Ghosts D} where
       (λ conn. IsCleanRemains closed → (task : Task) × NamesTask words task × StartedRows task image run.given (λ rows.
       RunsFrom task (state_of rows) run (HasCleanDisk (file_state conn)) (CrashLeaves (file_state conn))
       (λ batches others. IsFoundIn closed next → (end : Maps) × LeadTo rows end batches others × HoldsRows next end × Next end) ⊤))
-      (λ remains. IsCleanRemains closed → (rows : Maps) → HoldsRows image rows → IsLeftAfter image closed next →
+      (λ remains. IsCleanRemains closed → (rows : Maps) → HoldsRows image rows → IsFoundOf image closed next →
       HoldsRows next rows × Next rows)
 
-  -- As `CrashesTo`, from the bytes on the disk: if a task ran over the file, the process stopped before it was closed, and the next image
-  -- is any that the disk may then leave of the bytes of the two files.
+  -- As `CrashesTo`, from the bytes on the disk: the process stopped before the file was closed, be it one that a task ran over or one that
+  -- was refused, and the next image is any that the disk may then leave of the bytes of the two files.
   abbrev pub StopsTo : List (List ℕ) → Image → Remains T D g → Run → Image → (State → Type 0) → Type 0
   StopsTo words image closed run next Next = (ends : Ends T D g) × RunsOver words image ends run × IsClosedEnd ends closed × IfRan ends
       (λ conn. IsCleanRemains closed → (task : Task) × NamesTask words task × Started task image run.given (λ s.
       (ran : RanFrom task s conn run) × (DiskLeaves conn next → (t : State) × MayLeave ran.end t × HoldsState next t × Next t)))
-      (λ remains. IsCleanRemains closed → (s : State) → HoldsState image s → IsLeftAfter image remains next → HoldsState next s × Next s)
+      (λ remains. IsCleanRemains closed → (s : State) → HoldsState image s → IsFoundOf image remains next → HoldsState next s × Next s)
 
   -- As `LeadsOn`, from the bytes on the disk.
   abbrev pub StopsOn : List (List ℕ) → Image → Remains T D g → Run → Image → (Maps → Type 0) → Type 0
@@ -138,5 +143,5 @@ module _ {T D : Type 0} {g : Ghosts D} where
       (λ conn. IsCleanRemains closed → (task : Task) × NamesTask words task × StartedRows task image run.given (λ rows.
       RunsFrom task (state_of rows) run (HasCleanDisk (file_state conn)) (CrashLeaves (file_state conn))
       (λ batches others. DiskLeaves conn next → (end : Maps) × LeadTo rows end batches others × HoldsRows next end × Next end) ⊤))
-      (λ remains. IsCleanRemains closed → (rows : Maps) → HoldsRows image rows → IsLeftAfter image remains next →
+      (λ remains. IsCleanRemains closed → (rows : Maps) → HoldsRows image rows → IsFoundOf image remains next →
       HoldsRows next rows × Next rows)

@@ -13,7 +13,7 @@ use Rattle.moo_world.specs.Rows.{IsGood}
 use Rattle.moo_world.specs.Judge.{State, state_of}
 use Rattle.moo_tables.specs.Tables.{Tables}
 use Rattle.moo_cells.specs.Shows.{ShowsRows}
-use Rattle.moo_store.specs.Opening.{Says}
+use Rattle.moo_store.specs.Opening.{Says, IsOfStore}
 use Rattle.moo_store.specs.States.{LeavesRows, LeavesState}
 use Rattle.moo_tables.specs.Inside.{Leaves}
 use Rattle.moo_files.specs.Opened.{Contents, Nothing, Database, Unfit, Hold}
@@ -23,14 +23,15 @@ use Rattle.moo_store.specs.declared.fault.StoreFault.{StoreFault}
 use Rattle.moo_files.specs.Contents.{HoldsSuch, HoldsTrees, HoldsState, HoldsNoTable, HasOtherTables, HasAnyTable, IsKept, ReadsAsOurs}
 use Rattle.moo_files.specs.Remains.{IsCleanRemains, MayStopAs, Spares, KeepsSuch, KeepsNothingBut, StillHolds, StillHoldsTrees}
 use Rattle.moo_files.specs.Blank.{IsBlank}
+use Rattle.moo_files.specs.Causes.{HasCause, IsDenied}
 use Rattle.moo_files.specs.Closing.{IsClosedFrom}
 use Rattle.moo_files.specs.declared.remains.Remains.{Remains}
 use Rattle.moo_files.specs.declared.remains.Remains.TheVariants as remains
 use Rattle.moo_words.specs.declared.task.Task.{Task}
-use Rattle.moo_words.specs.Tasks.{NamesTask, NamesAlone, mistakes}
+use Rattle.moo_words.specs.Tasks.{NamesTask, NamesAlone}
 use Rattle.moo_commands.specs.Lines.{Reports, store_failure}
 use Rattle.moo_commands.specs.Given.{Run}
-use Rattle.moo_commands.specs.Run.{begins_anew, only_reads, is_load, dump_word, RefusesDump, BeginsWith, BeginsFrom, FailsToBegin}
+use Rattle.moo_commands.specs.Run.{begins_anew, only_reads, is_load, RefusesTask, BeginsWith, BeginsFrom, FailsToBegin}
 use Rattle.moo_commands.specs.Run.{RunsFrom, RunsUnseen, RunsTask, FailsAtOnce, RefusesFile, EndsUsage}
 use Rattle.moo_commands.specs.declared.failure.Failure.{Failure}
 use Rattle.moo_commands.specs.declared.ends.Ends.{Ends}
@@ -97,6 +98,11 @@ module _ {T D : Type 0} {g : Ghosts D} where
   HasNoFile (variant.Refused remains) = ⊥
   HasNoFile (variant.NoFile start) = ⊤
 
+  -- it fails at once, for a cause, over the file of this path
+  abbrev pub FailsFor : List ℕ → Remains T D g → Run → Type 0
+  FailsFor path rest run = (fault : StoreFault) × IsOfStore fault × HasCause (IsDenied run.given.denies path) fault rest
+      × Reports (store_failure fault) run.before run.after run.status
+
   -- files that were never opened: the start is unspent
   abbrev pub IsUntouched : Remains T D g → Type 0
   IsUntouched left = (start : T) × (left ≡ remains.Untouched start)
@@ -140,7 +146,9 @@ module _ {T D : Type 0} {g : Ghosts D} where
     -- if no file was opened, the line tells why; or the start is unspent, and the line tells why a dump gives no world
     pub told : ((fault : StoreFault) × MayStopAs fault rest × Reports (store_failure fault) run.before run.after run.status)
         ⊎ (IsTrue (is_load task.action) × IsUntouched rest × (failure : Failure)
-        × RefusesDump (run.given.text (dump_word task.action)) failure × Reports failure run.before run.after run.status)
+        × RefusesTask run.given task.action failure × Reports failure run.before run.after run.status)
+    -- A state is refused only if the host denied the file, its disk refused or memory ran out. Of tables that were read it isn't said.
+    pub cause : begins_anew task ≡ false → (s : State) → HoldsState image s → IsCleanRemains rest → FailsFor task.file.now rest run
 
   -- a task over the file that held this image
   abbrev pub RunsFile : Task → Image → Ends T D g → Run → Type 0
@@ -155,7 +163,7 @@ module _ {T D : Type 0} {g : Ghosts D} where
   abbrev pub RunsOver : List (List ℕ) → Image → Ends T D g → Run → Type 0
   RunsOver words image ends run =
       ((task : Task) × NamesTask words task × NamesAlone words task × RunsTask task run × EndsWith task image ends run)
-      ⊎ ((1 < length words) × run.given.ports.rests × EndsUsage (mistakes words) run.before run.after run.status × HasNoFile ends)
+      ⊎ ((1 < length words) × run.given.ports.rests × EndsUsage words run.before run.after run.status × HasNoFile ends)
 
   -- the file of a run was closed: what it then holds, and what a crash leaves of it, is what a crash might have left before
   abbrev pub IsClosedEnd : Ends T D g → Remains T D g → Type 0

@@ -20,7 +20,7 @@ use Rattle.moo_http.specs.Turns.{Attendance}
 use Rattle.moo_commands.specs.Given.{Run}
 use Rattle.moo_commands.specs.Run.{RunsFrom}
 use Rattle.moo_commands.specs.Ends.{HoldsRows, RanFrom, RunsOver, IsClosedEnd}
-use Rattle.moo_commands.specs.Again.{Started, StartedRows, LeadTo, IfRan, TakesUp, TakesRows, IsLeftAfter, IsFoundIn}
+use Rattle.moo_commands.specs.Again.{Started, StartedRows, LeadTo, IfRan, TakesUp, TakesRows, IsFoundOf, IsFoundIn}
 use Rattle.moo_commands.specs.declared.ends.Ends.{Ends}
 use Rattle.moo_commands.specs.declared.session.Runs as Runs
 
@@ -49,13 +49,13 @@ module _ {S T D : Type 0} {g : Runs.Ghosts S T D} {disk : Ghosts D} where
   abbrev pub IsFileRun : FileRun g disk → Type 0
   IsFileRun r = RunsOver r.words r.image r.ends (run_of r) × IsClosedEnd r.ends r.closed
 
-  -- What may be found after it. If a task ran over the file: any bytes that the disk leaves if the run is stopped before the file is
-  -- closed; or what the closed file holds, or a crash leaves of it. If none did: what a crash leaves of it, before it is closed or after
-  -- that.
+  -- What may be found after it: any bytes that the disk leaves if the run is stopped before the file is closed; or what the closed file
+  -- holds, or any bytes that the disk leaves of it. If no task ran over the file: any bytes that the disk leaves of it, or what a crash
+  -- leaves, before it is closed or after that.
   abbrev pub IsFoundAfter : FileRun g disk → Image → Type 0
   IsFoundAfter r next = IfRan r.ends
       (λ conn. DiskLeaves conn next ⊎ IsFoundIn r.closed next)
-      (λ rest. IsLeftAfter r.image rest next ⊎ IsLeftAfter r.image r.closed next)
+      (λ rest. IsFoundOf r.image rest next ⊎ IsFoundOf r.image r.closed next)
 
   -- It leads its file to a state of which this is true. If a task ran over the file, from the state that the file held or from a new world
   -- to an end: to one that this end may leave. If none did: to the state that the file held.

@@ -3,7 +3,7 @@ use Rattle.std.specs.Prelude.{◌≡◌, ◌<◌, ◌≤◌, ◌⊎◌, ◌==◌
 use Rattle.std.specs.Prelude.{List, [], ◌++◌, take, length, Option, Some, None, IfSome, Result, MatchResult, codes}
 use Rattle.std.specs.Str.{bytes_eq}
 use Rattle.std.specs.Io.KnownBytes.{Appends}
-use Rattle.clap.specs.Kinds.{Kinds, IsAmong}
+use Rattle.clap.specs.Kinds.{IsAmong}
 use Rattle.clap.specs.declared.error.kind.ErrorKind.{ErrorKind}
 use Rattle.clap.specs.declared.error.kind.ErrorKind.TheVariants.{DisplayHelp, DisplayVersion}
 use Rattle.sqlite.specs.State.{State as Database, HasCleanDisk}
@@ -43,7 +43,7 @@ use Rattle.moo_words.specs.declared.task.Action.TheVariants.{Init, Apply, Rehear
 use Rattle.moo_http.specs.Lines.{listening_line}
 use Rattle.moo_http.specs.Turns.{Attendance, SaysAttended}
 use Rattle.moo_commands.specs.Given.{Given, Run}
-use Rattle.moo_words.specs.Tasks.{NamesTask, NamesAlone, text_word, mistakes}
+use Rattle.moo_words.specs.Tasks.{NamesTask, NamesAlone, NamesNone, text_word, mistakes}
 use Rattle.moo_commands.specs.Lines.{Reports, WritesLine, text_failure, store_failure, created_line, loaded_line, checked_line}
 use Rattle.moo_commands.specs.declared.failure.Failure.{Failure}
 use Rattle.moo_commands.specs.declared.failure.Failure.TheVariants.{Usage, NoFile, Store, Damaged, NewerVersion, NotADump, NoBatches}
@@ -147,6 +147,10 @@ AnswersText step Led stop s end text old new status =
     ⊎ ((stop ≡ true) × (batches lost : ℕ) × (run : EndsEarly step (Works s) end text old new batches lost) × (status ≡ 1)
     × Led (accepted run.done run.answers) (faulted run.done run.answers))
 
+-- if the failure is that a file of batches or a dump can't be opened, it is this one
+abbrev pub TellsLack : (List ℕ → Type 0) → List ℕ → Failure → Type 0
+TellsLack lacks path failure = failure ≡ NoBatches → lacks path
+
 -- a fault stops it; or its file can't be opened, and nothing is done
 abbrev pub StopsText : Steps → Leads → Bool → State → Stand → Failure → Option (List ℕ) → Option (List ℕ) → Option (List ℕ) → Type 0
 StopsText step Led stop s end failure text old new =
@@ -220,10 +224,13 @@ abbrev pub StopsTask : Action → State → Stand → Failure → Leads → Type
 StopsTask Init s end failure Led Clean run = (end ≡ Works s) × StopsIn created_line failure run.before run.after
 StopsTask (Apply batches) s end failure Led Clean run =
     StopsApplying Led batches.options.stop s end failure (run.given.text batches.path.now) run.before run.after
+    × TellsLack run.given.lacks batches.path.now failure
 StopsTask (Rehearse batches) s end failure Led Clean run =
     (end ≡ Works s) × StopsRehearsing batches.options.stop s failure (run.given.text batches.path.now) run.before run.after
+    × TellsLack run.given.lacks batches.path.now failure
 StopsTask (Ask batches) s end failure Led Clean run =
     (end ≡ Works s) × StopsAsking s failure (run.given.text batches.now) run.before run.after
+    × TellsLack run.given.lacks batches.now failure
 StopsTask Dump s end failure Led Clean run = (end ≡ Works s) × StopsIn (dump_of s) failure run.before run.after
 StopsTask (Load dump) s end failure Led Clean run =
     (end ≡ Works s) × StopsIn (loaded_line s.seq (length (objects_of s.world))) failure run.before run.after
@@ -356,10 +363,15 @@ RefusesDump text failure =
     IsOfDump failure
     × IfSome text (λ bytes. (s : State) → IsHeld s → dump_of s ≡ bytes → length bytes ≤ 1073741824 → GivesNoText failure)
 
+-- why the dump of a task gives no world: its text does, or its file can't be opened
+abbrev pub RefusesTask : Given → Action → Failure → Type 0
+RefusesTask given action failure =
+    RefusesDump (given.text (dump_word action)) failure × TellsLack given.lacks (dump_word action) failure
+
 -- why a new world can't be made: a failure of opening, or the dump gives no world
 abbrev pub MayNotBegin : Task → Given → Failure → Type 0
 MayNotBegin task given failure =
-    IsOpening failure ⊎ (IsTrue (is_load task.action) × RefusesDump (given.text (dump_word task.action)) failure)
+    IsOpening failure ⊎ (IsTrue (is_load task.action) × RefusesTask given task.action failure)
 
 abbrev pub FailsToBegin : Task → Run → Type 0
 FailsToBegin task run = (failure : Failure) × MayNotBegin task run.given failure × Reports failure run.before run.after run.status
@@ -392,13 +404,13 @@ mistake_status DisplayHelp = 0
 mistake_status DisplayVersion = 0
 mistake_status mistake = 2
 
--- The words have one of these mistakes, and what their reader says of it is written, with its status. Or a line of our own says that
--- memory ran out, or that they have no mistake and yet name no task.
-abbrev pub EndsUsage : Kinds → Option (List ℕ) → Option (List ℕ) → ℕ → Type 0
-EndsUsage found old new status =
-    ((mistake : ErrorKind) × IsAmong mistake found × (text : List ℕ) × WritesLine text (mistake_status mistake) old new status)
+-- The words have a mistake, and what their reader says of it is written, with its status. Or a line of our own says that memory ran out,
+-- or that they name no task.
+abbrev pub EndsUsage : List (List ℕ) → Option (List ℕ) → Option (List ℕ) → ℕ → Type 0
+EndsUsage words old new status =
+    ((mistake : ErrorKind) × IsAmong mistake (mistakes words) × (text : List ℕ) × WritesLine text (mistake_status mistake) old new status)
     ⊎ Reports NoMemory old new status
-    ⊎ ((found ≡ []) × Reports Usage old new status)
+    ⊎ (NamesNone words × Reports Usage old new status)
 
 -- a file is refused, and nothing is asked of the ports; or the task runs from a well formed world
 abbrev pub RunsOpened : Task → Run → Type 0
@@ -421,4 +433,4 @@ pub record RunsTask (task : Task) (run : Run) : Type 0 where
 abbrev pub RunsWords : List (List ℕ) → Run → Type 0
 RunsWords words run =
     ((task : Task) × NamesTask words task × NamesAlone words task × RunsTask task run)
-    ⊎ ((1 < length words) × run.given.ports.rests × EndsUsage (mistakes words) run.before run.after run.status)
+    ⊎ ((1 < length words) × run.given.ports.rests × EndsUsage words run.before run.after run.status)

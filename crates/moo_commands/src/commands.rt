@@ -1,6 +1,6 @@
 //! What each command does over a world.
 
-ghost use Rattle.std.specs.Prelude.{◌≡◌, ◌⊎◌, ℕ, List, true, false, codes, length, IfOk, IfErr, OnOk, Bool, IsTrue};
+ghost use Rattle.std.specs.Prelude.{◌≡◌, ◌≢◌, ◌⊎◌, ℕ, List, true, false, codes, length, IfOk, IfErr, OnOk, Bool, IsTrue};
 ghost use Rattle.std.specs.Str.{bytes_eq};
 ghost use Rattle.std.specs.Io.KnownBytes.{Appends};
 ghost use Rattle.sqlite.specs.State.{HasCleanDisk, Survives};
@@ -10,10 +10,10 @@ ghost use Rattle.moo_dump.specs.Dump.{dump};
 ghost use Rattle.moo_store.specs.declared.fault.StoreFault.{StoreFault};
 ghost use Rattle.moo_store.specs.Opening.{IsOfStore};
 ghost use Rattle.moo_store.specs.World.{store_of, StandsFor};
-ghost use Rattle.moo_commands.specs.Texts.{OpenedBy};
+ghost use Rattle.moo_commands.specs.Texts.{OpenedBy, LacksBy};
 ghost use Rattle.moo_commands.specs.Lines.{store_failure, checked_line, loaded_line};
 ghost use Rattle.moo_commands.specs.Run.{lost_status, course_status, RunsText, RehearsesBy, RunsAction, AsksBy, StopsIn, ShowsTables};
-ghost use Rattle.moo_commands.specs.Run.{LeavesNothingNew};
+ghost use Rattle.moo_commands.specs.Run.{LeavesNothingNew, TellsLack};
 ghost use Rattle.moo_commands.specs.Run.{only_reads, serves, reads_input, ReadsFile};
 
 use crate::failure::Failure;
@@ -49,7 +49,6 @@ fn course_status(course: Course) -> u8
 
 /// Runs the batches of a text. The notes say on standard error why a batch isn't accepted.
 fn run_text<C: Eprint, R: Read + Drop, W: Write, B: Alter + Drop>(
-    alloc: Global,
     world: &mut World<B>,
     text: R,
     stop: bool,
@@ -58,8 +57,9 @@ fn run_text<C: Eprint, R: Read + Drop, W: Write, B: Alter + Drop>(
 ) -> Result<Course, Failure>
     ensures ran { (known : Bool) (s : State) → StandsFor B.Store known world.old s →
         RunsText B.Store known world.old world.new stop s (R.remaining text) (W.contents output.old) (W.contents output.new) result }
+    ensures opened { IfErr result (λ failure. failure ≢ Failure.NoBatches) }
 {
-    let done = apply_until(alloc, text, output, world, stop, &mut notes);
+    let done = apply_until(text, output, world, stop, &mut notes);
     notes.finish();
     match done {
         Ok(course) => Ok(course),
@@ -70,7 +70,8 @@ fn run_text<C: Eprint, R: Read + Drop, W: Write, B: Alter + Drop>(
 /// The file of batches of this path, if it can be opened; or none for `-`, which is the input.
 fn open_batches<H: BatchFiles>(host: &H, batches: &str) -> Option<io::Result<H::Text>>
     requires { bytes_eq batches.now (codes "-") ≡ false → H.may_read host.now batches.now }
-    ensures { OpenedBy H.Text.remaining (H.text host.now) batches.now result }
+    ensures opened { OpenedBy H.Text.remaining (H.text host.now) batches.now result }
+    ensures lacks { LacksBy (H.lacks host.now) batches.now result }
 {
     if batches == "-" {
         None
@@ -91,6 +92,8 @@ fn apply_batches<'s, S: Streams, B: Alter + Drop>(
         let run = ⟦<Session<'s, S> as Runs>⟧.run session.old session.new in
         RunsText B.Store known world.old world.new batches.entry.options.stop s
         (run.given.text batches.entry.path.now) run.before run.after result }
+    ensures lacks { LacksBy (S.Host.lacks session.old.host) batches.entry.path.now text →
+        IfErr result (TellsLack (S.Host.lacks session.old.host) batches.entry.path.now) }
     ensures rests { session.new.host ≡ session.old.host }
     ensures input { OpenedBy S.Host.Text.remaining (S.Host.text session.old.host) batches.entry.path.now text →
         bytes_eq batches.entry.path.now (codes "-") ≡ false → session.new.input ≡ session.old.input }
@@ -102,19 +105,12 @@ fn apply_batches<'s, S: Streams, B: Alter + Drop>(
     match text {
         None => {
             let notes = StandardNotes::new(session.console, session.alloc, None);
-            run_text(
-                session.alloc,
-                world,
-                &mut session.input,
-                stop,
-                &mut session.output,
-                notes,
-            )
+            run_text(world, &mut session.input, stop, &mut session.output, notes)
         }
         Some(opened) => match opened {
             Ok(file) => {
                 let notes = StandardNotes::new(session.console, session.alloc, Some(path));
-                run_text(session.alloc, world, file, stop, &mut session.output, notes)
+                run_text(world, file, stop, &mut session.output, notes)
             }
             Err(_) => Err(Failure::NoBatches),
         },
@@ -130,6 +126,7 @@ fn apply<'s, S: Streams, B: Alter + Drop>(
     text: Option<io::Result<<S::Host as BatchFiles>::Text>>,
 ) -> Result<u8, Failure>
     ensures applies { OpenedBy S.Host.Text.remaining (S.Host.text session.old.host) batches.entry.path.now text →
+        LacksBy (S.Host.lacks session.old.host) batches.entry.path.now text →
         (known : Bool) (s : State) → StandsFor B.Store known world.old s →
         let run = ⟦<Session<'s, S> as Runs>⟧.run session.old session.new in
         RunsAction B.Store known world.old world.new (Action.Apply batches.entry) s run result }
@@ -148,7 +145,6 @@ fn apply<'s, S: Streams, B: Alter + Drop>(
 
 /// Rehearses the batches of a text. The notes say on standard error why a batch isn't accepted.
 fn rehearse_batches<C: Eprint, R: Read + Drop, W: Write, B: Alter + Drop>(
-    alloc: Global,
     world: &mut World<B>,
     text: R,
     stop: bool,
@@ -157,9 +153,10 @@ fn rehearse_batches<C: Eprint, R: Read + Drop, W: Write, B: Alter + Drop>(
 ) -> Result<u8, Failure>
     ensures rehearses { (known : Bool) (s : State) → StandsFor B.Store known world.old s →
         RehearsesBy stop s (R.remaining text) (W.contents output.old) (W.contents output.new) result }
+    ensures opened { IfErr result (λ failure. failure ≢ Failure.NoBatches) }
     ensures still { world.new.connection ≡ world.old.connection }
 {
-    let done = rehearse_text(alloc, text, output, world, stop, &mut notes);
+    let done = rehearse_text(text, output, world, stop, &mut notes);
     notes.finish();
     match done {
         Ok(course) => Ok(course_status(course)),
@@ -178,6 +175,8 @@ fn rehearse<'s, S: Streams, B: Alter + Drop>(
         (known : Bool) (s : State) → StandsFor B.Store known world.old s →
         let run = ⟦<Session<'s, S> as Runs>⟧.run session.old session.new in
         RehearsesBy batches.entry.options.stop s (run.given.text batches.entry.path.now) run.before run.after result }
+    ensures lacks { LacksBy (S.Host.lacks session.old.host) batches.entry.path.now text →
+        IfErr result (TellsLack (S.Host.lacks session.old.host) batches.entry.path.now) }
     ensures still { world.new.connection ≡ world.old.connection }
     ensures rests { session.new.host ≡ session.old.host }
     ensures input { OpenedBy S.Host.Text.remaining (S.Host.text session.old.host) batches.entry.path.now text →
@@ -188,19 +187,12 @@ fn rehearse<'s, S: Streams, B: Alter + Drop>(
     match text {
         None => {
             let notes = StandardNotes::new(session.console, session.alloc, None);
-            rehearse_batches(
-                session.alloc,
-                world,
-                &mut session.input,
-                stop,
-                &mut session.output,
-                notes,
-            )
+            rehearse_batches(world, &mut session.input, stop, &mut session.output, notes)
         }
         Some(opened) => match opened {
             Ok(file) => {
                 let notes = StandardNotes::new(session.console, session.alloc, Some(path));
-                rehearse_batches(session.alloc, world, file, stop, &mut session.output, notes)
+                rehearse_batches(world, file, stop, &mut session.output, notes)
             }
             Err(_) => Err(Failure::NoBatches),
         },
@@ -209,7 +201,6 @@ fn rehearse<'s, S: Streams, B: Alter + Drop>(
 
 /// Says what the batches of a text would answer. The notes say on standard error why a batch isn't accepted.
 fn ask_batches<C: Eprint, R: Read + Drop, W: Write, B: Alter + Drop>(
-    alloc: Global,
     world: &World<B>,
     text: R,
     output: &mut W,
@@ -217,8 +208,9 @@ fn ask_batches<C: Eprint, R: Read + Drop, W: Write, B: Alter + Drop>(
 ) -> Result<u8, Failure>
     ensures asks { (known : Bool) (s : State) → StandsFor B.Store known world.now s →
         AsksBy s (R.remaining text) (W.contents output.old) (W.contents output.new) result }
+    ensures opened { IfErr result (λ failure. failure ≢ Failure.NoBatches) }
 {
-    let done = ask_text(alloc, text, output, world, &mut notes);
+    let done = ask_text(text, output, world, &mut notes);
     notes.finish();
     match done {
         Ok(tally) => Ok(status_after(tally)),
@@ -238,6 +230,8 @@ fn ask<'s, S: Streams, B: Alter + Drop>(
         (known : Bool) (s : State) → StandsFor B.Store known world.now s →
         let run = ⟦<Session<'s, S> as Runs>⟧.run session.old session.new in
         AsksBy s (run.given.text batches.now) run.before run.after result }
+    ensures lacks { LacksBy (S.Host.lacks session.old.host) batches.now text →
+        IfErr result (TellsLack (S.Host.lacks session.old.host) batches.now) }
     ensures rests { session.new.host ≡ session.old.host }
     ensures input { OpenedBy S.Host.Text.remaining (S.Host.text session.old.host) batches.now text →
         bytes_eq batches.now (codes "-") ≡ false → session.new.input ≡ session.old.input }
@@ -245,18 +239,12 @@ fn ask<'s, S: Streams, B: Alter + Drop>(
     match text {
         None => {
             let notes = StandardNotes::new(session.console, session.alloc, None);
-            ask_batches(
-                session.alloc,
-                world,
-                &mut session.input,
-                &mut session.output,
-                notes,
-            )
+            ask_batches(world, &mut session.input, &mut session.output, notes)
         }
         Some(opened) => match opened {
             Ok(file) => {
                 let notes = StandardNotes::new(session.console, session.alloc, Some(batches));
-                ask_batches(session.alloc, world, file, &mut session.output, notes)
+                ask_batches(world, file, &mut session.output, notes)
             }
             Err(_) => Err(Failure::NoBatches),
         },

@@ -140,20 +140,19 @@ fn run_created<'s, S: Streams>(
 /// Opens the world of a file, does what the task says over it, and hands back what is left of the file.
 fn run_found<'s, S: Streams>(
     session: &mut Session<'s, S>,
-    file: &str,
     start: S::File,
     task: Task<'_>,
 ) -> Ends<S::File, <S::Host as WorldFiles<S::File>>::Disk>
-    requires may { S.Host.may_open session.old.host file.now }
+    requires may { S.Host.may_open session.old.host task.file.now }
     requires read { (path : List ℕ) → ReadsFile task path → S.Host.may_read session.old.host path }
     requires other { begins_anew task ≡ false }
     ensures runs { RunsFile task.entry (image_at S.File.Start) result (⟦<Session<'s, S> as Runs>⟧.run session.old session.new) }
     ensures input { reads_input task.entry ≡ false → session.new.input ≡ session.old.input }
 {
-    match open_from(session.alloc, &session.host, file, start) {
+    match open_from(session.alloc, &session.host, task.file, start) {
         Ok(world) => Ends::Ran(run_in_files(session, world, task)),
         Err((fault, remains)) => {
-            let failure = refusal_of(&session.host, file, fault);
+            let failure = refusal_of(&session.host, task.file, fault);
             session.status = report(session.alloc, session.console, failure, &mut session.output);
             Ends::Refused(remains)
         }
@@ -169,22 +168,21 @@ fn run_found<'s, S: Streams>(
 /// Only `init` and `load` make a file.
 pub fn run_from<'s, S: Streams>(
     session: &mut Session<'s, S>,
-    file: &str,
     start: S::File,
     task: Task<'_>,
 ) -> Ends<S::File, <S::Host as WorldFiles<S::File>>::Disk>
-    requires may { S.Host.may_open session.old.host file.now }
+    requires may { S.Host.may_open session.old.host task.file.now }
     requires read { (path : List ℕ) → ReadsFile task path → S.Host.may_read session.old.host path }
     ensures runs { RunsFile task.entry (image_at S.File.Start) result (⟦<Session<'s, S> as Runs>⟧.run session.old session.new) }
     ensures input { reads_input task.entry ≡ false → session.new.input ≡ session.old.input }
 {
     match dump_word(task) {
-        Some(dump) => run_loaded(session, file, start, dump, task),
+        Some(dump) => run_loaded(session, task.file, start, dump, task),
         None => {
             if begins_anew(task) {
-                run_created(session, file, start, task)
+                run_created(session, task.file, start, task)
             } else {
-                run_found(session, file, start, task)
+                run_found(session, start, task)
             }
         }
     }
@@ -226,6 +224,6 @@ pub(crate) fn run_task<'s, S: Streams>(
         run_in_memory(session, task);
         Ends::NoFile(start)
     } else {
-        run_from(session, file, start, task)
+        run_from(session, start, task)
     }
 }

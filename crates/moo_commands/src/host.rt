@@ -1,16 +1,18 @@
 //! What a run finds on its host: the files of worlds and of batches, and ports.
 
-ghost use Rattle.std.specs.Prelude.{◌≡◌, IfOk, ℕ, List, Option, None, ⊤};
+ghost use Rattle.std.specs.Prelude.{◌≡◌, IsErr, IfOk, ℕ, List, Option, None, ⊤};
 
 use crate::lambdamoo::{WHAT_TO_DO, holds_lambdamoo};
+use moo_desk::SocketDesk;
 use moo_disk::{DiskChanges, Telling, telling_files};
 use moo_files::{WorldFiles, fresh_files_hold_start};
-use moo_http::{Ports, Sockets};
+use moo_http::Ports;
 use sqlite::{FileFrom, Files, Start};
 use sqlite_std_file::OpenError;
-use std::fs::{self, File, Metadata};
+use std::fs::{self, File, Metadata, OpenOptions};
 use std::hash::{BuildHasher, RandomState};
 use std::io::{Error, ErrorKind, Read, Result};
+use std::os::unix::fs::OpenOptionsExt;
 
 /// Files of batches, by their paths.
 ///
@@ -24,10 +26,14 @@ pub trait BatchFiles {
     /// The file of this path may be read.
     ghost may_read: { Self → List ℕ → Type 0 } = { λ _ _. ⊤ };
 
+    /// The file of this path can't be opened. So code over any host says of no file that it can't, unless the host did.
+    ghost lacks: { Self → List ℕ → Type 0 };
+
     /// Opens the file of a path. An error if it is missing, or can't be opened.
     fn open(&self, path: &str) -> Result<Self::Text>
         requires { may_read self.now path.now }
-        ensures { IfOk result (λ file. Self.Text.remaining file ≡ text self.now path.now) };
+        ensures lacks { IsErr result → lacks self.now path.now }
+        ensures text { IfOk result (λ file. Self.Text.remaining file ≡ text self.now path.now) };
 }
 
 /// The files and the ports of the system. Nothing is known of what the files hold, or of the connections that come.
@@ -48,6 +54,8 @@ impl<'a> BatchFiles for System<'a> {
 
     ghost text = { λ _ _. None };
 
+    ghost lacks = { λ _ _. ⊤ };
+
     fn open(&self, path: &str) -> Result<File> {
         File::open(self.rt, path)
     }
@@ -59,6 +67,8 @@ impl<'a, T: Start> WorldFiles<T> for System<'a> {
     ghost may_open = { λ _ _. ⊤ };
 
     ghost refuses = { λ _ _ _. ⊤ };
+
+    ghost denies = { λ _ _. ⊤ };
 
     fn metadata(&self, path: &str) -> Result<Metadata> {
         fs::metadata(self.rt, path)
@@ -78,21 +88,32 @@ impl<'a, T: Start> WorldFiles<T> for System<'a> {
             let _said = eprintln!(self.rt; "moo: {path}: {WHAT_TO_DO}");
             return Err(OpenError::Io(Error::from(ErrorKind::InvalidData)));
         }
+        make_private(self.rt, path);
         let files = sqlite_std_file::open(self.rt, path, start)?;
         fresh_files_hold_start(&files);
         Ok(telling_files(files, self.rt, self.changes))
     }
 }
 
-impl<'a> Ports for System<'a> {
-    type Source = Sockets<'a, HostRuntime>;
+/// Makes a file that only its owner may read, if there is none. `sqlite_std_file` would make one that everybody may read, and gives its log the
+/// rights that the file has.
+fn make_private(rt: &HostRuntime, path: &str) {
+    let _made = OpenOptions::new()
+        .write(true)
+        .create_new(true)
+        .mode(0o600)
+        .open(rt, path);
+}
 
-    fn listen(&mut self, port: u16) -> Option<Sockets<'a, HostRuntime>> {
-        Sockets::listen(self.rt, port).ok()
+impl<'a> Ports for System<'a> {
+    type Source = SocketDesk<'a>;
+
+    fn listen(&mut self, port: u16) -> Option<SocketDesk<'a>> {
+        SocketDesk::listen(self.rt, port).ok()
     }
 
     // A socket tells nothing of what is done to it. Dropped, it is closed.
-    fn close(&mut self, source: Sockets<'a, HostRuntime>)
+    fn close(&mut self, source: SocketDesk<'a>)
         ensures { ⊤ }
     {
         let _closed = source;

@@ -9,7 +9,7 @@ ghost use Rattle.moo_load.specs.OneState.{IsHeld};
 ghost use Rattle.moo_load.specs.RowsOf.{AreRowsOf};
 ghost use Rattle.moo_load.specs.declared.fault.LoadFault.TheVariants.{OutOfMemory};
 ghost use Rattle.moo_commands.specs.Given.{texts_by};
-ghost use Rattle.moo_commands.specs.Run.{IsDumpedAs, RefusesDump, is_load, dump_word};
+ghost use Rattle.moo_commands.specs.Run.{IsDumpedAs, RefusesDump, TellsLack, is_load, dump_word};
 
 use crate::failure::Failure;
 use crate::host::BatchFiles;
@@ -93,6 +93,7 @@ fn rows_of<C: Eprint, R: Read + Drop>(
     ensures numbered { IfOk result (λ rows. AreRowsOf (state_of rows.maps) rows.maps) }
     ensures dumped { IfOk result (λ rows. IsDumpedAs (R.remaining text) (state_of rows.maps)) }
     ensures failure { IfErr result (RefusesDump (R.remaining text)) }
+    ensures opened { IfErr result (λ failure. failure ≢ Failure.NoBatches) }
 {
     let bytes = read_text(alloc, &mut text)?;
     let rows = read_told(alloc, console, path, &bytes)?;
@@ -114,6 +115,7 @@ pub(crate) fn read_world<C: Eprint, H: BatchFiles, R: Read + Drop>(
     ensures dumped { IfOk result (λ rows.
         IsDumpedAs (texts_by (R.remaining input.old) (H.text host.now) dump.now) (state_of rows.maps)) }
     ensures failure { IfErr result (RefusesDump (texts_by (R.remaining input.old) (H.text host.now) dump.now)) }
+    ensures lacks { IfErr result (TellsLack (H.lacks host.now) dump.now) }
     ensures input { bytes_eq dump.now (codes "-") ≡ false → input.new ≡ input.old }
 {
     if dump == "-" {

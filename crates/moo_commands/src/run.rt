@@ -1,7 +1,7 @@
 //! What the words of the command line do.
 
 ghost use Rattle.std.specs.Prelude.{◌≡◌, ℕ, List, map};
-ghost use Rattle.clap.specs.Kinds.{Kinds, HasKind};
+ghost use Rattle.clap.specs.Kinds.{HasKind};
 ghost use Rattle.moo_words.specs.declared.task.Task.{Task};
 ghost use Rattle.moo_words.specs.Tasks.{NamesTask, IsRefusal, mistakes};
 ghost use Rattle.sqlite.specs.WalFiles.{image_at};
@@ -36,8 +36,8 @@ fn put_mistake<C: Eprint, W: Write>(
     error: &clap::Error,
     output: &mut W,
 ) -> u8
-    ensures { (found : Kinds) → HasKind found error.now →
-        EndsUsage found (W.contents output.old) (W.contents output.new) result }
+    ensures { (words : List (List ℕ)) → HasKind (mistakes words) error.now →
+        EndsUsage words (W.contents output.old) (W.contents output.new) result }
 {
     let kind = error.kind();
     if kind == ErrorKind::OutOfMemory {
@@ -57,7 +57,7 @@ fn report_usage<C: Eprint, W: Write>(
     output: &mut W,
 ) -> u8
     ensures { (words : List (List ℕ)) → IsRefusal words usage.now →
-        EndsUsage (mistakes words) (W.contents output.old) (W.contents output.new) result }
+        EndsUsage words (W.contents output.old) (W.contents output.new) result }
 {
     match usage {
         Usage::Refused(error) => put_mistake(alloc, console, error, output),

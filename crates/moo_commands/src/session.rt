@@ -51,8 +51,8 @@ impl<'s, S: Streams> Runs for Session<'s, S> {
     type Disk = <S::Host as WorldFiles<S::File>>::Disk;
 
     ghost run = { λ old new. record {
-      given = given_to S.Input.Read S.Host.BatchFiles S.Host.Ports S.Host.Source.Arrivals S.Host.Source.Reader.Read
-          S.Host.Source.Writer.Write old.input old.host new.host;
+      given = given_to S.Input.Read S.Host.BatchFiles S.Host.WorldFiles.denies S.Host.Ports S.Host.Source.Arrivals
+          S.Host.Source.Reader.Read S.Host.Source.Writer.Write old.input old.host new.host;
       before = S.Output.contents old.output;
       after = S.Output.contents new.output;
       status = new.status;

@@ -2,6 +2,7 @@ pub mod Words
 pub mod AgainLemmas
 mod BegunLemmas
 mod BlankLemmas
+mod CauseLemmas
 mod ClosingLemmas
 mod ContentsLemmas
 pub mod MakingLemmas

@@ -1,6 +1,6 @@
 -- What the fault of an open that failed says of the files.
 use Rattle.moo_files.proofs.Words.{◌≡◌, ◌≢◌, ◌⊎◌, inl, inr, ℕ, ◌<◌, arith, ap, sym, subst, ◌∙◌, ∥∥₁_elim, Ghosts, Files, Image, tally_of_files, Trees, store_error, FailsToOpenFiles, HoldsDatabase, faults_left, image_of, tally_left, Error, Leftover, not_ours, IsOfStore, Tables, StoreFault, HoldsTrees, ExcusesMalformed, IsUnopened, TakesForOurs, cannot_open, malformed, Remains, IsKept}
-use Rattle.moo_files.{specs.Opened.{Contents, Nothing, Database, Unfit, Refuses}, specs.Connected.{Unconnects}, proofs.RemainsLemmas.{keeps_more}}
+use Rattle.moo_files.{specs.Causes.{HasCause, IsRefusedByDisk}, specs.Opened.{Contents, Nothing, Database, Unfit, Refuses}, specs.Connected.{Unconnects}, proofs.RemainsLemmas.{keeps_more}}
 use Rattle.moo_files.specs.declared.remains.Remains.TheVariants as remains
 use Rattle.moo_store.specs.Opening.{Says}
 use Rattle.sqlite_disk.specs.Disk.{MoreFaults}
@@ -38,6 +38,13 @@ module _ (error : Error) (fault : StoreFault) (told : IsToldAs error fault) wher
   module _ {D : Type 0} {g : Ghosts D} (files : Files D) (image : Image) (same : image_of g files ≡ image) (trees : Trees) (holds : HoldsTrees image trees) (left : Leftover D g) where
     no_database : ¬ ¬ ((db : Trees) × HoldsDatabase (image_of g files) db)
     no_database none = ∥∥₁_elim holds (λ x y. absurd x) (λ held. none (trees, subst (λ i. HoldsDatabase i trees) (sym same) held))
+
+    -- what refused a sound database
+    pub opened_cause : FailsToOpenFiles files left error → (fault ≡ faults.OutOfMemory) ⊎ IsRefusedByDisk left
+    opened_cause (inl memory) = inl (told.0 memory)
+    opened_cause (inr (inl it)) = absurd (no_database (λ some. it.1 (inl some)))
+    opened_cause (inr (inr (inl it))) = inr (inl (some_faults _ _ it.1))
+    opened_cause (inr (inr (inr it))) = inr (inr it.1)
 
     pub opened_own : FailsToOpenFiles files left error → fault ≢ not_ours
     opened_own (inl memory) ours = let both : faults.OutOfMemory ≡ not_ours = sym (told.0 memory) ∙ ours in cc
@@ -93,3 +100,10 @@ module _ {T D : Type 0} {g : Ghosts D} where
     kept = keeps_more (λ found. found ≡ trees) (IsKept trees) (λ found same. inl same) image r it.kept;
   }
   refuses_unconnected image fault r store Unfit it = store
+
+-- files that weren't opened were denied
+pub denied_cause : {T D : Type 0} {g : Ghosts D} (Denied : Type 0) (fault : StoreFault) (r : Remains T D g) → IsUnopened r → Denied → HasCause Denied fault r
+denied_cause Denied fault (remains.Untouched start) unopened denied = denied
+denied_cause Denied fault (remains.NotOpened seal) unopened denied = denied
+denied_cause Denied fault (remains.Leftover left) unopened denied = absurd unopened
+denied_cause Denied fault (remains.Connection conn) unopened denied = absurd unopened

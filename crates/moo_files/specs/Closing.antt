@@ -14,7 +14,7 @@ use Rattle.sqlite.specs.Closing.{IsCopied}
 use Rattle.sqlite.specs.declared.file.Leftover.{Leftover}
 use Rattle.sqlite.specs.declared.file.Leftover.TheVariants as left
 use Rattle.moo_files.specs.Contents.{IsLeftBy}
-use Rattle.moo_files.specs.Stop.{HasNumberedTrees}
+use Rattle.moo_files.specs.Stop.{HasNumberedTrees, KeepsTreesNumbered}
 use Rattle.moo_files.specs.declared.remains.Remains.{Remains}
 use Rattle.moo_files.specs.declared.remains.Remains.TheVariants as remains
 
@@ -34,8 +34,10 @@ module _ {D : Type 0} {g : Ghosts D} where
   IsClosedAs conn (left.Store now) = IsClosed conn now
 
 module _ {T D : Type 0} {g : Ghosts D} where
-  -- A connection was closed, and anything else is as it was. Before that the connection's trees were numbered.
+  -- A connection was closed, and anything else is as it was. Before that the connection's trees were numbered, and as a rule they are
+  -- numbered still.
   abbrev pub IsClosedFrom : Remains T D g → Remains T D g → Type 0
   IsClosedFrom (remains.Connection conn) now = (left : Leftover D g) × (now ≡ remains.Leftover left) × IsClosedAs conn left
-      × (IsCleanLeft left → HasCleanDisk (file_state conn) × IsLeftOf (file_state conn) left × HasNumberedTrees conn)
+      × (IsCleanLeft left → HasCleanDisk (file_state conn) × IsLeftOf (file_state conn) left × HasNumberedTrees conn
+      × KeepsTreesNumbered conn left)
   IsClosedFrom was now = now ≡ was

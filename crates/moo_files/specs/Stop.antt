@@ -1,18 +1,70 @@
--- What the disk leaves of the two files of a connection that was stopped.
-use Rattle.std.specs.Prelude.{IsTrue}
+-- What the disk leaves of the bytes of two files that were stopped.
+use Rattle.std.specs.Prelude.{◌≡◌, ◌⊎◌, false, IsTrue, ⊤}
 use Rattle.sqlite_disk.specs.declared.Disk.{Ghosts}
 use Rattle.sqlite_wal.specs.Recovery.{Image}
 use Rattle.sqlite_wal.specs.Files.{outcomes}
 use Rattle.sqlite_store.specs.declared.store.FileStore.{FileStore}
-use Rattle.sqlite_store.specs.FileStore.{view, files}
+use Rattle.sqlite_store.specs.FileStore.{view, files, recovers}
+use Rattle.sqlite_store.specs.declared.store.open.Unopened.{Unopened}
+use Rattle.sqlite_store.specs.Unopened.{files_of}
 use Rattle.sqlite.specs.Held.{Held}
+use Rattle.sqlite.specs.declared.file.Leftover.{Leftover}
+use Rattle.sqlite.specs.declared.file.Leftover.TheVariants as left
+use Rattle.moo_files.specs.Contents.{HoldsSuch, HasNoSums}
+use Rattle.moo_files.specs.declared.remains.Remains.{Remains}
+use Rattle.moo_files.specs.declared.remains.Remains.TheVariants as remains
 
 module _ {D : Type 0} {g : Ghosts D} where
   -- The disk may leave these bytes of the log and of the database file, if the process stops now: what was synced, and of all that was
   -- written since any part.
-  abbrev pub DiskLeaves : Held (FileStore D g) → Image → Type 0
-  DiskLeaves conn image = let both = files conn.store in outcomes g both.0 both.1 image
+  abbrev pub StoreLeaves : FileStore D g → Image → Type 0
+  StoreLeaves store image = let both = files store in outcomes g both.0 both.1 image
 
-  -- Each table has the place that SQLite's own list of tables gives it. It is so of every connection: that which closes one says it.
+  -- the same of a connection
+  abbrev pub DiskLeaves : Held (FileStore D g) → Image → Type 0
+  DiskLeaves conn image = StoreLeaves conn.store image
+
+  -- the same of files that were being opened
+  abbrev pub UnopenedLeaves : Unopened D g → Image → Type 0
+  UnopenedLeaves now image = let both = files_of now in outcomes g both.0 both.1 image
+
+  -- each table has the place that SQLite's own list of tables gives it
+  abbrev pub IsNumberedStore : FileStore D g → Type 0
+  IsNumberedStore store = IsTrue (view store).is_numbered
+
+  -- It is so of every connection: that which closes one says it.
   abbrev pub HasNumberedTrees : Held (FileStore D g) → Type 0
-  HasNumberedTrees conn = IsTrue (view conn.store).is_numbered
+  HasNumberedTrees conn = IsNumberedStore conn.store
+
+  -- It is so of a store that couldn't be closed too, if that is open still, or was shut before the closing.
+  abbrev pub KeepsTreesNumbered : Held (FileStore D g) → Leftover D g → Type 0
+  KeepsTreesNumbered conn (left.Files now) = ⊤
+  KeepsTreesNumbered conn (left.Unopened now) = ⊤
+  KeepsTreesNumbered conn (left.Store now) = IsTrue (view now).is_open ⊎ ((view conn.store).is_open ≡ false) → IsNumberedStore now
+
+  -- Of a store that was left the disk may leave these bytes, if its trees are numbered. If they aren't, the bytes hold a database that it
+  -- may leave.
+  abbrev pub LeftStoreLeaves : FileStore D g → Image → Type 0
+  LeftStoreLeaves now next = (IsNumberedStore now × StoreLeaves now next) ⊎ HoldsSuch (recovers now) next
+
+  -- The same of what is left of files that held an image. If they were being opened, their pages end in no sums.
+  abbrev pub LeftoverLeaves : Image → Leftover D g → Image → Type 0
+  LeftoverLeaves image (left.Files now) next = outcomes g now.log now.db next
+  LeftoverLeaves image (left.Unopened now) next = UnopenedLeaves now next × HasNoSums image
+  LeftoverLeaves image (left.Store now) next = LeftStoreLeaves now next
+
+module _ {T D : Type 0} {g : Ghosts D} where
+  -- The same of files over which no task ran. Those that weren't opened are as they were. (Those that `sqlite` failed to open are taken as
+  -- such: it says nothing of them.)
+  abbrev pub BytesLeave : Image → Remains T D g → Image → Type 0
+  BytesLeave image (remains.Untouched start) next = next ≡ image
+  BytesLeave image (remains.NotOpened seal) next = next ≡ image
+  BytesLeave image (remains.Leftover left) next = LeftoverLeaves image left next
+  BytesLeave image (remains.Connection conn) next = DiskLeaves conn next
+
+  -- if they have a connection, its trees are numbered
+  abbrev pub AreNumbered : Remains T D g → Type 0
+  AreNumbered (remains.Untouched start) = ⊤
+  AreNumbered (remains.NotOpened seal) = ⊤
+  AreNumbered (remains.Leftover left) = ⊤
+  AreNumbered (remains.Connection conn) = HasNumberedTrees conn

@@ -3,11 +3,13 @@
 ghost use Rattle.std.specs.Prelude.{◌≡◌, [], IsTrue, IfOk, IfErr, false};
 ghost use Rattle.sqlite_wal.specs.PageSize.{bytes_of};
 ghost use Rattle.sqlite_wal.specs.Reads.{AreClean};
+ghost use Rattle.sqlite_wal.specs.declared.error.Error.TheVariants as log_error;
 ghost use Rattle.sqlite_trees.specs.Tree.{Trees};
 ghost use Rattle.sqlite_store.specs.Unopened.{state_of, files_of, wanted_by};
 ghost use Rattle.sqlite.specs.State.{HasCleanDisk};
 ghost use Rattle.sqlite.specs.Held.{IsNew};
 ghost use Rattle.sqlite.specs.Files.{file_state, IsOpened, HoldsDatabase, IsEmpty, IsCleanLeft, image_of};
+ghost use Rattle.moo_files.specs.Causes.{IsOpenable, IsRefused};
 ghost use Rattle.moo_files.specs.Blank.{IsBlank, MakesOrFinds, LeavesBlank, SparesFiles};
 
 use sqlite::{Connection, Error, ErrorCode, FileStore, Files, Leftover, Options};
@@ -30,7 +32,9 @@ const FULL: Error = Error::SqliteFailure(ErrorCode::DiskFull);
 const UNSOUND: Error = Error::SqliteFailure(ErrorCode::NotADatabase);
 
 /// Why a blank database can't be made.
-fn make_error(error: OpenError) -> Error {
+fn make_error(error: OpenError) -> Error
+    ensures { error ≡ OpenError.OutOfMemory → result ≡ Error.SqliteFailure ErrorCode.OutOfMemory }
+{
     match error {
         OpenError::OutOfMemory => NO_MEMORY,
         OpenError::Io => IO,
@@ -40,7 +44,9 @@ fn make_error(error: OpenError) -> Error {
 }
 
 /// Why the files can't be looked at.
-fn probe_error(error: sqlite_wal::Error) -> Error {
+fn probe_error(error: sqlite_wal::Error) -> Error
+    ensures { error ≡ log_error.OutOfMemory → result ≡ Error.SqliteFailure ErrorCode.OutOfMemory }
+{
     match error {
         sqlite_wal::Error::OutOfMemory => NO_MEMORY,
         sqlite_wal::Error::Full => FULL,
@@ -86,6 +92,7 @@ fn connect_blank<D: Disk + Drop>(
     ensures fresh { IfOk result IsNew }
     ensures falls { IfErr result (λ e. IsCleanLeft e.1 → AreClean D.Disk files.log files.db) }
     ensures left { IfErr result (λ e. IsCleanLeft e.1 → IsBlank (image_of D.Disk files) → LeavesBlank files e.1) }
+    ensures cause { IfErr result (λ e. IsCleanLeft e.1 → IsBlank (image_of D.Disk files) → IsRefused e.0 e.1) }
 {
     let fresh = match unopened(alloc, files, size, options) {
         Ok(fresh) => fresh,
@@ -123,6 +130,8 @@ pub fn open_or_make<D: Disk + Drop>(
     ensures fresh { IfOk result IsNew }
     // After an error files that hold a database are as they were.
     ensures spared { IfErr result (λ e. IsCleanLeft e.1 → SparesFiles files e.1) }
+    // Files that hold nothing, or a database, are refused only if the disk refused or memory ran out.
+    ensures cause { IfErr result (λ e. IsCleanLeft e.1 → IsOpenable (image_of D.Disk files) → IsRefused e.0 e.1) }
 {
     let size = PageSize::new(NEW_SIZE).unwrap();
     match probe_blank(alloc, &mut files, size, false) {

@@ -3,7 +3,7 @@
 ghost use Rattle.sqlite.specs.State.{HasCleanDisk};
 ghost use Rattle.sqlite.specs.Files.{file_state, IsCleanLeft};
 ghost use Rattle.moo_files.specs.Closing.{IsLeftOf, IsClosedAs};
-ghost use Rattle.moo_files.specs.Stop.{HasNumberedTrees};
+ghost use Rattle.moo_files.specs.Stop.{HasNumberedTrees, KeepsTreesNumbered};
 
 use sqlite::{Connection, FileStore, Leftover};
 use sqlite_disk::Disk;
@@ -21,10 +21,16 @@ pub fn close_connection<D: Disk + Drop>(conn: Connection<FileStore<D>>) -> Lefto
     ensures copied { IsClosedAs conn result }
     // Its trees were numbered. So if it had been stopped, what the disk left of its files was a database too (`disk_leaves_a_database`).
     ensures numbered { IsCleanLeft result → HasNumberedTrees conn }
+    // And so they are in a store that couldn't be closed, if it is open still, or was shut before.
+    ensures numbers { IsCleanLeft result → KeepsTreesNumbered conn result }
 {
-    // These are the steps of `sqlite`'s `close_files`, which doesn't say that the trees are numbered: `into_store` does.
+    // These are the steps of `sqlite`'s `close_files`, which doesn't say that the trees are numbered: `into_store` does. A store
+    // that is broken has no checkpoint: after a failed one nothing would tell whether its trees are numbered still.
     let mut store = conn.into_store();
     store.rollback();
+    if store.is_broken() {
+        return Leftover::Store(store);
+    }
     match store.checkpoint() {
         Ok(()) => Leftover::Files(store.close()),
         Err(_error) => Leftover::Store(store),

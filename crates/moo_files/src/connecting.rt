@@ -1,11 +1,14 @@
 //! Opening a connection to the files of a world, or making one.
 
-ghost use Rattle.std.specs.Prelude.{◌≡◌, ◌≢◌, ◌⊎◌, IfOk, IfErr, IsTrue};
+ghost use Rattle.std.specs.Prelude.{◌≡◌, ◌≢◌, ◌⊎◌, IfOk, IfErr, IsErr, IsTrue};
 ghost use Rattle.sqlite.specs.Start.{FindsIn};
+ghost use Rattle.sqlite.specs.Tree.{Trees};
 ghost use Rattle.sqlite.specs.WalFiles.{image_at};
 ghost use Rattle.sqlite_std_file.specs.declared.pair.OpenError.{OpenError as Refusal};
 ghost use Rattle.moo_store.specs.Opening.{IsOfStore, not_ours};
+ghost use Rattle.moo_files.specs.Causes.{HasCause, IsDenied, IsOpenable};
 ghost use Rattle.moo_files.specs.Connected.{IsConnected, IsNewOrFound, Unconnects};
+ghost use Rattle.moo_files.specs.Contents.{HoldsTrees};
 ghost use Rattle.moo_files.specs.Making.{IsUnmadeIn};
 ghost use Rattle.moo_files.specs.Opened.{Contents, Hold, IsRefusedFrom};
 ghost use Rattle.moo_files.specs.Remains.{cannot_open, busy, malformed, IfNotOpened, IsCleanRemains, IsUnopened, MayStopAs};
@@ -13,7 +16,7 @@ ghost use Rattle.moo_files.specs.Start.{HoldStart};
 
 use crate::blank::open_or_make;
 use crate::pair::open_files;
-use crate::paths::WorldFiles;
+use crate::paths::{WorldFiles, names_no_file};
 use crate::remains::Remains;
 use moo_store::StoreFault;
 use sqlite::{Connection, Error, ErrorCode, FileStore, Files, Options, Start};
@@ -62,9 +65,10 @@ fn open_pair<T: Start, H: WorldFiles<T>>(
     ensures own { IfErr result (λ e. (e.0 ≢ not_ours) × (e.0 ≢ malformed)) }
     ensures stopped { IfErr result (λ e. MayStopAs e.0 e.1) }
     ensures unopened { IfErr result (λ e. IsUnopened e.1) }
+    ensures denied { IsErr result → IsDenied (H.denies host.now) path.now }
     ensures refused { IfErr result (λ e. IfNotOpened e.1 ((error : Refusal) × H.refuses host.now path.now error)) }
 {
-    if path == ":memory:" || path.starts_with("file:") {
+    if names_no_file(path) {
         return Err((CANNOT_OPEN, Remains::Untouched(start)));
     }
     let Ok(seed) = host.seed() else {
@@ -88,6 +92,8 @@ pub(crate) fn open_new<T: Start, H: WorldFiles<T>>(
     ensures connects { IfOk result (IsConnected (IsNewOrFound (image_at T.Start))) }
     // Otherwise the store failed, and no world was begun.
     ensures unmade { IfErr result (λ e. IsUnmadeIn (λ _. ⊥) (image_at T.Start) e.0 e.1) }
+    ensures cause { IsOpenable (image_at T.Start) →
+        IfErr result (λ e. IsCleanRemains e.1 → HasCause (IsDenied (H.denies host.now) path.now) e.0 e.1) }
     ensures refusing { IfErr result (λ e. IfNotOpened e.1 ((error : Refusal) × H.refuses host.now path.now error)) }
 {
     let (files, options) = match open_pair(host, path, start) {
@@ -113,6 +119,9 @@ pub(crate) fn open_connection<T: Start, H: WorldFiles<T>>(
     ensures refused { IfErr result (λ e. IsRefusedFrom (image_at T.Start) e.0 e.1) }
     ensures unconnects { (held : Contents) → Hold (image_at T.Start) held →
         IfErr result (λ e. IsCleanRemains e.1 → Unconnects held (image_at T.Start) e.0 e.1) }
+    // A database is refused only if the host denied it, the disk refused, or memory ran out.
+    ensures cause { (trees : Trees) → HoldsTrees (image_at T.Start) trees →
+        IfErr result (λ e. IsCleanRemains e.1 → HasCause (IsDenied (H.denies host.now) path.now) e.0 e.1) }
     ensures refusing { IfErr result (λ e. IfNotOpened e.1 ((error : Refusal) × H.refuses host.now path.now error)) }
 {
     let (files, options) = match open_pair(host, path, start) {

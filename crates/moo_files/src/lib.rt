@@ -24,4 +24,4 @@ pub use pair::NotOpened;
 pub use paths::WorldFiles;
 pub use remains::Remains;
 pub use start::fresh_files_hold_start;
-pub use stop::{disk_leaves_a_database, open_after_stop};
+pub use stop::{disk_leaves_a_database, disk_leaves_what_was_kept, open_after_stop};

@@ -12,8 +12,9 @@ ghost use Rattle.moo_world.specs.Rows.{IsGood};
 ghost use Rattle.moo_store.specs.Loading.{Loads};
 ghost use Rattle.moo_store.specs.Opening.{IsOfStore};
 ghost use Rattle.moo_store.specs.World.{store_of, StandsFor, Left};
+ghost use Rattle.moo_files.specs.Causes.{HasCause, IsDenied, IsOpenable};
 ghost use Rattle.moo_files.specs.Making.{rows_made, Makes};
-ghost use Rattle.moo_files.specs.Remains.{IfNotOpened};
+ghost use Rattle.moo_files.specs.Remains.{IfNotOpened, IsCleanRemains};
 
 use crate::connecting::open_new;
 use crate::paths::WorldFiles;
@@ -92,6 +93,8 @@ pub(crate) fn make_from<T: Start, H: WorldFiles<T>>(
     requires limit { IfSome rows (λ r. r.maps.head.seq < 2 ^ 63) }
     ensures makes { Makes (rows_made rows) (image_at T.Start) result }
     ensures refusing { IfErr result (λ e. IfNotOpened e.1 ((error : Refusal) × H.refuses host.now path.now error)) }
+    ensures cause { IsOpenable (image_at T.Start) →
+        IfErr result (λ e. IsCleanRemains e.1 → HasCause (IsDenied (H.denies host.now) path.now) e.0 e.1) }
 {
     let conn = match open_new(alloc, host, path, start) {
         Ok(conn) => conn,
@@ -116,6 +119,9 @@ pub fn create_from<T: Start, H: WorldFiles<T>>(
     ensures makes { Makes opening_maps (image_at T.Start) result }
     // If they couldn't be opened, the host said so.
     ensures refusing { IfErr result (λ e. IfNotOpened e.1 ((error : Refusal) × H.refuses host.now path.now error)) }
+    // Before a connection is open, files that hold nothing or a database are refused only if the host, the disk or memory did.
+    ensures cause { IsOpenable (image_at T.Start) →
+        IfErr result (λ e. IsCleanRemains e.1 → HasCause (IsDenied (H.denies host.now) path.now) e.0 e.1) }
 {
     make_from(alloc, host, path, start, None)
 }

@@ -1,15 +1,18 @@
 //! Opening the world that a file holds.
 
-ghost use Rattle.std.specs.Prelude.{◌≡◌, ◌≢◌, ◌⊎◌, IfOk, IfErr, IsErr, Some, None, IfSome, false};
+ghost use Rattle.std.specs.Prelude.{◌≡◌, ◌≢◌, ◌⊎◌, IfOk, IfErr, IsErr, IsSome, Some, None, IfSome, false};
 ghost use Rattle.std.specs.Fs.{file_type, metadata_len, IsFile};
 ghost use Rattle.sqlite.specs.State.{HasCleanDisk};
 ghost use Rattle.sqlite.specs.Files.{over_files};
+ghost use Rattle.sqlite.specs.Tree.{Trees};
 ghost use Rattle.sqlite.specs.WalFiles.{image_at};
 ghost use Rattle.sqlite_std_file.specs.declared.pair.OpenError.{OpenError as Refusal};
 ghost use Rattle.moo_world.specs.Rows.{IsGood};
 ghost use Rattle.moo_world.specs.Judge.{state_of};
 ghost use Rattle.moo_store.specs.Opening.{Adopting, not_ours};
 ghost use Rattle.moo_store.specs.World.{store_of, StandsFor};
+ghost use Rattle.moo_files.specs.Causes.{HasCause, IsDenied, IsUnfit};
+ghost use Rattle.moo_files.specs.Contents.{HoldsTrees};
 ghost use Rattle.moo_files.specs.Opened.{Contents, Hold, IsOpenedOver, Opens, IsRefusedFrom, Refuses};
 ghost use Rattle.moo_files.specs.Remains.{cannot_open, IfNotOpened, IsCleanRemains};
 
@@ -34,6 +37,7 @@ fn unfit(found: io::Result<Metadata>) -> Option<StoreFault>
     ensures empty { IfOk found (λ meta. IsFile (file_type meta) → metadata_len meta ≡ 0 → result ≡ Some not_ours) }
     ensures fit { IfOk found (λ meta. (IsFile (file_type meta) → metadata_len meta ≢ 0) → result ≡ None) }
     ensures fault { IfSome result (λ fault. (fault ≡ cannot_open) ⊎ (fault ≡ not_ours)) }
+    ensures unfit { IsSome result → IsUnfit found }
 {
     match found {
         Ok(data) if data.is_file() && data.len() == 0 => Some(NO_DATABASE),
@@ -73,6 +77,9 @@ pub fn open_from<T: Start, H: WorldFiles<T>>(
     ensures refuses { (held : Contents) → Hold (image_at T.Start) held →
         IfErr result (λ e. IsCleanRemains e.1 → Refuses held (image_at T.Start) e.0 e.1) }
     ensures refusing { IfErr result (λ e. IfNotOpened e.1 ((error : Refusal) × H.refuses host.now path.now error)) }
+    // Before a connection is open a database is refused only if the host denied it, the disk refused, or memory ran out.
+    ensures cause { (trees : Trees) → HoldsTrees (image_at T.Start) trees →
+        IfErr result (λ e. IsCleanRemains e.1 → HasCause (IsDenied (H.denies host.now) path.now) e.0 e.1) }
 {
     if let Some(fault) = unfit(host.metadata(path)) {
         return Err((fault, Remains::Untouched(start)));

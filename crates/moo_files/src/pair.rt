@@ -1,6 +1,6 @@
 //! The two files at a path, and the seal of a start that was spent on them in vain.
 
-ghost use Rattle.std.specs.Prelude.{IsTrue, IfOk, IfErr};
+ghost use Rattle.std.specs.Prelude.{◌≡◌, IsTrue, IsErr, IfOk, IfErr};
 ghost use Rattle.moo_files.specs.Start.{HoldStart};
 
 use crate::paths::WorldFiles;
@@ -23,6 +23,7 @@ pub(crate) fn open_files<T: Start, H: WorldFiles<T>>(
     ensures usable { IfOk result (λ files. IsTrue (H.Disk.Disk.is_usable files.log) × IsTrue (H.Disk.Disk.is_usable files.db)) }
     ensures start { IfOk result (HoldStart T.Start H.Disk.Disk) }
     ensures refused { IfErr result (λ e. H.refuses host.now path.now e.0) }
+    ensures denied { IsErr result → H.denies host.now path.now }
 {
     match host.open_database(path, start) {
         Ok(files) => Ok(files),

@@ -1,7 +1,8 @@
 //! Where the files of a world are.
 
-ghost use Rattle.std.specs.Prelude.{IsTrue, IfOk, IfErr, ℕ, List};
+ghost use Rattle.std.specs.Prelude.{◌≡◌, IsTrue, IsErr, IfOk, IfErr, ℕ, List};
 ghost use Rattle.sqlite_std_file.specs.declared.pair.OpenError.{OpenError as Refusal};
+ghost use Rattle.moo_files.specs.Causes.{names_no_file, IsUnfit};
 ghost use Rattle.moo_files.specs.Start.{HoldStart};
 
 use sqlite::{Files, Start};
@@ -24,12 +25,18 @@ pub trait WorldFiles<T: Start> {
     /// The files of a path couldn't be opened, and why. So code over any host says of no files that they couldn't, unless the host said it.
     ghost refuses: { Self → List ℕ → Refusal → Type 0 };
 
+    /// No world can be opened at a path: there is no file or an empty one, it can't be looked at or opened, or there is no random number.
+    /// So code over any host refuses no path before its files are open, unless the host did.
+    ghost denies: { Self → List ℕ → Type 0 };
+
     /// What the system knows of the file of a path. An error if there is no file, or it can't be looked at.
     fn metadata(&self, path: &str) -> IoResult<Metadata>
-        requires { may_open self.now path.now };
+        requires { may_open self.now path.now }
+        ensures denied { IsUnfit result → denies self.now path.now };
 
     /// A random number, for the salts of a log. An error if the system can't give one.
-    fn seed(&self) -> IoResult<u64>;
+    fn seed(&self) -> IoResult<u64>
+        ensures denied { IsErr result → (path : List ℕ) → denies self.now path };
 
     /// Opens the database file of a path and its log, and makes those that are missing. They hold what the start says of them. The errors
     /// are those of `sqlite_std_file::open`.
@@ -37,5 +44,13 @@ pub trait WorldFiles<T: Start> {
         requires { may_open self.now path.now }
         ensures usable { IfOk result (λ files. IsTrue (Self.Disk.Disk.is_usable files.log) × IsTrue (Self.Disk.Disk.is_usable files.db)) }
         ensures start { IfOk result (HoldStart T.Start Self.Disk.Disk) }
-        ensures refused { IfErr result (refuses self.now path.now) };
+        ensures refused { IfErr result (refuses self.now path.now) }
+        ensures denied { IsErr result → denies self.now path.now };
+}
+
+/// Whether a name isn't a path: `:memory:`, or a URI.
+pub(crate) fn names_no_file(path: &str) -> bool
+    ensures { result ≡ names_no_file path.now }
+{
+    path == ":memory:" || path.starts_with("file:")
 }

@@ -3,6 +3,7 @@
 ghost use Rattle.std.specs.Prelude.{ℕ, ◌≤◌, List, ◌++◌, take, IfOk, IfErr, true};
 ghost use Rattle.sqlite_store.specs.declared.store.FileStore.{FileStore};
 ghost use Rattle.sqlite_wal.specs.Recovery.{Image};
+ghost use Rattle.sqlite.specs.Tree.{Trees};
 ghost use Rattle.sqlite.specs.State.{HasCleanDisk};
 ghost use Rattle.sqlite.specs.Held.{Held, AreDatabases};
 ghost use Rattle.sqlite.specs.Files.{over_files, file_state};
@@ -14,10 +15,11 @@ ghost use Rattle.moo_store.specs.Stand.{Stand, MayLeave};
 ghost use Rattle.moo_store.specs.Led.{BatchesLead, LeavesLed};
 ghost use Rattle.moo_store.specs.Opening.{IsOfStore};
 ghost use Rattle.moo_store.specs.World.{store_of, StandsFor, CrashLeaves};
-ghost use Rattle.moo_files.specs.Contents.{IsLeftBy};
+ghost use Rattle.moo_files.specs.Contents.{HoldsSuch, HoldsState, HoldsTrees, IsKept, IsLeftBy};
 ghost use Rattle.moo_files.specs.Opened.{Attempt, OpensHeld, RefusesHeld, OpensTables, OpensGood};
-ghost use Rattle.moo_files.specs.Remains.{IsCleanRemains};
-ghost use Rattle.moo_files.specs.Stop.{DiskLeaves, HasNumberedTrees};
+ghost use Rattle.moo_files.specs.Remains.{IsCleanRemains, StillHolds, StillHoldsTrees};
+ghost use Rattle.moo_files.specs.Stop.{DiskLeaves, HasNumberedTrees, BytesLeave, AreNumbered};
+ghost use Rattle.moo_files.specs.declared.remains.Remains.{Remains};
 
 use sqlite_disk::Disk;
 
@@ -36,6 +38,19 @@ pub fn disk_leaves_a_database<D: Disk>()
     ensures rows { (conn : Held (FileStore D D.Disk)) (rows : Maps) (batches others : List Batch) (image : Image) →
         HasCleanDisk (file_state conn) → HasNumberedTrees conn → LeavesLed (file_state conn) rows batches others → DiskLeaves conn image →
         IsLeftBy (file_state conn) image }
+{}
+
+/// Files over which no task ran are stopped, at any call: while they are open still, or after they are closed. Whatever the disk then
+/// leaves of the bytes of the two files, they hold a database of the kind that they kept.
+///
+/// `image` is what they held, and `next` any contents that the disk allows (`BytesLeave`). The disk was clean up to the stop.
+/// `Remains::close` says of files that have a connection that its trees are numbered.
+pub fn disk_leaves_what_was_kept<T, D: Disk>()
+    ensures state { (s : State) (image : Image) (rest : Remains T D D.Disk) (next : Image) → IsCleanRemains rest → AreNumbered rest →
+        HoldsState image s → StillHolds image rest s → BytesLeave image rest next → HoldsState next s }
+    ensures trees { (trees : Trees) (image : Image) (rest : Remains T D D.Disk) (next : Image) → IsCleanRemains rest → AreNumbered rest →
+        HoldsTrees image trees → AreDatabases (IsKept trees) → StillHoldsTrees image rest trees → BytesLeave image rest next →
+        HoldsSuch (IsKept trees) next }
 {}
 
 /// What is found if the files of a World that was stopped are opened: as `open_again`, from what the disk leaves of their bytes.

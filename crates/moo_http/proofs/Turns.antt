@@ -1,5 +1,6 @@
 -- The connections that a source hands out, served one after another.
-use Rattle.moo_http.{proofs.Words.{◌≡◌, inl, inr, ℕ, suc, ◌+◌, Bool, true, false, List, [], ◌∷◌, Option, Some, refl, sym, subst, arith, ◌≢◌, Result, Ok, Err, is_ok, IfErr, IsTrue, HasCleanDisk, Ghosts, Stand, World, store_of, CrashLeaves, StandsAt, Nothing, Request, ServeFault, Read, Write, OutOfMemory, ServiceFault, Moves, AfterConnections, StandsAtEnd, Serves, StandsStill, Served, Yields, Exchanged, Visited, Visit, AfterTurns, Attended, ServesFrom, attended_between, ServesOn, answered_in, failed_in}, specs.declared.arrivals.Connection.{Connection}}
+use Rattle.moo_http.{proofs.Words.{◌≡◌, inl, inr, ℕ, suc, ◌+◌, Bool, true, false, List, [], ◌∷◌, Option, Some, refl, sym, subst, arith, ◌∙◌, ◌≢◌, Result, Ok, Err, is_ok, IfErr, IsTrue, HasCleanDisk, Ghosts, Stand, World, store_of, CrashLeaves, StandsAt, Nothing, Request, ServeFault, Read, Write, OutOfMemory, ServiceFault, Moves, AfterConnections, StandsAtEnd, Serves, StandsStill, Served, Yields, Exchanged, Visited, Visit, AfterTurns, Attended, ServesFrom, attended_between, ServesOn, answered_in, failed_in, lost_in, Happening, Step, visit, settle, Loss, None, zero, TellsLoss, TellsLosses}}
+use Rattle.moo_arrivals.specs.declared.arrivals.Connection.{Connection}
 use Rattle.moo_http.specs.declared.service.ServiceFault.TheVariants as service
 
 -- the same end, of which something else holds
@@ -41,21 +42,28 @@ unvisited old left rest before = (Read, (refl, refl))
 -- ---- many
 
 -- the turns so far, by how many were answered and how many failed
-pub record Counted (turns : List Bool) (answered failed count : ℕ) : Type 0 where
+pub record Counted (turns : List Happening) (answered failed count : ℕ) : Type 0 where
   pub sum : answered + failed ≡ count
-  pub answered_are : answered_in turns ≡ answered
-  pub failed_are : failed_in turns ≡ failed
+  pub answered_are : answered_in turns ≡ answered + lost_in turns
+  pub failed_are : failed_in turns + lost_in turns ≡ failed
 
 pub none_counted : Counted [] 0 0 0
 none_counted = record { sum = refl; answered_are = refl; failed_are = refl }
 
-pub one_answered : (turns : List Bool) (result : Bool) (answered failed count : ℕ) → result ≡ true → Counted turns answered failed count → Counted (result ∷ turns) (answered + 1) failed (count + 1)
+pub one_answered : (turns : List Happening) (result : Bool) (answered failed count : ℕ) → result ≡ true → Counted turns answered failed count → Counted (visit result ∷ turns) (answered + 1) failed (count + 1)
 one_answered turns result answered failed count is it =
-    subst (λ b. Counted (b ∷ turns) (answered + 1) failed (count + 1)) (sym is) (record { sum = omega (arith, it.sum); answered_are = omega (arith, it.answered_are); failed_are = it.failed_are })
+    subst (λ b. Counted (visit b ∷ turns) (answered + 1) failed (count + 1)) (sym is) (record { sum = omega (arith, it.sum); answered_are = omega (arith, it.answered_are); failed_are = it.failed_are })
 
-pub one_failed : (turns : List Bool) (result : Bool) (answered failed count : ℕ) → result ≡ false → Counted turns answered failed count → Counted (result ∷ turns) answered (failed + 1) (count + 1)
+pub one_failed : (turns : List Happening) (result : Bool) (answered failed count : ℕ) → result ≡ false → Counted turns answered failed count → Counted (visit result ∷ turns) answered (failed + 1) (count + 1)
 one_failed turns result answered failed count is it =
-    subst (λ b. Counted (b ∷ turns) answered (failed + 1) (count + 1)) (sym is) (record { sum = omega (arith, it.sum); answered_are = it.answered_are; failed_are = omega (arith, it.failed_are) })
+    subst (λ b. Counted (visit b ∷ turns) answered (failed + 1) (count + 1)) (sym is) (record { sum = omega (arith, it.sum); answered_are = it.answered_are; failed_are = omega (arith, it.failed_are) })
+
+pub none_lost : (turns : List Happening) (answered failed count : ℕ) → Counted turns answered failed count → Counted (settle None ∷ turns) answered failed count
+none_lost turns answered failed count it = record { sum = it.sum; answered_are = it.answered_are; failed_are = it.failed_are }
+
+pub one_lost : (turns : List Happening) (loss : Loss) (answered failed count : ℕ) → Counted turns (answered + 1) failed count → Counted (settle (Some loss) ∷ turns) answered (failed + 1) count
+one_lost turns loss answered failed count it =
+    record { sum = omega (arith, it.sum); answered_are = omega (arith, it.answered_are); failed_are = omega (arith, it.failed_are) }
 
 -- From one World to another, wherever it stood: this holds of where it stood and where it stands.
 pub record Leads {S : Type 0} (g : Ghosts S) (was world : World S) (Way : Stand → Stand → Type 0) : Type 0 where
@@ -78,6 +86,13 @@ leads_on g was between world First Second Way both first second clean = record {
   clean = λ now. first.clean (clean now);
 }
 
+-- the same way, of which something else holds
+pub leads_as : {S : Type 0} (g : Ghosts S) (was world : World S) (First Way : Stand → Stand → Type 0) → ((old new : Stand) → First old new → Way old new) → Leads g was world First → Leads g was world Way
+leads_as g was world First Way then first = record {
+  reaches = λ known stand at. ends_as g known world (λ end. First stand end) (λ end. Way stand end) (λ end it. then stand end it) (first.reaches known stand at);
+  clean = first.clean;
+}
+
 -- ---- from the connections of a source to so many connections
 
 moved : (old new : Stand) (left rest : Option (List ℕ)) (output : List ℕ) → Yields old new left rest output → Moves old new
@@ -96,22 +111,24 @@ visit_moves true old new left rest before after it = exchange_moves (Ok tt) old 
 visit_moves false old new left rest before after (fault, it) = exchange_moves (Err fault) old new left rest before after it
 
 module _ {A R W : Type 0} (hands_out : A → Option (Connection R W) → A → Type 0) (takes_back : A → Connection R W → A → Type 0)
-    (remaining : R → Option (List ℕ)) (contents : W → Option (List ℕ)) where
-  turn_moves : (answered : Bool) (from : A) (old : Stand) (to : A) (new : Stand) → Visit hands_out takes_back remaining contents answered from old to new → Moves old new
-  turn_moves answered from old to new (inl (opened, closed, between, handed, visit, back, unlimited)) =
-      visit_moves answered old new (remaining opened.reader) (remaining closed.reader) (contents opened.writer) (contents closed.writer) visit
+    (loses : A → Option Loss → A → Type 0) (remaining : R → Option (List ℕ)) (contents : W → Option (List ℕ)) where
+  turn_moves : (answered : Bool) (from : A) (old : Stand) (to : A) (new : Stand) → Visit hands_out takes_back loses remaining contents answered from old to new → Moves old new
+  turn_moves answered from old to new (inl (opened, closed, between, handed, seen, back, unlimited)) =
+      visit_moves answered old new (remaining opened.reader) (remaining closed.reader) (contents opened.writer) (contents closed.writer) seen
   turn_moves answered from old to new (inr (is, same, handed)) = inl same
 
-  after_turns : (turns : List Bool) (from : A) (old : Stand) (to : A) (new : Stand) → AfterTurns hands_out takes_back remaining contents turns from old to new → AfterConnections (answered_in turns + failed_in turns) old new
+  after_turns : (turns : List Happening) (from : A) (old : Stand) (to : A) (new : Stand) → AfterTurns hands_out takes_back loses remaining contents turns from old to new → AfterConnections (answered_in turns + failed_in turns) old new
   after_turns [] from old to new (same, stays) = stays
-  after_turns (true ∷ earlier) from old to new (between, stand, before, turn) =
+  after_turns (visit true ∷ earlier) from old to new (between, stand, before, turn) =
       let one_more : suc (answered_in earlier + failed_in earlier) ≡ suc (answered_in earlier) + failed_in earlier = omega arith in
       subst (λ n. AfterConnections n old new) one_more (stand, after_turns earlier from old between stand before, turn_moves true between stand to new turn)
-  after_turns (false ∷ earlier) from old to new (between, stand, before, turn) =
+  after_turns (visit false ∷ earlier) from old to new (between, stand, before, turn) =
       let one_more : suc (answered_in earlier + failed_in earlier) ≡ answered_in earlier + suc (failed_in earlier) = omega arith in
       subst (λ n. AfterConnections n old new) one_more (stand, after_turns earlier from old between stand before, turn_moves false between stand to new turn)
+  after_turns (settle told ∷ earlier) from old to new (between, stand, before, turn) =
+      subst (λ end. AfterConnections (answered_in earlier + failed_in earlier) old end) (sym turn.1) (after_turns earlier from old between stand before)
 
-  pub attended_moves : (answered failed count : ℕ) (from : A) (old : Stand) (to : A) (new : Stand) → answered + failed ≡ count → Attended hands_out takes_back remaining contents answered failed from old to new → AfterConnections count old new
+  pub attended_moves : (answered failed count : ℕ) (from : A) (old : Stand) (to : A) (new : Stand) → answered + failed ≡ count → Attended hands_out takes_back loses remaining contents answered failed from old to new → AfterConnections count old new
   attended_moves answered failed count from old to new sum (turns, answered_are, failed_are, it) =
       let all : answered_in turns + failed_in turns ≡ count = omega (arith, answered_are, failed_are, sum) in
       subst (λ n. AfterConnections n old new) all (after_turns turns from old to new it)
@@ -119,7 +136,7 @@ module _ {A R W : Type 0} (hands_out : A → Option (Connection R W) → A → T
   -- from the connections of a source that was opened on a port and closed to those of the port
   pub serves_on : {P : Type 0} (listens : P → ℕ → Option A → P → Type 0) (closes : P → A → P → Type 0) (first between last : P) (r : Result (Unit {0}) ServiceFault) (port count : ℕ) (from : A) (old : Stand) (to : A) (new : Stand) (before after : Option (List ℕ))
       → listens first port (Some from) between → closes between to last → IfErr r (λ fault. fault ≢ service.Port)
-      → ServesFrom hands_out takes_back remaining contents r port count from old to new before after → ServesOn (attended_between hands_out takes_back remaining contents listens closes first last) r port count old new before after
+      → ServesFrom hands_out takes_back loses remaining contents r port count from old to new before after → ServesOn (attended_between hands_out takes_back loses remaining contents listens closes first last) r port count old new before after
   serves_on listens closes first between last (Ok done) port count from old to new before after opened closed other (text, (answered, failed, sum, holds, is), wrote) =
       (text, (answered, failed, sum, (between, from, to, opened, holds, closed), is), wrote)
   serves_on listens closes first between last (Err service.Port) port count from old to new before after opened closed other it = absurd (other refl)
@@ -131,3 +148,70 @@ module _ {A R W : Type 0} (hands_out : A → Option (Connection R W) → A → T
       inl ((stays.1, (between, from, to, opened, ([], refl, refl, stays), closed)), front)
   serves_on listens closes first between last (Err service.OutOfMemory) port count from old to new before after opened closed other (inr (text, (answered, failed, sum, holds, is), front)) =
       inr (text, (answered, failed, sum, (between, from, to, opened, holds, closed), is), front)
+
+-- ---- answers that were lost
+
+module _ {A R W : Type 0} (hands_out : A → Option (Connection R W) → A → Type 0) (takes_back : A → Connection R W → A → Type 0)
+    (loses : A → Option Loss → A → Type 0) (remaining : R → Option (List ℕ)) (contents : W → Option (List ℕ)) where
+  -- from a source to another: turns, by how many of them were answered and failed
+  pub record Passed {S : Type 0} (g : Ghosts S) (was world : World S) (from to : A) (answered failed count : ℕ) : Type 0 where
+    pub turns : List Happening
+    pub counted : Counted turns answered failed count
+    pub leads : Leads g was world (λ old new. AfterTurns hands_out takes_back loses remaining contents turns from old to new)
+
+  -- after that the source was asked once for a lost answer
+  pub passed_on : {S : Type 0} (g : Ghosts S) (was world : World S) (from between to : A) (answered failed left lost count : ℕ)
+      → Passed g was world from between answered failed count → TellsLoss loses between answered failed to left lost → Passed g was world from to left lost count
+  passed_on g was world from between to answered failed left lost count it (inl (same, some, more)) =
+      rw (same, some, more) it
+  passed_on g was world from between to answered failed left lost count it (inr (inl (told, some, more))) =
+      rw (some, more) (record {
+        turns = settle None ∷ it.turns;
+        counted = none_lost it.turns answered failed count it.counted;
+        leads = leads_as g was world (λ old new. AfterTurns hands_out takes_back loses remaining contents it.turns from old between new)
+            (λ old new. AfterTurns hands_out takes_back loses remaining contents (settle None ∷ it.turns) from old to new)
+            (λ old new after. (between, new, after, (told, refl))) it.leads;
+      })
+  passed_on g was world from between to answered failed left lost count it (inr (inr (loss, told, some, more))) =
+      rw more (record {
+        turns = settle (Some loss) ∷ it.turns;
+        counted = one_lost it.turns loss left failed count (subst (λ n. Counted it.turns n failed count) some it.counted);
+        leads = leads_as g was world (λ old new. AfterTurns hands_out takes_back loses remaining contents it.turns from old between new)
+            (λ old new. AfterTurns hands_out takes_back loses remaining contents (settle (Some loss) ∷ it.turns) from old to new)
+            (λ old new after. (between, new, after, (told, refl))) it.leads;
+      })
+
+  -- or so often
+  pub passed_all : {S : Type 0} (g : Ghosts S) (was world : World S) (asked : ℕ) (from between to : A) (answered failed left lost count : ℕ)
+      → Passed g was world from between answered failed count → TellsLosses loses asked between answered failed to left lost → Passed g was world from to left lost count
+  passed_all g was world zero from between to answered failed left lost count it (same, some, more) = rw (same, some, more) it
+  passed_all g was world (suc n) from between to answered failed left lost count it (mid, some, more, earlier, last) =
+      passed_on g was world from mid to some more left lost count (passed_all g was world n from between mid answered failed some more count it earlier) last
+
+  -- the same, where one end is known
+  attended_on : (from : A) (old : Stand) (between to : A) (new : Stand) (answered failed left lost : ℕ)
+      → Attended hands_out takes_back loses remaining contents answered failed from old between new → TellsLoss loses between answered failed to left lost
+      → Attended hands_out takes_back loses remaining contents left lost from old to new
+  attended_on from old between to new answered failed left lost it (inl (same, some, more)) = rw (same, some, more) it
+  attended_on from old between to new answered failed left lost (turns, a, f, after) (inr (inl (told, some, more))) =
+      rw (some, more) (settle None ∷ turns, a, f, (between, new, after, (told, refl)))
+  attended_on from old between to new answered failed left lost (turns, a, f, after) (inr (inr (loss, told, some, more))) =
+      (settle (Some loss) ∷ turns, omega (arith, a, some), omega (arith, f, more), (between, new, after, (told, refl)))
+
+  pub attended_all : (asked : ℕ) (from : A) (old : Stand) (between to : A) (new : Stand) (answered failed left lost : ℕ)
+      → Attended hands_out takes_back loses remaining contents answered failed from old between new → TellsLosses loses asked between answered failed to left lost
+      → Attended hands_out takes_back loses remaining contents left lost from old to new
+  attended_all zero from old between to new answered failed left lost it (same, some, more) = rw (same, some, more) it
+  attended_all (suc n) from old between to new answered failed left lost it (mid, some, more, earlier, last) =
+      attended_on from old mid to new some more left lost (attended_all n from old between mid new answered failed some more it earlier) last
+
+-- asking for lost answers changes no sum
+settles_sum : {A : Type 0} (loses : A → Option Loss → A → Type 0) (from to : A) (answered failed left lost : ℕ) → TellsLoss loses from answered failed to left lost → answered + failed ≡ left + lost
+settles_sum loses from to answered failed left lost (inl (same, some, more)) = omega (arith, some, more)
+settles_sum loses from to answered failed left lost (inr (inl (told, some, more))) = omega (arith, some, more)
+settles_sum loses from to answered failed left lost (inr (inr (loss, told, some, more))) = omega (arith, some, more)
+
+pub settles_all_sum : {A : Type 0} (loses : A → Option Loss → A → Type 0) (asked : ℕ) (from to : A) (answered failed left lost : ℕ) → TellsLosses loses asked from answered failed to left lost → answered + failed ≡ left + lost
+settles_all_sum loses zero from to answered failed left lost (same, some, more) = omega (arith, some, more)
+settles_all_sum loses (suc n) from to answered failed left lost (mid, some, more, earlier, last) =
+    settles_all_sum loses n from mid answered failed some more earlier ∙ settles_sum loses mid to some more left lost last

@@ -1,5 +1,5 @@
 -- The words that most proofs of this crate share.
-pub use Rattle.std.proofs.Common.{Bool, IsTrue, List, None, Option, Some, [], ap, append-nil, append_assoc, arith, false, inl, inr, length, refl, rules, subst, suc, sym, take, true, true≢false, ℕ, ◌++◌, ◌+◌, ◌-◌, ◌<◌, ◌∙◌, ◌∷◌, ◌≡◌, ◌≢◌, ◌≤◌}
+pub use Rattle.std.proofs.Common.{Bool, IsTrue, List, None, Option, Some, [], ap, append-nil, append_assoc, arith, false, inl, inr, length, refl, rules, subst, suc, sym, take, true, true≢false, zero, ℕ, ◌++◌, ◌+◌, ◌-◌, ◌<◌, ◌∙◌, ◌∷◌, ◌≡◌, ◌≢◌, ◌≤◌}
 pub use Rattle.std.specs.Io.KnownBytes.{Appends, Consumes, Keeps}
 pub use Rattle.std.specs.Prelude.{Err, IfErr, IfOk, IsErrAnd, IsErrOf, Ok, OnErr, OnOk, Result, is_ok, ⊤, ◌⊎◌}
 pub use Rattle.moo_request.specs.Request.{Takes}
@@ -21,9 +21,10 @@ pub use Rattle.sqlite.specs.Store.{Ghosts}
 pub use Rattle.moo_http.specs.Answers.{Comes, Consulted, MayAnswer, answer, failed_by, taken_by}
 pub use Rattle.moo_http.specs.Connections.{AfterConnections, Connected, Moves, SaysByResult, ServesPort, StandsAtEnd, WritesFront}
 pub use Rattle.moo_http.specs.Lines.{listening_line, served_line}
-pub use Rattle.moo_http.specs.Linger.{DrainsAtMost}
 pub use Rattle.moo_http.specs.Serves.{IsWhyOf, Served, Serves, StandsStill, Written}
-pub use Rattle.moo_http.specs.Turns.{AfterTurns, Attended, Exchanged, ServesFrom, ServesOn, Visit, Visited, Yields, answered_in, attended_between, failed_in}
+pub use Rattle.moo_http.specs.Turns.{AfterTurns, Attended, Exchanged, ServesFrom, ServesOn, Step, Happening, Visit, Visited, Yields, answered_in, attended_between, failed_in, lost_in, settle, visit}
+pub use Rattle.moo_http.specs.Settling.{TellsLoss, TellsLosses}
 pub use Rattle.moo_http.specs.declared.fault.ServeFault.{ServeFault}
 pub use Rattle.moo_http.specs.declared.fault.ServeFault.TheVariants.{OutOfMemory, Read, Write}
 pub use Rattle.moo_http.specs.declared.service.ServiceFault.{ServiceFault}
+pub use Rattle.moo_arrivals.specs.declared.cause.Loss.{Loss}

@@ -5,4 +5,5 @@ pub mod Serves
 pub mod Lines
 pub mod Connections
 pub mod Turns
-pub mod Linger
+pub mod Settling
+pub mod Through

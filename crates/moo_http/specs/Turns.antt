@@ -1,10 +1,11 @@
 -- The connections that a source hands out, served one after another.
-use Rattle.std.specs.Prelude.{◌≡◌, ◌⊎◌, ℕ, suc, List, [], ◌∷◌, take, Option, Some, None, Result, Ok, Err, Bool, true, false}
+use Rattle.std.specs.Prelude.{◌≡◌, ◌⊎◌, ◌+◌, ℕ, suc, List, [], ◌∷◌, take, Option, Some, None, Result, Ok, Err, Bool, true, false}
 use Rattle.std.specs.Io.KnownBytes.{Appends}
 use Rattle.moo_store.specs.Stand.{Stand}
 use Rattle.moo_request.specs.Request.{Takes}
 use Rattle.moo_request.specs.declared.request.Received.{Received}
-use Rattle.moo_http.specs.declared.arrivals.Connection.{Connection}
+use Rattle.moo_arrivals.specs.declared.arrivals.Connection.{Connection}
+use Rattle.moo_arrivals.specs.declared.cause.Loss.{Loss}
 use Rattle.moo_http.specs.declared.fault.ServeFault.{ServeFault}
 use Rattle.moo_http.specs.declared.fault.ServeFault.TheVariants.{Read, Write, OutOfMemory}
 use Rattle.moo_http.specs.declared.service.ServiceFault.{ServiceFault}
@@ -45,19 +46,33 @@ pub record Attendance : Type 1 where
 
 -- ---- a source of connections
 
-abbrev pub answered_in : List Bool → ℕ
-answered_in [] = 0
-answered_in (true ∷ turns) = suc (answered_in turns)
-answered_in (false ∷ turns) = answered_in turns
+-- What happens at a source: a connection has its turn, and is answered or not; or the source is asked for a connection whose answer was
+-- lost after its turn, and tells of one or of none.
+pub data Happening : Type 0 where
+  visit : Bool → Happening
+  settle : Option Loss → Happening
 
-abbrev pub failed_in : List Bool → ℕ
+abbrev pub answered_in : List Happening → ℕ
+answered_in [] = 0
+answered_in (visit true ∷ turns) = suc (answered_in turns)
+answered_in (visit false ∷ turns) = answered_in turns
+answered_in (settle told ∷ turns) = answered_in turns
+
+abbrev pub failed_in : List Happening → ℕ
 failed_in [] = 0
-failed_in (true ∷ turns) = failed_in turns
-failed_in (false ∷ turns) = suc (failed_in turns)
+failed_in (visit true ∷ turns) = failed_in turns
+failed_in (visit false ∷ turns) = suc (failed_in turns)
+failed_in (settle told ∷ turns) = failed_in turns
+
+abbrev pub lost_in : List Happening → ℕ
+lost_in [] = 0
+lost_in (visit answered ∷ turns) = lost_in turns
+lost_in (settle (Some loss) ∷ turns) = suc (lost_in turns)
+lost_in (settle None ∷ turns) = lost_in turns
 
 -- a source of connections, by what it is before and after it hands one out and takes one back, and by the bytes that are known of them
 module _ {A R W : Type 0} (hands_out : A → Option (Connection R W) → A → Type 0) (takes_back : A → Connection R W → A → Type 0)
-    (remaining : R → Option (List ℕ)) (contents : W → Option (List ℕ)) where
+    (loses : A → Option Loss → A → Type 0) (remaining : R → Option (List ℕ)) (contents : W → Option (List ℕ)) where
   -- One turn, by whether a connection was answered: the source hands one out, which is visited, and takes it back; or it hands out none. A
   -- connection whose waits have no limit isn't read, and nothing is written to it.
   abbrev pub Visit : Bool → A → Stand → A → Stand → Type 0
@@ -68,16 +83,21 @@ module _ {A R W : Type 0} (hands_out : A → Option (Connection R W) → A → T
       × (opened.is_limited ≡ false → (answered ≡ false) × (new ≡ old) × (closed ≡ opened)))
       ⊎ ((answered ≡ false) × (new ≡ old) × hands_out from None to)
 
-  -- turns one after another; the head of the list tells the last one
-  abbrev pub AfterTurns : List Bool → A → Stand → A → Stand → Type 0
-  AfterTurns [] from old to new = (to ≡ from) × (new ≡ old)
-  AfterTurns (answered ∷ earlier) from old to new =
-      (between : A) × (stand : Stand) × AfterTurns earlier from old between stand × Visit answered between stand to new
+  -- what happens at the source; where it is only asked for a lost answer, the World isn't
+  abbrev pub Step : Happening → A → Stand → A → Stand → Type 0
+  Step (visit answered) from old to new = Visit answered from old to new
+  Step (settle told) from old to new = loses from told to × (new ≡ old)
 
-  -- After turns of which so many were answered, and so many failed.
+  -- turns one after another; the head of the list tells the last one
+  abbrev pub AfterTurns : List Happening → A → Stand → A → Stand → Type 0
+  AfterTurns [] from old to new = (to ≡ from) × (new ≡ old)
+  AfterTurns (turn ∷ earlier) from old to new =
+      (between : A) × (stand : Stand) × AfterTurns earlier from old between stand × Step turn between stand to new
+
+  -- After turns of which so many were answered, and so many failed. One whose answer was lost after its turn has failed.
   abbrev pub Attended : ℕ → ℕ → A → Stand → A → Stand → Type 0
   Attended answered failed from old to new =
-      (turns : List Bool) × (answered_in turns ≡ answered) × (failed_in turns ≡ failed) × AfterTurns turns from old to new
+      (turns : List Happening) × (answered_in turns ≡ answered + lost_in turns) × (failed_in turns + lost_in turns ≡ failed) × AfterTurns turns from old to new
 
   -- What comes of the service, by its result.
   abbrev pub ServesFrom : Result (Unit {0}) ServiceFault → ℕ → ℕ → A → Stand → A → Stand → Option (List ℕ) → Option (List ℕ) → Type 0

@@ -1,6 +1,6 @@
 //! Connections, served in turn.
 
-ghost use Rattle.std.specs.Prelude.{◌≡◌, ◌+◌, Bool, false, IsTrue, List};
+ghost use Rattle.std.specs.Prelude.{◌≡◌, ◌+◌, ◌^◌, ◌<◌, ℕ, Bool, false, IsTrue, List};
 ghost use Rattle.moo_world.specs.declared.call.Batch.{Batch};
 ghost use Rattle.moo_store.specs.Untouched.{IsMovedBy};
 ghost use Rattle.sqlite.specs.State.{HasCleanDisk};
@@ -8,11 +8,12 @@ ghost use Rattle.moo_store.specs.Stand.{Stand};
 ghost use Rattle.moo_store.specs.World.{store_of, StandsAt};
 ghost use Rattle.moo_http.specs.Connections.{Connected, StandsAtEnd};
 ghost use Rattle.moo_http.specs.Turns.{Visited, Visit, Attended};
+ghost use Rattle.moo_http.specs.Settling.{TellsLoss, TellsLosses};
 
-use crate::arrivals::{Arrivals, Connection};
 use crate::log::Log;
 use crate::note::{Note, Trouble};
 use crate::serve::serve_one;
+use moo_arrivals::{Arrivals, Connection};
 use moo_request::Routes;
 use moo_store::World;
 use sqlite::Alter;
@@ -58,22 +59,23 @@ pub fn serve_connection<S: Alter + Drop, R: Read, W: Write>(
     note.ends(served)
 }
 
-/// Takes the next connection of a source, serves it, and gives it back to be closed; whether it was answered. If none can be taken that is
-/// noted, and nothing is done.
+/// Takes the next connection of a source, of which so many are still to come, serves it, and gives it back to be closed; whether it was
+/// answered. If none can be taken that is noted, and nothing is done.
 pub fn serve_next<S: Alter + Drop, A: Arrivals>(
     alloc: Global,
     routes: &Routes,
     arrivals: &mut A,
+    left: u32,
     world: &mut World<S>,
     note: &mut Note,
 ) -> bool
     ensures turn { (known : Bool) (stand : Stand) → StandsAt S.Store known world.old stand → StandsAtEnd S.Store known world.new (λ end.
-        Visit A.hands_out A.takes_back A.Reader.remaining A.Writer.contents result arrivals.old stand arrivals.new end) }
+        Visit A.hands_out A.takes_back A.loses A.Reader.remaining A.Writer.contents result arrivals.old stand arrivals.new end) }
     ensures moved { (batches lost : List Batch) × IsMovedBy S.Store world.old world.new batches lost }
     ensures clean { HasCleanDisk (store_of S.Store world.new) → HasCleanDisk (store_of S.Store world.old) }
 {
     world.leaves();
-    let Some(connection) = arrivals.accept() else {
+    let Some(connection) = arrivals.accept(routes, left) else {
         note.fails(Trouble::NotTaken);
         return false;
     };
@@ -81,7 +83,9 @@ pub fn serve_next<S: Alter + Drop, A: Arrivals>(
         mut reader,
         mut writer,
         is_limited,
+        cause,
     } = connection;
+    note.cause = cause;
     let is_answered = serve_connection(
         alloc,
         routes,
@@ -95,13 +99,86 @@ pub fn serve_next<S: Alter + Drop, A: Arrivals>(
         reader,
         writer,
         is_limited,
+        cause,
     };
-    arrivals.close(served, note.closing);
+    arrivals.close(served, note.closing, note.route);
     is_answered
 }
 
+/// Asks a source once for a connection whose answer was lost after its turn. If there is one it has failed, and the log is told. Whether
+/// there may be more. If none was answered none can be lost, and nothing is asked.
+fn settle_one<'a, A: Arrivals, C: Clock + Eprint>(
+    arrivals: &mut A,
+    log: &mut Log<'a, C>,
+    served: &mut Served,
+    is_last: bool,
+) -> bool
+    requires { served.old.answered + served.old.failed < 2 ^ 32 }
+    ensures { TellsLoss A.loses arrivals.old served.old.answered served.old.failed arrivals.new served.new.answered served.new.failed }
+{
+    if served.answered == 0 {
+        return false;
+    }
+    let Some(loss) = arrivals.settle(is_last) else {
+        return false;
+    };
+    served.answered -= 1;
+    served.failed += 1;
+    log.tell(Note::lost(loss));
+    true
+}
+
+/// Asks a source for each connection whose answer was lost after its turn, once each answer is sent or lost.
+fn settle_rest<'a, A: Arrivals, C: Clock + Eprint>(
+    arrivals: &mut A,
+    log: &mut Log<'a, C>,
+    served: &mut Served,
+)
+    requires { served.old.answered + served.old.failed < 2 ^ 32 }
+    ensures { (asked : ℕ) × TellsLosses A.loses asked arrivals.old served.old.answered served.old.failed arrivals.new served.new.answered served.new.failed }
+{
+    for _ in 0..served.answered {
+        if !settle_one(arrivals, log, served, true) {
+            return;
+        }
+    }
+}
+
+/// Serves this many connections of a source, one after another, and asks after each for one whose answer was lost.
+fn serve_each<'a, S: Alter + Drop, A: Arrivals, C: Clock + Eprint>(
+    alloc: Global,
+    routes: &Routes,
+    arrivals: &mut A,
+    log: &mut Log<'a, C>,
+    world: &mut World<S>,
+    count: u32,
+) -> Served
+    ensures count { result.answered + result.failed ≡ count }
+    ensures serves { (known : Bool) (stand : Stand) → StandsAt S.Store known world.old stand → StandsAtEnd S.Store known world.new (λ end.
+        Attended A.hands_out A.takes_back A.loses A.Reader.remaining A.Writer.contents result.answered result.failed arrivals.old stand arrivals.new end) }
+    ensures moved { (batches lost : List Batch) × IsMovedBy S.Store world.old world.new batches lost }
+    ensures clean { HasCleanDisk (store_of S.Store world.new) → HasCleanDisk (store_of S.Store world.old) }
+{
+    world.leaves();
+    let mut served = Served {
+        answered: 0,
+        failed: 0,
+    };
+    for turn in 0..count {
+        let mut note = Note::new();
+        if serve_next(alloc, routes, arrivals, count - turn, world, &mut note) {
+            served.answered += 1;
+        } else {
+            served.failed += 1;
+        }
+        log.tell(note);
+        let _more = settle_one(arrivals, log, &mut served, false);
+    }
+    served
+}
+
 /// Serves this many connections of a source, one after another: how many were answered, and how many failed, since they couldn't be
-/// taken, or `serve_one` met a fault. One that failed doesn't stop the next. The log is told of each.
+/// taken, `serve_one` met a fault, or the answer was lost after that. One that failed doesn't stop the next. The log is told of each.
 pub fn serve_on<'a, S: Alter + Drop, A: Arrivals, C: Clock + Eprint>(
     alloc: Global,
     routes: &Routes,
@@ -114,24 +191,12 @@ pub fn serve_on<'a, S: Alter + Drop, A: Arrivals, C: Clock + Eprint>(
     // The World moved by what the connections asked that the source handed out, in their order, each of which got its answer or failed,
     // and by nothing else. So many of them were answered, and so many failed.
     ensures serves { (known : Bool) (stand : Stand) → StandsAt S.Store known world.old stand → StandsAtEnd S.Store known world.new (λ end.
-        Attended A.hands_out A.takes_back A.Reader.remaining A.Writer.contents result.answered result.failed arrivals.old stand arrivals.new end) }
+        Attended A.hands_out A.takes_back A.loses A.Reader.remaining A.Writer.contents result.answered result.failed arrivals.old stand arrivals.new end) }
     // It moved by accepted batches, one after another: each wrote only rows that differ, and kept all numbers.
     ensures moved { (batches lost : List Batch) × IsMovedBy S.Store world.old world.new batches lost }
     ensures clean { HasCleanDisk (store_of S.Store world.new) → HasCleanDisk (store_of S.Store world.old) }
 {
-    world.leaves();
-    let mut served = Served {
-        answered: 0,
-        failed: 0,
-    };
-    for _ in 0..count {
-        let mut note = Note::new();
-        if serve_next(alloc, routes, arrivals, world, &mut note) {
-            served.answered += 1;
-        } else {
-            served.failed += 1;
-        }
-        log.tell(note);
-    }
+    let mut served = serve_each(alloc, routes, arrivals, log, world, count);
+    settle_rest(arrivals, log, &mut served);
     served
 }

@@ -1,8 +1,9 @@
 //! What is told to the operator.
 
-use crate::note::{Note, Route, Trouble};
+use crate::note::{Note, Trouble};
 use crate::rate::Rate;
 use httpdate::HttpDate;
+use moo_arrivals::Route;
 use std::io::Eprint;
 use std::time::Clock;
 

@@ -3,44 +3,24 @@
 ghost use Rattle.std.specs.Prelude.{◌≡◌, ◌≢◌, IfSome, IfNone, is_ok};
 ghost use Rattle.moo_responses.specs.Responses.{response_of, reply_response};
 
-use crate::arrivals::Closing;
 use crate::fault::ServeFault;
-use moo_request::{Asked, Mode, Question};
+use moo_arrivals::{Cause, Closing, Loss, Route};
+use moo_request::{Asked, Mode};
 use moo_responses::Outcome;
 use moo_text::Reply;
 use std::fmt::{self, Display, Formatter};
-
-/// The route that a request asked for.
-#[derive(Clone, Copy, Drop)]
-pub enum Route {
-    /// None: the request was refused, or wasn't read.
-    Unknown,
-    Batch,
-    Ask,
-    Each,
-    /// That of a question.
-    Question(Question),
-}
-
-impl Display for Route {
-    fn fmt<W: fmt::Write>(&self, f: &mut Formatter<W>) -> fmt::Result {
-        match self {
-            Route::Unknown => f.write_str("-"),
-            Route::Batch => f.write_str("/batch"),
-            Route::Ask => f.write_str("/ask"),
-            Route::Each => f.write_str("/each"),
-            Route::Question(question) => question.fmt(f),
-        }
-    }
-}
 
 /// Why a connection failed, or was answered 503.
 #[derive(Clone, Copy, Drop)]
 pub enum Trouble {
     NotTaken,
     NotLimited,
-    Read,
+    /// The request wasn't gathered to its end.
+    Read(Cause),
+    /// The answer can't be held until it is sent.
     Write,
+    /// The answer wasn't taken to its end.
+    Lost(Cause),
     OutOfMemory,
     Closed,
     Store,
@@ -49,26 +29,29 @@ pub enum Trouble {
 
 impl Display for Trouble {
     fn fmt<W: fmt::Write>(&self, f: &mut Formatter<W>) -> fmt::Result {
-        f.write_str(match self {
+        let text = match self {
             Trouble::NotTaken => "failed: the connection can't be taken",
             Trouble::NotLimited => "failed: the waits of the connection can't be limited",
-            Trouble::Read => "failed: the request can't be read, or its peer was silent",
-            Trouble::Write => "failed: the answer can't be written, or its peer was silent",
+            Trouble::Read(cause) => return write!(f, "failed: waiting for the request: {cause}"),
+            Trouble::Write => "failed: the answer can't be written",
+            Trouble::Lost(cause) => {
+                return write!(f, "failed: waiting for the answer to be taken: {cause}");
+            }
             Trouble::OutOfMemory => "failed: out of memory",
             Trouble::Closed => "503: the store failed before, and the world is closed",
             Trouble::Store => "503: the store failed",
             Trouble::NoMemory => "503: out of memory",
-        })
+        };
+        f.write_str(text)
     }
 }
 
-impl From<ServeFault> for Trouble {
-    fn from(fault: ServeFault) -> Trouble {
-        match fault {
-            ServeFault::Read => Trouble::Read,
-            ServeFault::Write => Trouble::Write,
-            ServeFault::OutOfMemory => Trouble::OutOfMemory,
-        }
+/// What a fault means for a connection whose request, if it can't be read, fails for this cause.
+fn trouble_of_fault(fault: ServeFault, cause: Cause) -> Trouble {
+    match fault {
+        ServeFault::Read => Trouble::Read(cause),
+        ServeFault::Write => Trouble::Write,
+        ServeFault::OutOfMemory => Trouble::OutOfMemory,
     }
 }
 
@@ -79,6 +62,8 @@ pub struct Note {
     /// None if the connection was answered, and not by 503.
     pub trouble: Option<Trouble>,
     pub closing: Closing,
+    /// Why it fails, if its request can't be read to its end.
+    pub cause: Cause,
 }
 
 /// The route that a batch is sent to.
@@ -138,6 +123,17 @@ impl Note {
             route: Route::Unknown,
             trouble: None,
             closing: Closing::AtOnce,
+            cause: Cause::BrokenOff,
+        }
+    }
+
+    /// Of a connection whose answer was lost after its turn.
+    pub(crate) fn lost(loss: Loss) -> Note {
+        Note {
+            route: loss.route,
+            trouble: Some(Trouble::Lost(loss.cause)),
+            closing: Closing::AtOnce,
+            cause: loss.cause,
         }
     }
 
@@ -167,7 +163,7 @@ impl Note {
         match served {
             Ok(()) => true,
             Err(fault) => {
-                self.fails(Trouble::from(fault));
+                self.fails(trouble_of_fault(fault, self.cause));
                 false
             }
         }

@@ -12,10 +12,10 @@ ghost use Rattle.moo_http.specs.Lines.{listening_line, served_line};
 ghost use Rattle.moo_http.specs.Connections.{StandsAtEnd, ServesPort, WritesFront};
 ghost use Rattle.moo_http.specs.Turns.{ServesFrom, attended_between, ServesOn};
 
-use crate::arrivals::Arrivals;
 use crate::listen::{Served, serve_on};
 use crate::log::Log;
 use crate::ports::Ports;
+use moo_arrivals::Arrivals;
 use moo_dump::put_all;
 use moo_request::Routes;
 use moo_store::World;
@@ -102,7 +102,7 @@ pub fn serve_from<S: Alter + Drop, A: Arrivals, C: Clock + Eprint, W: Write>(
     output: &mut W,
 ) -> Result<(), ServiceFault>
     ensures serves { (known : Bool) (stand : Stand) → StandsAt S.Store known world.old stand → StandsAtEnd S.Store known world.new (λ end.
-        ServesFrom A.hands_out A.takes_back A.Reader.remaining A.Writer.contents result port count arrivals.old stand arrivals.new end (W.contents output.old) (W.contents output.new)) }
+        ServesFrom A.hands_out A.takes_back A.loses A.Reader.remaining A.Writer.contents result port count arrivals.old stand arrivals.new end (W.contents output.old) (W.contents output.new)) }
     // The same of the World alone, whatever the source tells.
     ensures moves { (known : Bool) (stand : Stand) → StandsAt S.Store known world.old stand →
         StandsAtEnd S.Store known world.new (λ end. ServesPort result port count stand end (W.contents output.old) (W.contents output.new)) }
@@ -136,7 +136,7 @@ pub fn serve_port<S: Alter + Drop, P: Ports, C: Clock + Eprint, W: Write>(
     // The World moved by what the connections asked that came to this port, as `serve_from` says it, and by nothing else. No other port
     // was listened on, and none was taken after the last of them.
     ensures serves { (known : Bool) (stand : Stand) → StandsAt S.Store known world.old stand → StandsAtEnd S.Store known world.new (λ end.
-        ServesOn (attended_between P.Source.hands_out P.Source.takes_back P.Source.Reader.remaining P.Source.Writer.contents P.listens P.closes ports.old ports.new) result port count stand end (W.contents output.old) (W.contents output.new)) }
+        ServesOn (attended_between P.Source.hands_out P.Source.takes_back P.Source.loses P.Source.Reader.remaining P.Source.Writer.contents P.listens P.closes ports.old ports.new) result port count stand end (W.contents output.old) (W.contents output.new)) }
     // A disk that returns what was written did so before.
     ensures clean { HasCleanDisk (store_of S.Store world.new) → HasCleanDisk (store_of S.Store world.old) }
     // It moved by accepted batches, one after another: each wrote only rows that differ, and kept all numbers.

@@ -15,3 +15,4 @@ pub mod Routes
 pub mod Settled
 pub mod Shape
 pub mod Shown
+pub mod Whole

@@ -12,7 +12,8 @@ use httparse::Status;
 use httparse::spans::{EMPTY_HEADER_SPAN, HeaderSpan, RequestSpans, parse_request};
 use std::io::Read;
 
-const MAX_HEAD: usize = 8192;
+/// How many bytes a head has at the most.
+pub const MAX_HEAD: usize = 8192;
 
 const MAX_LINES: usize = 32;
 
@@ -35,7 +36,7 @@ pub enum HeadRead {
 }
 
 /// What the bytes say of the head, whatever follows them. `None` if it may go on after them.
-fn parse_head(bytes: &[u8]) -> Option<HeadRead>
+pub(crate) fn parse_head(bytes: &[u8]) -> Option<HeadRead>
     requires { (0 < length bytes.now) × (length bytes.now ≤ 8192) }
     ensures found { IfSome result (ShowsHead bytes.now) }
     ensures partial { result ≡ None → HasNoRequest bytes.now }

@@ -16,13 +16,16 @@ mod question;
 mod request;
 mod routes;
 mod shape;
+mod whole;
 mod wrong;
 
 pub use asked::{Asked, Method, Mode, Refusal};
 pub use each::{Batches, Each};
 pub use fault::ReadFault;
+pub use head::MAX_HEAD;
 pub use laws::{received_once, routes_are_known};
 pub use question::Question;
 pub use request::{Received, read_request};
 pub use routes::Routes;
+pub use whole::{Wanted, wants};
 pub use wrong::{BodyFault, ShapeFault};

@@ -48,7 +48,7 @@ fn asks_why(bytes: &[u8], head: &HeadSpans) -> bool
 }
 
 /// What a head decides.
-fn plan_head(routes: &Routes, bytes: &[u8], head: &HeadSpans) -> Plan
+pub(crate) fn plan_head(routes: &Routes, bytes: &[u8], head: &HeadSpans) -> Plan
     requires within { IsRequestWithin bytes.now head.now.headers head.now.spans }
     requires found { IsRequestOf bytes.now head.now.headers head.now.spans }
     ensures value { (parts : RequestHead) → IsRequestAt bytes.now head.now.headers head.now.spans parts → result ≡ plan_by parts }

@@ -1,13 +1,40 @@
 -- From what a check read to the World that it leaves.
-use Rattle.moo_store.{proofs.Words.{◌≡◌, ◌≤◌, ◌≤ℤ◌, ℕ, ℤ, pos, negsuc, suc, zero, [], ◌∷◌, length, map, Bool, true, false, Result, Ok, Err, refl, sym, ap, subst, ◌∙◌, arith, length-append, length-map, IfErr, MatchResult, entries, HasCleanDisk, Ghosts, Held, state, Maps, IsGood, world_of, numbers_below, State, Tables, Rests, ShowsRows, KeepsRows, World, store_of, StandsFor, IsOfStore, StoreFault, Store, Damaged, NewerVersion, OutOfMemory, Closed}, specs.Checked.{FailsWorld}}
+use Rattle.moo_store.{proofs.Words.{◌≡◌, ◌≢◌, ◌≤◌, ◌≤ℤ◌, ℕ, ℤ, pos, negsuc, suc, zero, [], ◌∷◌, length, map, Bool, true, false, Result, Ok, Err, refl, sym, ap, subst, ◌∙◌, arith, length-append, length-map, IfOk, IfErr, OnOk, MatchResult, entries, HasCleanDisk, Ghosts, Held, state, Maps, IsGood, world_of, numbers_below, State, Tables, Rests, ShowsRows, KeepsRows, World, store_of, StandsFor, IsOfStore, StoreFault, Store, Damaged, NewerVersion, OutOfMemory, Closed}, specs.Checked.{SaysInCheck, IsUnchecked, Checks, FailsWorld}}
+use Rattle.sqlite.specs.State.{State as Database}
 use Rattle.std.{proofs.lemmas.List.Sums.{count_by-le-length, length-filter}, proofs.lemmas.Int.{ints}}
 use Rattle.moo_world.{specs.Objects.{object_at}, specs.ObjectLists.{objects_of}, specs.World.{is_object, numbers_to}, proofs.Shown.ObjectEntries.{objects_listed}}
 
--- what the rows of the cells that were read say is said of the tables that rest
-pub whole_here : {A : Type 0} (cells : Tables) (Known : Tables → Type 0) (own : Maps) (r : Result A StoreFault) → (ShowsRows cells own → IfErr r IsOfStore) → ((t : Tables) → Known t → cells ≡ t)
-    → IfErr r (λ fault. (t : Tables) → Known t → ShowsRows t own → IsOfStore fault)
-whole_here cells Known own (Ok count) whole is = tt
-whole_here cells Known own (Err fault) whole is = λ t known shows. whole (subst (λ t. ShowsRows t own) (sym (is t known)) shows)
+-- what the cells that were read say, and what is known of the tables that they are, decides a check
+pub checked_by : (own : Maps) (cells : Tables) (old new : Database) (r : Result ℕ StoreFault) → OnOk r (ShowsRows cells own) → IfOk r (λ count. count ≡ length (objects_of (world_of own)))
+    → IfErr r (SaysInCheck own cells) → (ShowsRows cells own → IfErr r IsOfStore) → (HasCleanDisk new → (t : Tables) → Rests old t → cells ≡ t)
+    → (HasCleanDisk new → (t : Tables) → Rests old t → Rests new t) → Checks own old new r
+checked_by own cells old new (Ok count) shown is says whole are rests = record {
+  shown = λ clean t here. subst (λ t. ShowsRows t own) (are clean t here) shown;
+  count = is;
+  rests = rests;
+}
+checked_by own cells old new (Err fault) shown is says whole are rests = record {
+  fault = λ clean t here. subst (λ t. SaysInCheck own t fault) (are clean t here) says;
+  whole = λ worked clean t here shows. whole (subst (λ t. ShowsRows t own) (sym (are clean t here)) shows);
+  rests = λ clean _. rests clean;
+}
+
+-- a check that finds nothing out isn't of damage
+pub unchecked : (own : Maps) (old new : Database) (fault : StoreFault) → IsOfStore fault → (fault ≡ OutOfMemory → HasCleanDisk new → (t : Tables) → Rests old t → Rests new t) → IsUnchecked own old new fault
+unchecked own old new (Store error) it rests = record { fault = λ clean t here. tt; whole = λ worked clean t here shows. tt; rests = λ clean is. absurd cc }
+unchecked own old new (Damaged kind key) it rests = absurd it
+unchecked own old new NewerVersion it rests = absurd it
+unchecked own old new OutOfMemory it rests = record { fault = λ clean t here. tt; whole = λ worked clean t here shows. tt; rests = λ clean is. rests is clean }
+unchecked own old new Closed it rests = absurd it
+
+pub rests_checked : (own : Maps) (old new : Database) (r : Result ℕ StoreFault) → Checks own old new r → HasCleanDisk new
+    → MatchResult r (λ _. (t : Tables) → Rests old t → Rests new t) (λ fault. fault ≡ OutOfMemory → (t : Tables) → Rests old t → Rests new t)
+rests_checked own old new (Ok count) it clean = it.rests clean
+rests_checked own old new (Err fault) it clean = it.rests clean
+
+pub whole_checked : (own : Maps) (old new : Database) (r : Result ℕ StoreFault) → Checks own old new r → IfErr r (λ fault. fault ≢ Closed) → HasCleanDisk new → (t : Tables) → Rests old t → ShowsRows t own → IfErr r IsOfStore
+whole_checked own old new (Ok count) it worked clean t rests shows = tt
+whole_checked own old new (Err fault) it worked clean t rests shows = it.whole worked clean t rests shows
 
 -- a World that works on was answered Ok, or OutOfMemory
 pub works_on : (r : Result ℕ StoreFault) (failed : Bool) (P : Type 0) → FailsWorld r failed → failed ≡ false → MatchResult r (λ _. P) (λ fault. fault ≡ OutOfMemory → P) → P

@@ -1,5 +1,5 @@
 -- How far a text was answered that stops at the first answer that isn't `accepted`.
-use Rattle.moo_store.{proofs.Words.{◌≡◌, ℕ, ◌≤◌, Bool, true, false, IsTrue, List, [], ◌∷◌, ◌++◌, Option, refl, sym, arith, items, Ghosts, store_of, IsGood, Side, untouched, Next, Answer, Batch, says_accepted, AreAccepted, EndAtFirst, EndsEarly, StandsAt, Stand, RunsBatch, World, RunsAndAnswers, accepted, faulted, AppliesFirst}, proofs.Crashes.{IsSettled, crash_leaves}, proofs.Following.{early-follows}, proofs.Going.{Going, gives_front}, proofs.Items.{turns_written, keeps_rest, keeps_led}, proofs.Untouched.{written_none}}
+use Rattle.moo_store.{proofs.Words.{◌≡◌, ◌&&◌, ◌∙◌, not, ℕ, ◌≤◌, Bool, true, false, IsTrue, List, [], ◌∷◌, ◌++◌, Option, refl, sym, arith, items, Ghosts, store_of, IsGood, Side, untouched, Next, Answer, Batch, says_accepted, stops_after, AreAccepted, EndAtFirst, EndsEarly, StandsAt, Stand, RunsBatch, World, RunsAndAnswers, accepted, faulted, AppliesFirst}, proofs.Crashes.{IsSettled, crash_leaves}, proofs.Following.{early-follows}, proofs.Going.{Going, gives_front}, proofs.Items.{turns_written, keeps_rest, keeps_led}, proofs.Untouched.{written_none}}
 
 -- one answer more
 pub accepted_on : (answers : List Answer) (a : Answer) → AreAccepted answers → says_accepted a ≡ true → AreAccepted (answers ++ a ∷ [])
@@ -14,6 +14,23 @@ at_first answers a all one = record { before = answers; last = a; are = refl; fi
 pub not_stopped : (stopped : Bool) → (stopped ≡ true → false ≡ true) → stopped ≡ false
 not_stopped false stops = refl
 not_stopped true stops = sym (stops refl)
+
+-- a text stops after an answer only if it was to stop, and the answer isn't `accepted`
+stops_by : (stop accepted r : Bool) → r ≡ (stop && not accepted) → r ≡ true → (stop ≡ true) × (accepted ≡ false)
+stops_by true false r is stops = (refl, refl)
+stops_by true true r is stops = absurd (let odd : true ≡ false = sym stops ∙ is in cc)
+stops_by false accepted r is stops = absurd (let odd : true ≡ false = sym stops ∙ is in cc)
+
+goes_by : (stop accepted r : Bool) → r ≡ (stop && not accepted) → r ≡ false → stop ≡ true → accepted ≡ true
+goes_by true true r is goes e = refl
+goes_by true false r is goes e = absurd (let odd : true ≡ false = sym is ∙ goes in cc)
+goes_by false accepted r is goes e = absurd (let odd : false ≡ true = e in cc)
+
+pub has_stopped : (stop : Bool) (a : Answer) (r : Bool) → r ≡ stops_after stop a → r ≡ true → (stop ≡ true) × (says_accepted a ≡ false)
+has_stopped stop a r is stops = stops_by stop (says_accepted a) r is stops
+
+pub goes_on : (stop : Bool) (a : Answer) (r : Bool) → r ≡ stops_after stop a → r ≡ false → stop ≡ true → says_accepted a ≡ true
+goes_on stop a r is goes = goes_by stop (says_accepted a) r is goes
 
 -- a text that was to stop
 module _ {A : Type 0} (P : A → Batch → Answer → A → Type 0) (old : A) (text before : Option (List ℕ)) where

@@ -1,5 +1,6 @@
 pub mod Words
 pub mod Versions
+pub mod Found
 pub mod Written
 pub mod Laid
 pub mod Exactly
@@ -30,4 +31,5 @@ pub mod Migrated
 pub mod Current
 pub mod HeadlineLemmas
 pub mod CheckLemmas
+pub mod Commits
 pub mod Alone

@@ -1,5 +1,5 @@
 -- The words that most proofs of this crate share.
-pub use Rattle.std.proofs.Common.{Bool, Bor, Equal, Err, Greater, IfErr, IfOk, IsTrue, Less, List, None, Ok, OnErr, OnOk, Option, Ordering, Result, Some, T, Vec, [], ap, append_assoc, arith, cond, drop, false, fold, get_or, inl, inr, length, length-append, map, negsuc, option_map, pos, refl, rules, subst, subst₂, suc, sym, take, true, vec_capacity, vec_len, zero, zero-add, ℕ, ℤ, ◌&&◌, ◌++◌, ◌+◌, ◌-◌, ◌<◌, ◌==◌, ◌∙◌, ◌∷◌, ◌≡◌, ◌≢◌, ◌≤ℤ◌, ◌≤◌, ◌⊎◌}
+pub use Rattle.std.proofs.Common.{Bool, Bor, Equal, Err, Greater, IfErr, IfOk, IsTrue, Less, List, None, Ok, OnErr, OnOk, Option, Ordering, Result, Some, T, Vec, [], ap, append_assoc, arith, cond, drop, false, fold, get_or, inl, inr, length, length-append, map, negsuc, not, option_map, pos, refl, rules, subst, subst₂, suc, sym, take, true, vec_capacity, vec_len, zero, zero-add, ℕ, ℤ, ◌&&◌, ◌++◌, ◌+◌, ◌-◌, ◌<◌, ◌==◌, ◌∙◌, ◌∷◌, ◌≡◌, ◌≢◌, ◌≤ℤ◌, ◌≤◌, ◌⊎◌}
 pub use Rattle.std.proofs.lemmas.List.{append-nil, drop-take, length-map, take-append-drop, take-take, take_more}
 pub use Rattle.std.specs.FinMap.{FinMap, empty, entries, entries_sorted, find, get, get-empty, get-entries, is_sorted}
 pub use Rattle.std.specs.Ordering.{eq_by_cmp, is_eq, is_lt}
@@ -23,7 +23,7 @@ pub use Rattle.moo_store.specs.Rehearsed.{Rehearsal, RehearsesAt, RehearsesBatch
 pub use Rattle.moo_store.specs.Stand.{AsksBatch, Failed, ReachesStore, RunsBatch, Stand, StoreFailed, VerdictLeaves, Works, state_at}
 pub use Rattle.moo_store.specs.States.{KeepsRows, KeepsState, LeavesRows, LeavesState, ShowsState}
 pub use Rattle.moo_store.specs.Stopped.{IsStopped, KeepsFaults}
-pub use Rattle.moo_store.specs.Stopping.{AppliesFirst, AreAccepted, CompletesUntil, EndAtFirst, EndsEarly, ComesAfter, HaltsUntil, says_accepted, up_to_first}
+pub use Rattle.moo_store.specs.Stopping.{AppliesFirst, AreAccepted, CompletesUntil, EndAtFirst, EndsEarly, stops_after, HaltsUntil, says_accepted, up_to_first}
 pub use Rattle.moo_store.specs.Text.{Applies, KeepsLed, KeepsRest, RunsAll, RunsAndAnswers, StandsBehind, StopsRun, accepted, accepted_at, answer_to, answers_asked, batches_of, faulted, faulted_at, is_plain, replies}
 pub use Rattle.moo_store.specs.Turns.{Completes, GivesFrontOrAll, Halts, Turn, Turns, answers_text, is_batch, is_lost_answer}
 pub use Rattle.moo_store.specs.Untouched.{HasWritten, IsKnown, IsMovedBy, KeepsCells, StandsOver, Writes, WritesOne, lost_of, taken_of}

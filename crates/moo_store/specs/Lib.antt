@@ -10,10 +10,12 @@ pub mod Turns
 pub mod Led
 pub mod Untouched
 pub mod Stopped
+pub mod Committing
 pub mod Text
 pub mod Stopping
 pub mod Rehearsed
 pub mod Opening
+pub mod Reading
 pub mod Loading
 pub mod Reopened
 pub mod Runs

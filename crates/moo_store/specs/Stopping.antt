@@ -1,5 +1,5 @@
 -- How the answering of a text ends at the first answer that isn't `accepted`.
-use Rattle.std.specs.Prelude.{◌≡◌, ◌≤◌, ℕ, Bool, true, false, IsTrue, List, [], ◌∷◌, ◌++◌, length, Option, if◌then◌else◌}
+use Rattle.std.specs.Prelude.{◌&&◌, not, ◌≡◌, ◌≤◌, ℕ, Bool, true, false, IsTrue, List, [], ◌∷◌, ◌++◌, length, Option, if◌then◌else◌}
 use Rattle.std.specs.List.{AllByRecursion, count_by}
 use Rattle.std.specs.Io.KnownBytes.{Appends}
 use Rattle.sqlite.specs.State.{HasCleanDisk}
@@ -16,8 +16,6 @@ use Rattle.moo_store.specs.Stand.{Stand, RunsBatch}
 use Rattle.moo_text.specs.declared.fault.TextFault.{TextFault}
 use Rattle.moo_store.specs.Turns.{Turns, Completes, Halts, answers_text, is_batch, is_lost_answer, GivesFrontOrAll}
 use Rattle.moo_store.specs.Text.{accepted, faulted, KeepsRest, KeepsLed}
-use Rattle.moo_store.specs.declared.course.Step.{Step}
-use Rattle.moo_store.specs.declared.course.Step.TheVariants as outcome
 
 abbrev pub says_accepted : Answer → Bool
 says_accepted (answer.Replied (Accepted seq answers)) = true
@@ -47,11 +45,9 @@ abbrev pub up_to_first : List Answer → List Answer
 up_to_first [] = []
 up_to_first (a ∷ answers) = a ∷ (if says_accepted a then up_to_first answers else [])
 
--- what comes after an answer: the text goes on; or it stops there, if it is to stop at one that isn't `accepted`
-abbrev pub ComesAfter : Bool → Answer → Step → Type 0
-ComesAfter stop a outcome.GoesOn = stop ≡ true → says_accepted a ≡ true
-ComesAfter stop a outcome.Stops = (stop ≡ true) × (says_accepted a ≡ false)
-ComesAfter stop a outcome.Ends = ⊥
+-- whether a text stops after an answer: it is to stop at one that isn't `accepted`, and this is one
+abbrev pub stops_after : Bool → Answer → Bool
+stops_after stop a = stop && not (says_accepted a)
 
 -- the text is at its end; if it was to stop, each answer is `accepted`
 abbrev pub CompletesUntil : {A : Type 0} → (A → Batch → Answer → A → Type 0) → Bool → A → A

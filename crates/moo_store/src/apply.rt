@@ -20,6 +20,10 @@ use std::io::{Read, Write};
 impl<S: Alter + Drop> Answering for World<S> {
     ghost answered = { RunsAndAnswers S.Store };
 
+    fn allocator(&self) -> Global {
+        self.alloc
+    }
+
     fn answer(&mut self, batch: &Batch) -> Answer {
         answered_by(self.run_one(batch))
     }
@@ -37,7 +41,6 @@ impl<S: Alter + Drop> Answering for World<S> {
 /// The faults: Read if the reader fails, and the unfinished batch is dropped; Write if the writer fails or takes no bytes, and
 /// OutOfMemory, both of which may come after a commit, which stays; Long if the text goes on after 1,073,741,824 bytes.
 pub fn apply_text<R: Read + Drop, W: Write, S: Alter + Drop, N: Notes>(
-    alloc: Global,
     reader: R,
     writer: &mut W,
     world: &mut World<S>,
@@ -53,7 +56,7 @@ pub fn apply_text<R: Read + Drop, W: Write, S: Alter + Drop, N: Notes>(
         StopsRun S.Store known stand (R.remaining reader) (W.contents writer.old) (W.contents writer.new) world.old world.new fault) }
 {
     world.has_good_rows();
-    answer_all(alloc, reader, writer, world, notes)
+    answer_all(reader, writer, world, notes)
 }
 
 /// Runs the batches of a text as `apply_text` does. If it is to stop, it ends after the first answer that isn't `accepted`, which is still
@@ -61,7 +64,6 @@ pub fn apply_text<R: Read + Drop, W: Write, S: Alter + Drop, N: Notes>(
 ///
 /// The faults are those of `apply_text`.
 pub fn apply_until<R: Read + Drop, W: Write, S: Alter + Drop, N: Notes>(
-    alloc: Global,
     reader: R,
     writer: &mut W,
     world: &mut World<S>,
@@ -87,5 +89,5 @@ pub fn apply_until<R: Read + Drop, W: Write, S: Alter + Drop, N: Notes>(
         × (stop ≡ true → AreAccepted run.halts.answers)) }
 {
     world.has_good_rows();
-    answer_until(alloc, reader, writer, world, stop, notes)
+    answer_until(reader, writer, world, stop, notes)
 }

@@ -25,6 +25,10 @@ impl<'a, S: Alter + Drop> Answering for Questions<'a, S> {
     ghost answered = { λ old batch a new. (new ≡ old)
         × ((known : Bool) (stand : Stand) → StandsAt S.Store known old.world.now stand → AsksBatch stand batch a stand) };
 
+    fn allocator(&self) -> Global {
+        self.world.allocator()
+    }
+
     fn answer(&mut self, batch: &Batch) -> Answer {
         answered_by(self.world.ask(batch))
     }
@@ -37,7 +41,6 @@ impl<'a, S: Alter + Drop> Answering for Questions<'a, S> {
 /// Answers each batch of a text by what it would come to at present, with the present number, and changes nothing: no batch
 /// sees another. What is written before the next batch is read, and the faults, are those of `apply_text`.
 pub fn ask_text<R: Read + Drop, W: Write, S: Alter + Drop, N: Notes>(
-    alloc: Global,
     reader: R,
     writer: &mut W,
     world: &World<S>,
@@ -51,5 +54,5 @@ pub fn ask_text<R: Read + Drop, W: Write, S: Alter + Drop, N: Notes>(
     ensures stops { IfErr result (λ fault. (known : Bool) (stand : Stand) → StandsAt S.Store known world.now stand →
         Halts AsksBatch stand stand (R.remaining reader) (W.contents writer.old) (W.contents writer.new) fault) }
 {
-    answer_all(alloc, reader, writer, &mut Questions { world }, notes)
+    answer_all(reader, writer, &mut Questions { world }, notes)
 }

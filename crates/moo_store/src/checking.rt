@@ -1,16 +1,14 @@
 //! Whether the tables of a World still show its rows.
 
-ghost use Rattle.std.specs.Prelude.{◌≡◌, ◌≢◌, IfOk, IfErr, OnOk, MatchResult, IsErrOf, IsTrue, false, length, Bool};
-ghost use Rattle.sqlite.specs.State.{HasCleanDisk, Survives};
+ghost use Rattle.std.specs.Prelude.{◌≡◌, ◌≢◌, IfOk, IfErr, OnOk, IsErrOf, IsTrue, false, length, Bool};
+ghost use Rattle.sqlite.specs.State.{HasCleanDisk};
 ghost use Rattle.sqlite.specs.Held.{state};
 ghost use Rattle.moo_world.specs.ObjectLists.{objects_of};
 ghost use Rattle.moo_world.specs.Rows.{IsGood, world_of};
-ghost use Rattle.moo_tables.specs.Tables.{Tables};
-ghost use Rattle.moo_tables.specs.Inside.{Rests};
 ghost use Rattle.moo_tables.specs.Listing.{tables_of};
 ghost use Rattle.moo_cells.specs.Shows.{ShowsRows};
 ghost use Rattle.moo_store.specs.Opening.{IsOfStore};
-ghost use Rattle.moo_store.specs.Checked.{SaysInCheck, FailsWorld};
+ghost use Rattle.moo_store.specs.Checked.{SaysInCheck, KeepsTables, Checks, FailsWorld};
 ghost use Rattle.moo_store.specs.World.{store_of, StandsFor};
 
 use crate::fault::StoreFault;
@@ -43,7 +41,7 @@ fn compare_lists(alloc: Global, lists: CellLists, own: &Flat) -> Result<u64, Sto
     ensures count { IfOk result (λ count. count ≡ length (objects_of (world_of own.now.maps))) }
     ensures fault { IfErr result (SaysInCheck own.now.maps (tables_of lists)) }
     ensures whole { ShowsRows (tables_of lists) own.now.maps → IfErr result IsOfStore }
-    ensures open { IfErr result (λ fault. fault ≢ StoreFault.Closed) }
+    ensures worked { IfErr result (λ fault. fault ≢ StoreFault.Closed) }
 {
     if !are_listed(&lists) {
         return Err(StoreFault::Store(Error::SqliteFailure(ErrorCode::DatabaseCorrupt)));
@@ -69,23 +67,9 @@ fn check_rows<S: Alter>(
     requires outside { (state S.Store conn.old).in_transaction ≡ false }
     requires good { IsGood own.now.maps }
     ensures outside { (state S.Store conn.new).in_transaction ≡ false }
-    ensures shown { OnOk result (HasCleanDisk (state S.Store conn.new) → (tables : Tables) → Rests (state S.Store conn.old) tables →
-        ShowsRows tables own.now.maps) }
-    ensures count { IfOk result (λ count. count ≡ length (objects_of (world_of own.now.maps))) }
-    ensures fault { HasCleanDisk (state S.Store conn.new) →
-        IfErr result (λ fault. (tables : Tables) → Rests (state S.Store conn.old) tables → SaysInCheck own.now.maps tables fault) }
-    ensures whole { HasCleanDisk (state S.Store conn.new) →
-        IfErr result (λ fault. (tables : Tables) → Rests (state S.Store conn.old) tables → ShowsRows tables own.now.maps →
-        IsOfStore fault) }
-    ensures kept { HasCleanDisk (state S.Store conn.new) → IsTrue (state S.Store conn.new).is_open → (tables : Tables) →
-        Rests (state S.Store conn.old) tables → Rests (state S.Store conn.new) tables }
-    ensures stays { HasCleanDisk (state S.Store conn.new) →
-        MatchResult result (λ _. (tables : Tables) → Rests (state S.Store conn.old) tables → Rests (state S.Store conn.new) tables)
-        (λ fault. fault ≡ StoreFault.OutOfMemory → (tables : Tables) → Rests (state S.Store conn.old) tables →
-        Rests (state S.Store conn.new) tables) }
-    ensures clean { HasCleanDisk (state S.Store conn.new) → HasCleanDisk (state S.Store conn.old) }
-    ensures crash { Survives (state S.Store conn.old) (state S.Store conn.new) (λ _. ⊥) }
-    ensures open { IfErr result (λ fault. fault ≢ StoreFault.Closed) }
+    ensures checks { Checks own.now.maps (state S.Store conn.old) (state S.Store conn.new) result }
+    ensures keeps { KeepsTables (state S.Store conn.old) (state S.Store conn.new) }
+    ensures worked { IfErr result (λ fault. fault ≢ StoreFault.Closed) }
 {
     match test_current(alloc, conn) {
         Ok(()) => {}
@@ -121,14 +105,13 @@ impl<S: Alter + Drop> World<S> {
     /// no world, or another than the World's (`Kind::Mismatch`, with the first row in which they differ). These fail the
     /// World. OutOfMemory: memory ran out, and the World works on. Closed: the World had failed.
     pub fn check(&mut self) -> Result<u64, StoreFault>
-        // Ok only if the tables show the World's own rows.
-        ensures shown { OnOk result (HasCleanDisk (store_of S.Store self.new) → (tables : Tables) →
-            Rests (store_of S.Store self.old) tables → ShowsRows tables self.old.rows.maps) }
-        ensures count { IfOk result (λ count. count ≡ length (objects_of (world_of self.old.rows.maps))) }
-        // A damage is answered only if the tables have it, or if they show other rows than these.
-        ensures fault { HasCleanDisk (store_of S.Store self.new) →
-            IfErr result (λ fault. (tables : Tables) → Rests (store_of S.Store self.old) tables →
-            SaysInCheck self.old.rows.maps tables fault) }
+        // Ok only if the tables show the World's own rows. A damage is told only if the tables have it, or if they show other rows than
+        // these.
+        ensures checks { Checks self.old.rows.maps (store_of S.Store self.old) (store_of S.Store self.new) result }
+        // Every fault but out of memory fails the World, and none is Closed.
+        ensures fails { self.old.failed ≡ false → FailsWorld result self.new.failed × IfErr result (λ fault. fault ≢ StoreFault.Closed) }
+        // A failed World changes no more.
+        ensures closed { IsTrue self.old.failed → IsErrOf result StoreFault.Closed × (self.new ≡ self.old) }
         // A World that stands for a state is checked with no damage, and stands for it as long as it works.
         ensures whole { (known : Bool) (s : _) → StandsFor S.Store known self.old s → IsTrue known →
             HasCleanDisk (store_of S.Store self.new) → IfErr result IsOfStore }
@@ -136,13 +119,7 @@ impl<S: Alter + Drop> World<S> {
             HasCleanDisk (store_of S.Store self.new) → StandsFor S.Store known self.new s }
         // The rows, the tables and what a crash leaves stay as they are.
         ensures rows { self.new.rows ≡ self.old.rows }
-        ensures kept { HasCleanDisk (store_of S.Store self.new) → IsTrue (store_of S.Store self.new).is_open → (tables : Tables) →
-            Rests (store_of S.Store self.old) tables → Rests (store_of S.Store self.new) tables }
-        ensures crash { Survives (store_of S.Store self.old) (store_of S.Store self.new) (λ _. ⊥) }
-        // Every fault but out of memory fails the World. A failed World changes no more.
-        ensures fails { self.old.failed ≡ false → FailsWorld result self.new.failed }
-        ensures closed { IsTrue self.old.failed → IsErrOf result StoreFault.Closed × (self.new ≡ self.old) }
-        ensures open { self.old.failed ≡ false → IfErr result (λ fault. fault ≢ StoreFault.Closed) }
+        ensures keeps { KeepsTables (store_of S.Store self.old) (store_of S.Store self.new) }
     {
         if self.failed {
             return Err(StoreFault::Closed);

@@ -1,6 +1,6 @@
 //! Changes of rows, committed to the tables of a store.
 
-ghost use Rattle.std.specs.Prelude.{◌≡◌, ◌<◌, ◌≤◌, ◌^◌, IsTrue, Some, OnOk, OnErr, IfErr, false};
+ghost use Rattle.std.specs.Prelude.{◌≡◌, ◌<◌, ◌^◌, IsTrue, Some, OnOk, OnErr, IfErr, false};
 ghost use Rattle.sqlite.specs.State.{HasCleanDisk, Survives};
 ghost use Rattle.sqlite.specs.Held.{state};
 ghost use Rattle.moo_rows.specs.Maps.{Maps};
@@ -12,6 +12,7 @@ ghost use Rattle.moo_store.specs.States.{KeepsRows, LeavesRows};
 ghost use Rattle.moo_tables.specs.Tables.{Tables};
 ghost use Rattle.moo_tables.specs.Cause.{StopsChange};
 ghost use Rattle.moo_tables.specs.Inside.{Rests, IsCurrent};
+ghost use Rattle.moo_store.specs.Stopped.{KeepsFaults};
 ghost use Rattle.moo_store.specs.Untouched.{KeepsCells};
 
 use moo_tables::{CellChanges, commit_changes};
@@ -40,8 +41,7 @@ pub(crate) fn commit_cells<S: Alter>(
     ensures cause { HasCleanDisk (state S.Store conn.new) →
         IfErr result (λ error. (tables : Tables) → Rests (state S.Store conn.old) tables → IsCurrent tables →
         StopsChange (state S.Store conn.old) (state S.Store conn.new) error) }
-    ensures counts { (state S.Store conn.old).faults ≤ (state S.Store conn.new).faults }
-    ensures steps { (state S.Store conn.new).step_limit ≡ (state S.Store conn.old).step_limit }
+    ensures kept { KeepsFaults (state S.Store conn.old) (state S.Store conn.new) }
     ensures crash { (changes : Changes) (base next : Maps) → Prints (Some base.head.next_petition) base cells.now changes →
         AreChanges base next changes → (HasCleanDisk (state S.Store conn.old) → KeepsRows (state S.Store conn.old) base) →
         Survives (state S.Store conn.old) (state S.Store conn.new) (λ trees. LeavesRows trees next) }

@@ -1,7 +1,7 @@
 //! How far a text is answered.
 
 ghost use Rattle.std.specs.Prelude.{◌≡◌};
-ghost use Rattle.moo_store.specs.Stopping.{ComesAfter, says_accepted};
+ghost use Rattle.moo_store.specs.Stopping.{stops_after, says_accepted};
 
 use crate::tally::Tally;
 use moo_text::{Answer, Reply};
@@ -11,17 +11,6 @@ use moo_text::{Answer, Reply};
 pub struct Course {
     pub tally: Tally,
     pub stopped: bool,
-}
-
-/// What comes after an item of a text.
-#[derive(Clone, Copy)]
-pub(crate) enum Step {
-    /// It was answered, and the text goes on.
-    GoesOn,
-    /// It was answered, and no other item is.
-    Stops,
-    /// It was the end.
-    Ends,
 }
 
 /// Whether a reply is `accepted`.
@@ -44,12 +33,9 @@ fn says_accepted(answer: &Answer) -> bool
     }
 }
 
-/// What comes after this answer, if a text is to stop at the first that isn't `accepted`, or if it isn't.
-pub(crate) fn step_after(stop: bool, answer: &Answer) -> Step
-    ensures { ComesAfter stop answer.now result }
+/// Whether a text stops after this answer: it is to stop at the first that isn't `accepted`, and this is one.
+pub(crate) fn stops_after(stop: bool, answer: &Answer) -> bool
+    ensures { result ≡ stops_after stop answer.now }
 {
-    if says_accepted(answer) {
-        return Step::GoesOn;
-    }
-    if stop { Step::Stops } else { Step::GoesOn }
+    stop && !says_accepted(answer)
 }

@@ -1,6 +1,6 @@
 //! The rows that the tables of a connection show.
 
-ghost use Rattle.std.specs.Prelude.{◌≡◌, ◌≢◌, ◌⊎◌, ◌<◌, ◌^◌, IfOk, IfErr, IsErrAnd, IsTrue, OnOk, OnErr, false};
+ghost use Rattle.std.specs.Prelude.{◌≡◌, ◌≢◌, ◌<◌, ◌^◌, IfOk, IfErr, IsTrue, OnOk, OnErr, false};
 ghost use Rattle.sqlite.specs.State.{HasCleanDisk};
 ghost use Rattle.sqlite.specs.Held.{state};
 ghost use Rattle.moo_rows.specs.Maps.{Maps};
@@ -11,6 +11,7 @@ ghost use Rattle.moo_tables.specs.Listing.{tables_of};
 ghost use Rattle.moo_tables.specs.declared.version.Version.{Version};
 ghost use Rattle.moo_cells.specs.Shows.{ShowsRows};
 ghost use Rattle.moo_store.specs.Opening.{Says, IsOfStore, not_ours};
+ghost use Rattle.moo_store.specs.Reading.{ReadsRowsAs, ReadsRows};
 
 use crate::fault::StoreFault;
 use moo_cells::{CellFault, read_cells, read_in_turn};
@@ -115,19 +116,7 @@ fn read_whole<S: Alter>(
 ) -> Result<Flat, StoreFault>
     requires outside { (state S.Store conn.old).in_transaction ≡ false }
     ensures outside { (state S.Store conn.new).in_transaction ≡ false }
-    ensures read { OnOk result (ReadsTables (schema_of version) (state S.Store conn.old) (state S.Store conn.new)) }
-    ensures failed { OnErr result (FailsToRead (schema_of version) (state S.Store conn.old) (state S.Store conn.new)) }
-    ensures own { IfErr result (λ fault. fault ≢ not_ours) }
-    ensures rows { HasCleanDisk (state S.Store conn.new) → IfOk result (λ rows. (tables : Tables) → tables.version ≡ version →
-        Rests (state S.Store conn.old) tables → ShowsRows tables rows.maps) }
-    ensures good { IfOk result (λ rows. IsGood rows.maps) }
-    ensures limit { IfOk result (λ rows. rows.maps.head.seq < 2 ^ 63) }
-    ensures one { HasCleanDisk (state S.Store conn.new) → IfOk result (λ rows. (tables : Tables) (m : Maps) → tables.version ≡ version →
-        Rests (state S.Store conn.old) tables → ShowsRows tables m → IsGood m → rows.maps ≡ m) }
-    ensures fault { HasCleanDisk (state S.Store conn.new) → IfErr result (λ fault. (tables : Tables) → tables.version ≡ version →
-        Rests (state S.Store conn.old) tables → Says tables fault) }
-    ensures whole { HasCleanDisk (state S.Store conn.new) → IfErr result (λ fault. (tables : Tables) (m : Maps) →
-        tables.version ≡ version → Rests (state S.Store conn.old) tables → ShowsRows tables m → IsGood m → IsOfStore fault) }
+    ensures reads { ReadsRowsAs version (state S.Store conn.old) (state S.Store conn.new) result }
 {
     let lists = match read_lists(alloc, conn, version) {
         Ok(lists) => lists,
@@ -147,19 +136,7 @@ fn read_each<S: Alter>(
 ) -> Result<Flat, StoreFault>
     requires outside { (state S.Store conn.old).in_transaction ≡ false }
     ensures outside { (state S.Store conn.new).in_transaction ≡ false }
-    ensures read { OnOk result (ReadsTables (schema_of version) (state S.Store conn.old) (state S.Store conn.new)) }
-    ensures failed { OnErr result (FailsToRead (schema_of version) (state S.Store conn.old) (state S.Store conn.new)) }
-    ensures own { IfErr result (λ fault. fault ≢ not_ours) }
-    ensures rows { HasCleanDisk (state S.Store conn.new) → IfOk result (λ rows. (tables : Tables) → tables.version ≡ version →
-        Rests (state S.Store conn.old) tables → ShowsRows tables rows.maps) }
-    ensures good { IfOk result (λ rows. IsGood rows.maps) }
-    ensures limit { IfOk result (λ rows. rows.maps.head.seq < 2 ^ 63) }
-    ensures one { HasCleanDisk (state S.Store conn.new) → IfOk result (λ rows. (tables : Tables) (m : Maps) → tables.version ≡ version →
-        Rests (state S.Store conn.old) tables → ShowsRows tables m → IsGood m → rows.maps ≡ m) }
-    ensures fault { HasCleanDisk (state S.Store conn.new) → IfErr result (λ fault. (tables : Tables) → tables.version ≡ version →
-        Rests (state S.Store conn.old) tables → Says tables fault) }
-    ensures whole { HasCleanDisk (state S.Store conn.new) → IfErr result (λ fault. (tables : Tables) (m : Maps) →
-        tables.version ≡ version → Rests (state S.Store conn.old) tables → ShowsRows tables m → IsGood m → IsOfStore fault) }
+    ensures reads { ReadsRowsAs version (state S.Store conn.old) (state S.Store conn.new) result }
 {
     match read_in_turn(alloc, conn, version) {
         Ok(Some(rows)) => Ok(rows),
@@ -178,27 +155,8 @@ pub(crate) fn read_rows<S: Alter>(
 ) -> Result<(Version, Flat), StoreFault>
     requires outside { (state S.Store conn.old).in_transaction ≡ false }
     ensures outside { (state S.Store conn.new).in_transaction ≡ false }
-    ensures read { IfOk result (λ r. HasTables (schema_of r.0) (state S.Store conn.old)
-        × ReadsTables (schema_of r.0) (state S.Store conn.old) (state S.Store conn.new)) }
-    ensures failed { OnErr result ((conn.new ≡ conn.old)
-        ⊎ ((version : Version) × HasTables (schema_of version) (state S.Store conn.old)
-        × FailsToRead (schema_of version) (state S.Store conn.old) (state S.Store conn.new))) }
     ensures settled { IsTrue (state S.Store conn.old).is_open → (state S.Store conn.old).now ≡ (state S.Store conn.old).committed }
-    ensures other { ((version : Version) → (state S.Store conn.old).now.schema ≢ schema_of version) →
-        IsErrAnd result (λ fault. IsOfStore fault × (conn.new ≡ conn.old)) }
-    ensures own { IfErr result (λ fault. (version : Version) → HasTables (schema_of version) (state S.Store conn.old) → fault ≢ not_ours) }
-    ensures rows { HasCleanDisk (state S.Store conn.new) →
-        IfOk result (λ r. (tables : Tables) → Rests (state S.Store conn.old) tables → ShowsRows tables r.1.maps) }
-    ensures good { IfOk result (λ r. IsGood r.1.maps) }
-    ensures limit { IfOk result (λ r. r.1.maps.head.seq < 2 ^ 63) }
-    ensures one { HasCleanDisk (state S.Store conn.new) →
-        IfOk result (λ r. (tables : Tables) (m : Maps) → Rests (state S.Store conn.old) tables → ShowsRows tables m → IsGood m →
-        r.1.maps ≡ m) }
-    ensures fault { HasCleanDisk (state S.Store conn.new) →
-        IfErr result (λ fault. (tables : Tables) → Rests (state S.Store conn.old) tables → Says tables fault) }
-    ensures whole { HasCleanDisk (state S.Store conn.new) →
-        IfErr result (λ fault. (tables : Tables) (m : Maps) → Rests (state S.Store conn.old) tables → ShowsRows tables m → IsGood m →
-        IsOfStore fault) }
+    ensures reads { ReadsRows S.Store conn.old conn.new result }
 {
     let version = match test_tables(alloc, conn) {
         Ok(version) => version,

@@ -104,6 +104,10 @@ impl Answering for Rehearsal {
     ghost answered = { λ old batch a new. (stand : Stand) → RehearsesAt old stand → (next : Stand) × RehearsesAt new next
         × RehearsesBatch stand batch a next };
 
+    fn allocator(&self) -> Global {
+        self.alloc
+    }
+
     fn answer(&mut self, batch: &Batch) -> Answer {
         self.rehearse(batch)
     }
@@ -119,7 +123,6 @@ impl Answering for Rehearsal {
 ///
 /// The World has failed then: its rows were used up. What is in its store is as it was.
 pub fn rehearse_text<R: Read + Drop, W: Write, S: Alter + Drop, N: Notes>(
-    alloc: Global,
     reader: R,
     writer: &mut W,
     world: &mut World<S>,
@@ -146,5 +149,5 @@ pub fn rehearse_text<R: Read + Drop, W: Write, S: Alter + Drop, N: Notes>(
     ensures stands { (known : Bool) (s : State) → StandsFor S.Store known world.old s → StandsAt S.Store known world.new (Failed s) }
 {
     let mut rehearsal = Rehearsal::of(world);
-    answer_until(alloc, reader, writer, &mut rehearsal, stop, notes)
+    answer_until(reader, writer, &mut rehearsal, stop, notes)
 }

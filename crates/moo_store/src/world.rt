@@ -41,7 +41,7 @@ impl<S: Alter> Model for World<S> {
 }
 
 impl<S: Alter + Drop> World<S> {
-    ghost use Rattle.std.specs.Prelude.{◌≡◌, ◌⊎◌, ◌<◌, ◌^◌, Bool, false, true, IsTrue, [], length, Some, OnOk, OnErr, IfOk, IfErr};
+    ghost use Rattle.std.specs.Prelude.{◌≡◌, ◌⊎◌, ◌<◌, ◌^◌, Bool, false, true, IsTrue, [], length, Some, IfOk, IfErr};
     ghost use Rattle.std.specs.Prelude.{IfSome, IfNone, IsErrOf, IsOkAnd, ⊤, Ok};
     ghost use Rattle.sqlite.specs.State.{HasCleanDisk};
     ghost use Rattle.sqlite.specs.Held.{state};
@@ -51,17 +51,14 @@ impl<S: Alter + Drop> World<S> {
     ghost use Rattle.moo_world.specs.ObjectLists.{objects_of};
     ghost use Rattle.moo_memory.specs.Changes.{AreChanges};
     ghost use Rattle.moo_store.specs.Printed.{Prints};
-    ghost use Rattle.moo_cells.specs.Shows.{ShowsRows};
-    ghost use Rattle.moo_store.specs.States.{LeavesRows};
+    ghost use Rattle.moo_store.specs.Committing.{Commits};
     ghost use Rattle.moo_store.specs.Answered.{answer_of, IsRun};
-    ghost use Rattle.moo_tables.specs.Tables.{Tables};
-    ghost use Rattle.moo_tables.specs.Inside.{Rests, IsCurrent};
     ghost use Rattle.moo_store.specs.Runs.{RunsBatches};
-    ghost use Rattle.moo_store.specs.Untouched.{KeepsCells, WritesOne, taken_of};
+    ghost use Rattle.moo_store.specs.Untouched.{WritesOne, taken_of};
     ghost use Rattle.moo_store.specs.Stopped.{KeepsFaults, IsStopped};
     ghost use Rattle.moo_store.specs.Stand.{Stand};
     ghost use Rattle.moo_store.specs.Text.{answer_to, StandsBehind};
-    ghost use Rattle.moo_store.specs.World.{store_of, ShowsItsRows, IsAt, StandsFor, StandsAt, CrashLeaves, MatchStore, IsOfRun};
+    ghost use Rattle.moo_store.specs.World.{store_of, ShowsItsRows, StandsFor, StandsAt, CrashLeaves, MatchStore, IsOfRun};
     ghost use Rattle.moo_store.specs.declared.fault.StoreFault.TheVariants.{Store, OutOfMemory, Closed};
 
     /// The World of good rows, over a connection in no transaction. It stands for them if the tables of the connection
@@ -94,26 +91,9 @@ impl<S: Alter + Drop> World<S> {
         requires printed { Prints (Some self.old.rows.maps.head.next_petition) self.old.rows.maps cells.now changes }
         requires limit { cells.now.head.seq < 2 ^ 63 }
         requires changes { (next : Maps) × AreChanges self.old.rows.maps next changes × IsGood next }
-        ensures reply { IfOk result (λ reply. reply ≡ Reply.Accepted changes.head.seq answers) }
-        ensures is_at { OnOk result ((known : Bool) (next : Maps) → (IsTrue known → ShowsItsRows S.Store self.old) →
-            AreChanges self.old.rows.maps next changes → IsGood next → IsAt S.Store known self.new (state_of next)) }
-        ensures rows { OnOk result ((next : Maps) → AreChanges self.old.rows.maps next changes → self.new.failed ≡ false →
-            self.new.rows.maps ≡ next) }
-        ensures cells { OnOk result ((next : Maps) (tables : Tables) → AreChanges self.old.rows.maps next changes →
-            HasCleanDisk (store_of S.Store self.new) → Rests (store_of S.Store self.old) tables → IsCurrent tables →
-            ShowsRows tables self.old.rows.maps → (after : Tables) × Rests (store_of S.Store self.new) after
-            × KeepsCells self.old.rows.maps next tables after) }
-        ensures undone { OnErr result (HasCleanDisk (store_of S.Store self.new) → IsTrue (store_of S.Store self.new).is_open →
-            (tables : Tables) → Rests (store_of S.Store self.old) tables → IsCurrent tables → Rests (store_of S.Store self.new) tables) }
+        ensures commits { Commits S.Store self.old self.new answers changes result }
         ensures clean { HasCleanDisk (store_of S.Store self.new) → HasCleanDisk (store_of S.Store self.old) }
-        ensures fault { IfErr result (λ fault. (error : _) × (fault ≡ Store error)) }
         ensures kept { KeepsFaults (store_of S.Store self.old) (store_of S.Store self.new) }
-        ensures cause { HasCleanDisk (store_of S.Store self.new) → ShowsItsRows S.Store self.old →
-            IfErr result (IsStopped (store_of S.Store self.old) (store_of S.Store self.new)) }
-        ensures failed { OnErr result (self.new.failed ≡ true) }
-        ensures crash { OnErr result ((next : Maps) → ShowsItsRows S.Store self.old → AreChanges self.old.rows.maps next changes →
-            HasCleanDisk (store_of S.Store self.new) → (trees : _) → (store_of S.Store self.new).may_leave trees →
-            LeavesRows trees self.old.rows.maps ⊎ LeavesRows trees next) }
     {
         if let Err(error) = commit_cells(&mut self.connection, cells) {
             self.failed = true;

@@ -8,7 +8,7 @@ same_some : {A : Type 0} (o : Option A) (a b : A) → o ≡ Some a → o ≡ Som
 same_some o a b e f = let same : Some a ≡ Some b = sym e ∙ f in cc
 
 one_number : (rows : List Row) (id : Text) (n m : ℕ) → HasNumber rows id n → HasNumber rows id m → n ≡ m
-one_number rows id n m (text, one, value) (other, also, worth) =
+one_number rows id n m (text, one, digits, value) (other, also, numeral, worth) =
     sym value ∙ ap (λ t. digits_value 10 (without_leading_plus t)) (same_some (one_of id rows) text other one also) ∙ worth
 
 -- an argument that isn't there has no number
@@ -20,7 +20,7 @@ none_then id rows none = go (find (λ r. bytes_eq r.id id) rows) none
     go (Some row) e = ap (option_map (read_as row.reading)) e
 
 not_absent : (rows : List Row) (id : Text) (n : ℕ) → HasNumber rows id n → first_of id rows ≡ None → ⊥
-not_absent rows id n (text, one, value) none = let bad : Some text ≡ None = sym one ∙ none_then id rows none in cc
+not_absent rows id n (text, one, digits, value) none = let bad : Some text ≡ None = sym one ∙ none_then id rows none in cc
 
 one_count : (rows : List Row) (n m : ℕ) → HasCount rows n → HasCount rows m → n ≡ m
 one_count rows n m (inl of) (inl also) = one_number rows (codes "COUNT") n m of.0 also.0

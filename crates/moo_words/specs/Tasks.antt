@@ -1,8 +1,9 @@
 -- The task that words name, by the matches of the program's command.
-use Rattle.std.specs.Prelude.{◌≡◌, ◌<◌, ◌≤◌, ◌⊎◌, ℕ, Bool, false, List, [], Option, Some, None, codes, length, ⊤}
+use Rattle.std.specs.Prelude.{◌≡◌, ◌<◌, ◌≤◌, ◌⊎◌, ℕ, Bool, false, List, [], Option, Some, None, MatchOption, codes, length, ⊤}
+use Rattle.std.specs.Int.{IsInRange}
 use Rattle.std.specs.Option.{option_map_or}
 use Rattle.std.specs.Str.{bytes_eq}
-use Rattle.std.specs.Str.Parse.{digits_value, without_leading_plus}
+use Rattle.std.specs.Str.Parse.{IsNumeral, digits_value, without_leading_plus}
 use Rattle.clap.specs.Walk.{Row, Text, first_of, one_of}
 use Rattle.clap.specs.Simple.{subcommand_of}
 use Rattle.clap.specs.Kinds.{Kinds, HasKind}
@@ -36,7 +37,8 @@ AreBatches rows batches = HasText rows (codes "BATCHES") batches.path.now × Are
 -- the argument of that name is read as digits with this value
 abbrev pub HasNumber : List Row → Text → ℕ → Type 0
 HasNumber rows id n =
-    (text : Text) × (one_of id rows ≡ Some text) × (digits_value 10 (without_leading_plus text) ≡ n)
+    (text : Text) × (one_of id rows ≡ Some text)
+    × IsNumeral 10 (without_leading_plus text) × (digits_value 10 (without_leading_plus text) ≡ n)
 
 -- how many connections are served: as many as the argument says, or without it 4,294,967,295
 abbrev pub HasCount : List Row → ℕ → Type 0
@@ -46,7 +48,8 @@ HasCount rows n =
 
 -- what `serve` is told: a port, and a number of connections
 abbrev pub IsService : List Row → Service → Type 0
-IsService rows service = HasNumber rows (codes "PORT") service.port × (1 ≤ service.port) × HasCount rows service.count
+IsService rows service =
+    HasNumber rows (codes "PORT") service.port × IsInRange 1 65535 service.port × HasCount rows service.count
 
 -- the command of an action
 abbrev pub command_of : Action → Text
@@ -135,7 +138,14 @@ NamesTask words task =
 abbrev pub NamesAlone : List Text → Task → Type 0
 NamesAlone words task = (other : Task) → NamesTask words other → request_of other ≡ request_of task
 
--- The words name no task: they have a mistake of this kind, or memory ran out. Absent says that they have no mistake.
+abbrev pub NamesNone : List Text → Type 0
+NamesNone words = (task : Task) → ¬ (NamesTask words task)
+
+-- The words are refused: they have a mistake of this kind, or memory ran out. Absent says that they have no mistake, and yet name no task.
 abbrev pub IsRefusal : List Text → Usage → Type 0
 IsRefusal words (Refused error) = HasKind (mistakes words) error
-IsRefusal words Absent = mistakes words ≡ []
+IsRefusal words Absent = (mistakes words ≡ []) × NamesNone words
+
+-- this is one that is as said; or there is none
+abbrev pub IsAny : {T : Type 0} → (T → Type 0) → Option T → Type 0
+IsAny Fits found = MatchOption found ((x : _) → ¬ (Fits x)) Fits

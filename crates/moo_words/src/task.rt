@@ -1,10 +1,10 @@
 //! The task that the words of the command line name.
-ghost use Rattle.std.specs.Prelude.{◌≡◌, ◌<◌, List, Some, map, IfOk, IfErr, IsErr, IfSome, codes, length};
+ghost use Rattle.std.specs.Prelude.{◌≡◌, ◌<◌, ◌^◌, true, List, Some, map, IfOk, IfErr, IsErr, is_some, option_map, codes, length};
 ghost use Rattle.clap.specs.Simple.{subcommand_rows_of};
-ghost use Rattle.clap.specs.Walk.{Row, Text, rows_of};
+ghost use Rattle.clap.specs.Walk.{Row, Text, first_of, rows_of};
 ghost use Rattle.clap.specs.Matches.{found_of};
-ghost use Rattle.moo_words.specs.Tasks.{HasNumber, HasText, is_set, AreOptions, AreBatches, HasCount, IsService, IsAction, IsTask};
-ghost use Rattle.moo_words.specs.Tasks.{IsRefusal, NamesTask, NamesAlone};
+ghost use Rattle.moo_words.specs.Tasks.{HasNumber, is_set, AreOptions, AreBatches, HasCount, IsService, IsAction, IsTask};
+ghost use Rattle.moo_words.specs.Tasks.{IsAny, IsRefusal, NamesTask, NamesAlone, text_word};
 
 use crate::commands::moo_command;
 use clap::{ArgMatches, Error};
@@ -67,7 +67,7 @@ pub enum Usage {
     /// They aren't those of a command, or they ask for help or the version; the error has the text to show. If memory runs
     /// out, that is such an error too.
     Refused(Error),
-    /// The matches lack an entry that the command asks for.
+    /// They have no mistake by `clap`'s rules, and yet name no task.
     Absent,
 }
 
@@ -76,7 +76,7 @@ const ENDLESS: u32 = 4_294_967_295;
 
 // The text of an argument.
 fn text_of<'a>(matches: &ArgMatches<'a>, id: &str) -> Option<&'a str>
-    ensures { IfSome result (λ text. HasText (rows_of (found_of matches.now)) id.now text.now) }
+    ensures { option_map (λ text. text.now) result ≡ first_of id.now (rows_of (found_of matches.now)) }
 {
     matches.get_str(id)
 }
@@ -93,14 +93,14 @@ fn flag_of(matches: &ArgMatches<'_>, id: &str) -> bool
 
 // The number of an argument.
 fn number_of(matches: &ArgMatches<'_>, id: &str) -> Option<u32>
-    ensures { IfSome result (HasNumber (rows_of (found_of matches.now)) id.now) }
+    ensures { IsAny (λ n. HasNumber (rows_of (found_of matches.now)) id.now n × (n < 2 ^ 32)) result }
 {
     matches.get_one::<u32>(id)
 }
 
 // How many connections `serve` takes. Without a number it doesn't end before a signal, or 4,294,967,295 connections.
 fn count_in(matches: &ArgMatches<'_>) -> Option<u32>
-    ensures { IfSome result (HasCount (rows_of (found_of matches.now))) }
+    ensures { IsAny (HasCount (rows_of (found_of matches.now))) result }
 {
     match matches.get_str("COUNT") {
         None => Some(ENDLESS),
@@ -116,7 +116,7 @@ fn count_in(matches: &ArgMatches<'_>) -> Option<u32>
 
 // What `serve` is told.
 fn service_in(matches: &ArgMatches<'_>) -> Option<Service>
-    ensures { IfSome result (IsService (rows_of (found_of matches.now))) }
+    ensures { IsAny (IsService (rows_of (found_of matches.now))) result }
 {
     let port = number_of(matches, "PORT")?;
     let count = count_in(matches)?;
@@ -140,7 +140,7 @@ fn options_in(matches: &ArgMatches<'_>) -> Options
 
 // Which batches a command is to run, and how.
 fn batches_in<'a>(matches: &ArgMatches<'a>) -> Option<Batches<'a>>
-    ensures { IfSome result (AreBatches (rows_of (found_of matches.now))) }
+    ensures { IsAny (AreBatches (rows_of (found_of matches.now))) result }
 {
     let path = text_of(matches, "BATCHES")?;
     let options = options_in(matches);
@@ -149,7 +149,7 @@ fn batches_in<'a>(matches: &ArgMatches<'a>) -> Option<Batches<'a>>
 
 // The action of a command that reads a text.
 fn text_action_in<'a>(name: &str, matches: &ArgMatches<'a>) -> Option<Action<'a>>
-    ensures { IfSome result (IsAction (name.now, rows_of (found_of matches.now))) }
+    ensures { IsAny (λ action. IsAction (name.now, rows_of (found_of matches.now)) action × (is_some (text_word action) ≡ true)) result }
 {
     if name == "apply" {
         let batches = batches_in(matches)?;
@@ -170,7 +170,7 @@ fn text_action_in<'a>(name: &str, matches: &ArgMatches<'a>) -> Option<Action<'a>
 
 // The action of a command's name and matches.
 fn action_in<'a>(name: &str, matches: &ArgMatches<'a>) -> Option<Action<'a>>
-    ensures { IfSome result (IsAction (name.now, rows_of (found_of matches.now))) }
+    ensures { IsAny (IsAction (name.now, rows_of (found_of matches.now))) result }
 {
     if name == "init" {
         Some(Action::Init)
@@ -188,7 +188,7 @@ fn action_in<'a>(name: &str, matches: &ArgMatches<'a>) -> Option<Action<'a>>
 
 // The task of the command among the matches.
 fn task_in<'a>(matches: &ArgMatches<'a>) -> Option<Task<'a>>
-    ensures { IfSome result (λ task. (found : Text × List Row) × (subcommand_rows_of matches.now ≡ Some found) × IsTask found task) }
+    ensures { IsAny (λ task. (found : Text × List Row) × (subcommand_rows_of matches.now ≡ Some found) × IsTask found task) result }
 {
     let (name, matches) = matches.subcommand()?;
     let file = text_of(matches, "FILE")?;
@@ -199,7 +199,7 @@ fn task_in<'a>(matches: &ArgMatches<'a>) -> Option<Task<'a>>
 /// The task that the words name, the first of which is the program's own name.
 ///
 /// With no other word it is `apply :memory: -`. Refused if `clap` refuses the words, as it does if they ask for help or the version,
-/// or if memory runs out. Absent if its matches lack an entry.
+/// or if memory runs out. Absent if it takes them and they name no task. So words that name a task are refused only if memory runs out.
 pub fn read_words<'a>(alloc: Global, words: &'a [&'a str]) -> Result<Task<'a>, Usage>
     ensures task { IfOk result (NamesTask (map (λ word. word.now) words.entry.now)) }
     // No other task is named by these words.

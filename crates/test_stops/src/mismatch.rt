@@ -24,7 +24,7 @@ fn run_call<S: Alter + Drop>(alloc: Global, world: &mut World<S>, call: &str) ->
     }
     let text = format!(in alloc; "batch as #3\n{call}\nend\n")?;
     let mut written = Vec::new(alloc);
-    match apply_text(alloc, text.as_bytes(), &mut written, world, &mut NoNotes) {
+    match apply_text(text.as_bytes(), &mut written, world, &mut NoNotes) {
         Ok(_) => Ok(()),
         Err(_) => Err(Fail::from("the batch can't be run")),
     }

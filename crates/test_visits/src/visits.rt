@@ -55,16 +55,11 @@ fn look<S: Alter + Drop>(world: &mut World<S>, written: &mut Vec<u8>) -> bool {
 }
 
 /// Whether all of the task was done.
-fn do_task<S: Alter + Drop>(
-    alloc: Global,
-    world: &mut World<S>,
-    task: Task<'_>,
-    written: &mut Vec<u8>,
-) -> bool {
+fn do_task<S: Alter + Drop>(world: &mut World<S>, task: Task<'_>, written: &mut Vec<u8>) -> bool {
     match task {
         Task::Init | Task::Statements(_) | Task::Tables => true,
         Task::Apply(text) => {
-            apply_text(alloc, text, written, world, &mut NoNotes).is_ok_and(|tally| tally.lost == 0)
+            apply_text(text, written, world, &mut NoNotes).is_ok_and(|tally| tally.lost == 0)
         }
         Task::Check => world.check().is_ok(),
         Task::Look => look(world, written),
@@ -87,7 +82,7 @@ fn visit_world<S: Alter + Drop>(
     };
     match opened {
         Ok(mut world) => {
-            seen.is_done = do_task(alloc, &mut world, task, &mut seen.written);
+            seen.is_done = do_task(&mut world, task, &mut seen.written);
             world.into_connection()
         }
         Err((_fault, conn)) => conn,

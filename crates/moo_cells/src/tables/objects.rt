@@ -7,6 +7,7 @@ ghost use Rattle.moo_rows.specs.Walk.{objects_left};
 ghost use Rattle.sqlite.specs.Tree.{has_rowid};
 ghost use Rattle.moo_tables.specs.Inside.{AreKeyed};
 ghost use Rattle.moo_cells.specs.Reading.{ReadsObject, IsRead};
+ghost use Rattle.moo_cells.specs.Apart.{HaveNumbers};
 ghost use Rattle.moo_cells.specs.Holding.{object_number, object_key, IsLess, HoldsTable, SaysUnread, TakesRow};
 ghost use Rattle.moo_cells.specs.declared.fault.RowFault.TheVariants.{Unreadable};
 
@@ -65,18 +66,18 @@ fn take_object(
 }
 
 /// Puts what each row of the table shows, in rows that have none of the table yet. The cells of the rows are let
-/// go soon after they are read.
+/// go soon after they are read. They may come in any order; in that of their keys a fault is of the first row that can't be read.
 pub(crate) fn read_objects(
     alloc: Global,
     version: Version,
     cells: Vec<Row>,
     rows: &mut Flat,
 ) -> Result<(), CellFault>
-    requires listed { AreKeyed cells.items }
+    requires numbered { HaveNumbers cells.items }
     requires none { rows.old.maps.objects ≡ empty }
     ensures holds { OnOk result (HoldsTable has_rowid object_number (ReadsObject version) cells.items rows.new.maps.objects) }
     ensures kept { OnOk result (rows.new.maps ≡ record rows.old.maps { objects = rows.new.maps.objects }) }
-    ensures fault { IfErr result (SaysUnread has_rowid (ReadsObject version) IsLess object_key cells.items) }
+    ensures fault { IfErr result (λ fault. AreKeyed cells.items → SaysUnread has_rowid (ReadsObject version) IsLess object_key cells.items fault) }
 {
     let mut spent = Spent::new(alloc);
     for row in cells {

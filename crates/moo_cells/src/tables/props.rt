@@ -7,6 +7,7 @@ ghost use Rattle.moo_rows.specs.Walk.{props_left};
 ghost use Rattle.sqlite.specs.Tree.{has_rowid};
 ghost use Rattle.moo_tables.specs.Inside.{AreKeyed};
 ghost use Rattle.moo_cells.specs.Reading.{ReadsProp, IsRead};
+ghost use Rattle.moo_cells.specs.Apart.{HaveNumbers};
 ghost use Rattle.moo_cells.specs.Holding.{prop_number, prop_key, IsLess, HoldsTable, SaysUnread, TakesRow};
 ghost use Rattle.moo_cells.specs.declared.fault.RowFault.TheVariants.{Unreadable};
 
@@ -59,18 +60,18 @@ fn take_prop(alloc: Global, version: Version, cells: &Row, rows: &mut Flat) -> R
 }
 
 /// Puts what each row of the table shows, in rows that have none of the table yet. The cells of the rows are let
-/// go soon after they are read.
+/// go soon after they are read. They may come in any order; in that of their keys a fault is of the first row that can't be read.
 pub(crate) fn read_props(
     alloc: Global,
     version: Version,
     cells: Vec<Row>,
     rows: &mut Flat,
 ) -> Result<(), CellFault>
-    requires listed { AreKeyed cells.items }
+    requires numbered { HaveNumbers cells.items }
     requires none { rows.old.maps.props ≡ empty }
     ensures holds { OnOk result (HoldsTable has_rowid prop_number (ReadsProp version) cells.items rows.new.maps.props) }
     ensures kept { OnOk result (rows.new.maps ≡ record rows.old.maps { props = rows.new.maps.props }) }
-    ensures fault { IfErr result (SaysUnread has_rowid (ReadsProp version) IsLess prop_key cells.items) }
+    ensures fault { IfErr result (λ fault. AreKeyed cells.items → SaysUnread has_rowid (ReadsProp version) IsLess prop_key cells.items fault) }
 {
     let mut spent = Spent::new(alloc);
     for row in cells {

@@ -6,6 +6,7 @@ ghost use Rattle.moo_rows.specs.declared.row.SlotRow.{SlotRow};
 ghost use Rattle.moo_rows.specs.Walk.{slots_left};
 ghost use Rattle.moo_tables.specs.Listing.{has_key_pair, ArePaired};
 ghost use Rattle.moo_cells.specs.Reading.{ReadsSlot, IsRead};
+ghost use Rattle.moo_cells.specs.Apart.{HavePairs};
 ghost use Rattle.moo_cells.specs.Holding.{slot_number, slot_key, IsPairLess, HoldsTable, SaysUnread, TakesRow};
 ghost use Rattle.moo_cells.specs.declared.fault.RowFault.TheVariants.{Unreadable};
 
@@ -63,18 +64,18 @@ fn take_slot(alloc: Global, version: Version, cells: &Row, rows: &mut Flat) -> R
 }
 
 /// Puts what each row of the table shows, in rows that have none of the table yet. The cells of the rows are let
-/// go soon after they are read.
+/// go soon after they are read. They may come in any order; in that of their keys a fault is of the first row that can't be read.
 pub(crate) fn read_slots(
     alloc: Global,
     version: Version,
     cells: Vec<Row>,
     rows: &mut Flat,
 ) -> Result<(), CellFault>
-    requires listed { ArePaired cells.items }
+    requires numbered { HavePairs cells.items }
     requires none { rows.old.maps.slots ≡ empty }
     ensures holds { OnOk result (HoldsTable has_key_pair slot_number (ReadsSlot version) cells.items rows.new.maps.slots) }
     ensures kept { OnOk result (rows.new.maps ≡ record rows.old.maps { slots = rows.new.maps.slots }) }
-    ensures fault { IfErr result (SaysUnread has_key_pair (ReadsSlot version) IsPairLess slot_key cells.items) }
+    ensures fault { IfErr result (λ fault. ArePaired cells.items → SaysUnread has_key_pair (ReadsSlot version) IsPairLess slot_key cells.items fault) }
 {
     let mut spent = Spent::new(alloc);
     for row in cells {

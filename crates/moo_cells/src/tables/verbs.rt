@@ -6,6 +6,7 @@ ghost use Rattle.moo_rows.specs.declared.row.VerbRow.{VerbRow};
 ghost use Rattle.moo_rows.specs.Walk.{verbs_left};
 ghost use Rattle.moo_tables.specs.Listing.{has_key_pair, ArePaired};
 ghost use Rattle.moo_cells.specs.Reading.{ReadsVerb, IsRead};
+ghost use Rattle.moo_cells.specs.Apart.{HavePairs};
 ghost use Rattle.moo_cells.specs.Holding.{verb_number, verb_key, IsPairLess, HoldsTable, SaysUnread, TakesRow};
 ghost use Rattle.moo_cells.specs.declared.fault.RowFault.TheVariants.{Unreadable};
 
@@ -63,18 +64,18 @@ fn take_verb(alloc: Global, version: Version, cells: &Row, rows: &mut Flat) -> R
 }
 
 /// Puts what each row of the table shows, in rows that have none of the table yet. The cells of the rows are let
-/// go soon after they are read.
+/// go soon after they are read. They may come in any order; in that of their keys a fault is of the first row that can't be read.
 pub(crate) fn read_verbs(
     alloc: Global,
     version: Version,
     cells: Vec<Row>,
     rows: &mut Flat,
 ) -> Result<(), CellFault>
-    requires listed { ArePaired cells.items }
+    requires numbered { HavePairs cells.items }
     requires none { rows.old.maps.verbs ≡ empty }
     ensures holds { OnOk result (HoldsTable has_key_pair verb_number (ReadsVerb version) cells.items rows.new.maps.verbs) }
     ensures kept { OnOk result (rows.new.maps ≡ record rows.old.maps { verbs = rows.new.maps.verbs }) }
-    ensures fault { IfErr result (SaysUnread has_key_pair (ReadsVerb version) IsPairLess verb_key cells.items) }
+    ensures fault { IfErr result (λ fault. ArePaired cells.items → SaysUnread has_key_pair (ReadsVerb version) IsPairLess verb_key cells.items fault) }
 {
     let mut spent = Spent::new(alloc);
     for row in cells {

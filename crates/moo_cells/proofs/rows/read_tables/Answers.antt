@@ -1,7 +1,21 @@
-use Rattle.moo_cells.{proofs.Words.{◌∙◌, sym, ap, subst, err_from_is_err_and, Maps, tables_of, has_rowid, ReadsPetition, HoldsTable, SaysUnread, IsLess, petition_key, petition_number, SaysOfCells}, proofs.Exits.{err_then}, proofs.RowsLemmas.{read_all, rows_shown, rows_within, says_object, says_prop, says_slot, says_verb, says_petition, none_met}}
+use Rattle.moo_cells.{proofs.Words.{◌∙◌, sym, ap, subst, err_from_is_err_and, Maps, tables_of, has_rowid, ReadsPetition, HoldsTable, SaysUnread, IsLess, petition_key, petition_number, SaysOfCells}, proofs.Apart.{numbered, paired}, proofs.Exits.{err_then}, proofs.RowsLemmas.{read_all, rows_shown, rows_within, says_object, says_prop, says_slot, says_verb, says_petition, none_met}}
 use Rattle.moo_cells.proofs.rows.read_tables.Goals as goal
 use Rattle.std.proofs.lemmas.Result.{on_ok_weaker}
 use Rattle.sqlite_rules.proofs.ViewLemmas.{on_ok_both}
+
+-- rows in the order of their keys have each key once
+
+pub read_objects-requires-clause-numbered : goal.read_objects-requires-clause-numbered
+read_objects-requires-clause-numbered c = numbered c.args.lists.object.items c.requires.listed.object
+
+pub read_props-requires-clause-numbered : goal.read_props-requires-clause-numbered
+read_props-requires-clause-numbered c = numbered c.args.lists.prop.items c.requires.listed.prop
+
+pub read_slots-requires-clause-numbered : goal.read_slots-requires-clause-numbered
+read_slots-requires-clause-numbered c = paired c.args.lists.slot.items c.requires.listed.slot
+
+pub read_verbs-requires-clause-numbered : goal.read_verbs-requires-clause-numbered
+read_verbs-requires-clause-numbered c = paired c.args.lists.verb.items c.requires.listed.verb
 
 -- the tables that are read later have no rows yet
 
@@ -25,22 +39,22 @@ read_petitions-requires-clause-none c = ap (λ (m : Maps). m.petitions) c.in_ok-
 pub returns-in_err-read_objects-clause-fault : goal.returns-in_err-read_objects-clause-fault
 returns-in_err-read_objects-clause-fault c =
     let p = err_from_is_err_and c.from_residual.result c.from_residual.ensures.1 in
-    rw p.1 (subst (SaysOfCells (tables_of c.args.lists)) (sym p.2) (says_object c.args.lists c.args.rows.now.maps.head c.requires.head.0 c.requires.head.1 c.requires.head.2 c.requires.counter c.in_err-read_objects.field-0.0 c.in_err-read_objects.ensures.fault))
+    rw p.1 (subst (SaysOfCells (tables_of c.args.lists)) (sym p.2) (says_object c.args.lists c.args.rows.now.maps.head c.requires.head.0 c.requires.head.1 c.requires.head.2 c.requires.counter c.in_err-read_objects.field-0.0 (c.in_err-read_objects.ensures.fault c.requires.listed.object)))
 
 pub returns-in_err-read_props-clause-fault : goal.returns-in_err-read_props-clause-fault
 returns-in_err-read_props-clause-fault c =
     let p = err_from_is_err_and c.from_residual-in_err-read_props.result c.from_residual-in_err-read_props.ensures.1 in
-    rw p.1 (subst (SaysOfCells (tables_of c.args.lists)) (sym p.2) (says_prop c.args.lists c.args.rows.now.maps.head c.requires.head.0 c.requires.head.1 c.requires.head.2 c.requires.counter c.in_ok-read_objects.ensures.holds.read c.in_err-read_props.field-0.0 c.in_err-read_props.ensures.fault))
+    rw p.1 (subst (SaysOfCells (tables_of c.args.lists)) (sym p.2) (says_prop c.args.lists c.args.rows.now.maps.head c.requires.head.0 c.requires.head.1 c.requires.head.2 c.requires.counter c.in_ok-read_objects.ensures.holds.read c.in_err-read_props.field-0.0 (c.in_err-read_props.ensures.fault c.requires.listed.prop)))
 
 pub returns-in_err-read_slots-clause-fault : goal.returns-in_err-read_slots-clause-fault
 returns-in_err-read_slots-clause-fault c =
     let p = err_from_is_err_and c.from_residual-in_err-read_slots.result c.from_residual-in_err-read_slots.ensures.1 in
-    rw p.1 (subst (SaysOfCells (tables_of c.args.lists)) (sym p.2) (says_slot c.args.lists c.args.rows.now.maps.head c.requires.head.0 c.requires.head.1 c.requires.head.2 c.requires.counter c.in_ok-read_objects.ensures.holds.read c.in_ok-read_props.ensures.holds.read c.in_err-read_slots.field-0.0 c.in_err-read_slots.ensures.fault))
+    rw p.1 (subst (SaysOfCells (tables_of c.args.lists)) (sym p.2) (says_slot c.args.lists c.args.rows.now.maps.head c.requires.head.0 c.requires.head.1 c.requires.head.2 c.requires.counter c.in_ok-read_objects.ensures.holds.read c.in_ok-read_props.ensures.holds.read c.in_err-read_slots.field-0.0 (c.in_err-read_slots.ensures.fault c.requires.listed.slot)))
 
 pub returns-in_err-read_verbs-clause-fault : goal.returns-in_err-read_verbs-clause-fault
 returns-in_err-read_verbs-clause-fault c =
     let p = err_from_is_err_and c.from_residual-in_err-read_verbs.result c.from_residual-in_err-read_verbs.ensures.1 in
-    rw p.1 (subst (SaysOfCells (tables_of c.args.lists)) (sym p.2) (says_verb c.args.lists c.args.rows.now.maps.head c.requires.head.0 c.requires.head.1 c.requires.head.2 c.requires.counter c.in_ok-read_objects.ensures.holds.read c.in_ok-read_props.ensures.holds.read c.in_ok-read_slots.ensures.holds.read c.in_err-read_verbs.field-0.0 c.in_err-read_verbs.ensures.fault))
+    rw p.1 (subst (SaysOfCells (tables_of c.args.lists)) (sym p.2) (says_verb c.args.lists c.args.rows.now.maps.head c.requires.head.0 c.requires.head.1 c.requires.head.2 c.requires.counter c.in_ok-read_objects.ensures.holds.read c.in_ok-read_props.ensures.holds.read c.in_ok-read_slots.ensures.holds.read c.in_err-read_verbs.field-0.0 (c.in_err-read_verbs.ensures.fault c.requires.listed.verb)))
 
 pub returns-clause-fault : goal.returns-clause-fault
 returns-clause-fault c =

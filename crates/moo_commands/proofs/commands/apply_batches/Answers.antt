@@ -1,4 +1,4 @@
-use Rattle.moo_commands.{proofs.Words.{inr, refl, Works, NoBatches, texts_by, StopsApplying, MayLead}, proofs.Tasks.{none_opened, some_opened, never_input, text_runs, unchanged, unmoved}}
+use Rattle.moo_commands.{proofs.Words.{inr, refl, Works, NoBatches, texts_by, StopsApplying, MayLead}, proofs.Tasks.{none_opened, some_opened, never_input, text_runs, unchanged, unmoved, never_lacks, lacks_file}}
 use Rattle.moo_commands.proofs.commands.apply_batches.Goals as goal
 
 pub returns-in-None-clause-ran : goal.returns-in-None-clause-ran
@@ -24,3 +24,12 @@ returns-in-Err-clause-ran g c opened known s stands =
 
 pub returns-in-None-clause-input : goal.returns-in-None-clause-input
 returns-in-None-clause-input g c opened other = never_input g.S.Host.Text.Read.remaining (g.S.Host.BatchFiles.text c.args.session.now.host) c.args.batches.path.now c.args.text c.in-None.is opened other
+
+pub returns-in-None-clause-lacks : goal.returns-in-None-clause-lacks
+returns-in-None-clause-lacks g c by = never_lacks (g.S.Host.BatchFiles.lacks c.args.session.now.host) c.args.batches.path.now c.run_text.result c.run_text.ensures.opened
+
+pub returns-in-Ok-clause-lacks : goal.returns-in-Ok-clause-lacks
+returns-in-Ok-clause-lacks g c by = never_lacks (g.S.Host.BatchFiles.lacks c.args.session.now.host) c.args.batches.path.now c.run_text-in-Ok.result c.run_text-in-Ok.ensures.opened
+
+pub returns-in-Err-clause-lacks : goal.returns-in-Err-clause-lacks
+returns-in-Err-clause-lacks g c by same = lacks_file (g.S.Host.BatchFiles.lacks c.args.session.now.host) c.args.batches.path.now c.args.text c.in-Some.opened _ c.in-Some.is c.in-Err.is by

@@ -1,4 +1,4 @@
-use Rattle.moo_commands.{proofs.Words.{inr, refl, sym, subst, AsksBy}, proofs.Tasks.{none_opened, some_opened, never_input}}
+use Rattle.moo_commands.{proofs.Words.{inr, refl, sym, subst, AsksBy}, proofs.Tasks.{none_opened, some_opened, never_input, never_lacks, lacks_file}}
 use Rattle.moo_commands.proofs.commands.ask.Goals as goal
 
 pub returns-in-None-clause-asks : goal.returns-in-None-clause-asks
@@ -20,3 +20,12 @@ returns-in-Err-clause-asks g c opened known s stands = inr (refl, refl)
 
 pub returns-in-None-clause-input : goal.returns-in-None-clause-input
 returns-in-None-clause-input g c opened other = never_input g.S.Host.Text.Read.remaining (g.S.Host.BatchFiles.text c.args.session.now.host) c.args.batches.now c.args.text c.in-None.is opened other
+
+pub returns-in-None-clause-lacks : goal.returns-in-None-clause-lacks
+returns-in-None-clause-lacks g c by = never_lacks (g.S.Host.BatchFiles.lacks c.args.session.now.host) c.args.batches.now c.ask_batches.result c.ask_batches.ensures.opened
+
+pub returns-in-Ok-clause-lacks : goal.returns-in-Ok-clause-lacks
+returns-in-Ok-clause-lacks g c by = never_lacks (g.S.Host.BatchFiles.lacks c.args.session.now.host) c.args.batches.now c.ask_batches-in-Ok.result c.ask_batches-in-Ok.ensures.opened
+
+pub returns-in-Err-clause-lacks : goal.returns-in-Err-clause-lacks
+returns-in-Err-clause-lacks g c by same = lacks_file (g.S.Host.BatchFiles.lacks c.args.session.now.host) c.args.batches.now c.args.text c.in-Some.opened _ c.in-Some.is c.in-Err.is by

@@ -1,4 +1,4 @@
-use Rattle.moo_commands.{proofs.Words.{◌≡◌, Bool, true, false, inl, inr, refl, ap, subst, sym, RehearsesText}, proofs.Tasks.{done_rehearsal, stops_rehearsal}}
+use Rattle.moo_commands.{proofs.Words.{◌≡◌, Bool, true, false, inl, inr, refl, ap, subst, sym, RehearsesText}, proofs.Tasks.{done_rehearsal, stops_rehearsal, text_opened}}
 use Rattle.moo_commands.proofs.commands.rehearse_batches.Goals as goal
 
 pub returns-in-Ok-clause-rehearses : goal.returns-in-Ok-clause-rehearses
@@ -9,3 +9,6 @@ returns-in-Ok-clause-rehearses g c known s stands =
 
 pub returns-in-Err-clause-rehearses : goal.returns-in-Err-clause-rehearses
 returns-in-Err-clause-rehearses g c known s stands = stops_rehearsal c.args.stop s (g.R.Read.remaining c.args.text) (g.W.Write.contents c.args.output.now) (g.W.Write.contents c.rehearse_text-done.new.writer) c.in-Err.fault c.from.result c.from.ensures (c.in-Err.ensures.stops known s stands)
+
+pub returns-in-Err-clause-opened : goal.returns-in-Err-clause-opened
+returns-in-Err-clause-opened g c = text_opened c.in-Err.fault c.from.result c.from.ensures

@@ -9,7 +9,7 @@ returns-in-Ok-clause-runs g c =
     let made = c.in-Ok.ensures.makes in
     let ran = c.run_in_files.ensures in
     let same = made.stands.is_at.rows made.stands.works in
-    let given = given_to g.S.Input.Read g.S.Host.BatchFiles g.S.Host.Ports g.S.Host.Source.Arrivals g.S.Host.Source.Reader.Read g.S.Host.Source.Writer.Write c.args.session.now.input c.args.session.now.host c.run_in_files.new.session.host in
+    let given = given_to g.S.Input.Read g.S.Host.BatchFiles g.S.Host.WorldFiles.denies g.S.Host.Ports g.S.Host.Source.Arrivals g.S.Host.Source.Reader.Read g.S.Host.Source.Writer.Write c.args.session.now.input c.args.session.now.host c.run_in_files.new.session.host in
     let run : Run = record { given = given; before = g.S.Output.Write.contents c.args.session.now.output; after = g.S.Output.Write.contents c.run_in_files.new.session.output; status = c.run_in_files.new.session.status } in
     made_over c.args.task (image_at g.S.File.Start) run c.requires.anew world c.run_in_files.result
     (record {
@@ -27,7 +27,7 @@ returns-in-Err-clause-runs g c =
     let image = image_at g.S.File.Start in
     let rest = c.in-Err.remains in
     let s = state_of opening_maps in
-    let given = given_to g.S.Input.Read g.S.Host.BatchFiles g.S.Host.Ports g.S.Host.Source.Arrivals g.S.Host.Source.Reader.Read g.S.Host.Source.Writer.Write c.args.session.now.input c.args.session.now.host c.args.session.now.host in
+    let given = given_to g.S.Input.Read g.S.Host.BatchFiles g.S.Host.WorldFiles.denies g.S.Host.Ports g.S.Host.Source.Arrivals g.S.Host.Source.Reader.Read g.S.Host.Source.Writer.Write c.args.session.now.input c.args.session.now.host c.args.session.now.host in
     let old = g.S.Output.Write.contents c.args.session.now.output in
     let new = g.S.Output.Write.contents c.report-session.new.output in
     let run : Run = record { given = given; before = old; after = new; status = c.report-session.result } in

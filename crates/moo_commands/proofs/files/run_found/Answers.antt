@@ -1,5 +1,6 @@
 use Rattle.moo_commands.{proofs.Words.{inl, true, false, refl, image_at, state_of, Run, given_to}, proofs.Held.{ran_onto}, proofs.Connections.{surely, unseen}, proofs.Refusals.{refuses_file, tells_fault, refused_onto, still_held, never_anew}}
 use Rattle.moo_commands.proofs.files.run_found.Goals as goal
+use Rattle.moo_files.specs.Opened.{Database}
 
 pub returns-in-Ok-clause-runs : goal.returns-in-Ok-clause-runs
 returns-in-Ok-clause-runs g c =
@@ -22,7 +23,7 @@ returns-in-Ok-clause-runs g c =
 pub returns-in-Err-clause-runs : goal.returns-in-Err-clause-runs
 returns-in-Err-clause-runs g c =
     let fault = c.in-Err.fault in
-    let given = given_to g.S.Input.Read g.S.Host.BatchFiles g.S.Host.Ports g.S.Host.Source.Arrivals g.S.Host.Source.Reader.Read g.S.Host.Source.Writer.Write c.args.session.now.input c.args.session.now.host c.args.session.now.host in
+    let given = given_to g.S.Input.Read g.S.Host.BatchFiles g.S.Host.WorldFiles.denies g.S.Host.Ports g.S.Host.Source.Arrivals g.S.Host.Source.Reader.Read g.S.Host.Source.Writer.Write c.args.session.now.input c.args.session.now.host c.args.session.now.host in
     let old = g.S.Output.Write.contents c.args.session.now.output in
     let new = g.S.Output.Write.contents c.report-session.new.output in
     let run : Run = record { given = given; before = old; after = new; status = c.report-session.result } in
@@ -39,4 +40,6 @@ returns-in-Err-clause-runs g c =
       begun = λ anew. never_anew c.args.task c.requires.other anew;
       rests = refl;
       told = inl (fault, c.in-Err.ensures.refused.stopped, reports);
+      cause = λ other s holds clean.
+          (fault, (c.in-Err.ensures.refuses (Database holds.trees) holds.holds clean).state s holds.such, c.in-Err.ensures.cause holds.trees holds.holds clean, reports);
     }

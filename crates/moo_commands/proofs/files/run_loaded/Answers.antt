@@ -6,8 +6,8 @@ use Rattle.moo_load.specs.RowsOf.{AreRowsOf}
 -- the dump shows no world, and the file isn't opened
 pub returns-in-Err-clause-runs : goal.returns-in-Err-clause-runs
 returns-in-Err-clause-runs g c =
-    let given = given_to g.S.Input.Read g.S.Host.BatchFiles g.S.Host.Ports g.S.Host.Source.Arrivals g.S.Host.Source.Reader.Read g.S.Host.Source.Writer.Write c.args.session.now.input c.args.session.now.host c.args.session.now.host in
-    let told = refuses_dump c.args.task.action given c.args.dump.now c.in-Err.failure c.requires.word c.in-Err.ensures.failure in
+    let given = given_to g.S.Input.Read g.S.Host.BatchFiles g.S.Host.WorldFiles.denies g.S.Host.Ports g.S.Host.Source.Arrivals g.S.Host.Source.Reader.Read g.S.Host.Source.Writer.Write c.args.session.now.input c.args.session.now.host c.args.session.now.host in
+    let told = refuses_dump c.args.task.action given c.args.dump.now c.in-Err.failure c.requires.word c.in-Err.ensures.failure c.in-Err.ensures.lacks in
     record {
       anew = λ anew. (c.in-Err.failure, inr (c.requires.load, told), c.report-session.ensures);
       over = λ other held holds. never_other c.args.task c.requires.load other;
@@ -20,11 +20,12 @@ returns-in-Err-clause-runs g c =
       begun = λ anew half clean. inr (inl half);
       rests = refl;
       told = inr (c.requires.load, (c.args.start, refl), c.in-Err.failure, told, c.report-session.ensures);
+      cause = λ other. never_other c.args.task c.requires.load other;
     }
 
 pub returns-in-Ok-load_from-clause-runs : goal.returns-in-Ok-load_from-clause-runs
 returns-in-Ok-load_from-clause-runs g c =
-    let given = given_to g.S.Input.Read g.S.Host.BatchFiles g.S.Host.Ports g.S.Host.Source.Arrivals g.S.Host.Source.Reader.Read g.S.Host.Source.Writer.Write c.args.session.now.input c.args.session.now.host c.run_in_files.new.session.host in
+    let given = given_to g.S.Input.Read g.S.Host.BatchFiles g.S.Host.WorldFiles.denies g.S.Host.Ports g.S.Host.Source.Arrivals g.S.Host.Source.Reader.Read g.S.Host.Source.Writer.Write c.args.session.now.input c.args.session.now.host c.run_in_files.new.session.host in
     let run : Run = record { given = given; before = g.S.Output.Write.contents c.args.session.now.output; after = g.S.Output.Write.contents c.run_in_files.new.session.output; status = c.run_in_files.new.session.status } in
     let s = state_of c.in-Ok.rows.maps in
     let made = c.in-Ok-load_from.ensures.makes in
@@ -46,7 +47,7 @@ returns-in-Err-load_from-clause-runs g c =
     let unmade = c.in-Err-load_from.ensures.makes in
     let image = image_at g.S.File.Start in
     let rest = c.in-Err-load_from.remains in
-    let given = given_to g.S.Input.Read g.S.Host.BatchFiles g.S.Host.Ports g.S.Host.Source.Arrivals g.S.Host.Source.Reader.Read g.S.Host.Source.Writer.Write c.args.session.now.input c.args.session.now.host c.args.session.now.host in
+    let given = given_to g.S.Input.Read g.S.Host.BatchFiles g.S.Host.WorldFiles.denies g.S.Host.Ports g.S.Host.Source.Arrivals g.S.Host.Source.Reader.Read g.S.Host.Source.Writer.Write c.args.session.now.input c.args.session.now.host c.args.session.now.host in
     let s = state_of c.in-Ok.rows.maps in
     let begins = begins_dumped c.args.task.action given c.args.dump.now s c.requires.load c.requires.word c.in-Ok.ensures.dumped (held_rows c.in-Ok.rows.maps c.in-Ok.ensures.good c.in-Ok.ensures.limit) in
     let old = g.S.Output.Write.contents c.args.session.now.output in

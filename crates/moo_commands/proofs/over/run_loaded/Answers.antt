@@ -3,7 +3,7 @@ use Rattle.moo_commands.proofs.over.run_loaded.Goals as goal
 
 pub returns-in-Ok-load_in-clause-runs : goal.returns-in-Ok-load_in-clause-runs
 returns-in-Ok-load_in-clause-runs g c =
-    let given = given_to g.S.Input.Read g.S.Host.BatchFiles g.S.Host.Ports g.S.Host.Source.Arrivals g.S.Host.Source.Reader.Read g.S.Host.Source.Writer.Write c.args.session.now.input c.args.session.now.host c.run_in.new.session.host in
+    let given = given_to g.S.Input.Read g.S.Host.BatchFiles g.S.Host.WorldFiles.denies g.S.Host.Ports g.S.Host.Source.Arrivals g.S.Host.Source.Reader.Read g.S.Host.Source.Writer.Write c.args.session.now.input c.args.session.now.host c.run_in.new.session.host in
     let s = state_of c.in-Ok.rows.maps in
     inr (
       s,
@@ -20,8 +20,8 @@ read_world-requires g c = record { read = λ other. c.requires.read c.args.dump.
 
 pub returns-in-Err-clause-runs : goal.returns-in-Err-clause-runs
 returns-in-Err-clause-runs g c =
-    let given = given_to g.S.Input.Read g.S.Host.BatchFiles g.S.Host.Ports g.S.Host.Source.Arrivals g.S.Host.Source.Reader.Read g.S.Host.Source.Writer.Write c.args.session.now.input c.args.session.now.host c.args.session.now.host in
-    inl (refl, (c.in-Err.failure, inr (c.requires.load, refuses_dump c.args.task.action given c.args.dump.now c.in-Err.failure c.requires.word c.in-Err.ensures.failure), c.report-session.ensures))
+    let given = given_to g.S.Input.Read g.S.Host.BatchFiles g.S.Host.WorldFiles.denies g.S.Host.Ports g.S.Host.Source.Arrivals g.S.Host.Source.Reader.Read g.S.Host.Source.Writer.Write c.args.session.now.input c.args.session.now.host c.args.session.now.host in
+    inl (refl, (c.in-Err.failure, inr (c.requires.load, refuses_dump c.args.task.action given c.args.dump.now c.in-Err.failure c.requires.word c.in-Err.ensures.failure c.in-Err.ensures.lacks), c.report-session.ensures))
 
 pub returns-in-Err-clause-input : goal.returns-in-Err-clause-input
 returns-in-Err-clause-input g c other = c.in-Err.ensures.input (keeps_input c.args.task c.args.dump.now c.requires.load c.requires.word other)

@@ -1,6 +1,9 @@
 use Rattle.moo_files.{proofs.Words.{◌≡◌, ◌∙◌, false, ap, sym, subst, subst₂, inl, inr, arith, seen_image, outcomes, bytes_of, IsPageSize, are_clean, AreClean, IsBlankFile, stored_size, state_of, image, clean_of, no_doubt, IsEmpty, image_of, stored_used}, proofs.BlankLemmas.{made_empty, on_the_way}}
 use Rattle.moo_files.proofs.blank.connect_blank.Goals as goal
 use Rattle.sqlite_store.{specs.FileStore.{view}, specs.Laws.{settled_at}}
+use Rattle.moo_files.{proofs.Words.{refl, ∥∥₁_map, empty_is_sound}, proofs.CauseLemmas.{made_cause, over_cause}}
+use Rattle.sqlite_store.specs.Build.{CanBuild}
+use Rattle.std.proofs.lemmas.List.Elements.{All-nil}
 use Rattle.sqlite.proofs.OpenLemmas.{pool_files}
 
 pub over-requires : goal.over-requires
@@ -62,3 +65,30 @@ returns-in-Err-over-clause-left g c late blank found may =
     let still = clean_of (view store).is_clean (omega (arith, c.in-Err-over.ensures.unharmed.clean)) in
     let is = settled_at store g.met.D.Disk.seen_may_stay found (e.ready.is_open (no_doubt _ still)) (c.in-Err-over.ensures.unharmed.outcomes found may) ∙ sym e.ready.clean in
     subst IsEmpty (sym is) (made_empty store e.ready (e.schema ∙ c.in-Ok.ensures.none) still (e.empty still))
+
+-- ---- what refused it
+
+pub returns-in-Err-clause-cause : goal.returns-in-Err-clause-cause
+returns-in-Err-clause-cause g c clean blank = inl refl
+
+pub returns-in-Err-create-clause-cause : goal.returns-in-Err-create-clause-cause
+returns-in-Err-create-clause-cause g c clean blank =
+    let fresh = c.in-Ok.fresh in
+    let made = c.in-Ok.ensures in
+    let none = made.none in
+    let size : (state_of fresh).page_size ≡ 1024 = made.size ∙ c.requires.size in
+    let seen : image fresh ≡ image_of g.D.Disk c.args.files = ap (λ f. seen_image g.D.Disk f.0 f.1) made.files in
+    let nothing : IsBlankFile (state_of fresh).page_size (image fresh) = subst₂ IsBlankFile (sym size) (sym seen) blank in
+    made_cause _ _ _ _ _ c.in-Err-create.error c.make_error.result c.make_error.ensures
+    (record { few = rw none (omega arith); files = inl nothing; schema = subst CanBuild (sym none) (record { distinct = refl; shaped = All-nil _; short = All-nil _ }) })
+    (λ stop. ∥∥₁_map stop (λ why. elim why [ inl full ↦ full | inr deep ↦ absurd (deep.0 (c.in-Err-create.ensures.back ∙ none)) ]))
+    (c.in-Err-create.ensures.cause clean)
+
+pub returns-in-Err-over-clause-cause : goal.returns-in-Err-over-clause-cause
+returns-in-Err-over-clause-cause g c late blank =
+    let now = no_doubt _ late in
+    let store = c.in-Ok-create.store in
+    let e = c.in-Ok-create.ensures in
+    let still = clean_of (view store).is_clean (omega (arith, c.in-Err-over.ensures.unharmed.clean)) in
+    let empty = made_empty store e.ready (e.schema ∙ c.in-Ok.ensures.none) still (e.empty still) in
+    over_cause _ _ _ _ c.in-Err-over.error _ (empty_is_sound _ empty.1) (c.in-Err-over.ensures.err now)

@@ -1,4 +1,6 @@
 use Rattle.moo_files.{proofs.Words.{◌≡◌, ◌∙◌, sym, subst, inl, inr, rules, true, false, bytes_of, IsBlankFile, HoldsDatabase, image_of, same_image, IsBlank}, proofs.BlankLemmas.{holds_none, blank_earlier, files_earlier, finds_earlier, each_ok, both_ok, each_err, both_err}}
+use Rattle.moo_files.{specs.Causes.{IsOpenable}, proofs.CauseLemmas.{asked_cause, probe_cause, is_wanted}}
+use Rattle.sqlite.specs.Files.{IsTooLong}
 use Rattle.moo_files.proofs.blank.open_or_make.Goals as goal
 
 pub returns-in-Ok-true-clause-holds : goal.returns-in-Ok-true-clause-holds
@@ -52,3 +54,28 @@ pub returns-in-Ok-false-clause-found : goal.returns-in-Ok-false-clause-found
 returns-in-Ok-false-clause-found g c =
     let read = c.probe_blank.ensures in
     each_ok c.open_files.result c.open_files.ensures.found (λ conn found clean. inr (finds_earlier read.log read.db conn (found clean)))
+
+-- ---- what refused it
+
+pub returns-in-Ok-true-clause-cause : goal.returns-in-Ok-true-clause-cause
+returns-in-Ok-true-clause-cause g c =
+    let size : bytes_of c.unwrap-size.result ≡ 1024 = search rules in
+    let read = c.probe_blank.ensures in
+    both_err c.connect_blank.result c.connect_blank.ensures.falls c.connect_blank.ensures.cause
+    (λ e falls cause clean openable.
+    let blank = subst (λ n. IsBlankFile n (image_of g.D.Disk c.args.files)) size ((c.in-Ok-true.ensures.ok (falls clean)).0 c.in-Ok-true.field-0-test) in
+    cause clean (subst IsBlank (sym (same_image read.log read.db)) blank))
+
+pub returns-in-Ok-false-clause-cause : goal.returns-in-Ok-false-clause-cause
+returns-in-Ok-false-clause-cause g c =
+    let read = c.probe_blank.ensures in
+    each_err c.open_files.result c.open_files.ensures.cause
+    (λ e cause clean openable. asked_cause _ _ _ _ _ e.0 (is_wanted _ (subst IsOpenable (sym (same_image read.log read.db)) openable)) (cause clean))
+
+pub returns-in-Err-clause-cause : goal.returns-in-Err-clause-cause
+returns-in-Err-clause-cause g c clean openable =
+    let read = c.probe_blank.ensures in
+    let image = image_of g.D.Disk c.args.files in
+    probe_cause _ _ _ _ c.in-Err.error c.probe_error.result c.probe_error.ensures
+    (λ long. let too : IsTooLong image = (_, ((λ used. sym long.0.1), (λ ignored. absurd (long.0.0 ignored))), long.1) in subst IsTooLong (sym (same_image read.log read.db)) too)
+    (c.in-Err.ensures.cause clean)

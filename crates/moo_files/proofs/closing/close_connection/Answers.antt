@@ -1,4 +1,5 @@
-use Rattle.std.proofs.Common.{◌≡◌, IsTrue, arith, sym, ap, subst, ◌∙◌}
+use Rattle.std.proofs.Common.{◌≡◌, Bool, IsTrue, arith, sym, ap, subst, ◌∙◌, true, false, not, refl, inl, inr}
+use Rattle.std.proofs.lemmas.Bool.{or_right, true≢false, cases_Bool}
 use Rattle.sqlite_wal.{specs.Files.{outcomes}, specs.Reads.{AreClean}, specs.Recovery.{Image}, proofs.StateLemmas.{open_from}}
 use Rattle.sqlite_pool.proofs.StateLemmas.{clean_is, may_leave_is}
 use Rattle.sqlite_store.{specs.FileStore.{state, view}, specs.Laws.{stays_at}}
@@ -74,3 +75,48 @@ pub returns-in-Err-clause-numbered : goal.returns-in-Err-clause-numbered
 returns-in-Err-clause-numbered g c clean =
     let early : IsClean (view c.into_store-store.result) = none_below _ _ (quiet_then c.rollback.ensures.quiet c.checkpoint.ensures.quiet).clean (no_doubt _ clean) in
     sym c.into_store-store.ensures.undone.numbered ∙ c.into_store-store.ensures.numbered early
+
+not_shut : (b : Bool) → (b ≡ false → ⊥) → IsTrue b
+not_shut b never = elim (cases_Bool b) [ inl on ↦ on | inr off ↦ absurd (never off) ]
+
+-- A store that the checkpoint left open has its trees numbered, as before. It wasn't broken before, so it wasn't shut.
+pub returns-in-Err-clause-numbers : goal.returns-in-Err-clause-numbers
+returns-in-Err-clause-numbers g c = λ clean why.
+    let none = no_doubt _ clean in
+    let before : IsClean (view c.rollback.new.self) = let q = c.checkpoint.ensures.quiet.clean in omega (arith, q, none) in
+    let early : IsClean (view c.into_store-store.result) = let q = c.rollback.ensures.quiet.clean in omega (arith, q, before) in
+    let numbered : IsTrue (view c.rollback.new.self).is_numbered = c.rollback.ensures.undone.numbered ∙ c.into_store-store.ensures.numbered early in
+    let was_shut : (view c.args.conn.store).is_open ≡ false → ⊥ = λ shut.
+    let sound : (view c.rollback.new.self).is_broken ≡ false = sym (c.is_broken.ensures.shown before) ∙ c.if-is_broken.false in
+    let open_then : IsTrue (view c.rollback.new.self).is_open = not_shut (view c.rollback.new.self).is_open (λ off.
+    let broken : IsTrue (view c.rollback.new.self).is_broken = or_right (c.rollback.new.self).has_failed _ (ap not off) in true≢false (sym broken ∙ sound)) in
+    let on = (c.rollback.ensures.undone.kept before).was_open open_then in
+    true≢false (sym ((c.into_store-store.ensures.undone.kept early).was_open on) ∙ shut) in
+    elim why [
+      | inl on ↦ ap (λ (v : View). v.is_numbered) (c.checkpoint.ensures.same on) ∙ numbered
+      | inr shut ↦ absurd (was_shut shut)
+    ]
+
+-- ---- the store was broken before
+
+pub returns-then-is_broken-clause-copied : goal.returns-then-is_broken-clause-copied
+returns-then-is_broken-clause-copied g c = record {
+  quiet = quiet_then c.into_store-store.ensures.quiet c.rollback.ensures.quiet;
+  sound = λ none db may. c.into_store-store.ensures.sound (omega (arith, none, c.rollback.ensures.quiet.clean)) db (c.rollback.ensures.quiet.outcomes db may);
+}
+
+pub returns-then-is_broken-clause-clean : goal.returns-then-is_broken-clause-clean
+returns-then-is_broken-clause-clean g c clean = none_below _ _ (returns-then-is_broken-clause-copied g c).quiet.clean (no_doubt _ clean)
+
+pub returns-then-is_broken-clause-left : goal.returns-then-is_broken-clause-left
+returns-then-is_broken-clause-left g c clean = λ trees lies. (returns-then-is_broken-clause-copied g c).quiet.outcomes trees lies
+
+pub returns-then-is_broken-clause-numbered : goal.returns-then-is_broken-clause-numbered
+returns-then-is_broken-clause-numbered g c clean =
+    let early : IsClean (view c.into_store-store.result) = none_below _ _ c.rollback.ensures.quiet.clean (no_doubt _ clean) in
+    sym c.into_store-store.ensures.undone.numbered ∙ c.into_store-store.ensures.numbered early
+
+pub returns-then-is_broken-clause-numbers : goal.returns-then-is_broken-clause-numbers
+returns-then-is_broken-clause-numbers g c = λ clean why.
+    let early : IsClean (view c.into_store-store.result) = none_below _ _ c.rollback.ensures.quiet.clean (no_doubt _ clean) in
+    c.rollback.ensures.undone.numbered ∙ c.into_store-store.ensures.numbered early

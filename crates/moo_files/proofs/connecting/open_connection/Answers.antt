@@ -1,4 +1,4 @@
-use Rattle.moo_files.{proofs.Words.{sym, subst, inl, HoldsDatabase, AreFoundIn, file_state, image_at}, specs.Opened.{Nothing, Database, Unfit}, proofs.RefusalLemmas.{opened_own, opened_malformed, unopened_malformed}, proofs.RemainsLemmas.{leftover_keeps, leftover_blank, leftover_spares, unopened_keeps, unopened_blank, unopened_spares}}
+use Rattle.moo_files.{proofs.Words.{refl, sym, subst, inl, HoldsDatabase, AreFoundIn, file_state, image_at}, specs.Opened.{Nothing, Database, Unfit}, proofs.RefusalLemmas.{opened_own, opened_malformed, unopened_malformed, opened_cause, denied_cause}, proofs.RemainsLemmas.{leftover_keeps, leftover_blank, leftover_spares, unopened_keeps, unopened_blank, unopened_spares}}
 use Rattle.moo_files.proofs.connecting.open_connection.Goals as goal
 use Rattle.sqlite_store.specs.Laws.{settled_at}
 
@@ -59,3 +59,13 @@ returns-in-Err-clause-unconnects g c (Database trees) holds clean = record {
   kept = unopened_keeps (image_at g.T.Start) c.in-Err.refused.1 trees c.in-Err.ensures.unopened holds;
 }
 returns-in-Err-clause-unconnects g c Unfit none clean = tt
+
+-- ---- what refused a database
+
+pub returns-in-Err-open_files-clause-cause : goal.returns-in-Err-open_files-clause-cause
+returns-in-Err-open_files-clause-cause g c trees holds clean =
+    let told = c.open_fault.ensures in
+    opened_cause c.in-Err-open_files.error c.open_fault.result (told.memory, told.other) c.in-Ok.pair.0 (image_at g.T.Start) c.in-Ok.ensures.start.seen trees holds c.in-Err-open_files.left (c.in-Err-open_files.ensures.cause clean)
+
+pub returns-in-Err-clause-cause : goal.returns-in-Err-clause-cause
+returns-in-Err-clause-cause g c trees holds clean = denied_cause _ c.in-Err.refused.0 c.in-Err.refused.1 c.in-Err.ensures.unopened (c.in-Err.ensures.denied refl)

@@ -1,4 +1,5 @@
 use Rattle.moo_files.{proofs.Words.{sym, subst, inl, inr, HoldsDatabase, AreFoundIn, file_state, image_at, IsBlank}, proofs.RemainsLemmas.{spared_spares, unopened_spares}, proofs.MakingLemmas.{spared_site, unopened_site}}
+use Rattle.moo_files.{specs.Causes.{IsOpenable}, proofs.Words.{refl}, proofs.RefusalLemmas.{denied_cause}}
 use Rattle.moo_files.proofs.connecting.open_new.Goals as goal
 use Rattle.sqlite_store.specs.Laws.{settled_at}
 
@@ -38,3 +39,15 @@ returns-in-Err-clause-unmade g c = record {
   spared = λ some begun clean. unopened_spares (image_at g.T.Start) c.in-Err.refused.1 c.in-Err.ensures.unopened;
   kept = λ site is clean. unopened_site (image_at g.T.Start) c.in-Err.refused.1 c.in-Err.ensures.unopened site is;
 }
+
+-- ---- what refused it
+
+pub returns-in-Err-open_or_make-clause-cause : goal.returns-in-Err-open_or_make-clause-cause
+returns-in-Err-open_or_make-clause-cause g c openable clean =
+    elim (c.in-Err-open_or_make.ensures.cause clean (subst IsOpenable (sym c.in-Ok.ensures.start.seen) openable)) [
+      | inl memory ↦ inl (c.open_fault.ensures.memory memory)
+      | inr disk ↦ inr disk
+    ]
+
+pub returns-in-Err-clause-cause : goal.returns-in-Err-clause-cause
+returns-in-Err-clause-cause g c openable clean = denied_cause _ c.in-Err.refused.0 c.in-Err.refused.1 c.in-Err.ensures.unopened (c.in-Err.ensures.denied refl)

@@ -41,3 +41,9 @@ returns-in-Err-make_files-clause-makes g c =
 pub returns-in-Err-clause-makes : goal.returns-in-Err-clause-makes
 returns-in-Err-clause-makes g c =
     unmade_more (λ _. ⊥) (λ found. LeavesState found (state_of (rows_made c.args.rows))) (λ found never. absurd never) (image_at g.T.Start) c.in-Err.fault c.in-Err.remains c.in-Err.ensures.unmade
+
+pub returns-in-Err-clause-cause : goal.returns-in-Err-clause-cause
+returns-in-Err-clause-cause g c = c.in-Err.ensures.cause
+
+pub returns-in-Err-make_files-clause-cause : goal.returns-in-Err-make_files-clause-cause
+returns-in-Err-make_files-clause-cause g c openable clean = tt

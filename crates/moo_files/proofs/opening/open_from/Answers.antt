@@ -1,4 +1,4 @@
-use Rattle.moo_files.{proofs.Words.{inl, ◌≡◌, refl, sym, subst, over_files, file_state, image_at, Adopts, store_of}, specs.Contents.{HoldsState}, specs.Opened.{Contents, Nothing, Database, Unfit}, proofs.ContentsLemmas.{was_clean, rests_held, shows_held, left_held, left_none, empty_other, foreign_other, unsound_other, reads_ours, reads_something, own_tables, kept_or_migrated}, proofs.RefusalLemmas.{unfit_sound, unfit_of_store, says_nothing, refuses_unconnected}}
+use Rattle.moo_files.{proofs.Words.{inl, inr, ◌≡◌, refl, sym, subst, over_files, file_state, image_at, Adopts, store_of}, specs.Contents.{HoldsState}, specs.Opened.{Contents, Nothing, Database, Unfit}, proofs.ContentsLemmas.{was_clean, rests_held, shows_held, left_held, left_none, empty_other, foreign_other, unsound_other, reads_ours, reads_something, own_tables, kept_or_migrated}, proofs.RefusalLemmas.{unfit_sound, unfit_of_store, says_nothing, refuses_unconnected}}
 use Rattle.moo_store.proofs.AdoptLemmas.{left_still}
 use Rattle.moo_files.proofs.opening.open_from.Goals as goal
 
@@ -105,3 +105,14 @@ returns-in-Some-clause-refuses g c (Database trees) holds clean = record {
   kept = record { trees = trees; holds = holds; such = inl refl };
 }
 returns-in-Some-clause-refuses g c Unfit none clean = unfit_of_store c.in-Some.fault c.in-Some.ensures.fault
+
+-- ---- what refused a database
+
+pub returns-in-Some-clause-cause : goal.returns-in-Some-clause-cause
+returns-in-Some-clause-cause g c trees holds clean = inr (c.metadata.ensures.denied (c.in-Some.ensures.unfit refl))
+
+pub returns-in-Err-clause-cause : goal.returns-in-Err-clause-cause
+returns-in-Err-clause-cause g c trees holds clean = c.in-Err.ensures.cause trees holds clean
+
+pub returns-in-Err-adopt_files-clause-cause : goal.returns-in-Err-adopt_files-clause-cause
+returns-in-Err-adopt_files-clause-cause g c trees holds clean = tt

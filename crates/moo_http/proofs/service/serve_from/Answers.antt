@@ -7,8 +7,8 @@ returns-in_err-routes-clause-serves g c known stand at =
     let output = g.W.Write.contents c.args.output.now in
     let from = c.args.arrivals.now in
     stood g.S.Store known stand c.args.world.now
-    (λ end. ServesFrom g.A.Arrivals.hands_out g.A.Arrivals.takes_back g.A.Reader.Read.remaining g.A.Writer.Write.contents c.from_residual.result c.args.port c.args.count from stand from end output output) at (c.leaves.ensures known stand at)
-    (fails_early (λ answered failed. Attended g.A.Arrivals.hands_out g.A.Arrivals.takes_back g.A.Reader.Read.remaining g.A.Writer.Write.contents answered failed from stand from stand) ((from ≡ from) × (stand ≡ stand)) c.args.port c.args.count
+    (λ end. ServesFrom g.A.Arrivals.hands_out g.A.Arrivals.takes_back g.A.Arrivals.loses g.A.Reader.Read.remaining g.A.Writer.Write.contents c.from_residual.result c.args.port c.args.count from stand from end output output) at (c.leaves.ensures known stand at)
+    (fails_early (λ answered failed. Attended g.A.Arrivals.hands_out g.A.Arrivals.takes_back g.A.Arrivals.loses g.A.Reader.Read.remaining g.A.Writer.Write.contents answered failed from stand from stand) ((from ≡ from) × (stand ≡ stand)) c.args.port c.args.count
     c.from_residual.result OutOfMemory output output (refl, refl) c.from_residual.ensures.1 (λ e. cc) (no_front (listening_line c.args.port) output))
 
 pub returns-in_err-routes-clause-moves : goal.returns-in_err-routes-clause-moves
@@ -26,8 +26,8 @@ returns-in_err-say_listening-clause-serves g c known stand at =
     let from = c.args.arrivals.now in
     let result = c.from_residual-in_err-say_listening.result in
     stood g.S.Store known stand c.args.world.now
-    (λ end. ServesFrom g.A.Arrivals.hands_out g.A.Arrivals.takes_back g.A.Reader.Read.remaining g.A.Writer.Write.contents result c.args.port c.args.count from stand from end before after) at (c.leaves.ensures known stand at)
-    (fails_early (λ answered failed. Attended g.A.Arrivals.hands_out g.A.Arrivals.takes_back g.A.Reader.Read.remaining g.A.Writer.Write.contents answered failed from stand from stand) ((from ≡ from) × (stand ≡ stand)) c.args.port c.args.count
+    (λ end. ServesFrom g.A.Arrivals.hands_out g.A.Arrivals.takes_back g.A.Arrivals.loses g.A.Reader.Read.remaining g.A.Writer.Write.contents result c.args.port c.args.count from stand from end before after) at (c.leaves.ensures known stand at)
+    (fails_early (λ answered failed. Attended g.A.Arrivals.hands_out g.A.Arrivals.takes_back g.A.Arrivals.loses g.A.Reader.Read.remaining g.A.Writer.Write.contents answered failed from stand from stand) ((from ≡ from) × (stand ≡ stand)) c.args.port c.args.count
     result c.in_err-say_listening.field-0.0 before after (refl, refl) c.from_residual-in_err-say_listening.ensures.1 c.in_err-say_listening.ensures.fault c.in_err-say_listening.ensures.err)
 
 pub returns-in_err-say_listening-clause-moves : goal.returns-in_err-say_listening-clause-moves
@@ -49,7 +49,7 @@ returns-clause-serves g c known stand at =
       end = reached.end;
       stands = reached.stands;
       crash = reached.crash;
-      ends = says_all (λ answered failed. Attended g.A.Arrivals.hands_out g.A.Arrivals.takes_back g.A.Reader.Read.remaining g.A.Writer.Write.contents answered failed from stand to reached.end) ((to ≡ from) × (reached.end ≡ stand))
+      ends = says_all (λ answered failed. Attended g.A.Arrivals.hands_out g.A.Arrivals.takes_back g.A.Arrivals.loses g.A.Reader.Read.remaining g.A.Writer.Write.contents answered failed from stand to reached.end) ((to ≡ from) × (reached.end ≡ stand))
           c.args.port c.args.count c.say_served.result served.result.answered served.result.failed (g.W.Write.contents c.args.output.now) (g.W.Write.contents c.say_listening.new.output) (g.W.Write.contents c.say_served.new.output)
           served.ensures.count reached.ends c.in_ok-say_listening.ensures.ok c.say_served.ensures.ok c.say_served.ensures.err c.say_served.ensures.fault;
     }
@@ -58,7 +58,7 @@ pub returns-clause-moves : goal.returns-clause-moves
 returns-clause-moves g c known stand at =
     let served = c.serve_on-served in
     let reached = served.ensures.serves known stand at in
-    let moved = attended_moves g.A.Arrivals.hands_out g.A.Arrivals.takes_back g.A.Reader.Read.remaining g.A.Writer.Write.contents served.result.answered served.result.failed c.args.count c.args.arrivals.now stand served.new.arrivals reached.end served.ensures.count reached.ends in
+    let moved = attended_moves g.A.Arrivals.hands_out g.A.Arrivals.takes_back g.A.Arrivals.loses g.A.Reader.Read.remaining g.A.Writer.Write.contents served.result.answered served.result.failed c.args.count c.args.arrivals.now stand served.new.arrivals reached.end served.ensures.count reached.ends in
     record {
       end = reached.end;
       stands = reached.stands;

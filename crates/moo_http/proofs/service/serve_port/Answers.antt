@@ -19,9 +19,9 @@ returns-clause-serves g c known stand at =
     let before = g.W.Write.contents c.args.output.now in
     let after = g.W.Write.contents c.serve_from-done.new.output in
     ends_as g.S.Store known c.serve_from-done.new.world
-    (λ end. ServesFrom source.hands_out source.takes_back remaining contents c.serve_from-done.result c.args.port c.args.count from stand to end before after)
-    (λ end. ServesOn (attended_between source.hands_out source.takes_back remaining contents ports.listens ports.closes first last) c.serve_from-done.result c.args.port c.args.count stand end before after)
-    (λ end it. serves_on source.hands_out source.takes_back remaining contents ports.listens ports.closes first between last c.serve_from-done.result c.args.port c.args.count from stand to end before after c.in-Some.ensures c.close.ensures c.serve_from-done.ensures.fault it)
+    (λ end. ServesFrom source.hands_out source.takes_back source.loses remaining contents c.serve_from-done.result c.args.port c.args.count from stand to end before after)
+    (λ end. ServesOn (attended_between source.hands_out source.takes_back source.loses remaining contents ports.listens ports.closes first last) c.serve_from-done.result c.args.port c.args.count stand end before after)
+    (λ end it. serves_on source.hands_out source.takes_back source.loses remaining contents ports.listens ports.closes first between last c.serve_from-done.result c.args.port c.args.count from stand to end before after c.in-Some.ensures c.close.ensures c.serve_from-done.ensures.fault it)
     (c.serve_from-done.ensures.serves known stand at)
 
 pub returns-in_default-clause-moved : goal.returns-in_default-clause-moved

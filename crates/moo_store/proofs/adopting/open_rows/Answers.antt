@@ -3,15 +3,17 @@ use Rattle.moo_store.proofs.adopting.open_rows.Goals as goal
 
 -- the tables were not read
 pub returns-in-Err-clause-brings : goal.returns-in-Err-clause-brings
-returns-in-Err-clause-brings g c = record {
-  outside = c.read_rows.ensures.outside;
-  other = c.in-Err.ensures.other;
-  own = c.in-Err.ensures.own;
-  whole = λ s it clean. c.in-Err.ensures.whole clean it.tables it.rows it.rests it.shows it.good;
-  says = λ tables rests clean. c.in-Err.ensures.fault clean tables rests;
-  undone = undone g.S.Store c.args.conn.now c.read_rows.new.conn c.in-Err.ensures.failed c.read_rows.ensures.settled c.read_rows.ensures.outside;
-  crash = refused_survives g.S.Store c.args.conn.now c.read_rows.new.conn c.in-Err.ensures.failed;
-}
+returns-in-Err-clause-brings g c =
+    let no = c.in-Err.ensures.reads in
+    record {
+      outside = c.read_rows.ensures.outside;
+      other = no.other;
+      own = no.own;
+      whole = λ s it clean. no.none.whole it.tables it.rows (clean, it.rests) it.shows it.good;
+      says = λ tables rests clean. no.none.says tables (clean, rests);
+      undone = undone g.S.Store c.args.conn.now c.read_rows.new.conn no.failed c.read_rows.ensures.settled c.read_rows.ensures.outside;
+      crash = refused_survives g.S.Store c.args.conn.now c.read_rows.new.conn no.failed;
+    }
 
 -- they were read, and are of the present version now
 pub returns-in-Ok-make_current-clause-brings : goal.returns-in-Ok-make_current-clause-brings
@@ -20,18 +22,18 @@ returns-in-Ok-make_current-clause-brings g c =
     let mid = c.read_rows.new.conn in
     let version = c.in-Ok.read.0 in
     let rows = c.in-Ok.read.1.maps in
-    let read = c.in-Ok.ensures.read in
-    let took = c.make_current.ensures.crash (has_still g.S.Store old mid version rows read.0 read.1) in
+    let read = c.in-Ok.ensures.reads in
+    let took = c.make_current.ensures.crash (has_still g.S.Store old mid version rows read.has read.read) in
     let early = clean_before (state g.S.Store mid) (state g.S.Store c.make_current.new.conn) _ took in
     record {
-      good = c.in-Ok.ensures.good;
-      ours = λ none. none version read.0;
-      one = λ tables m rests shows good clean. c.in-Ok.ensures.one (early clean) tables m rests shows good;
-      shown = λ tables rests clean. c.in-Ok.ensures.rows (early clean) tables rests;
+      good = read.found.good;
+      ours = λ none. none version read.has;
+      one = λ tables m rests shows good clean. read.found.one tables m (early clean, rests) shows good;
+      shown = λ tables rests clean. read.found.shown tables (early clean, rests);
       rests = λ tables rests clean.
-          c.in-Ok-make_current.ensures.rests clean tables (rests_still g.S.Store old mid version rows read.0 read.1 (early clean) tables rests)
-          (version_of_old g.S.Store old mid version rows read.0 read.1 tables rests) (c.in-Ok.ensures.rows (early clean) tables rests);
-      crash = crash g.S.Store old mid version rows read.0 read.1 c.make_current.new.conn took c.in-Ok.ensures.good c.in-Ok.ensures.rows c.in-Ok.ensures.one;
+          c.in-Ok-make_current.ensures.rests clean tables (rests_still g.S.Store old mid version rows read.has read.read (early clean) tables rests)
+          (version_of_old g.S.Store old mid version rows read.has read.read tables rests) (read.found.shown tables (early clean, rests));
+      crash = crash g.S.Store old mid version rows read.has read.read c.make_current.new.conn took read.found.good (λ clean tables rests. read.found.shown tables (clean, rests)) (λ clean tables m rests. read.found.one tables m (clean, rests));
     }
 
 -- they were read, and could not be taken over
@@ -41,14 +43,17 @@ returns-in-Err-make_current-clause-brings g c =
     let mid = c.read_rows.new.conn in
     let version = c.in-Ok.read.0 in
     let rows = c.in-Ok.read.1.maps in
-    let read = c.in-Ok.ensures.read in
-    let took = c.make_current.ensures.crash (has_still g.S.Store old mid version rows read.0 read.1) in
+    let read = c.in-Ok.ensures.reads in
+    let took = c.make_current.ensures.crash (has_still g.S.Store old mid version rows read.has read.read) in
     record {
       outside = c.make_current.ensures.outside;
-      other = λ none. absurd (none version read.0);
+      other = λ none. absurd (none version read.has);
       own = λ version has. c.in-Err-make_current.ensures.own;
       whole = λ s it clean. c.in-Err-make_current.ensures.fault;
       says = λ tables rests clean. says_of_store tables c.in-Err-make_current.fault c.in-Err-make_current.ensures.fault;
-      undone = inr (undone_late g.S.Store old mid version rows read.0 read.1 c.make_current.new.conn c.read_rows.ensures.settled took c.make_current.ensures.outside c.in-Err-make_current.ensures.undone);
-      crash = crash g.S.Store old mid version rows read.0 read.1 c.make_current.new.conn took c.in-Ok.ensures.good c.in-Ok.ensures.rows c.in-Ok.ensures.one;
+      undone = inr (undone_late g.S.Store old mid version rows read.has read.read c.make_current.new.conn c.read_rows.ensures.settled took c.make_current.ensures.outside c.in-Err-make_current.ensures.undone);
+      crash = crash g.S.Store old mid version rows read.has read.read c.make_current.new.conn took read.found.good (λ clean tables rests. read.found.shown tables (clean, rests)) (λ clean tables m rests. read.found.one tables m (clean, rests));
     }
+
+pub make_current-requires-clause-limit : goal.make_current-requires-clause-limit
+make_current-requires-clause-limit g c = c.in-Ok.ensures.reads.found.limit

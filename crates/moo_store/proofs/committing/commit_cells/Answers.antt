@@ -13,3 +13,6 @@ returns-clause-cells g c clean = at_kept (state g.S.Store c.args.conn.now) (stat
 pub returns-clause-clean : goal.returns-clause-clean
 returns-clause-clean g c =
     clean_at_commit (state g.S.Store c.args.conn.now) (state g.S.Store c.commit_changes.new.conn) (λ tables trees. Leaves trees (tables_with c.args.cells.now tables)) c.commit_changes.ensures.crash
+
+pub returns-clause-kept : goal.returns-clause-kept
+returns-clause-kept g c = record { faults = c.commit_changes.ensures.counts; steps = c.commit_changes.ensures.steps }

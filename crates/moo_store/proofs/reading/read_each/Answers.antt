@@ -1,36 +1,46 @@
 use Rattle.moo_tables.proofs.ReadLemmas.{reads_then, fails_then, rests_read}
+use Rattle.moo_store.{proofs.Words.{state}, proofs.Found.{found_as, none_as, none_of_store}, specs.Reading.{RestedAs}}
 use Rattle.moo_store.proofs.reading.read_each.Goals as goal
 
-pub returns-in-Ok-Some-clause-rows : goal.returns-in-Ok-Some-clause-rows
-returns-in-Ok-Some-clause-rows g c clean tables is rests = (rw c.in-Ok-Some.field-0-is at (c.in-Ok-Some.ensures.shown clean)) tables rests is
+pub returns-in-Ok-Some-clause-reads : goal.returns-in-Ok-Some-clause-reads
+returns-in-Ok-Some-clause-reads g c = record {
+  read = c.in-Ok-Some.ensures.read;
+  found = record {
+    good = rw c.in-Ok-Some.field-0-is at c.in-Ok-Some.ensures.good;
+    limit = rw c.in-Ok-Some.field-0-is at c.in-Ok-Some.ensures.limit;
+    shown = λ tables it. (rw c.in-Ok-Some.field-0-is at (c.in-Ok-Some.ensures.shown it.0.0)) tables it.0.1 it.1;
+    one = λ tables m it. (rw c.in-Ok-Some.field-0-is at (c.in-Ok-Some.ensures.one it.0.0)) tables m it.0.1 it.1;
+  };
+}
 
-pub returns-in-Ok-Some-clause-good : goal.returns-in-Ok-Some-clause-good
-returns-in-Ok-Some-clause-good g c = rw c.in-Ok-Some.field-0-is at c.in-Ok-Some.ensures.good
+pub returns-in-Ok-clause-reads : goal.returns-in-Ok-clause-reads
+returns-in-Ok-clause-reads g c =
+    let whole = c.in-Ok.ensures.reads in
+    let old = state g.S.Store c.args.conn.now in
+    let mid = state g.S.Store c.read_in_turn.new.conn in
+    let new = state g.S.Store c.read_whole.new.conn in
+    record {
+      read = reads_then c.in-Ok-None.ensures.read whole.read;
+      found = found_as (RestedAs c.args.version mid new) (RestedAs c.args.version old new) c.in-Ok.rows.maps (λ tables it. ((it.0.0, rests_read tables c.in-Ok-None.ensures.read (whole.read.clean it.0.0) it.1 it.0.1), it.1)) whole.found;
+    }
 
-pub returns-in-Ok-Some-clause-limit : goal.returns-in-Ok-Some-clause-limit
-returns-in-Ok-Some-clause-limit g c = rw c.in-Ok-Some.field-0-is at c.in-Ok-Some.ensures.limit
+pub returns-in-Err-read_whole-clause-reads : goal.returns-in-Err-read_whole-clause-reads
+returns-in-Err-read_whole-clause-reads g c =
+    let whole = c.in-Err-read_whole.ensures.reads in
+    let old = state g.S.Store c.args.conn.now in
+    let mid = state g.S.Store c.read_in_turn.new.conn in
+    let new = state g.S.Store c.read_whole.new.conn in
+    record {
+      failed = fails_then c.in-Ok-None.ensures.read whole.failed;
+      own = whole.own;
+      none = none_as (RestedAs c.args.version mid new) (RestedAs c.args.version old new) c.in-Err-read_whole.fault (λ tables it. ((it.0.0, rests_read tables c.in-Ok-None.ensures.read (whole.failed.clean it.0.0) it.1 it.0.1), it.1)) whole.none;
+    }
 
-pub returns-in-Ok-Some-clause-one : goal.returns-in-Ok-Some-clause-one
-returns-in-Ok-Some-clause-one g c clean tables m is rests = (rw c.in-Ok-Some.field-0-is at (c.in-Ok-Some.ensures.one clean)) tables m rests is
-
-pub returns-in-Ok-clause-read : goal.returns-in-Ok-clause-read
-returns-in-Ok-clause-read g c = reads_then c.in-Ok-None.ensures.read c.in-Ok.ensures.read
-
-pub returns-in-Ok-clause-rows : goal.returns-in-Ok-clause-rows
-returns-in-Ok-clause-rows g c clean tables is rests =
-    c.in-Ok.ensures.rows clean tables is (rests_read tables c.in-Ok-None.ensures.read (c.in-Ok.ensures.read.clean clean) is rests)
-
-pub returns-in-Ok-clause-one : goal.returns-in-Ok-clause-one
-returns-in-Ok-clause-one g c clean tables m is rests =
-    c.in-Ok.ensures.one clean tables m is (rests_read tables c.in-Ok-None.ensures.read (c.in-Ok.ensures.read.clean clean) is rests)
-
-pub returns-in-Err-read_whole-clause-failed : goal.returns-in-Err-read_whole-clause-failed
-returns-in-Err-read_whole-clause-failed g c = fails_then c.in-Ok-None.ensures.read c.in-Err-read_whole.ensures.failed
-
-pub returns-in-Err-read_whole-clause-fault : goal.returns-in-Err-read_whole-clause-fault
-returns-in-Err-read_whole-clause-fault g c clean tables is rests =
-    c.in-Err-read_whole.ensures.fault clean tables is (rests_read tables c.in-Ok-None.ensures.read (c.in-Err-read_whole.ensures.failed.clean clean) is rests)
-
-pub returns-in-Err-read_whole-clause-whole : goal.returns-in-Err-read_whole-clause-whole
-returns-in-Err-read_whole-clause-whole g c clean tables m is rests =
-    c.in-Err-read_whole.ensures.whole clean tables m is (rests_read tables c.in-Ok-None.ensures.read (c.in-Err-read_whole.ensures.failed.clean clean) is rests)
+pub returns-in-Err-clause-reads : goal.returns-in-Err-clause-reads
+returns-in-Err-clause-reads g c =
+    let told = c.failure_of.ensures.store in
+    record {
+      failed = c.in-Err.ensures.failed;
+      own = c.failure_of.ensures.own;
+      none = none_of_store (RestedAs c.args.version (state g.S.Store c.args.conn.now) (state g.S.Store c.read_in_turn.new.conn)) c.failure_of.result told.0 told.1;
+    }

@@ -1,25 +1,27 @@
-use Rattle.moo_store.{proofs.Words.{state}, proofs.Versions.{version_is}}
+use Rattle.moo_store.{proofs.Words.{inl, inr, refl, state}, proofs.AdoptLemmas.{says_of_store}, proofs.Found.{found_as, none_as}, proofs.Versions.{version_is}, specs.Reading.{Rested, RestedAs}}
 use Rattle.moo_store.proofs.reading.read_rows.Goals as goal
 
-pub returns-in-Ok-read_each-clause-rows : goal.returns-in-Ok-read_each-clause-rows
-returns-in-Ok-read_each-clause-rows g c clean tables rests =
-    c.in-Ok-read_each.ensures.rows clean tables (version_is (state g.S.Store c.args.conn.now) c.in-Ok.version tables c.in-Ok.ensures.ours rests) rests
+-- nothing was asked of the tables
+pub returns-in-Err-clause-reads : goal.returns-in-Err-clause-reads
+returns-in-Err-clause-reads g c = record {
+  failed = inl refl;
+  other = λ none. (c.in-Err.ensures.fault, refl);
+  own = c.in-Err.ensures.own;
+  none = record { says = λ tables it. says_of_store tables c.in-Err.fault c.in-Err.ensures.fault; whole = λ tables m it shows good. c.in-Err.ensures.fault };
+}
 
-pub returns-in-Ok-read_each-clause-one : goal.returns-in-Ok-read_each-clause-one
-returns-in-Ok-read_each-clause-one g c clean tables m rests =
-    c.in-Ok-read_each.ensures.one clean tables m (version_is (state g.S.Store c.args.conn.now) c.in-Ok.version tables c.in-Ok.ensures.ours rests) rests
+pub returns-in-Ok-read_each-clause-reads : goal.returns-in-Ok-read_each-clause-reads
+returns-in-Ok-read_each-clause-reads g c = record {
+  has = c.in-Ok.ensures.ours;
+  read = c.in-Ok-read_each.ensures.reads.read;
+  found = found_as (RestedAs c.in-Ok.version (state g.S.Store c.args.conn.now) (state g.S.Store c.read_each.new.conn)) (Rested (state g.S.Store c.args.conn.now) (state g.S.Store c.read_each.new.conn)) c.in-Ok-read_each.rows.maps (λ tables it. (it, version_is (state g.S.Store c.args.conn.now) c.in-Ok.version tables c.in-Ok.ensures.ours it.1)) c.in-Ok-read_each.ensures.reads.found;
+}
 
-pub returns-in-Err-read_each-clause-fault : goal.returns-in-Err-read_each-clause-fault
-returns-in-Err-read_each-clause-fault g c clean tables rests =
-    c.in-Err-read_each.ensures.fault clean tables (version_is (state g.S.Store c.args.conn.now) c.in-Ok.version tables c.in-Ok.ensures.ours rests) rests
-
-pub returns-in-Err-read_each-clause-whole : goal.returns-in-Err-read_each-clause-whole
-returns-in-Err-read_each-clause-whole g c clean tables m rests =
-    c.in-Err-read_each.ensures.whole clean tables m (version_is (state g.S.Store c.args.conn.now) c.in-Ok.version tables c.in-Ok.ensures.ours rests) rests
-
--- where tables were read they are of a version
-pub returns-in-Err-read_each-clause-other : goal.returns-in-Err-read_each-clause-other
-returns-in-Err-read_each-clause-other g c none = absurd (none c.in-Ok.version c.in-Ok.ensures.ours)
-
-pub returns-in-Ok-read_each-clause-other : goal.returns-in-Ok-read_each-clause-other
-returns-in-Ok-read_each-clause-other g c none = absurd (none c.in-Ok.version c.in-Ok.ensures.ours)
+-- tables that were read are of a version
+pub returns-in-Err-read_each-clause-reads : goal.returns-in-Err-read_each-clause-reads
+returns-in-Err-read_each-clause-reads g c = record {
+  failed = inr (c.in-Ok.version, c.in-Ok.ensures.ours, c.in-Err-read_each.ensures.reads.failed);
+  other = λ none. absurd (none c.in-Ok.version c.in-Ok.ensures.ours);
+  own = λ version has. c.in-Err-read_each.ensures.reads.own;
+  none = none_as (RestedAs c.in-Ok.version (state g.S.Store c.args.conn.now) (state g.S.Store c.read_each.new.conn)) (Rested (state g.S.Store c.args.conn.now) (state g.S.Store c.read_each.new.conn)) c.in-Err-read_each.fault (λ tables it. (it, version_is (state g.S.Store c.args.conn.now) c.in-Ok.version tables c.in-Ok.ensures.ours it.1)) c.in-Err-read_each.ensures.reads.none;
+}

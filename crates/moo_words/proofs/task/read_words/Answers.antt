@@ -1,4 +1,4 @@
-use Rattle.std.{proofs.lemmas.List.{length-map}, proofs.Common.{inr, arith, length, ◌<◌, ap, ap₂, sym, subst, ◌∙◌, refl, true, ◌≡◌, map, List, []}}
+use Rattle.std.{proofs.lemmas.List.{length-map}, proofs.Common.{inl, inr, arith, length, ◌<◌, ap, ap₂, sym, subst, ◌∙◌, refl, true, ◌≡◌, map, List, []}}
 use Rattle.clap.{specs.Walk.{Text}, specs.Simple.{App, is_simple, subcommand_of}, specs.Kinds.{HasKind}, specs.Faults.{fault_of, is_simple_and_free}, specs.declared.error.Error.{Error}, proofs.OnLiterals.{clap_on_literals}}
 use Rattle.moo_words.{proofs.AloneLemmas.{names_alone}, specs.Commands.{moo_app}, specs.Tasks.{mistakes}}
 use Rattle.moo_words.proofs.task.read_words.Goals as goal
@@ -37,4 +37,13 @@ pub returns-in-Err-try_get_matches_from-clause-refused : goal.returns-in-Err-try
 returns-in-Err-try_get_matches_from-clause-refused c = has_mistake _ _ c.in-Err-try_get_matches_from.error c.in-Ok.ensures c.in-Err-try_get_matches_from.ensures.kinds
 
 pub returns-clause-refused : goal.returns-clause-refused
-returns-clause-refused c = no_mistake _ _ c.in-Ok.ensures c.in-Ok-try_get_matches_from.ensures.kinds
+returns-clause-refused c =
+    let parsed = c.in-Ok-try_get_matches_from.ensures.matches (ap is_simple c.in-Ok.ensures ∙ moo_simple) in
+    let many : 1 < length (map (λ word. word.now) c.args.words.now) =
+    omega (arith, c.if-words-le1.false, length-map c.args.words.now (λ word. word.now)) in (
+      no_mistake _ _ c.in-Ok.ensures c.in-Ok-try_get_matches_from.ensures.kinds,
+      λ task names. elim names [
+        | inl few ↦ absurd (omega (arith, few.0, many))
+        | inr it ↦ c.in-None.ensures task (it.2, parsed.1 ∙ ap₂ subcommand_of c.in-Ok.ensures refl ∙ it.3, it.4)
+      ],
+    )

@@ -1,4 +1,4 @@
-use Rattle.moo_cells.{proofs.Words.{rules, ◌≡◌, ◌∷◌, sym, length, refl, ap, ◌∙◌, w64, arith, into_iter_items, into_iter_len, to_z-of_z, column, object_total, object_exact, Maps, Object, IsTrue}, proofs.Keys.{objects_bear, self_tied}, proofs.Table.{held_none, held_more, held_first, takes_on, took_all}, proofs.Within.{taken}}
+use Rattle.moo_cells.{proofs.Words.{rules, ◌≡◌, ◌∷◌, sym, length, refl, ap, ◌∙◌, w64, arith, into_iter_items, into_iter_len, to_z-of_z, column, object_total, object_exact, Maps, Object, IsTrue}, proofs.Keys.{objects_bear, self_tied}, proofs.Apart.{alike_numbers, in_any_order, pairwise}, proofs.Table.{held_none, held_more, held_first, takes_on, took_all}, proofs.Within.{taken}, specs.Apart.{is_same_number}}
 use Rattle.moo_cells.proofs.tables.objects.read_objects.Goals as goal
 use Rattle.sqlite_trees.specs.View.{is_int}
 
@@ -17,7 +17,7 @@ loop-row-preserved c =
     let short = ap length steps in record {
       whole = takes_on at.yielded at.invariant.whole steps;
       left = omega arith;
-      holds = held_more (objects_bear c.args.version) at.yielded at.invariant.whole steps c.requires.listed.0 object_total object_exact at.invariant.holds c.in-Ok.ensures.ok;
+      holds = held_more (in_any_order (objects_bear c.args.version) is_same_number alike_numbers) at.yielded at.invariant.whole steps (pairwise is_same_number c.args.cells.items c.requires.numbered.apart) object_total object_exact at.invariant.holds c.in-Ok.ensures.ok;
       kept = c.in-Ok.ensures.kept ∙ ap (λ (m : Maps). record m { objects = c.take_object.new.rows.maps.objects }) at.invariant.kept;
     }
 
@@ -27,12 +27,12 @@ returns c =
     search rules
 
 pub returns-in-Err-Unreadable-clause-fault : goal.returns-in-Err-Unreadable-clause-fault
-returns-in-Err-Unreadable-clause-fault c =
+returns-in-Err-Unreadable-clause-fault c keyed =
     let n = c.int_in in
     let one = to_z-of_z w64 n.result n.ensures.fits in
     let unread = c.in-Err-Unreadable.ensures.err c.in-Err-Unreadable.field-0-is in
-    let first = held_first (objects_bear c.args.version) c.loop-row.yielded c.loop-row.invariant.whole c.in-Some.ensures.steps.0 c.requires.listed.0 c.loop-row.invariant.holds unread in
+    let first = held_first (objects_bear c.args.version) c.loop-row.yielded c.loop-row.invariant.whole c.in-Some.ensures.steps.0 keyed.0 c.loop-row.invariant.holds unread in
     (n.result, refl, λ i. Object (one i), first n.result (self_tied (column c.in-Some.row 0) n.result n.ensures.value))
 
 pub int_in-requires : goal.int_in-requires
-int_in-requires c = taken (λ r. IsTrue (is_int (column r 0))) c.loop-row.yielded c.requires.listed.1 c.loop-row.invariant.whole c.in-Some.ensures.steps.0
+int_in-requires c = taken (λ r. IsTrue (is_int (column r 0))) c.loop-row.yielded c.requires.numbered.whole c.loop-row.invariant.whole c.in-Some.ensures.steps.0

@@ -3,7 +3,7 @@ use Rattle.moo_files.proofs.remains.Remains.close.Goals as goal
 
 pub returns-in-Connection-clause-closed : goal.returns-in-Connection-clause-closed
 returns-in-Connection-clause-closed g c =
-    rw c.in-Connection.is (c.close_connection.result, refl, c.close_connection.ensures.copied, λ clean. (c.close_connection.ensures.clean clean, c.close_connection.ensures.left clean, c.close_connection.ensures.numbered clean))
+    rw c.in-Connection.is (c.close_connection.result, refl, c.close_connection.ensures.copied, λ clean. (c.close_connection.ensures.clean clean, c.close_connection.ensures.left clean, c.close_connection.ensures.numbered clean, c.close_connection.ensures.numbers clean))
 
 pub returns-in-Connection-clause-state : goal.returns-in-Connection-clause-state
 returns-in-Connection-clause-state g c image s = keeps_closed (λ trees. LeavesState trees s) image c.args.self _ (returns-in-Connection-clause-closed g c)

@@ -1,34 +1,70 @@
 use Rattle.moo_store.{proofs.Words.{◌≡◌, ◌⊎◌, false, Some, IsTrue, refl, sym, ap, subst, state, HasCleanDisk, IsGood, state_of, AreChanges, World, Prints, store_of, ShowsItsRows, IsAt, KeepsRows, LeavesRows, Tables, Rests, KeepsCells, ShowsRows, KeepsFaults, IsStopped, Store}, proofs.Crashes.{rows_left, keeps_state, rows_written}, proofs.Running.{when_ok}, proofs.world.World.commit.Goals.{then-is_err, else-is_err}}
 use Rattle.moo_store.proofs.world.World.commit.Goals as goal
 
-pub returns-in-Err-clause-crash : goal.returns-in-Err-clause-crash
-returns-in-Err-clause-crash g c next shown exact clean trees lies =
-    let rows = c.self.inside.rows.maps in
-    let shows = subst (ShowsItsRows g.S.Store) (sym c.self.view_is) shown in
-    let here : AreChanges rows next c.args.changes = subst (λ (w : World _). AreChanges w.rows.maps next c.args.changes) (sym c.self.view_is) exact in
-    let printed : Prints (Some rows.head.next_petition) rows c.args.cells.now c.args.changes = subst (λ (w : World _). Prints (Some w.rows.maps.head.next_petition) w.rows.maps c.args.cells.now c.args.changes) (sym c.self.view_is) c.requires.printed in
-    subst (λ (w : World _). LeavesRows trees w.rows.maps ⊎ LeavesRows trees next) c.self.view_is
-    (rows_left (state g.S.Store c.self.inside.connection) (state g.S.Store c.commit_cells.new.conn) rows next (g.met.S.Store.settled c.self.inside.connection.store) shows
-    (c.commit_cells.ensures.crash c.args.changes rows next printed here shows) clean trees lies)
+-- the store failed
 
-pub returns-clause-is_at : goal.returns-clause-is_at
-returns-clause-is_at g c known next shown exact good =
-    let rows = c.self.inside.rows.maps in
-    let old = state g.S.Store c.self.inside.connection in
-    let new = state g.S.Store c.commit_cells.new.conn in
-    let here : AreChanges rows next c.args.changes = subst (λ (w : World _). AreChanges w.rows.maps next c.args.changes) (sym c.self.view_is) exact in
-    let printed : Prints (Some rows.head.next_petition) rows c.args.cells.now c.args.changes = subst (λ (w : World _). Prints (Some w.rows.maps.head.next_petition) w.rows.maps c.args.cells.now c.args.changes) (sym c.self.view_is) c.requires.printed in
-    let written : IsTrue known → HasCleanDisk new → KeepsRows new next = λ sure.
-    let shows = subst (ShowsItsRows g.S.Store) (sym c.self.view_is) (shown sure) in
-    rows_written old new rows next shows
-    (c.commit_cells.ensures.crash c.args.changes rows next printed here shows)
-    (λ clean. c.in_default.ensures.written clean c.args.changes rows next printed here) in
-    elim c.if-is_err.branch [
-      | then-is_err w ↦ subst (λ v. IsAt g.S.Store known v (state_of next)) (sym w.self-is) (record { tables = λ sure clean. keeps_state new next (state_of next) good refl (written sure clean); rows = λ e. cc; shown = λ sure e. cc })
-      | else-is_err w ↦ subst (λ v. IsAt g.S.Store known v (state_of next)) (sym w.self-is)
-          (let applied = when_ok c.apply_changes.result w.if-is_err.ensures.value c.apply_changes.ensures next here in
-          record { tables = λ sure clean. keeps_state new next (state_of next) good refl (written sure clean); rows = λ e. ap state_of applied; shown = λ sure e clean. subst (KeepsRows new) (sym applied) (written sure clean) })
-    ]
+pub returns-in-Err-clause-commits : goal.returns-in-Err-clause-commits
+returns-in-Err-clause-commits g c = record {
+  fault = (c.in-Err.error, refl);
+  failed = refl;
+  cause = λ clean shown.
+      let keeps = subst (ShowsItsRows g.S.Store) (sym c.self.view_is) shown (c.commit_cells.ensures.clean clean) in
+      subst (λ w. IsStopped (store_of g.S.Store w) (state g.S.Store c.commit_cells.new.conn) (Store c.in-Err.error)) c.self.view_is (c.in-Err.ensures.cause clean keeps.tables keeps.rests keeps.current);
+  undone = λ clean opened tables rests current. c.in-Err.ensures.undone clean opened tables (subst (λ w. Rests (store_of g.S.Store w) tables) (sym c.self.view_is) rests) current;
+  crash = λ next shown exact clean trees lies.
+      let rows = c.self.inside.rows.maps in
+      let shows = subst (ShowsItsRows g.S.Store) (sym c.self.view_is) shown in
+      let here : AreChanges rows next c.args.changes = subst (λ (w : World _). AreChanges w.rows.maps next c.args.changes) (sym c.self.view_is) exact in
+      let printed : Prints (Some rows.head.next_petition) rows c.args.cells.now c.args.changes = subst (λ (w : World _). Prints (Some w.rows.maps.head.next_petition) w.rows.maps c.args.cells.now c.args.changes) (sym c.self.view_is) c.requires.printed in
+      subst (λ (w : World _). LeavesRows trees w.rows.maps ⊎ LeavesRows trees next) c.self.view_is
+      (rows_left (state g.S.Store c.self.inside.connection) (state g.S.Store c.commit_cells.new.conn) rows next (g.met.S.Store.settled c.self.inside.connection.store) shows
+      (c.commit_cells.ensures.crash c.args.changes rows next printed here shows) clean trees lies);
+}
+
+-- the changes are in the tables, and in the rows unless memory ran out
+
+pub returns-clause-commits : goal.returns-clause-commits
+returns-clause-commits g c = record {
+  reply = refl;
+  is_at = λ known next shown exact good.
+      let rows = c.self.inside.rows.maps in
+      let old = state g.S.Store c.self.inside.connection in
+      let new = state g.S.Store c.commit_cells.new.conn in
+      let here : AreChanges rows next c.args.changes = subst (λ (w : World _). AreChanges w.rows.maps next c.args.changes) (sym c.self.view_is) exact in
+      let printed : Prints (Some rows.head.next_petition) rows c.args.cells.now c.args.changes = subst (λ (w : World _). Prints (Some w.rows.maps.head.next_petition) w.rows.maps c.args.cells.now c.args.changes) (sym c.self.view_is) c.requires.printed in
+      let written : IsTrue known → HasCleanDisk new → KeepsRows new next = λ sure.
+      let shows = subst (ShowsItsRows g.S.Store) (sym c.self.view_is) (shown sure) in
+      rows_written old new rows next shows
+      (c.commit_cells.ensures.crash c.args.changes rows next printed here shows)
+      (λ clean. c.in_default.ensures.written clean c.args.changes rows next printed here) in
+      elim c.if-is_err.branch [
+        | then-is_err w ↦ subst (λ v. IsAt g.S.Store known v (state_of next)) (sym w.self-is) (record { tables = λ sure clean. keeps_state new next (state_of next) good refl (written sure clean); rows = λ e. cc; shown = λ sure e. cc })
+        | else-is_err w ↦ subst (λ v. IsAt g.S.Store known v (state_of next)) (sym w.self-is)
+            (let applied = when_ok c.apply_changes.result w.if-is_err.ensures.value c.apply_changes.ensures next here in
+            record { tables = λ sure clean. keeps_state new next (state_of next) good refl (written sure clean); rows = λ e. ap state_of applied; shown = λ sure e clean. subst (KeepsRows new) (sym applied) (written sure clean) })
+      ];
+  rows = λ next exact.
+      let here : AreChanges c.self.inside.rows.maps next c.args.changes = subst (λ (w : World _). AreChanges w.rows.maps next c.args.changes) (sym c.self.view_is) exact in
+      elim c.if-is_err.branch [
+        | then-is_err w ↦ subst (λ (v : World _). v.failed ≡ false → v.rows.maps ≡ next) (sym w.self-is) (λ e. cc)
+        | else-is_err w ↦ subst (λ (v : World _). v.failed ≡ false → v.rows.maps ≡ next) (sym w.self-is) (λ e. when_ok c.apply_changes.result w.if-is_err.ensures.value c.apply_changes.ensures next here)
+      ];
+  cells = λ next tables exact clean rests current shown.
+      let rows = c.self.inside.rows.maps in
+      let here : AreChanges rows next c.args.changes = subst (λ (w : World _). AreChanges w.rows.maps next c.args.changes) (sym c.self.view_is) exact in
+      let printed : Prints (Some rows.head.next_petition) rows c.args.cells.now c.args.changes = subst (λ (w : World _). Prints (Some w.rows.maps.head.next_petition) w.rows.maps c.args.cells.now c.args.changes) (sym c.self.view_is) c.requires.printed in
+      let rest : Rests (state g.S.Store c.self.inside.connection) tables = subst (λ w. Rests (store_of g.S.Store w) tables) (sym c.self.view_is) rests in
+      let new = state g.S.Store c.commit_cells.new.conn in
+      let old_rows = c.args.self.now.rows.maps in
+      let shows : ShowsRows tables rows = subst (λ (w : World _). ShowsRows tables w.rows.maps) (sym c.self.view_is) shown in
+      let wrote : HasCleanDisk new → (after : Tables) × Rests new after × KeepsCells old_rows next tables after = λ clean.
+      let it = c.in_default.ensures.cells clean c.args.changes rows next tables printed here rest current shows in
+      (it.0, it.1, subst (λ (w : World _). KeepsCells w.rows.maps next tables it.0) c.self.view_is it.2) in
+      elim c.if-is_err.branch [
+        | then-is_err w ↦ subst (λ v. HasCleanDisk (store_of g.S.Store v) → (after : Tables) × Rests (store_of g.S.Store v) after × KeepsCells old_rows next tables after) (sym w.self-is) wrote clean
+        | else-is_err w ↦ subst (λ v. HasCleanDisk (store_of g.S.Store v) → (after : Tables) × Rests (store_of g.S.Store v) after × KeepsCells old_rows next tables after) (sym w.self-is) wrote clean
+      ];
+}
 
 pub invariant_of-self-else-is_err : goal.invariant_of-self-else-is_err
 invariant_of-self-else-is_err g c =
@@ -47,49 +83,14 @@ returns-clause-clean g c =
       | else-is_err w ↦ subst (λ v. HasCleanDisk (store_of g.S.Store v) → HasCleanDisk (store_of g.S.Store c.args.self.now)) (sym w.self-is) was
     ]
 
-pub returns-clause-rows : goal.returns-clause-rows
-returns-clause-rows g c next exact =
-    let here : AreChanges c.self.inside.rows.maps next c.args.changes = subst (λ (w : World _). AreChanges w.rows.maps next c.args.changes) (sym c.self.view_is) exact in
-    elim c.if-is_err.branch [
-      | then-is_err w ↦ subst (λ (v : World _). v.failed ≡ false → v.rows.maps ≡ next) (sym w.self-is) (λ e. cc)
-      | else-is_err w ↦ subst (λ (v : World _). v.failed ≡ false → v.rows.maps ≡ next) (sym w.self-is) (λ e. when_ok c.apply_changes.result w.if-is_err.ensures.value c.apply_changes.ensures next here)
-    ]
-
-pub returns-clause-cells : goal.returns-clause-cells
-returns-clause-cells g c next tables exact clean rests current shown =
-    let rows = c.self.inside.rows.maps in
-    let here : AreChanges rows next c.args.changes = subst (λ (w : World _). AreChanges w.rows.maps next c.args.changes) (sym c.self.view_is) exact in
-    let printed : Prints (Some rows.head.next_petition) rows c.args.cells.now c.args.changes = subst (λ (w : World _). Prints (Some w.rows.maps.head.next_petition) w.rows.maps c.args.cells.now c.args.changes) (sym c.self.view_is) c.requires.printed in
-    let rest : Rests (state g.S.Store c.self.inside.connection) tables = subst (λ w. Rests (store_of g.S.Store w) tables) (sym c.self.view_is) rests in
-    let new = state g.S.Store c.commit_cells.new.conn in
-    let old_rows = c.args.self.now.rows.maps in
-    let shows : ShowsRows tables rows = subst (λ (w : World _). ShowsRows tables w.rows.maps) (sym c.self.view_is) shown in
-    let wrote : HasCleanDisk new → (after : Tables) × Rests new after × KeepsCells old_rows next tables after = λ clean.
-    let it = c.in_default.ensures.cells clean c.args.changes rows next tables printed here rest current shows in
-    (it.0, it.1, subst (λ (w : World _). KeepsCells w.rows.maps next tables it.0) c.self.view_is it.2) in
-    elim c.if-is_err.branch [
-      | then-is_err w ↦ subst (λ v. HasCleanDisk (store_of g.S.Store v) → (after : Tables) × Rests (store_of g.S.Store v) after × KeepsCells old_rows next tables after) (sym w.self-is) wrote clean
-      | else-is_err w ↦ subst (λ v. HasCleanDisk (store_of g.S.Store v) → (after : Tables) × Rests (store_of g.S.Store v) after × KeepsCells old_rows next tables after) (sym w.self-is) wrote clean
-    ]
-
-pub returns-in-Err-clause-undone : goal.returns-in-Err-clause-undone
-returns-in-Err-clause-undone g c clean opened tables rests current = c.in-Err.ensures.undone clean opened tables (subst (λ w. Rests (store_of g.S.Store w) tables) (sym c.self.view_is) rests) current
-
--- why the store stopped it
-
 pub returns-in-Err-clause-kept : goal.returns-in-Err-clause-kept
-returns-in-Err-clause-kept g c = subst (λ w. KeepsFaults (store_of g.S.Store w) (state g.S.Store c.commit_cells.new.conn)) c.self.view_is (record { faults = c.commit_cells.ensures.counts; steps = c.commit_cells.ensures.steps })
+returns-in-Err-clause-kept g c = subst (λ w. KeepsFaults (store_of g.S.Store w) (state g.S.Store c.commit_cells.new.conn)) c.self.view_is c.commit_cells.ensures.kept
 
 pub returns-clause-kept : goal.returns-clause-kept
 returns-clause-kept g c =
     let was : KeepsFaults (store_of g.S.Store c.args.self.now) (state g.S.Store c.commit_cells.new.conn) =
-    subst (λ w. KeepsFaults (store_of g.S.Store w) (state g.S.Store c.commit_cells.new.conn)) c.self.view_is (record { faults = c.commit_cells.ensures.counts; steps = c.commit_cells.ensures.steps }) in
+    subst (λ w. KeepsFaults (store_of g.S.Store w) (state g.S.Store c.commit_cells.new.conn)) c.self.view_is c.commit_cells.ensures.kept in
     elim c.if-is_err.branch [
       | then-is_err w ↦ subst (λ v. KeepsFaults (store_of g.S.Store c.args.self.now) (store_of g.S.Store v)) (sym w.self-is) was
       | else-is_err w ↦ subst (λ v. KeepsFaults (store_of g.S.Store c.args.self.now) (store_of g.S.Store v)) (sym w.self-is) was
     ]
-
-pub returns-in-Err-clause-cause : goal.returns-in-Err-clause-cause
-returns-in-Err-clause-cause g c clean shown =
-    let keeps = subst (ShowsItsRows g.S.Store) (sym c.self.view_is) shown (c.commit_cells.ensures.clean clean) in
-    subst (λ w. IsStopped (store_of g.S.Store w) (state g.S.Store c.commit_cells.new.conn) (Store c.in-Err.error)) c.self.view_is (c.in-Err.ensures.cause clean keeps.tables keeps.rests keeps.current)

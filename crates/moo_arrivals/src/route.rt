@@ -1,0 +1,28 @@
+//! The routes that requests ask for.
+
+use moo_request::Question;
+use std::fmt::{self, Display, Formatter};
+
+/// The route that a request asked for.
+#[derive(Clone, Copy, Drop)]
+pub enum Route {
+    /// None: the request was refused, or wasn't read.
+    Unknown,
+    Batch,
+    Ask,
+    Each,
+    /// That of a question.
+    Question(Question),
+}
+
+impl Display for Route {
+    fn fmt<W: fmt::Write>(&self, f: &mut Formatter<W>) -> fmt::Result {
+        match self {
+            Route::Unknown => f.write_str("-"),
+            Route::Batch => f.write_str("/batch"),
+            Route::Ask => f.write_str("/ask"),
+            Route::Each => f.write_str("/each"),
+            Route::Question(question) => question.fmt(f),
+        }
+    }
+}

@@ -1,0 +1,23 @@
+-- Rows of a table in any order, no two of them with one key.
+use Rattle.std.specs.Prelude.{Bool, List, IsTrue}
+use Rattle.std.specs.List.{AllByRecursion, IsDistinct}
+use Rattle.std.specs.Ordering.{is_eq, ordering_then}
+use Rattle.sqlite.specs.Order.{Row, column, value_cmp}
+use Rattle.sqlite_trees.specs.View.{is_int}
+
+-- two rows have one key
+abbrev pub is_same_number : Row → Row → Bool
+is_same_number a b = is_eq (value_cmp (column a 0) (column b 0))
+
+abbrev pub is_same_pair : Row → Row → Bool
+is_same_pair a b = is_eq (ordering_then (value_cmp (column a 0) (column b 0)) (value_cmp (column a 1) (column b 1)))
+
+-- the first column is a whole number, and no two rows have the same
+pub record HaveNumbers (rows : List Row) : Type 0 where
+  pub whole : AllByRecursion (λ c. IsTrue (is_int (column c 0))) rows
+  pub apart : IsDistinct is_same_number rows
+
+-- the first two columns are whole numbers, and no two rows have the same pair
+pub record HavePairs (rows : List Row) : Type 0 where
+  pub whole : AllByRecursion (λ c. IsTrue (is_int (column c 0)) × IsTrue (is_int (column c 1))) rows
+  pub apart : IsDistinct is_same_pair rows

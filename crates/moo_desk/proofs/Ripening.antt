@@ -1,0 +1,29 @@
+-- What is known of the end of a request stays so as it grows, and tells when it is whole.
+use Rattle.std.proofs.Math.Logic.{∥∥₁_map}
+use Rattle.std.proofs.Common.{◌≡◌, ◌≤◌, ◌<◌, ℕ, List, [], ◌++◌, length, Option, Bool, true, false, true≢false, refl, sym, subst, append_assoc, append-nil}
+use Rattle.moo_request.specs.Whole.{IsWhole, IsCutOff, IsWholeFrom}
+use Rattle.moo_desk.specs.Ripe.{IsKnownFrom}
+
+whole_from_more : (bytes more : List ℕ) (n : ℕ) → IsWholeFrom bytes n → IsWholeFrom (bytes ++ more) n
+whole_from_more bytes more n it = record {
+  whole = λ rest long. subst IsWhole (sym (append_assoc bytes more rest)) (it.whole (more ++ rest) (subst (λ l. n ≤ length l) (append_assoc bytes more rest) long));
+  cut = λ rest short. subst IsCutOff (sym (append_assoc bytes more rest)) (it.cut (more ++ rest) (subst (λ l. length l < n) (append_assoc bytes more rest) short));
+}
+
+known_more : (bytes more : List ℕ) (total : Option ℕ) → IsKnownFrom bytes total → IsKnownFrom (bytes ++ more) total
+known_more bytes more total it n is = whole_from_more bytes more n (it n is)
+
+pub known_grown : (old more new : List ℕ) (total : Option ℕ) → new ≡ old ++ more → ∥ IsKnownFrom old total ∥₁ → ∥ IsKnownFrom new total ∥₁
+known_grown old more new total grew known = ∥∥₁_map known (λ it. subst (λ bytes. IsKnownFrom bytes total) (sym grew) (known_more old more total it))
+
+pub whole_now : (bytes : List ℕ) (n : ℕ) → IsWholeFrom bytes n → n ≤ length bytes → IsWhole bytes
+whole_now bytes n it long = subst IsWhole (append-nil bytes) (it.whole [] (subst (λ l. n ≤ length l) (sym (append-nil bytes)) long))
+
+-- a fact that is known if a test holds
+pub ripe_if : {X : Type 0} (test : Bool) → (test ≡ true → ∥ X ∥₁) → ∥ (test ≡ true → X) ∥₁
+ripe_if true known = ∥∥₁_map (known refl) (λ x is. x)
+ripe_if false known = ∣ (λ is. absurd (true≢false (sym is))) ∣₁
+
+pub not_ripe : {X : Type 0} (test : Bool) → test ≡ false → ∥ (test ≡ true → X) ∥₁
+not_ripe true is = absurd (true≢false is)
+not_ripe false is = ∣ (λ holds. absurd (true≢false (sym holds))) ∣₁

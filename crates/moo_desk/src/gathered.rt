@@ -1,0 +1,104 @@
+//! A reader whose bytes are gathered before they are read.
+
+ghost use Rattle.std.specs.Prelude.{◌≡◌, ◌≤◌, ◌<◌, ◌++◌, ℕ, List, length, drop};
+ghost use Rattle.std.specs.Io.KnownBytes.{Keeps, prepend_known};
+
+use moo_arrivals::Cause;
+use std::alloc::Global;
+use std::io::{Error, ErrorKind, Read, Result};
+
+/// How many bytes are taken at once.
+const PIECE: usize = 16_384;
+
+/// What came of filling.
+#[derive(Clone, Copy, Drop)]
+pub enum Filled {
+    /// Bytes came.
+    Grew,
+    /// None are there now.
+    Waits,
+    /// The peer has ended.
+    Ended,
+    /// The reader failed, or memory ran out.
+    Failed(Cause),
+}
+
+/// What still comes of a request.
+#[derive(Clone, Copy, PartialEq, Eq, Drop)]
+pub enum Coming {
+    /// More may come.
+    More,
+    /// Nothing: the peer has ended.
+    Nothing,
+    /// Whatever comes isn't read: the reader failed, or was waited for long enough.
+    Unread,
+}
+
+/// A reader, and the bytes that it gave: those that were read, up to `at`, and then those that weren't read yet.
+#[derive(Drop)]
+pub struct Gathered<R> {
+    pub reader: R,
+    pub bytes: Vec<u8>,
+    pub at: usize,
+    pub coming: Coming,
+    ghost inside: { at ≤ length bytes.items },
+}
+
+impl<R> Gathered<R> {
+    /// Nothing was gathered yet.
+    pub fn new(alloc: Global, reader: R) -> Gathered<R>
+        ensures { (result.reader ≡ reader) × (length result.bytes.items ≡ 0) × (result.at ≡ 0) }
+    {
+        Gathered {
+            reader,
+            bytes: Vec::new(alloc),
+            at: 0,
+            coming: Coming::More,
+        }
+    }
+}
+
+impl<R: Read> Gathered<R> {
+    /// Takes a piece of what the reader has now, up to so many bytes in all. Whoever reads sees no difference.
+    pub fn fill(&mut self, limit: usize) -> Filled
+        requires { length self.old.bytes.items < limit }
+        ensures invisible { Keeps (prepend_known (drop self.old.at self.old.bytes.items) (R.remaining self.old.reader))
+            (prepend_known (drop self.new.at self.new.bytes.items) (R.remaining self.new.reader)) }
+        ensures bound { length self.new.bytes.items ≤ limit }
+        ensures grows { (more : List ℕ) × (self.new.bytes.items ≡ self.old.bytes.items ++ more) }
+        ensures same { self.new.coming ≡ self.old.coming }
+    {
+        let mut piece = [0; PIECE];
+        let room = (limit - self.bytes.len()).min(piece.len());
+        if self.bytes.reserve(room).is_err() {
+            return Filled::Failed(Cause::NoMemory);
+        }
+        match self.reader.read(&mut piece[..room]) {
+            Ok(0) => Filled::Ended,
+            Ok(count) => match self.bytes.extend_from_slice(&piece[..count]) {
+                Ok(()) => Filled::Grew,
+                Err(_) => unreachable!(),
+            },
+            Err(error) if error.kind() == ErrorKind::WouldBlock => Filled::Waits,
+            Err(_) => Filled::Failed(Cause::BrokenOff),
+        }
+    }
+}
+
+impl<R: Read> Read for Gathered<R> {
+    ghost remaining = { λ it. prepend_known (drop it.at it.bytes.items) (R.remaining it.reader) };
+
+    // Past what was gathered the reader itself is asked, which doesn't wait. So no request seems to end that may go on.
+    fn read(&mut self, buf: &mut [u8]) -> Result<usize> {
+        if self.at == self.bytes.len() {
+            if self.coming == Coming::Unread {
+                return Err(Error::from(ErrorKind::TimedOut));
+            }
+            return self.reader.read(buf);
+        }
+        let mut rest: &[u8] = &self.bytes[self.at..];
+        let count = rest.read(buf)?;
+        self.at += count;
+        Ok(count)
+    }
+}

@@ -1,0 +1,166 @@
+//! A connection after its request was judged.
+
+ghost use Rattle.std.specs.Prelude.{◌≡◌, ◌≤◌, ◌+◌, ℕ, List, length};
+ghost use Rattle.std.specs.Io.KnownBytes.{Consumes};
+
+use crate::gathered::Gathered;
+use crate::outgoing::{Outgoing, Sending};
+use moo_arrivals::{Cause, Closing, Loss, Route};
+use std::io::{ErrorKind, Read, Write};
+use std::net::{OpenStream, Shutdown};
+use std::time::Duration;
+
+/// For how many seconds an answer is sent, beside one for each million bytes.
+const PATIENCE: u64 = 60;
+
+const MEGABYTE: usize = 1_000_000;
+
+/// For how many seconds a peer is listened to after its answer, and how many bytes are thrown away.
+const LINGER: u64 = 1;
+
+const DRAIN: usize = 65_536;
+
+const PIECE: usize = 4096;
+
+/// What is done with it.
+#[derive(Clone, Copy, Drop)]
+pub enum Stage {
+    /// Its answer is sent.
+    Sending,
+    /// What its peer still sends is read and thrown away, so that the peer's system doesn't throw the answer away.
+    Lingering,
+    /// Nothing more.
+    Done,
+    /// Nothing more: its answer, or a part of it, wasn't taken, for this cause.
+    Lost(Cause),
+}
+
+/// A connection after its request was judged.
+#[derive(Drop)]
+pub struct Leaving<R, W> {
+    pub reader: Gathered<R>,
+    pub writer: Outgoing<W>,
+    pub route: Route,
+    pub closing: Closing,
+    pub stage: Stage,
+    /// When it came to this stage.
+    pub since: Duration,
+    pub drained: usize,
+}
+
+impl<R, W> Leaving<R, W> {
+    fn has_waited(&self, now: Duration, seconds: u64) -> bool {
+        now.saturating_sub(self.since) > Duration::from_secs(seconds)
+    }
+
+    /// For how many seconds its answer may be sent.
+    fn patience(&self) -> u64 {
+        PATIENCE.saturating_add((self.writer.text.len() / MEGABYTE) as u64)
+    }
+}
+
+impl<R: Read + OpenStream, W: Write + OpenStream> Leaving<R, W> {
+    /// Whether bytes came that weren't read.
+    fn has_more(&self) -> bool {
+        let mut byte = [0];
+        self.reader.at < self.reader.bytes.len()
+            || matches!(self.reader.reader.peek(&mut byte), Ok(1))
+    }
+
+    /// Closes it as it is to be closed, now that its answer is sent. If gently, its peer is told that nothing more is written.
+    fn close(&mut self, now: Duration) {
+        let is_gentle = match self.closing {
+            Closing::AtOnce => false,
+            Closing::IfMoreCame => self.has_more(),
+            Closing::Gently => true,
+        };
+        if is_gentle {
+            let _told = self.writer.writer.shutdown(Shutdown::Write);
+            self.since = now;
+            self.stage = Stage::Lingering;
+        } else {
+            self.stage = Stage::Done;
+        }
+    }
+
+    /// Sends what its peer takes now; whether it took any.
+    fn send(&mut self, now: Duration) -> bool {
+        if self.writer.unsent() == 0 {
+            self.close(now);
+            return true;
+        }
+        match self.writer.send() {
+            Sending::Went => return true,
+            Sending::Broken => self.stage = Stage::Lost(Cause::BrokenOff),
+            Sending::Stuck => {
+                if self.has_waited(now, self.patience()) {
+                    self.stage = Stage::Lost(Cause::Late);
+                }
+            }
+        }
+        false
+    }
+
+    /// Throws away a piece of what its peer sent; whether there was any. In all 65,536 bytes are taken at most.
+    fn drain(&mut self, now: Duration) -> bool
+        ensures few { self.old.drained ≤ 65536 → self.new.drained ≤ 65536 }
+        ensures takes { (bytes : List ℕ) × Consumes (R.remaining self.old.reader.reader) (R.remaining self.new.reader.reader) bytes
+            × (self.old.drained + length bytes ≡ self.new.drained) }
+    {
+        let mut piece = [0; PIECE];
+        if self.drained >= DRAIN || self.has_waited(now, LINGER) {
+            self.stage = Stage::Done;
+            return false;
+        }
+        let room = (DRAIN - self.drained).min(piece.len());
+        match self.reader.reader.read(&mut piece[..room]) {
+            Ok(0) => self.stage = Stage::Done,
+            Ok(count) => {
+                self.drained += count;
+                return true;
+            }
+            Err(error) => {
+                if error.kind() != ErrorKind::WouldBlock {
+                    self.stage = Stage::Done;
+                }
+            }
+        }
+        false
+    }
+
+    /// Does what can be done without waiting; whether anything went or came.
+    pub fn step(&mut self, now: Duration) -> bool {
+        match self.stage {
+            Stage::Sending => self.send(now),
+            Stage::Lingering => self.drain(now),
+            Stage::Done | Stage::Lost(_) => false,
+        }
+    }
+
+    pub fn is_over(&self) -> bool {
+        matches!(self.stage, Stage::Done | Stage::Lost(_))
+    }
+
+    pub fn is_lingering(&self) -> bool {
+        matches!(self.stage, Stage::Lingering)
+    }
+
+    /// What is told of it, if its answer was lost.
+    pub fn loss(&self) -> Option<Loss> {
+        match self.stage {
+            Stage::Lost(cause) => Some(Loss {
+                route: self.route,
+                cause,
+            }),
+            _ => None,
+        }
+    }
+
+    /// How many bytes of its answer are held.
+    pub fn held(&self) -> usize {
+        match self.stage {
+            Stage::Sending => self.writer.unsent(),
+            _ => 0,
+        }
+    }
+}

@@ -1,0 +1,20 @@
+//! Connections side by side, in one thread: requests are gathered and answers are sent meanwhile, and whoever is slow waits alone.
+#![tactic(auto)]
+
+mod desk;
+mod gate;
+mod gathered;
+mod leaving;
+mod losses;
+mod outgoing;
+mod slot;
+mod sockets;
+
+pub use desk::Desk;
+pub use gate::{Gate, Taken};
+pub use gathered::{Coming, Filled, Gathered};
+pub use leaving::{Leaving, Stage};
+pub use losses::Losses;
+pub use outgoing::{Outgoing, Sending};
+pub use slot::Slot;
+pub use sockets::{SocketDesk, SocketGate};

@@ -1,0 +1,44 @@
+//! The connections whose answers were lost.
+
+use moo_arrivals::{Cause, Loss, Route};
+use std::alloc::{AllocError, Global};
+
+/// The connections whose answers were lost and weren't told of yet.
+#[derive(Drop)]
+pub struct Losses {
+    all: Vec<Loss>,
+    /// How many more there are, for which there was no memory.
+    more: u32,
+}
+
+impl Losses {
+    /// None, with room for so many.
+    pub fn new(alloc: Global, room: usize) -> Result<Losses, AllocError> {
+        Ok(Losses {
+            all: Vec::with_capacity(alloc, room)?,
+            more: 0,
+        })
+    }
+
+    /// One more was lost.
+    pub fn add(&mut self, loss: Loss) {
+        if self.all.push(loss).is_err() {
+            self.more = self.more.saturating_add(1);
+        }
+    }
+
+    /// Takes one of them, to be told of.
+    pub fn take(&mut self) -> Option<Loss> {
+        if let Some(loss) = self.all.pop() {
+            return Some(loss);
+        }
+        if self.more == 0 {
+            return None;
+        }
+        self.more -= 1;
+        Some(Loss {
+            route: Route::Unknown,
+            cause: Cause::NoMemory,
+        })
+    }
+}

@@ -1,0 +1,152 @@
+//! A connection while its request is gathered.
+
+ghost use Rattle.std.specs.Prelude.{◌≡◌, true};
+ghost use Rattle.moo_request.specs.Whole.{IsWhole};
+ghost use Rattle.moo_desk.specs.Ripe.{IsKnownFrom, IsRipe};
+
+use crate::gathered::{Coming, Filled, Gathered};
+use crate::outgoing::Outgoing;
+use moo_arrivals::Cause;
+use moo_request::{MAX_HEAD, Routes, Wanted, wants};
+use std::alloc::Global;
+use std::io::Read;
+use std::time::Duration;
+
+/// For how many seconds a peer may be silent.
+const SILENCE: u64 = 10;
+
+/// For how many seconds a request may come in all.
+const PATIENCE: u64 = 30;
+
+/// A connection while its request is gathered.
+#[derive(Drop)]
+pub struct Slot<R, W> {
+    pub reader: Gathered<R>,
+    pub writer: Outgoing<W>,
+    /// Neither of them waits.
+    pub is_limited: bool,
+    /// When it came, and when bytes of it came last.
+    pub since: Duration,
+    pub heard: Duration,
+    /// Why it fails, if nothing more comes.
+    pub cause: Cause,
+    /// How many bytes the request has, once that is known.
+    pub total: Option<usize>,
+    /// It is to be handed out.
+    pub rests: bool,
+    ghost known: { ∥ IsKnownFrom reader.bytes.items total ∥₁ },
+    ghost ripe: { ∥ (rests ≡ true → IsRipe is_limited reader.coming reader.bytes.items) ∥₁ },
+}
+
+/// How many bytes a request has that begins with these, once its head tells.
+fn total_of(routes: &Routes, bytes: &[u8], known: Option<usize>) -> Option<usize>
+    requires { ∥ IsKnownFrom bytes.now known ∥₁ }
+    ensures { ∥ IsKnownFrom bytes.now result ∥₁ }
+{
+    let count = bytes.len();
+    if known.is_some() || count == 0 || count > MAX_HEAD {
+        return known;
+    }
+    match wants(routes, bytes) {
+        Wanted::Total(total) => Some(total),
+        Wanted::Head => None,
+    }
+}
+
+impl<R, W> Slot<R, W> {
+    pub fn new(alloc: Global, reader: R, writer: W, is_limited: bool, now: Duration) -> Slot<R, W> {
+        Slot {
+            reader: Gathered::new(alloc, reader),
+            writer: Outgoing::new(alloc, writer),
+            is_limited,
+            since: now,
+            heard: now,
+            cause: Cause::BrokenOff,
+            total: None,
+            rests: !is_limited,
+        }
+    }
+
+    /// Nothing more is waited for, for this cause. What came of the request isn't judged, unless it is whole.
+    pub fn give_up(&mut self, cause: Cause) {
+        self.reader.coming = Coming::Unread;
+        self.cause = cause;
+        self.rests = true;
+    }
+
+    /// Its peer has ended. What came is judged.
+    fn end(&mut self) {
+        self.reader.coming = Coming::Nothing;
+        self.rests = true;
+    }
+
+    /// Whether its request is unfinished, and it came so long ago.
+    pub fn is_older(&self, now: Duration, age: Duration) -> bool {
+        !self.rests && now.saturating_sub(self.since) > age
+    }
+
+    /// Why it was waited for long enough, if it was.
+    fn lateness(&self, now: Duration) -> Option<Cause> {
+        if now.saturating_sub(self.heard) > Duration::from_secs(SILENCE) {
+            Some(Cause::Silent)
+        } else if now.saturating_sub(self.since) > Duration::from_secs(PATIENCE) {
+            Some(Cause::Late)
+        } else {
+            None
+        }
+    }
+
+    /// How many bytes are taken of it by now: of a head none beyond its limit, of a request none beyond its end.
+    fn limit(&self) -> usize {
+        match self.total {
+            Some(total) => total,
+            None => MAX_HEAD,
+        }
+    }
+
+    /// Whether as many bytes came as the request has.
+    fn is_whole(&self) -> bool
+        ensures { result ≡ true → ∥ IsWhole self.now.reader.bytes.items ∥₁ }
+    {
+        match self.total {
+            Some(total) => self.reader.bytes.len() >= total,
+            None => false,
+        }
+    }
+}
+
+impl<R: Read, W> Slot<R, W> {
+    /// Takes what is there of its request, without waiting; whether anything changed.
+    pub fn step(&mut self, routes: &Routes, now: Duration) -> bool {
+        if self.rests {
+            return false;
+        }
+        let limit = self.limit();
+        if self.reader.bytes.len() >= limit {
+            self.give_up(Cause::BrokenOff);
+            return true;
+        }
+        match self.reader.fill(limit) {
+            Filled::Grew => {
+                self.heard = now;
+                self.total = total_of(routes, &self.reader.bytes, self.total);
+                self.rests = self.is_whole();
+                true
+            }
+            Filled::Ended => {
+                self.end();
+                true
+            }
+            Filled::Failed(cause) => {
+                self.give_up(cause);
+                true
+            }
+            Filled::Waits => {
+                if let Some(cause) = self.lateness(now) {
+                    self.give_up(cause);
+                }
+                self.rests
+            }
+        }
+    }
+}

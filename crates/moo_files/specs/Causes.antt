@@ -1,0 +1,53 @@
+-- Why no world is opened: what refused it.
+use Rattle.std.specs.Prelude.{◌≡◌, ◌⊎◌, ◌==◌, ◌||◌, ℕ, Bool, IsTrue, ◌<◌, List, Result, Ok, Err, codes, ⊤}
+use Rattle.std.specs.Str.{bytes_eq}
+use Rattle.std.specs.List.{starts_with}
+use Rattle.std.specs.Fs.{file_type, metadata_len, IsFile}
+use Rattle.std.specs.declared.fs.attrs.Metadata.{Metadata}
+use Rattle.sqlite_disk.specs.declared.Disk.{Ghosts}
+use Rattle.sqlite_wal.specs.Recovery.{Image}
+use Rattle.sqlite.specs.Tree.{Trees}
+use Rattle.sqlite.specs.Files.{faults_left, HoldsDatabase, IsFullLeft, IsNothing}
+use Rattle.sqlite.specs.declared.error.Error.{Error}
+use Rattle.sqlite.specs.declared.error.Error.TheVariants.{SqliteFailure}
+use Rattle.sqlite.specs.declared.error.ErrorCode.TheVariants as code
+use Rattle.sqlite.specs.declared.file.Leftover.{Leftover}
+use Rattle.moo_store.specs.declared.fault.StoreFault.{StoreFault}
+use Rattle.moo_store.specs.declared.fault.StoreFault.TheVariants.{OutOfMemory}
+use Rattle.moo_files.specs.declared.remains.Remains.{Remains}
+use Rattle.moo_files.specs.declared.remains.Remains.TheVariants as remains
+
+-- the name isn't a path, but `:memory:` or a URI
+abbrev pub names_no_file : List ℕ → Bool
+names_no_file path = bytes_eq path (codes ":memory:") || starts_with (λ a b. a == b) path (codes "file:")
+
+-- a log and its file hold nothing, or a database
+abbrev pub IsOpenable : Image → Type 0
+IsOpenable image = IsNothing image ⊎ ∥ ((trees : Trees) × HoldsDatabase image trees) ∥₁
+
+-- there is no file, it can't be looked at, or it has no byte
+abbrev pub IsUnfit : {E : Type 0} → Result Metadata E → Type 0
+IsUnfit (Ok meta) = IsFile (file_type meta) × (metadata_len meta ≡ 0)
+IsUnfit (Err e) = ⊤
+
+module _ {D : Type 0} {g : Ghosts D} where
+  -- a call of the disk failed, or the files are as long as their format allows
+  abbrev pub IsRefusedByDisk : Leftover D g → Type 0
+  IsRefusedByDisk left = (0 < faults_left left) ⊎ IsFullLeft left
+
+  -- memory ran out, or the disk failed or refused
+  abbrev pub IsRefused : Error → Leftover D g → Type 0
+  IsRefused error left = (error ≡ SqliteFailure code.OutOfMemory) ⊎ IsRefusedByDisk left
+
+module _ {T D : Type 0} {g : Ghosts D} where
+  -- Why a sound database is refused: memory ran out, or the files weren't opened and that was denied, or their disk failed or refused.
+  -- Nothing is said once a connection is open.
+  abbrev pub HasCause : Type 0 → StoreFault → Remains T D g → Type 0
+  HasCause Denied fault (remains.Untouched start) = Denied
+  HasCause Denied fault (remains.NotOpened seal) = Denied
+  HasCause Denied fault (remains.Leftover left) = (fault ≡ OutOfMemory) ⊎ IsRefusedByDisk left
+  HasCause Denied fault (remains.Connection conn) = ⊤
+
+-- the name isn't a path, or it is denied
+abbrev pub IsDenied : (List ℕ → Type 0) → List ℕ → Type 0
+IsDenied denies path = IsTrue (names_no_file path) ⊎ denies path
