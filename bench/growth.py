@@ -1,9 +1,9 @@
 """How many instructions each piece of work takes, and how they grow with the world.
 
-    python3 bench/growth.py PROGRAM [--bulk] [--calls] [--chains] [--sizes N..] [--objects N] [--beside SQLITE_ROWS]
+    python3 bench/growth.py PROGRAM [--bulk] [--calls] [--chains] [--refusals] [--sizes N..] [--objects N] [--beside SQLITE_ROWS]
 
 Instructions outside the system are counted by valgrind's callgrind, so the figures need no quiet machine, and come out the same each time
-but for a few in a thousand. With no option all three tables are printed.
+but for a few in a thousand. With no option all four tables are printed.
 
 --bulk    what a row, a batch or a line takes in bulk, on a file with OBJECTS objects (40,000) that have a slot each: objects made and their
           slots set, in batches of 1,000 calls; batches of one call; the opening of the file; its dump; its load; `get`. With --beside the
@@ -12,6 +12,8 @@ but for a few in a thousand. With no option all three tables are printed.
 --calls   what one call takes, judged alone by `ask`, among N of what it has to look at (10, 100, 1,000 and 10,000), and the exponent with
           which it grows from the first size to the last.
 --chains  the dump and the load of a chain of N objects, each under the one before it.
+--refusals  batches of one or two calls and a `get` that is refused, by `apply` on a file, beside the same with a `get` that is answered, and
+          how many times as much the first take. Among N objects or rows, up to 1,000.
 
 Every figure but those of the chains is a difference of two runs that differ in the number of the pieces alone, so what a run takes besides
 isn't in it.
@@ -307,17 +309,85 @@ def chains(machine: Machine, sizes: list[int]) -> None:
     row(["`load`", *loads])
 
 
+# ---- refusals
+
+
+class Refusal(NamedTuple):
+    """A batch that a last call makes refused or accepted: what it does, the calls that make its world, and its calls at each turn."""
+
+    name: str
+    world: Callable[[int], list[str]]
+    calls: Callable[[int, int], list[str]]
+    who: str = "#3"
+
+
+def below(count: int) -> list[str]:
+    """#4, #5 under it, and n objects under that."""
+    return ["create(#1)", "create(#4)"] + ["create(#5)"] * count
+
+
+def named_below(count: int) -> list[str]:
+    """The same, and #4 defines p0."""
+    return below(count) + properties(1)[1:]
+
+
+def slots(count: int) -> list[str]:
+    """#4 with n properties, and twenty objects under it, from #5."""
+    return properties(count) + ["create(#4)"] * 20
+
+
+REFUSALS = [
+    Refusal("`set` of the name", properties, lambda n, turn: [f'set(#4, "name", "Lantern {turn}")']),
+    Refusal("`create` under an object with n properties", properties, lambda n, turn: ["create(#4)"]),
+    Refusal("`recycle` of an object with n slots", slots, lambda n, turn: [f"recycle(#{5 + turn})"]),
+    Refusal("`add_property` above n objects", below, lambda n, turn: [f'add_property(#4, "q{turn}", 0, {{#3, "rc"}})']),
+    Refusal("`set_accept` of n entries", below, lambda n, turn: ["set_accept(#4, {" + ", ".join(["#2"] * min(n, 1000)) + "})"]),
+    Refusal("`chparent` to the same parent, n objects below", below, lambda n, turn: ["chparent(#5, #4)"]),
+    Refusal("`chparent` to another parent and back, n objects below", below, lambda n, turn: ["chparent(#5, #1)", "chparent(#5, #4)"]),
+    Refusal(
+        "`set_property_info` with another name and back, above n objects", named_below,
+        lambda n, turn: [f'set_property_info(#4, "{name}", {{#3, "rc", "{other}"}})' for name, other in (("p0", "q"), ("q", "p0"))]
+    ),
+    Refusal("`move` with n ancestors and n entries, and back", moving, lambda n, turn: [f"move(#{n + 5}, #{n + 6})", f"move(#{n + 5}, #-1)"], "#4"),
+    Refusal(
+        "`set_verb_info` by name, the last of n", verbs, lambda n, turn: [f'set_verb_info(#4, "v{n - 1}", {{#3, "rd", "v{n - 1}"}})']
+    ),
+]
+
+
+def turns(refusal: Refusal, size: int, count: int, last: str) -> str:
+    """So many batches, one after another."""
+    return "".join(batch([*refusal.calls(size, turn), last], refusal.who) for turn in range(count))
+
+
+def refusals(machine: Machine, sizes: list[int]) -> None:
+    """What a batch takes that is refused at its last call, and one that is accepted."""
+    heading(["calls before the last", *(f"n = {size:,}: accepted, refused, times" for size in sizes)])
+    for refusal in REFUSALS:
+        cells = []
+        for size in sizes:
+            taken = []
+            for last, is_refused in (('get(#2, "name")', False), ('get(#2, "none")', True)):
+                counts = [
+                    machine.counted(["apply", machine.world(refusal.world(size)), "-"], turns(refusal, size, count, last), is_refused=is_refused)
+                    for count in (2, 2 + TIMES)
+                ]
+                taken.append((counts[1] - counts[0]) / TIMES)
+            cells.append(f"{short(taken[0])}, {short(taken[1])}, {taken[1] / taken[0]:.2f}")
+        row([refusal.name, *cells])
+
+
 def main() -> None:
     """Prints the tables that are asked for, or all."""
     parser = argparse.ArgumentParser(description=__doc__.split("\n")[0])
     parser.add_argument("program")
-    for table in ("--bulk", "--calls", "--chains"):
+    for table in ("--bulk", "--calls", "--chains", "--refusals"):
         parser.add_argument(table, action="store_true")
     parser.add_argument("--sizes", type=int, nargs="+", default=list(SIZES))
     parser.add_argument("--objects", type=int, default=40000)
     parser.add_argument("--beside", metavar="SQLITE_ROWS")
     words = parser.parse_args()
-    every = not (words.bulk or words.calls or words.chains)
+    every = not (words.bulk or words.calls or words.chains or words.refusals)
     with tempfile.TemporaryDirectory(prefix="moo-growth.", dir="/dev/shm") as folder:
         machine = Machine(words.program, folder)
         if words.bulk or every:
@@ -328,6 +398,8 @@ def main() -> None:
             calls(machine, words.sizes)
         if words.chains or every:
             chains(machine, words.sizes)
+        if words.refusals or every:
+            refusals(machine, [size for size in words.sizes if size <= LARGEST_PRODUCT])
 
 
 if __name__ == "__main__":

@@ -130,6 +130,25 @@ class Desk(ProgramTest):
         self.case("one more", service.ask(get("/seq")), answer("200 OK", '{"seq":1}'))
         self.case("all are answered", service.end(), (0, "served 8 failed 0\n"))
 
+    def test_two_deaf_peers(self):
+        """Two answers that are larger than the budget: one of them is given up once a third request waits."""
+        run("init", "long.db")
+        service = Service(MOO, "long.db", 4)
+        made = post("/batch", f'{{"as":"#3","calls":["add_property(#1, \\"long\\", \\"{LONG}\\", {{#3, \\"r\\"}})"]}}')
+        service.ask(made)
+        peers = [service.peer(), service.peer()]
+        for deaf in peers:
+            deaf.sendall(post("/ask", '{"as":"#3","calls":[' + ",".join(['"get(#1, \\"long\\")"'] * READS) + "]}"))
+        for deaf in peers:
+            deaf.recv(1, socket.MSG_PEEK)
+        began = time.monotonic()
+        self.case("beside two that read nothing of 60 MB the next is answered", service.ask(get("/seq")), answer("200 OK", '{"seq":1}'))
+        waited = time.monotonic() - began
+        self.case(f"within 3 s, seen {waited:.1f}", waited < 3, True)
+        self.case("one of them has its whole answer", sum(len(heard(deaf)) > READS * len(LONG) for deaf in peers), 1)
+        self.case("the other has failed", service.end(), (0, "served 3 failed 1\n"))
+        self.case("the log says why", "/ask: failed: waiting for the answer to be taken: its place was needed" in service.told, True)
+
     def test_deaf_peer_that_resets(self):
         run("init", "long.db")
         service = Service(MOO, "long.db", 3)

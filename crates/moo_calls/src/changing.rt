@@ -32,7 +32,8 @@ pub fn set_player_flag<R: Rows>(
     value: &Value,
 ) -> Result<Value, Fault>
     requires { IsGood (R.held rows.old).maps }
-    ensures comes { ComesTo (set_player_flag (world_in (R.held rows.old)) programmer x value.now) (R.held rows.old) (R.held rows.new) result }
+    ensures comes { ComesTo (set_player_flag (world_in (R.held rows.old)) programmer x value.now)
+        (R.held rows.old) (R.held rows.new) result }
     ensures kept { OnOk result (Keeps (R.held rows.old) (R.held rows.new)) }
     ensures told { IsTold (R.held rows.old).maps programmer (about_object x) result }
 {
@@ -95,7 +96,8 @@ pub(crate) fn set_player_flag_given<R: Rows>(
     args: &[Value],
 ) -> Result<Value, Fault>
     requires { IsGood (R.held rows.old).maps }
-    ensures comes { ComesTo (named_call (world_in (R.held rows.old)) programmer SetPlayerFlag args.now) (R.held rows.old) (R.held rows.new) result }
+    ensures comes { ComesTo (named_call (world_in (R.held rows.old)) programmer SetPlayerFlag args.now)
+        (R.held rows.old) (R.held rows.new) result }
     ensures kept { OnOk result (Keeps (R.held rows.old) (R.held rows.new)) }
     ensures told { IsTold (R.held rows.old).maps programmer (about_call programmer SetPlayerFlag args.now) result }
 {
@@ -112,7 +114,8 @@ pub(crate) fn set_accept_given<R: Rows>(
 ) -> Result<Value, Fault>
     requires good { IsGood (R.held rows.old).maps }
     requires fit { list_all fits args.now ≡ true }
-    ensures comes { ComesTo (named_call (world_in (R.held rows.old)) programmer SetAccept args.now) (R.held rows.old) (R.held rows.new) result }
+    ensures comes { ComesTo (named_call (world_in (R.held rows.old)) programmer SetAccept args.now)
+        (R.held rows.old) (R.held rows.new) result }
     ensures kept { OnOk result (Keeps (R.held rows.old) (R.held rows.new)) }
     ensures told { IsTold (R.held rows.old).maps programmer (about_call programmer SetAccept args.now) result }
 {

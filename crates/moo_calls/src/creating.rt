@@ -84,7 +84,8 @@ fn charge<R: Rows>(rows: &mut R, owner: ObjNo, quota: Option<i64>) -> Result<(),
 /// Why an object may not be made under a parent.
 fn parent_fault<R: Rows>(rows: &R, parent: ObjNo) -> Reason
     ensures error { error_of result ≡ E_PERM }
-    ensures told { (programmer : ObjNo) (about : About) → may_be_parent (world_in (R.held rows.now)) programmer parent ≡ false → IsTrueOf (R.held rows.now).maps programmer about result }
+    ensures told { (programmer : ObjNo) (about : About) → may_be_parent (world_in (R.held rows.now)) programmer parent ≡ false →
+        IsTrueOf (R.held rows.now).maps programmer about result }
 {
     if valid(rows, parent) {
         Reason::NotFertile(parent)
@@ -140,7 +141,8 @@ pub(crate) fn create_given<R: Rows>(
     args: &[Value],
 ) -> Result<Value, Fault>
     requires { IsGood (R.held rows.old).maps }
-    ensures comes { ComesTo (named_call (world_in (R.held rows.old)) programmer Create args.now) (R.held rows.old) (R.held rows.new) result }
+    ensures comes { ComesTo (named_call (world_in (R.held rows.old)) programmer Create args.now)
+        (R.held rows.old) (R.held rows.new) result }
     ensures kept { OnOk result (Keeps (R.held rows.old) (R.held rows.new)) }
     ensures told { IsTold (R.held rows.old).maps programmer (about_call programmer Create args.now) result }
 {

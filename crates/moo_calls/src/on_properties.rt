@@ -8,7 +8,8 @@ ghost use Rattle.moo_world.specs.Arguments.{fits};
 ghost use Rattle.moo_world.specs.Keeps.{Keeps};
 ghost use Rattle.moo_world.specs.Rows.{IsGood};
 ghost use Rattle.moo_world.specs.Calls.{named_call};
-ghost use Rattle.moo_world.specs.declared.name.CallName.TheVariants.{Get, Properties, PropertyInfo, IsClearProperty, Set, AddProperty, DeleteProperty, SetPropertyInfo, ClearProperty};
+ghost use Rattle.moo_world.specs.declared.name.CallName.TheVariants.{Get, Properties, PropertyInfo, IsClearProperty, Set};
+ghost use Rattle.moo_world.specs.declared.name.CallName.TheVariants.{AddProperty, DeleteProperty, SetPropertyInfo, ClearProperty};
 ghost use Rattle.moo_call_parts.specs.About.{about_call};
 ghost use Rattle.moo_call_parts.specs.Told.{IsTold};
 
@@ -104,7 +105,8 @@ pub(crate) fn add_property<R: Rows>(
 ) -> Result<Value, Fault>
     requires good { IsGood (R.held rows.old).maps }
     requires fit { list_all fits args.now ≡ true }
-    ensures comes { ComesTo (named_call (world_in (R.held rows.old)) programmer AddProperty args.now) (R.held rows.old) (R.held rows.new) result }
+    ensures comes { ComesTo (named_call (world_in (R.held rows.old)) programmer AddProperty args.now)
+        (R.held rows.old) (R.held rows.new) result }
     ensures kept { OnOk result (Keeps (R.held rows.old) (R.held rows.new)) }
     ensures told { IsTold (R.held rows.old).maps programmer (about_call programmer AddProperty args.now) result }
 {
@@ -122,7 +124,8 @@ pub(crate) fn delete_property<R: Rows>(
     args: &[Value],
 ) -> Result<Value, Fault>
     requires { IsGood (R.held rows.old).maps }
-    ensures comes { ComesTo (named_call (world_in (R.held rows.old)) programmer DeleteProperty args.now) (R.held rows.old) (R.held rows.new) result }
+    ensures comes { ComesTo (named_call (world_in (R.held rows.old)) programmer DeleteProperty args.now)
+        (R.held rows.old) (R.held rows.new) result }
     ensures kept { OnOk result (Keeps (R.held rows.old) (R.held rows.new)) }
     ensures told { IsTold (R.held rows.old).maps programmer (about_call programmer DeleteProperty args.now) result }
 {
@@ -138,7 +141,8 @@ pub(crate) fn set_property_info<R: Rows>(
     args: &[Value],
 ) -> Result<Value, Fault>
     requires { IsGood (R.held rows.old).maps }
-    ensures comes { ComesTo (named_call (world_in (R.held rows.old)) programmer SetPropertyInfo args.now) (R.held rows.old) (R.held rows.new) result }
+    ensures comes { ComesTo (named_call (world_in (R.held rows.old)) programmer SetPropertyInfo args.now)
+        (R.held rows.old) (R.held rows.new) result }
     ensures kept { OnOk result (Keeps (R.held rows.old) (R.held rows.new)) }
     ensures told { IsTold (R.held rows.old).maps programmer (about_call programmer SetPropertyInfo args.now) result }
 {
@@ -161,7 +165,8 @@ pub(crate) fn clear_property<R: Rows>(
     args: &[Value],
 ) -> Result<Value, Fault>
     requires { IsGood (R.held rows.old).maps }
-    ensures comes { ComesTo (named_call (world_in (R.held rows.old)) programmer ClearProperty args.now) (R.held rows.old) (R.held rows.new) result }
+    ensures comes { ComesTo (named_call (world_in (R.held rows.old)) programmer ClearProperty args.now)
+        (R.held rows.old) (R.held rows.new) result }
     ensures kept { OnOk result (Keeps (R.held rows.old) (R.held rows.new)) }
     ensures told { IsTold (R.held rows.old).maps programmer (about_call programmer ClearProperty args.now) result }
 {

@@ -6,7 +6,8 @@ ghost use Rattle.moo_call_parts.specs.Outcomes.{world_in, ComesTo, Answers};
 ghost use Rattle.moo_world.specs.Keeps.{Keeps};
 ghost use Rattle.moo_world.specs.Rows.{IsGood};
 ghost use Rattle.moo_world.specs.Calls.{named_call};
-ghost use Rattle.moo_world.specs.declared.name.CallName.TheVariants.{Verbs, VerbInfo, VerbArgs, AddVerb, DeleteVerb, SetVerbInfo, SetVerbArgs};
+ghost use Rattle.moo_world.specs.declared.name.CallName.TheVariants.{Verbs, VerbInfo, VerbArgs, AddVerb};
+ghost use Rattle.moo_world.specs.declared.name.CallName.TheVariants.{DeleteVerb, SetVerbInfo, SetVerbArgs};
 ghost use Rattle.moo_call_parts.specs.About.{about_call};
 ghost use Rattle.moo_call_parts.specs.Told.{IsTold};
 
@@ -67,7 +68,8 @@ pub(crate) fn add_verb<R: Rows>(
     args: &[Value],
 ) -> Result<Value, Fault>
     requires { IsGood (R.held rows.old).maps }
-    ensures comes { ComesTo (named_call (world_in (R.held rows.old)) programmer AddVerb args.now) (R.held rows.old) (R.held rows.new) result }
+    ensures comes { ComesTo (named_call (world_in (R.held rows.old)) programmer AddVerb args.now)
+        (R.held rows.old) (R.held rows.new) result }
     ensures kept { OnOk result (Keeps (R.held rows.old) (R.held rows.new)) }
     ensures told { IsTold (R.held rows.old).maps programmer (about_call programmer AddVerb args.now) result }
 {
@@ -83,7 +85,8 @@ pub(crate) fn delete_verb<R: Rows>(
     args: &[Value],
 ) -> Result<Value, Fault>
     requires { IsGood (R.held rows.old).maps }
-    ensures comes { ComesTo (named_call (world_in (R.held rows.old)) programmer DeleteVerb args.now) (R.held rows.old) (R.held rows.new) result }
+    ensures comes { ComesTo (named_call (world_in (R.held rows.old)) programmer DeleteVerb args.now)
+        (R.held rows.old) (R.held rows.new) result }
     ensures kept { OnOk result (Keeps (R.held rows.old) (R.held rows.new)) }
     ensures told { IsTold (R.held rows.old).maps programmer (about_call programmer DeleteVerb args.now) result }
 {
@@ -99,7 +102,8 @@ pub(crate) fn set_verb_info<R: Rows>(
     args: &[Value],
 ) -> Result<Value, Fault>
     requires { IsGood (R.held rows.old).maps }
-    ensures comes { ComesTo (named_call (world_in (R.held rows.old)) programmer SetVerbInfo args.now) (R.held rows.old) (R.held rows.new) result }
+    ensures comes { ComesTo (named_call (world_in (R.held rows.old)) programmer SetVerbInfo args.now)
+        (R.held rows.old) (R.held rows.new) result }
     ensures kept { OnOk result (Keeps (R.held rows.old) (R.held rows.new)) }
     ensures told { IsTold (R.held rows.old).maps programmer (about_call programmer SetVerbInfo args.now) result }
 {
@@ -115,7 +119,8 @@ pub(crate) fn set_verb_args<R: Rows>(
     args: &[Value],
 ) -> Result<Value, Fault>
     requires { IsGood (R.held rows.old).maps }
-    ensures comes { ComesTo (named_call (world_in (R.held rows.old)) programmer SetVerbArgs args.now) (R.held rows.old) (R.held rows.new) result }
+    ensures comes { ComesTo (named_call (world_in (R.held rows.old)) programmer SetVerbArgs args.now)
+        (R.held rows.old) (R.held rows.new) result }
     ensures kept { OnOk result (Keeps (R.held rows.old) (R.held rows.new)) }
     ensures told { IsTold (R.held rows.old).maps programmer (about_call programmer SetVerbArgs args.now) result }
 {

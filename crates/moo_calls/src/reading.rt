@@ -80,7 +80,8 @@ pub(crate) fn is_player<R: Rows>(rows: &R, args: &[Value]) -> Result<Value, Faul
 pub(crate) fn players<R: Rows>(rows: &R, alloc: Global, args: &[Value]) -> Result<Value, Fault>
     requires { IsGood (R.held rows.now).maps }
     ensures comes { Answers (given (no_values args.now) (λ _. players (world_in (R.held rows.now)))) (R.held rows.now) result }
-    ensures told { (programmer : ObjNo) → IsTold (R.held rows.now).maps programmer (about_given (no_values args.now) (λ _. about_nothing)) result }
+    ensures told { (programmer : ObjNo) → IsTold (R.held rows.now).maps programmer
+        (about_given (no_values args.now) (λ _. about_nothing)) result }
 {
     no_values(args)?;
     let found = moo_tree::players(alloc, rows)?;
@@ -92,7 +93,8 @@ pub(crate) fn players<R: Rows>(rows: &R, alloc: Global, args: &[Value]) -> Resul
 /// LambdaMOO Programmer's Manual, 'Fundamental Operations on Objects'.
 pub(crate) fn max_object<R: Rows>(rows: &R, args: &[Value]) -> Result<Value, Fault>
     ensures comes { Answers (given (no_values args.now) (λ _. max_object (world_in (R.held rows.now)))) (R.held rows.now) result }
-    ensures told { (programmer : ObjNo) → IsTold (R.held rows.now).maps programmer (about_given (no_values args.now) (λ _. about_nothing)) result }
+    ensures told { (programmer : ObjNo) → IsTold (R.held rows.now).maps programmer
+        (about_given (no_values args.now) (λ _. about_nothing)) result }
 {
     no_values(args)?;
     Ok(Value::Obj(ObjNo(rows.head().top)))

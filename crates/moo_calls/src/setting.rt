@@ -29,7 +29,8 @@ use std::alloc::Global;
 /// OutOfMemory means out of memory and nothing else.
 fn change_of(alloc: Global, field: BuiltIn, value: &Value) -> Result<Change, Fault>
     ensures given { GivenOrNot (change_of field value.now) result }
-    ensures told { (maps : Maps) (programmer x : ObjNo) (name : Name) → built_in name ≡ Some field → IsTold maps programmer (about_property x name) result }
+    ensures told { (maps : Maps) (programmer x : ObjNo) (name : Name) → built_in name ≡ Some field →
+        IsTold maps programmer (about_property x name) result }
 {
     match (field, value) {
         (BuiltIn::Location | BuiltIn::Contents, _) => Err(Fault::Moo(Reason::NeverSet)),
@@ -59,7 +60,8 @@ fn may_set<R: Rows>(rows: &R, programmer: ObjNo, x: ObjNo, field: BuiltIn) -> bo
 /// Why the programmer may not name the object.
 fn namer_fault<R: Rows>(rows: &R, x: ObjNo) -> Reason
     ensures error { error_of result ≡ E_PERM }
-    ensures told { (programmer : ObjNo) (about : About) → may_set_name (world_in (R.held rows.now)) programmer x ≡ false → IsTrueOf (R.held rows.now).maps programmer about result }
+    ensures told { (programmer : ObjNo) (about : About) → may_set_name (world_in (R.held rows.now)) programmer x ≡ false →
+        IsTrueOf (R.held rows.now).maps programmer about result }
 {
     match rows.object(x) {
         Some(row) if row.player => Reason::NamesPlayer(x),
@@ -70,7 +72,8 @@ fn namer_fault<R: Rows>(rows: &R, x: ObjNo) -> Reason
 /// Why the programmer may not set a built-in property of the object.
 fn setter_fault<R: Rows>(rows: &R, x: ObjNo, field: BuiltIn) -> Reason
     ensures error { error_of result ≡ E_PERM }
-    ensures told { (programmer : ObjNo) (about : About) → may_set (world_in (R.held rows.now)) programmer x field ≡ false → IsTrueOf (R.held rows.now).maps programmer about result }
+    ensures told { (programmer : ObjNo) (about : About) → may_set (world_in (R.held rows.now)) programmer x field ≡ false →
+        IsTrueOf (R.held rows.now).maps programmer about result }
 {
     match field {
         BuiltIn::Name => namer_fault(rows, x),
@@ -107,7 +110,8 @@ pub fn set_built_in<R: Rows>(
     requires good { IsGood (R.held rows.old).maps }
     requires there { is_object (world_in (R.held rows.old)) x ≡ true }
     requires fit { fits value.now ≡ true }
-    ensures comes { ComesTo (set_built_in (world_in (R.held rows.old)) programmer x field value.now) (R.held rows.old) (R.held rows.new) result }
+    ensures comes { ComesTo (set_built_in (world_in (R.held rows.old)) programmer x field value.now)
+        (R.held rows.old) (R.held rows.new) result }
     ensures kept { OnOk result (Keeps (R.held rows.old) (R.held rows.new)) }
     ensures told { (name : Name) → built_in name ≡ Some field → IsTold (R.held rows.old).maps programmer (about_property x name) result }
 {

@@ -99,7 +99,8 @@ pub fn step_named<R: Rows>(
 ) -> Result<Value, Fault>
     requires good { IsGood (R.held rows.old).maps }
     requires fit { list_all fits args.now ≡ true }
-    ensures comes { ComesTo (world_call (world_in (R.held rows.old)) programmer (record { name = name; args = args.now })) (R.held rows.old) (R.held rows.new) result }
+    ensures comes { ComesTo (world_call (world_in (R.held rows.old)) programmer (record { name = name; args = args.now }))
+        (R.held rows.old) (R.held rows.new) result }
     ensures kept { OnOk result (Keeps (R.held rows.old) (R.held rows.new)) }
     ensures told { IsTold (R.held rows.old).maps programmer (about_call programmer name args.now) result }
 {

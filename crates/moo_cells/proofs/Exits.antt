@@ -1,5 +1,5 @@
 -- What a call's result says of what is returned after it.
-use Rattle.moo_cells.proofs.Words.{Option, Some, None, Result, Ok, Err, IfSome, IfOk, IfErr}
+use Rattle.moo_cells.proofs.Words.{Option, Some, None, Result, Ok, Err, IfSome, IfOk, IfErr, OnOk}
 
 pub both_ok : {T E : Type 0} (P Q S : T → Type 0) (r : Result T E) → IfOk r P → IfOk r Q → ((x : T) → P x → Q x → S x) → IfOk r S
 both_ok P Q S (Ok x) p q f = f x p q
@@ -21,3 +21,8 @@ both_some P Q S None p q f = tt
 pub whatever : {T E P : Type 0} (r : Result T E) → P → IfErr r (λ _. P)
 whatever (Ok x) it = tt
 whatever (Err e) it = it
+
+-- two facts at success
+pub when_both : {T E P Q S : Type 0} (r : Result T E) → OnOk r P → OnOk r Q → (P → Q → S) → OnOk r S
+when_both (Ok x) p q f = f p q
+when_both (Err e) p q f = tt

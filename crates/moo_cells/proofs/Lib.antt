@@ -10,6 +10,7 @@ pub mod Apart
 pub mod Ranks
 pub mod HeadLemmas
 pub mod RowsLemmas
+pub mod FillLemmas
 pub mod TakenLemmas
 pub mod Compared
 pub mod OneCells

@@ -4,19 +4,19 @@ use Rattle.moo_rows.specs.declared.row.Head.{Head as HeadRow}
 use Rattle.moo_tables.specs.declared.reading.CellLists.{CellLists}
 use Rattle.moo_damage.specs.declared.kind.Key.TheVariants.{Head}
 
-shows_of : {X : Type 0} (reads shows : Row → X → Type 0) → ((c : Row) (x : X) → reads c x → shows c x) → (o : Option Row) (x : Option X) → ShowsOrNone reads o x → ShowsOrNone shows o x
+pub shows_of : {X : Type 0} (reads shows : Row → X → Type 0) → ((c : Row) (x : X) → reads c x → shows c x) → (o : Option Row) (x : Option X) → ShowsOrNone reads o x → ShowsOrNone shows o x
 shows_of reads shows f None None h = h
 shows_of reads shows f (Some c) (Some x) h = f c x h
 shows_of reads shows f (Some c) None h = absurd h
 shows_of reads shows f None (Some x) h = absurd h
 
-read_of : {X : Type 0} (reads : Row → X → Type 0) (o : Option Row) (y : Option X) (x : X) → ShowsOrNone reads o y → y ≡ Some x → (c : Row) × reads c x
+pub read_of : {X : Type 0} (reads : Row → X → Type 0) (o : Option Row) (y : Option X) (x : X) → ShowsOrNone reads o y → y ≡ Some x → (c : Row) × reads c x
 read_of reads None None x h e = absurd cc
 read_of reads (Some c) (Some z) x h e = (c, subst (reads c) (one_some z x e) h)
 read_of reads (Some c) None x h e = absurd h
 read_of reads None (Some z) x h e = absurd h
 
-not_negative : (m n : ℕ) → negsuc n ≡ pos m → ⊥
+pub not_negative : (m n : ℕ) → negsuc n ≡ pos m → ⊥
 not_negative m n e = cc
 
 -- what is read so far, in the order of the tables

@@ -8,7 +8,7 @@ pub use Rattle.std.specs.FinMap.{FinMap, IsAntisymmetric, empty, entries, get, g
 pub use Rattle.std.specs.List.{AllByRecursion, cons_option, filter_map, list_all}
 pub use Rattle.std.specs.Option.{option_and_then, option_map, option_or}
 pub use Rattle.std.specs.Ordering.{eq_by_cmp, int_cmp, is_eq, nat_cmp, ordering_then}
-pub use Rattle.std.specs.Prelude.{IfErr, IfOk, IfSome, if◌then◌else◌, is_some, nat_le, unwrap_or, ◌&&◌, ◌==◌}
+pub use Rattle.std.specs.Prelude.{IfErr, IfOk, IfSome, OnOk, if◌then◌else◌, is_some, nat_le, unwrap_or, ◌&&◌, ◌==◌}
 pub use Rattle.std.specs.Vec.Iter.{into_iter_items, into_iter_len}
 pub use Rattle.std.specs.declared.cmp.Ordering.{Ordering}
 pub use Rattle.std.specs.declared.cmp.Ordering.TheVariants.{Equal, Greater, Less}

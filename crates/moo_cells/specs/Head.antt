@@ -1,5 +1,6 @@
 -- The table of the head, and that of the number of the next petition.
-use Rattle.std.specs.Prelude.{◌≡◌, ◌≢◌, ℕ, ℤ, pos, negsuc, ◌≤ℤ◌, ◌<ℤ◌, ◌<◌, ◌≤◌, [], ◌∷◌, Option, None, Some}
+use Rattle.std.specs.Prelude.{◌≡◌, ◌≢◌, ℕ, ◌<◌, ◌≤◌, ℤ, pos, negsuc, ◌≤ℤ◌, ◌<ℤ◌}
+use Rattle.std.specs.Prelude.{[], ◌∷◌, Option, None, Some}
 use Rattle.sqlite.specs.Order.{Row}
 use Rattle.sqlite.specs.declared.types.Value.TheVariants.{Int as Number}
 use Rattle.moo_rows.specs.declared.row.Head.{Head}
@@ -33,11 +34,13 @@ pub record HeadFits (head : Head) : Type 0 where
 
 -- the cells are those of a head of this version within its limits
 abbrev pub ReadsHead : ℤ → Head → Row → Type 0
-ReadsHead version head cells = (cells ≡ head_row version (pos head.seq) head.top (pos head.next_prop) (pos head.next_verb)) × HeadFits head
+ReadsHead version head cells =
+    (cells ≡ head_row version (pos head.seq) head.top (pos head.next_prop) (pos head.next_verb)) × HeadFits head
 
 -- the cells are those of a head of a version past this one
 abbrev pub ReadsNewer : ℤ → Row → Type 0
-ReadsNewer known cells = (version seq top next_prop next_verb : ℤ) × (cells ≡ head_row version seq top next_prop next_verb) × (known <ℤ version)
+ReadsNewer known cells =
+    (version seq top next_prop next_verb : ℤ) × (cells ≡ head_row version seq top next_prop next_verb) × (known <ℤ version)
 
 -- the cells are those of a head of this version
 abbrev pub ReadsKnown : ℤ → Row → Type 0

@@ -1,5 +1,5 @@
 -- What is read of a table so far, and the keys of rows as the tables have them.
-use Rattle.std.specs.Prelude.{◌≡◌, ℤ, pos, ◌<ℤ◌, ◌⊎◌, Bool, List, find, ⊤}
+use Rattle.std.specs.Prelude.{◌≡◌, ℤ, pos, ◌<ℤ◌, ◌⊎◌, Bool, List, Some, find, ⊤}
 use Rattle.std.specs.List.{AllByRecursion}
 use Rattle.std.specs.FinMap.{FinMap, get, insert}
 use Rattle.std.specs.declared.cmp.Ordering.{Ordering}
@@ -56,19 +56,28 @@ abbrev pub IsPairLess : ℤ × ℤ → ℤ × ℤ → Type 0
 IsPairLess a b = (a.0 <ℤ b.0) ⊎ ((a.0 ≡ b.0) × (a.1 <ℤ b.1))
 
 -- the rows are read, each one, and the map has what they show and nothing else
-pub record HoldsTable {J K X : Type 0} {cmp : K → K → Ordering} (has : J → Row → Bool) (number : K → J) (reads : K → Row → X → Type 0) (cells : List Row) (m : FinMap cmp X) : Type 0 where
+pub record HoldsTable {J K X : Type 0} {cmp : K → K → Ordering}
+    (has : J → Row → Bool) (number : K → J) (reads : K → Row → X → Type 0) (cells : List Row) (m : FinMap cmp X) : Type 0 where
   pub shown : (q : K) → ShowsOrNone (reads q) (find (has (number q)) cells) (get m q)
   pub read : AllByRecursion (IsRead reads) cells
 
+-- The rows were put into the map: it has what they show and nothing else, if no two of them have one key. In any case each entry is read.
+pub record FillsTable {J K X : Type 0} {cmp : K → K → Ordering} (Apart : List Row → Type 0) (has : J → Row → Bool) (number : K → J) (reads : K → Row → X → Type 0) (cells : List Row) (m : FinMap cmp X) : Type 0 where
+  pub holds : Apart cells → HoldsTable has number reads cells m
+  pub each : (key : K) (row : X) → get m key ≡ Some row → (cells : Row) × reads key cells row
+
 -- one row more is put, which the cells show
-pub record TakesRow {K X : Type 0} {cmp : K → K → Ordering} (reads : K → Row → X → Type 0) (cells : Row) (old new : FinMap cmp X) : Type 0 where
+pub record TakesRow {K X : Type 0} {cmp : K → K → Ordering}
+    (reads : K → Row → X → Type 0) (cells : Row) (old new : FinMap cmp X) : Type 0 where
   pub key : K
   pub row : X
   pub is_read : reads key cells row
   pub put : new ≡ insert old key row
 
 -- the first row that can't be read is told, or that memory ran out
-abbrev pub SaysUnread : {J K X : Type 0} → (J → Row → Bool) → (K → Row → X → Type 0) → (J → J → Type 0) → (J → Key) → List Row → CellFault → Type 0
-SaysUnread {J} has reads below key_of cells (Damaged kind key) = (j : J) × (kind ≡ BadCell) × (key ≡ key_of j) × FirstUnread reads below (λ k. find (has k) cells) j
+abbrev pub SaysUnread : {J K X : Type 0} →
+    (J → Row → Bool) → (K → Row → X → Type 0) → (J → J → Type 0) → (J → Key) → List Row → CellFault → Type 0
+SaysUnread {J} has reads below key_of cells (Damaged kind key) =
+    (j : J) × (kind ≡ BadCell) × (key ≡ key_of j) × FirstUnread reads below (λ k. find (has k) cells) j
 SaysUnread has reads below key_of cells NewerVersion = ⊥
 SaysUnread has reads below key_of cells OutOfMemory = ⊤

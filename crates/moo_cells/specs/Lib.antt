@@ -10,4 +10,5 @@ pub mod Compared
 pub mod Head
 pub mod HeadCells
 pub mod Damage
+pub mod Filled
 pub mod Taken

@@ -8,6 +8,7 @@ abbrev pub IsUnread : {J K X : Type 0} → (K → Row → X → Type 0) → (J �
 IsUnread reads table key = (cells : Row) × (table key ≡ Some cells) × ¬ (IsRead reads cells)
 
 -- the row of the key can't be read, and it is the first such row of its table
-pub record FirstUnread {J K X : Type 0} (reads : K → Row → X → Type 0) (below : J → J → Type 0) (table : J → Option Row) (key : J) : Type 0 where
+pub record FirstUnread {J K X : Type 0}
+    (reads : K → Row → X → Type 0) (below : J → J → Type 0) (table : J → Option Row) (key : J) : Type 0 where
   pub bad : IsUnread reads table key
   pub least : (other : J) → below other key → ¬ (IsUnread reads table other)

@@ -2,10 +2,8 @@
 
 ghost use Rattle.std.specs.List.Sorted.{IsPermutation};
 
+use moo_tables::BLOCK;
 use sqlite::Row;
-
-/// How many rows change places among themselves.
-pub(crate) const BLOCK: usize = 1024;
 
 /// The rows in another order: in each block every second row comes first, and then those between.
 ///

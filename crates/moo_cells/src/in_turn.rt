@@ -1,4 +1,4 @@
-//! The rows of a world, from the tables of a connection, one table after another: only the cells of one table are held at a time.
+//! The rows of a world, from the tables of a connection, one table after another: of a large one only the cells of a block are held at a time.
 //!
 //! What is wrong with tables isn't told here. Whoever wants to know it reads them all (`read_tables` of `moo_tables`, `read_cells`).
 
@@ -14,15 +14,15 @@ ghost use Rattle.moo_damage.specs.Limits.{AreWithin};
 ghost use Rattle.moo_cells.specs.Shows.{ShowsRows};
 ghost use Rattle.moo_cells.specs.Taken.{TakesObjects, TakesProps, TakesSlots, TakesVerbs, TakesTables};
 
-use crate::filling::in_filling_order;
+use crate::filled::Filling;
 use crate::head::read_head;
 use crate::rows::under;
-use crate::tables::{read_objects, read_petitions, read_props, read_slots, read_verbs};
+use crate::tables::read_petitions;
 use moo_damage::damage_of;
 use moo_memory::Flat;
+use moo_rows::{ObjRow, PropRow, SlotRow, VerbRow};
 use moo_tables::{
-    Version, are_numbered, are_paired, object_cells_of, prop_cells_of, slot_cells_of,
-    small_cells_of, verb_cells_of,
+    Version, are_numbered, feed_objects, feed_props, feed_slots, feed_verbs, small_cells_of,
 };
 use sqlite::{Alter, Connection, Error, Row};
 use std::alloc::Global;
@@ -33,7 +33,7 @@ fn take_objects<S: Alter>(
     alloc: Global,
     conn: &mut Connection<S>,
     version: Version,
-    mut rows: Flat,
+    rows: Flat,
 ) -> Result<Option<Flat>, Error>
     requires { rows.maps.objects ≡ empty }
     ensures outside { (state S.Store conn.old).in_transaction ≡ false → (state S.Store conn.new).in_transaction ≡ false }
@@ -42,14 +42,12 @@ fn take_objects<S: Alter>(
         TakesObjects version (state S.Store conn.old) (state S.Store conn.new) rows.maps after.maps)) }
     ensures failed { OnErr result (FailsToRead (schema_of version) (state S.Store conn.old) (state S.Store conn.new)) }
 {
-    let cells = object_cells_of(alloc, conn, version)?;
-    if !are_numbered(&cells) {
+    let mut filling = Filling::<ObjRow>::new(alloc, version, rows);
+    let whole = feed_objects(alloc, conn, version, &mut filling)?;
+    if !whole {
         return Ok(None);
     }
-    match read_objects(alloc, version, in_filling_order(cells), &mut rows) {
-        Ok(()) => Ok(Some(rows)),
-        Err(_) => Ok(None),
-    }
+    Ok(Some(filling.into_rows()))
 }
 
 /// The rows with what each row of the table `prop` shows, of which they have none yet; None if some row shows nothing, or if memory ran
@@ -58,7 +56,7 @@ fn take_props<S: Alter>(
     alloc: Global,
     conn: &mut Connection<S>,
     version: Version,
-    mut rows: Flat,
+    rows: Flat,
 ) -> Result<Option<Flat>, Error>
     requires { rows.maps.props ≡ empty }
     ensures outside { (state S.Store conn.old).in_transaction ≡ false → (state S.Store conn.new).in_transaction ≡ false }
@@ -67,14 +65,12 @@ fn take_props<S: Alter>(
         TakesProps version (state S.Store conn.old) (state S.Store conn.new) rows.maps after.maps)) }
     ensures failed { OnErr result (FailsToRead (schema_of version) (state S.Store conn.old) (state S.Store conn.new)) }
 {
-    let cells = prop_cells_of(alloc, conn, version)?;
-    if !are_numbered(&cells) {
+    let mut filling = Filling::<PropRow>::new(alloc, version, rows);
+    let whole = feed_props(alloc, conn, version, &mut filling)?;
+    if !whole {
         return Ok(None);
     }
-    match read_props(alloc, version, in_filling_order(cells), &mut rows) {
-        Ok(()) => Ok(Some(rows)),
-        Err(_) => Ok(None),
-    }
+    Ok(Some(filling.into_rows()))
 }
 
 /// The rows with what each row of the table `slot` shows, of which they have none yet; None if some row shows nothing, or if memory ran
@@ -83,7 +79,7 @@ fn take_slots<S: Alter>(
     alloc: Global,
     conn: &mut Connection<S>,
     version: Version,
-    mut rows: Flat,
+    rows: Flat,
 ) -> Result<Option<Flat>, Error>
     requires { rows.maps.slots ≡ empty }
     ensures outside { (state S.Store conn.old).in_transaction ≡ false → (state S.Store conn.new).in_transaction ≡ false }
@@ -92,14 +88,12 @@ fn take_slots<S: Alter>(
         TakesSlots version (state S.Store conn.old) (state S.Store conn.new) rows.maps after.maps)) }
     ensures failed { OnErr result (FailsToRead (schema_of version) (state S.Store conn.old) (state S.Store conn.new)) }
 {
-    let cells = slot_cells_of(alloc, conn, version)?;
-    if !are_paired(&cells) {
+    let mut filling = Filling::<SlotRow>::new(alloc, version, rows);
+    let whole = feed_slots(alloc, conn, version, &mut filling)?;
+    if !whole {
         return Ok(None);
     }
-    match read_slots(alloc, version, in_filling_order(cells), &mut rows) {
-        Ok(()) => Ok(Some(rows)),
-        Err(_) => Ok(None),
-    }
+    Ok(Some(filling.into_rows()))
 }
 
 /// The rows with what each row of the table `verb` shows, of which they have none yet; None if some row shows nothing, or if memory ran
@@ -108,7 +102,7 @@ fn take_verbs<S: Alter>(
     alloc: Global,
     conn: &mut Connection<S>,
     version: Version,
-    mut rows: Flat,
+    rows: Flat,
 ) -> Result<Option<Flat>, Error>
     requires { rows.maps.verbs ≡ empty }
     ensures outside { (state S.Store conn.old).in_transaction ≡ false → (state S.Store conn.new).in_transaction ≡ false }
@@ -117,14 +111,12 @@ fn take_verbs<S: Alter>(
         TakesVerbs version (state S.Store conn.old) (state S.Store conn.new) rows.maps after.maps)) }
     ensures failed { OnErr result (FailsToRead (schema_of version) (state S.Store conn.old) (state S.Store conn.new)) }
 {
-    let cells = verb_cells_of(alloc, conn, version)?;
-    if !are_paired(&cells) {
+    let mut filling = Filling::<VerbRow>::new(alloc, version, rows);
+    let whole = feed_verbs(alloc, conn, version, &mut filling)?;
+    if !whole {
         return Ok(None);
     }
-    match read_verbs(alloc, version, in_filling_order(cells), &mut rows) {
-        Ok(()) => Ok(Some(rows)),
-        Err(_) => Ok(None),
-    }
+    Ok(Some(filling.into_rows()))
 }
 
 /// The rows with what the four large tables show, if they have a head alone before; None if some row shows nothing, or if memory ran out.

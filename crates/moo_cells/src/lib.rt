@@ -9,6 +9,7 @@ mod cells;
 mod comparing;
 mod counter;
 mod fault;
+mod filled;
 mod filling;
 mod head;
 mod in_turn;

@@ -1,6 +1,6 @@
 //! Cells that were read.
 
-use crate::filling::BLOCK;
+use moo_tables::BLOCK;
 use sqlite::Row;
 use std::alloc::{AllocError, Global};
 

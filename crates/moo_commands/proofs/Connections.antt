@@ -1,5 +1,5 @@
 -- A task over a connection.
-use Rattle.moo_commands.proofs.Words.{◌≡◌, ◌⊎◌, inl, inr, ℕ, List, [], Option, Result, Ok, Err, refl, sym, subst, subst₂, ap, ◌∙◌, Bool, true, false, IsTrue, MatchResult, ⊤, HasCleanDisk, Survives, Held, state, Task, Stand, Failure, Store, Damaged, NewerVersion, Reports, store_failure, Given, Run, Leads, MayLead, Done, StopsTask, ShowsTables, EndsTask, RunsAction, RunsIn, RunsFrom, RunsUnseen, IsOpening, MayRefuse, LeavesAsBefore, LeavesNothingNew, only_reads, serves, Batch, State, LeavesLed, World, store_of, CrashLeaves, ShowsState}
+use Rattle.moo_commands.proofs.Words.{◌≡◌, ◌⊎◌, inl, inr, ℕ, List, [], Option, Result, Ok, Err, refl, sym, subst, subst₂, ap, ◌∙◌, Bool, true, false, IsTrue, MatchResult, ⊤, HasCleanDisk, Survives, Held, state, Task, Stand, Failure, Store, Damaged, NewerVersion, Reports, store_failure, Given, Run, Leads, MayLead, Done, StopsTask, ShowsTables, EndsTask, RunsAction, RunsIn, RunsFrom, RunsUnseen, IsOpening, MayRefuse, LeadsFrom, LeavesAsBefore, LeavesNothingNew, only_reads, serves, Batch, State, LeavesLed, Maps, World, store_of, CrashLeaves, ShowsState}
 use Rattle.sqlite.{specs.State.{State as Database}, specs.Store.{Ghosts}, specs.declared.error.Error.{Error}}
 use Rattle.moo_words.{specs.declared.task.Action.{Action}, specs.declared.task.Action.TheVariants.{Init, Apply, Rehearse, Ask, Dump, Load, Check, Serve}}
 use Rattle.moo_store.{specs.declared.fault.StoreFault.{StoreFault}, specs.Opening.{IsOfStore, Adopts}}
@@ -43,7 +43,7 @@ module _ {S : Type 0} (g : Ghosts S) (known : Bool) (was world : World S) (conn 
 
   -- what the batches lead to, if the disk is clean, by a connection
   abbrev pub LedIn : Held S → Leads
-  LedIn h batches others = IsTrue known × HasCleanDisk (state g h) → LeavesLed (state g h) was.rows.maps batches others
+  LedIn h batches others = IsTrue known × HasCleanDisk (state g h) → LeadsFrom (store_of g was) (state g h) was.rows.maps batches others
 
   -- what a task that only reads leaves, and whether the ports rest
   pub record Keeps : Type 0 where
@@ -54,9 +54,13 @@ module _ {S : Type 0} (g : Ghosts S) (known : Bool) (was world : World S) (conn 
   pub late_clean : (End : Stand → Type 0) → EndsTask g known was world End → HasCleanDisk (state g conn) → HasCleanDisk (store_of g was)
   late_clean End it clean = it.clean (subst (λ h. HasCleanDisk (state g h)) is clean)
 
-  still_led : (End : Stand → Type 0) → EndsTask g known was world End → Keeps → only_reads task.action ≡ true → IsTrue known × HasCleanDisk (state g conn) → LeavesLed (state g conn) was.rows.maps [] []
-  still_led End it keeps reads both trees may =
-      keeps.before (both.0, late_clean End it both.1) trees (subst (λ h. LeavesNothingNew (store_of g was) (state g h)) (sym is) (keeps.quiet reads) both.1 trees may)
+  still_led : (End : Stand → Type 0) → EndsTask g known was world End → Keeps → only_reads task.action ≡ true → IsTrue known × HasCleanDisk (state g conn) → LeadsFrom (store_of g was) (state g conn) was.rows.maps [] []
+  still_led End it keeps reads both =
+      let before = keeps.before (both.0, late_clean End it both.1) in
+      let quiet = subst (λ h. LeavesNothingNew (store_of g was) (state g h)) (sym is) (keeps.quiet reads) both.1 in (
+        λ trees may. before.0 trees (quiet trees may),
+        λ tables rests trees may. before.1 tables rests trees (quiet trees may),
+      )
 
   abbrev pub IsDone : Option (List ℕ) → ℕ → Stand → Type 0
   IsDone new status end = Done task.action s end (MayLead g known was world) (ShowsTables g was (store_of g world)) (Wrote new status)
@@ -106,7 +110,7 @@ stops_when (Apply texts) s end failure Led Then lead Clean More on run (inl (fau
 stops_when (Apply texts) s end failure Led Then lead Clean More on run (inr (is, same, unwritten, led), lack) = (inr (is, same, unwritten, lead _ _ led), lack)
 stops_when Check s end failure Led Then lead Clean More on run (e, inl (fault, is, of_store, same)) = (e, inl (fault, is, (λ more. of_store (on more)), same))
 stops_when Check s end failure Led Then lead Clean More on run (e, inr front) = (e, inr front)
-stops_when (Serve service) s end failure Led Then lead Clean More on run (stops, (batches, others, led)) = (stops, (batches, others, lead batches others led))
+stops_when (Serve service) s end failure Led Then lead Clean More on run (ledger, stops, led) = (ledger, stops, lead ledger.taken ledger.lost led)
 stops_when action s end failure Led Then lead Clean More on run it = it
 
 done_when : (action : Action) (s : State) (end : Stand) (Led Then : Leads) → ((batches others : List Batch) → Led batches others → Then batches others) → (Shown Less : Type 0) → (Shown → Less) → (run : Run)
@@ -114,7 +118,7 @@ done_when : (action : Action) (s : State) (end : Stand) (Led Then : Leads) → (
 done_when (Apply texts) s end Led Then lead Shown Less on run (inl (count, lost, ran, is, led)) = inl (count, lost, ran, is, lead _ _ led)
 done_when (Apply texts) s end Led Then lead Shown Less on run (inr (stop, count, lost, ran, is, led)) = inr (stop, count, lost, ran, is, lead _ _ led)
 done_when Check s end Led Then lead Shown Less on run (e, shown, written, zero) = (e, on shown, written, zero)
-done_when (Serve service) s end Led Then lead Shown Less on run (serving, (batches, others, led)) = (serving, (batches, others, lead batches others led))
+done_when (Serve service) s end Led Then lead Shown Less on run (ledger, serving, led) = (ledger, serving, lead ledger.taken ledger.lost led)
 done_when action s end Led Then lead Shown Less on run it = it
 
 -- what is known if less is known of the disk, and nothing of what a check found
@@ -166,6 +170,17 @@ pub surely : (task : Task) (s : State) (run : Run) (Clean : Type 0) (Crash : Sta
     → RunsFrom task s run (IsTrue true × Clean) Crash Led Shown → RunsFrom task s run Clean Crash Led ⊤
 surely task s run Clean Crash Led Shown it =
     runs_when task s run (IsTrue true × Clean) Clean Crash Crash Led Led Shown (λ clean. (refl, clean)) (λ end clean crash. crash) (λ batches others clean led. led) it
+
+-- what is known of the rows that its batches lead to, and not of the cells
+pub led_rows : (task : Task) (s : State) (run : Run) (Clean : Type 0) (Crash : Stand → Type 0) (was store : Database) (rows : Maps)
+    → RunsFrom task s run Clean Crash (LeadsFrom was store rows) ⊤ → RunsFrom task s run Clean Crash (LeavesLed store rows) ⊤
+led_rows task s run Clean Crash was store rows it =
+    runs_when task s run Clean Clean Crash Crash (LeadsFrom was store rows) (LeavesLed store rows) ⊤ (λ clean. clean) (λ end clean crash. crash) (λ batches others clean led. led.0) it
+
+-- the same of one whose tables are known
+pub surely_led : (task : Task) (s : State) (run : Run) (Clean : Type 0) (Crash : Stand → Type 0) (was store : Database) (rows : Maps) (Shown : Type 0)
+    → RunsFrom task s run (IsTrue true × Clean) Crash (LeadsFrom was store rows) Shown → RunsFrom task s run Clean Crash (LeavesLed store rows) ⊤
+surely_led task s run Clean Crash was store rows Shown it = led_rows task s run Clean Crash was store rows (surely task s run Clean Crash (LeadsFrom was store rows) Shown it)
 
 -- and of its end alone
 pub surely_ends : (task : Task) (s : State) (run : Run) (Clean : Type 0) (Crash : Stand → Type 0) (Led : Leads) (Shown : Type 0)

@@ -11,14 +11,14 @@ use Rattle.moo_files.specs.declared.remains.Remains.TheVariants as remains
 
 -- what a service does leads to its end
 served_done : (service : Service) (s : State) (end : Stand) (Led : Leads) (Shown : Type 0) (run : Run) → Done (Serve service) s end Led Shown run → ServedTo run.given.ports service.port s end
-served_done service s end Led Shown run it = let said = it.0.1 in inr (said.0, said.1, said.3)
+served_done service s end Led Shown run it = let said = it.1.1 in inr (said.0, said.1, it.0, said.3)
 
 served_stops : (service : Service) (s : State) (end : Stand) (failure : Failure) (Led : Leads) (Clean : Type 0) (run : Run) → StopsTask (Serve service) s end failure Led Clean run → ServedTo run.given.ports service.port s end
-served_stops service s end failure Led Clean run it = elim it.0 [
-  | inl refused ↦ inl (refused.1, refused.2)
+served_stops service s end failure Led Clean run it = elim it.1 [
+  | inl refused ↦ inl (refused.1, refused.3)
   | inr taken ↦ elim taken [
-    | inl none ↦ inr (0, 0, none.1)
-    | inr all ↦ let said = all.1 in inr (said.0, said.1, said.3)
+    | inl none ↦ inr (0, 0, it.0, none.2)
+    | inr all ↦ let said = all.1 in inr (said.0, said.1, it.0, said.3)
   ]
 ]
 

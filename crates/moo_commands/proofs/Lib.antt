@@ -10,3 +10,4 @@ mod Refusals
 mod Reporting
 mod Stopped
 mod Tasks
+pub mod Desks

@@ -10,7 +10,7 @@ use Rattle.moo_store.specs.declared.course.Course.{Course}
 use Rattle.moo_store.specs.Stopping.{AreAccepted, AppliesFirst, CompletesUntil, HaltsUntil, EndsEarly}
 use Rattle.moo_store.specs.Rehearsed.{RehearsesBatch}
 use Rattle.sqlite.specs.Held.{state}
-use Rattle.moo_store.{specs.Untouched.{IsMovedBy}, proofs.Crashes.{IsSettled}, proofs.Untouched.{written_none}, specs.Text.{Applies, StopsRun}}
+use Rattle.moo_store.{specs.Untouched.{IsMovedBy}, proofs.Crashes.{IsSettled}, proofs.Untouched.{is_over, written_none}, specs.Text.{Applies, StopsRun}}
 
 pub given_input : (batches : List ℕ) (input : Option (List ℕ)) (files : Texts) → bytes_eq batches (codes "-") ≡ true → texts_by input files batches ≡ input
 given_input batches input files e = ap (λ (b : Bool). if b then input else files batches) e
@@ -49,20 +49,23 @@ module _ {S : Type 0} (g : Ghosts S) (known : Bool) (was world : World S) where
       by : (b : Bool) → course.stopped ≡ b → EndsTask g known was world (λ end. AppliesText (MayLead g known was world) stop s end text old new (course_status course))
       by false e =
           let it = whole e in
-          record { end = it.0.new; clean = it.0.clean; crash = it.0.crash; ends = inl (course.tally.batches, course.tally.lost, (it.0.completes, it.1), ap (λ (b : Bool). if b then 1 else lost_status course.tally.lost) e, λ both. it.0.led both.0 both.1 works) }
+          record { end = it.0.new; clean = it.0.clean; crash = it.0.crash; ends = inl (course.tally.batches, course.tally.lost, (it.0.completes, it.1), ap (λ (b : Bool). if b then 1 else lost_status course.tally.lost) e, λ both. (it.0.led both.0 both.1 works, it.0.left both.0 both.1)) }
       by true e =
           let it = early e in
-          record { end = it.1.new; clean = it.1.clean; crash = it.1.crash; ends = inr (it.0, course.tally.batches, course.tally.lost, it.1.early, ap (λ (b : Bool). if b then 1 else lost_status course.tally.lost) e, λ both. it.1.led both.0 both.1 works) }
+          record { end = it.1.new; clean = it.1.clean; crash = it.1.crash; ends = inr (it.0, course.tally.batches, course.tally.lost, it.1.early, ap (λ (b : Bool). if b then 1 else lost_status course.tally.lost) e, λ both. (it.1.led both.0 both.1 works, it.1.left both.0 both.1)) }
 
   pub stops_text : (stop : Bool) (s : State) (text old new : Option (List ℕ)) (fault : TextFault) (failure : Failure) → was.failed ≡ false → failure ≡ text_failure fault
       → (run : StopsRun g known (Works s) text old new was world fault) × (stop ≡ true → AreAccepted run.halts.answers)
       → EndsTask g known was world (λ end. StopsApplying (MayLead g known was world) stop s end failure text old new)
   stops_text stop s text old new fault failure works is it =
-      record { end = it.0.new; clean = it.0.clean; crash = it.0.crash; ends = inl (fault, is, (it.0.halts, it.1), λ both. it.0.led both.0 both.1 works) }
+      record { end = it.0.new; clean = it.0.clean; crash = it.0.crash; ends = inl (fault, is, (it.0.halts, it.1), λ both. (it.0.led both.0 both.1 works, it.0.left both.0 both.1)) }
 
   -- batches that moved the World lead on from its rows
   pub moved_led : (s : State) → (was.failed ≡ false → IsGood was.rows.maps) → StandsFor g known was s → (batches lost : List Batch) → IsMovedBy g was world batches lost → MayLead g known was world batches lost
-  moved_led s good stands batches lost moved both = moved.led both.1 (stands.is_at.shown both.0 stands.works) (good stands.works)
+  moved_led s good stands batches lost moved both = (
+    moved.led both.1 (stands.is_at.shown both.0 stands.works) (good stands.works),
+    λ tables rests. moved.left both.1 tables (is_over g known was s tables both.0 stands.is_at (moved.clean both.1) rests),
+  )
 
   pub ends_map : (P Q : Stand → Type 0) → ((end : Stand) → P end → Q end) → EndsTask g known was world P → EndsTask g known was world Q
   ends_map P Q f it = record { end = it.end; clean = it.clean; crash = it.crash; ends = f it.end it.ends }

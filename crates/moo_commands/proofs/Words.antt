@@ -24,6 +24,6 @@ pub use Rattle.sqlite_wal.specs.Recovery.{Image}
 pub use Rattle.moo_commands.specs.Ends.{EndsWith, HoldsRows, IsClosedEnd, LeavesNew, RanFrom, RanOver, RefusedOver, RunsClosed, RunsFile, RunsOver, RunsRows}
 pub use Rattle.moo_commands.specs.Given.{Given, Run, Texts, attended, given_to, texts_by}
 pub use Rattle.moo_commands.specs.Lines.{Reports, Tells, WritesLine, damaged_line, load_failure, loaded_line, not_a_dump_line, read_failure, service_failure, status_of, store_failure, text_failure, word_of}
-pub use Rattle.moo_commands.specs.Run.{RehearsesBy, RehearsesText, StopsRehearsing, course_status, AppliesText, AsksBy, BeginsNumbered, BeginsWith, Done, EndsTask, FailsAtOnce, FailsToBegin, IsDumpedAs, IsOpening, KeepsInput, Leads, LeavesAsBefore, LeavesNothingNew, MayLead, MayRefuse, ReadsFile, RefusesDump, RefusesFile, RunsAction, RunsAnew, RunsFrom, RunsIn, RunsKept, RunsNew, RunsOn, RunsTask, RunsText, RunsUnseen, Serving, ShowsTables, StopsApplying, StopsIn, StopsServing, StopsTask, begins_anew, dump_word, is_input, is_load, lost_status, makes_world, only_reads, reads_input, serves}
+pub use Rattle.moo_commands.specs.Run.{RehearsesBy, RehearsesText, StopsRehearsing, course_status, AppliesText, AsksBy, BeginsNumbered, BeginsWith, Done, EndsTask, FailsAtOnce, FailsToBegin, IsDumpedAs, IsOpening, KeepsInput, Leads, LeadsFrom, LeavesAsBefore, LeavesNothingNew, MayLead, MayRefuse, ReadsFile, RefusesDump, RefusesFile, RunsAction, RunsAnew, RunsFrom, RunsIn, RunsKept, RunsNew, RunsOn, RunsTask, RunsText, RunsUnseen, Serving, ShowsTables, StopsApplying, StopsIn, StopsServing, StopsTask, begins_anew, dump_word, is_input, is_load, lost_status, makes_world, only_reads, reads_input, serves}
 pub use Rattle.moo_commands.specs.declared.failure.Failure.{Failure}
 pub use Rattle.moo_commands.specs.declared.failure.Failure.TheVariants.{Damaged, NewerVersion, NoBatches, NoFile, NoMemory, NotADump, Port, Read, Store, TooLong, Usage, Write}

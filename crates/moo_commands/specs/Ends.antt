@@ -17,7 +17,9 @@ use Rattle.moo_store.specs.Opening.{Says, IsOfStore}
 use Rattle.moo_store.specs.States.{LeavesRows, LeavesState}
 use Rattle.moo_tables.specs.Inside.{Leaves}
 use Rattle.moo_files.specs.Opened.{Contents, Nothing, Database, Unfit, Hold}
+use Rattle.moo_store.specs.Current.{BecomesCurrent, unread_from}
 use Rattle.moo_store.specs.Led.{LeavesLed}
+use Rattle.moo_store.specs.Untouched.{LeavesWritten}
 use Rattle.moo_store.specs.World.{CrashLeaves}
 use Rattle.moo_store.specs.declared.fault.StoreFault.{StoreFault}
 use Rattle.moo_files.specs.Contents.{HoldsSuch, HoldsTrees, HoldsState, HoldsNoTable, HasOtherTables, HasAnyTable, IsKept, ReadsAsOurs}
@@ -55,13 +57,23 @@ module _ {D : Type 0} {g : Ghosts D} where
   abbrev pub RanFrom : Task → State → Held (FileStore D g) → Run → Type 0
   RanFrom task s conn run = RunsFrom task s run (HasCleanDisk (file_state conn)) (CrashLeaves (file_state conn)) (λ _ _. ⊤) ⊤
 
+  -- A task ran over its file from these rows, which these tables of these trees showed, or those that they were migrated to. If the disk is
+  -- clean, a crash leaves tables to which its batches lead, each with the cells kept of every row and column that it leaves as it is; and the
+  -- table that isn't read has the rows that it had, or none after a migration.
+  abbrev pub RunsCells : Task → Trees → Tables → Maps → Held (FileStore D g) → Run → Type 0
+  RunsCells task trees tables rows conn run = (current : Tables) × BecomesCurrent tables current
+      × RunsFrom task (state_of rows) run (HasCleanDisk (file_state conn)) (CrashLeaves (file_state conn))
+      (LeavesWritten (file_state conn) rows current (unread_from tables.version trees)) ⊤
+
 module _ {D : Type 0} {g : Ghosts D} where
-  -- A task ran over this database: its tables are ours, and it ran from the state, the rows and the world that they show. After one that
-  -- only reads, a crash leaves the database, each cell as it was; or what that was migrated to.
+  -- A task ran over this database: its tables are ours, and it ran from the state, the rows, the cells and the world that they show. After
+  -- one that only reads, a crash leaves the database, each cell as it was; or what that was migrated to.
   pub record RanOn (task : Task) (trees : Trees) (conn : Held (FileStore D g)) (run : Run) : Type 0 where
     pub ours : ¬ HasOtherTables trees
     pub state : (s : State) → LeavesState trees s → RanFrom task s conn run
     pub rows : (rows : Maps) → IsGood rows → LeavesRows trees rows → RunsRows task rows conn run
+    pub cells : (tables : Tables) (rows : Maps) → Leaves trees tables → IsGood rows → ShowsRows tables rows →
+        RunsCells task trees tables rows conn run
     pub tables : (tables : Tables) → Leaves trees tables →
         (rows : Maps) × IsGood rows × ShowsRows tables rows × RunsUnseen task (state_of rows) run
     pub still : only_reads task.action ≡ true → (found : Trees) → (file_state conn).may_leave found → IsKept trees found

@@ -16,6 +16,7 @@ use Rattle.moo_words.specs.declared.task.Task.{Task}
 use Rattle.moo_words.specs.declared.task.Service.{Service}
 use Rattle.moo_words.specs.declared.task.Action.TheVariants.{Serve}
 use Rattle.moo_words.specs.Tasks.{NamesTask}
+use Rattle.moo_http.specs.Ledger.{Ledger}
 use Rattle.moo_http.specs.Turns.{Attendance}
 use Rattle.moo_commands.specs.Given.{Run}
 use Rattle.moo_commands.specs.Run.{RunsFrom}
@@ -38,7 +39,8 @@ pub record FileRun {S T D : Type 0} (g : Runs.Ghosts S T D) (disk : Ghosts D) : 
 -- led to this end.
 abbrev pub ServedTo : Attendance → ℕ → State → Stand → Type 0
 ServedTo ports port s end =
-    ((end ≡ Works s) × ports.refuses port) ⊎ ((answered failed : ℕ) × ports.attends port answered failed (Works s) end)
+    ((end ≡ Works s) × ports.refuses port)
+    ⊎ ((answered failed : ℕ) × (ledger : Ledger) × ports.attends port answered failed ledger (Works s) end)
 
 module _ {S T D : Type 0} {g : Runs.Ghosts S T D} {disk : Ghosts D} where
   -- what it was given, and what it wrote

@@ -35,8 +35,7 @@ module _ {H A R W : Type 0} (ports : Ports.Ghosts H A R W) (source : Arrivals.Gh
     (reader : Reading.Ghosts R) (writer : Writing.Ghosts W) where
   -- what came of the ports of a host, from what it was to what it is
   abbrev pub attended : H → H → Attendance
-  attended before after =
-      attended_between source.hands_out source.takes_back source.loses reader.remaining writer.contents ports.listens ports.closes before after
+  attended before after = attended_between source reader writer ports before after
 
 module _ {I H T A R W : Type 0} (input : Reading.Ghosts I) (files : BatchFiles.Ghosts H T) (denies : H → List ℕ → Type 0)
     (ports : Ports.Ghosts H A R W) (source : Arrivals.Ghosts A R W) (reader : Reading.Ghosts R) (writer : Writing.Ghosts W) where

@@ -5,3 +5,4 @@ pub mod Given
 pub mod Lines
 pub mod Run
 pub mod Texts
+pub mod Desk

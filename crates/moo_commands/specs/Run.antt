@@ -32,7 +32,9 @@ use Rattle.moo_store.specs.Turns.{Completes, Halts}
 use Rattle.moo_store.specs.Stopping.{CompletesUntil, HaltsUntil, EndsEarly}
 use Rattle.moo_store.specs.Rehearsed.{RehearsesBatch}
 use Rattle.moo_store.specs.Text.{accepted, faulted}
+use Rattle.moo_store.specs.Current.{unread_of}
 use Rattle.moo_store.specs.Led.{LeavesLed}
+use Rattle.moo_store.specs.Untouched.{LeavesWritten}
 use Rattle.moo_store.specs.Opening.{Says, IsOfStore}
 use Rattle.moo_store.specs.States.{LeavesState}
 use Rattle.moo_store.specs.Kept.{World}
@@ -40,6 +42,7 @@ use Rattle.moo_store.specs.World.{store_of, CrashLeaves}
 use Rattle.moo_words.specs.declared.task.Task.{Task}
 use Rattle.moo_words.specs.declared.task.Action.{Action}
 use Rattle.moo_words.specs.declared.task.Action.TheVariants.{Init, Apply, Rehearse, Ask, Dump, Load, Check, Serve}
+use Rattle.moo_http.specs.Ledger.{Ledger, no_batches}
 use Rattle.moo_http.specs.Lines.{listening_line}
 use Rattle.moo_http.specs.Turns.{Attendance, SaysAttended}
 use Rattle.moo_commands.specs.Given.{Given, Run}
@@ -185,10 +188,10 @@ StopsAsking s failure text old new =
     ⊎ ((failure ≡ NoBatches) × (new ≡ old))
 
 -- The connections that came to a port were served, so many of them, and what is said of them is written. The world moved by what they
--- asked, and by nothing else.
-abbrev pub Serving : Attendance → ℕ → ℕ → State → Stand → Option (List ℕ) → Option (List ℕ) → ℕ → Type 0
-Serving ports port count s end old new status =
-    (text : List ℕ) × SaysAttended ports port count (Works s) end text × Appends old new text × (status ≡ 0)
+-- asked, and by nothing else: the ledger has just the batches that they asked and that were run.
+abbrev pub Serving : Attendance → ℕ → ℕ → Ledger → State → Stand → Option (List ℕ) → Option (List ℕ) → ℕ → Type 0
+Serving ports port count ledger s end old new status =
+    (text : List ℕ) × SaysAttended ports port count ledger (Works s) end text × Appends old new text × (status ≡ 0)
 
 -- The task is done, and this is its run. `Led` is true of the batches that it ran, and a check found the tables as `Shown` says.
 abbrev pub Done : Action → State → Stand → Leads → Type 0 → Run → Type 0
@@ -204,8 +207,8 @@ Done (Load dump) s end Led Shown run =
 Done Check s end Led Shown run =
     (end ≡ Works s) × Shown × Appends run.before run.after (checked_line s.seq (length (objects_of s.world))) × (run.status ≡ 0)
 Done (Serve service) s end Led Shown run =
-    Serving run.given.ports service.port service.count s end run.before run.after run.status
-    × ((batches others : List Batch) × Led batches others)
+    (ledger : Ledger) × Serving run.given.ports service.port service.count ledger s end run.before run.after run.status
+    × Led ledger.taken ledger.lost
 
 -- a front of a text is written, since the writer failed or memory ran out
 abbrev pub StopsIn : List ℕ → Failure → Option (List ℕ) → Option (List ℕ) → Type 0
@@ -213,11 +216,12 @@ StopsIn text failure old new = ((failure ≡ Write) ⊎ (failure ≡ NoMemory)) 
 
 -- The port can't be listened on, and nothing is done. Or what is said of the service stops in its first line, and no connection is taken
 -- from the port; or after the last one.
-abbrev pub StopsServing : Attendance → ℕ → ℕ → State → Stand → Failure → Option (List ℕ) → Option (List ℕ) → Type 0
-StopsServing ports port count s end failure old new =
-    ((failure ≡ Port) × (end ≡ Works s) × ports.refuses port × (new ≡ old))
-    ⊎ ((end ≡ Works s) × ports.attends port 0 0 (Works s) end × StopsIn (listening_line port) failure old new)
-    ⊎ ((text : List ℕ) × SaysAttended ports port count (Works s) end text × StopsIn text failure old new)
+abbrev pub StopsServing : Attendance → ℕ → ℕ → Ledger → State → Stand → Failure → Option (List ℕ) → Option (List ℕ) → Type 0
+StopsServing ports port count ledger s end failure old new =
+    ((failure ≡ Port) × (end ≡ Works s) × (ledger ≡ no_batches) × ports.refuses port × (new ≡ old))
+    ⊎ ((end ≡ Works s) × (ledger ≡ no_batches) × ports.attends port 0 0 ledger (Works s) end
+    × StopsIn (listening_line port) failure old new)
+    ⊎ ((text : List ℕ) × SaysAttended ports port count ledger (Works s) end text × StopsIn text failure old new)
 
 -- It stops with this failure, and so much is written. On a clean disk no check of a World that stands for a state finds a damage.
 abbrev pub StopsTask : Action → State → Stand → Failure → Leads → Type 0 → Run → Type 0
@@ -239,8 +243,8 @@ StopsTask Check s end failure Led Clean run =
     × (((fault : StoreFault) × (failure ≡ store_failure fault) × (Clean → IsOfStore fault) × (run.after ≡ run.before))
     ⊎ StopsIn (checked_line s.seq (length (objects_of s.world))) failure run.before run.after)
 StopsTask (Serve service) s end failure Led Clean run =
-    StopsServing run.given.ports service.port service.count s end failure run.before run.after
-    × ((batches others : List Batch) × Led batches others)
+    (ledger : Ledger) × StopsServing run.given.ports service.port service.count ledger s end failure run.before run.after
+    × Led ledger.taken ledger.lost
 
 -- a crash leaves nothing that it couldn't leave before
 abbrev pub LeavesNothingNew : Database → Database → Type 0
@@ -253,10 +257,17 @@ pub record EndsTask {S : Type 0} (g : Ghosts S) (known : Bool) (was world : Worl
   pub crash : IsTrue known → HasCleanDisk (store_of g world) → CrashLeaves (store_of g world) end
   pub ends : End end
 
--- whatever a crash leaves shows rows that these batches lead to from those of the World before, or these and one of the others
+-- Whatever a crash leaves shows rows that these batches lead to from those before, or these and one of the others. Of any tables that were
+-- in the store before, it has the cells kept of all that they leave as it is, and the table that isn't read as it was.
+abbrev pub LeadsFrom : Database → Database → Maps → Leads
+LeadsFrom was store rows batches others =
+    LeavesLed store rows batches others
+    × ((tables : Tables) → Rests was tables → LeavesWritten store rows tables (unread_of was.now.trees) batches others)
+
+-- so these batches lead on from the rows and the tables of the World before
 abbrev pub MayLead : {S : Type 0} → Ghosts S → Bool → World S → World S → Leads
 MayLead g known was world batches others =
-    IsTrue known × HasCleanDisk (store_of g world) → LeavesLed (store_of g world) was.rows.maps batches others
+    IsTrue known × HasCleanDisk (store_of g world) → LeadsFrom (store_of g was) (store_of g world) was.rows.maps batches others
 
 -- If the disk returned what was written, any tables that were at rest in the store of this World show its rows.
 abbrev pub ShowsTables : {S : Type 0} → Ghosts S → World S → Database → Type 0
@@ -310,10 +321,10 @@ abbrev pub RunsUnseen : Task → State → Run → Type 0
 RunsUnseen task s run = RunsFrom task s run ⊥ (λ _. ⊥) (λ _ _. ⊥) ⊤
 
 module _ {S : Type 0} (g : Ghosts S) where
-  -- A task ran over this World from a state, and left this connection. Its batches led on from the rows of the World.
+  -- A task ran over this World from a state, and left this connection. Its batches led on from the rows and the tables of the World.
   abbrev pub RunsIn : Bool → World S → Held S → Task → State → Run → Type 0
   RunsIn known world conn task s run = RunsFrom task s run (IsTrue known × HasCleanDisk (state g conn)) (CrashLeaves (state g conn))
-      (LeavesLed (state g conn) world.rows.maps) (ShowsTables g world (state g conn))
+      (LeadsFrom (store_of g world) (state g conn) world.rows.maps) (ShowsTables g world (state g conn))
 
   -- A task ran from a state, and left this connection. Nothing is said of the rows.
   abbrev pub RunsOn : Held S → Task → State → Run → Type 0

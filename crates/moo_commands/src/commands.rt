@@ -21,7 +21,7 @@ use crate::host::BatchFiles;
 use crate::output::{checked_text, explain_lost, loaded_text};
 use crate::session::{Runs, Session, Streams};
 use moo_dump::put_all;
-use moo_http::serve_port;
+use moo_http::{Duty, Tools, serve_port};
 use moo_reasons::StandardNotes;
 use moo_store::{Course, Tally, World, apply_until, ask_text, rehearse_text};
 use moo_words::{Action, Batches, Options, Service, Task};
@@ -347,15 +347,12 @@ fn serve<'s, S: Streams, B: Alter + Drop>(
 {
     let Service { port, count } = service;
     world.has_good_rows();
-    match serve_port(
-        session.alloc,
-        session.console,
-        &mut session.host,
-        world,
-        port,
-        count,
-        &mut session.output,
-    ) {
+    let tools = Tools {
+        alloc: session.alloc,
+        console: session.console,
+    };
+    let duty = Duty { port, count };
+    match serve_port(&tools, &mut session.host, world, duty, &mut session.output) {
         Ok(()) => Ok(0),
         Err(fault) => Err(Failure::from(fault)),
     }

@@ -3,6 +3,7 @@
 
 mod again;
 mod commands;
+mod desk;
 mod ends;
 mod failure;
 mod files;
@@ -17,6 +18,7 @@ mod standard;
 mod stops;
 
 pub use again::run_and_run_again;
+pub use desk::exchanges_pass_the_desk;
 pub use ends::Ends;
 pub use failure::Failure;
 pub use files::run_from;

@@ -1,23 +1,19 @@
 -- The first bad row of a map, found by going through its entries in order.
-use Rattle.moo_damage.proofs.Words.{◌≡◌, Bool, true, false, cond, Option, None, Some, List, [], ◌∷◌, Ordering, Less, refl, sym, ap, ◌∙◌, subst, ◌⊎◌, inl, inr, IsTotalOrder, tied_itself, eq_by_cmp, is_eq, ordering_reverse, AllByRecursion, FinMap, get, find, entries, get-entries, CmpEqualImpliesEq, none-some, same_Some, key-Decides, IsLeastBad, T, is_sorted, entries_sorted, own_entries}
+use Rattle.moo_damage.proofs.Words.{◌≡◌, Bool, true, false, cond, Option, None, Some, List, [], ◌∷◌, Ordering, Less, refl, sym, ap, ◌∙◌, subst, inl, inr, IsTotalOrder, tied_itself, eq_by_cmp, is_eq, ordering_reverse, AllByRecursion, FinMap, get, find, entries, get-entries, CmpEqualImpliesEq, none-some, same_Some, key-Decides, IsLeastBad, T, is_sorted, entries_sorted, own_entries}
 use Rattle.std.specs.FinMap.Entries.{below_all}
 use Rattle.moo_rows.proofs.Walking.{first_of, second_of, less_of, elsewhere, here}
+pub use Rattle.moo_damage.specs.First.{FirstIn}
 
 module _ {K X : Type 0} (right bad : K → X → Type 0) where
-  -- the first bad one of a list of entries, or none
-  abbrev pub FirstIn : List (K × X) → Option K → Type 0
-  FirstIn [] o = o ≡ None
-  FirstIn (e ∷ es) o = (right e.0 e.1 × FirstIn es o) ⊎ (bad e.0 e.1 × (o ≡ Some e.0))
-
   -- the first of what is left is the first of all
   abbrev pub FirstLeft : List (K × X) → List (K × X) → Type 0
-  FirstLeft left all = (o : Option K) → FirstIn left o → FirstIn all o
+  FirstLeft left all = (o : Option K) → FirstIn right bad left o → FirstIn right bad all o
 
   pub went_on : (left es all : List (K × X)) (e : K × X) → left ≡ e ∷ es → FirstLeft left all → right e.0 e.1 → FirstLeft es all
-  went_on left es all e is f r o h = f o (subst (λ l. FirstIn l o) (sym is) (inl (r, h)))
+  went_on left es all e is f r o h = f o (subst (λ l. FirstIn right bad l o) (sym is) (inl (r, h)))
 
   module _ (cmp : K → K → Ordering) (total : IsTotalOrder cmp) (exact : CmpEqualImpliesEq cmp) where
-    each_right : (es : List (K × X)) → FirstIn es None → (k : K) (r : X) → find cmp k es ≡ Some r → right k r
+    each_right : (es : List (K × X)) → FirstIn right bad es None → (k : K) (r : X) → find cmp k es ≡ Some r → right k r
     each_right [] f k r e = absurd (none-some r e)
     each_right (x ∷ es) (inr f) k r e = absurd (none-some x.0 f.1)
     each_right (x ∷ es) (inl f) k r e = by (eq_by_cmp cmp k x.0) refl e (each_right es f.1 k r)
@@ -41,7 +37,7 @@ module _ {K X : Type 0} (right bad : K → X → Type 0) where
     abbrev Found : List (K × X) → K → Type 0
     Found es key = (row : X) × (find cmp key es ≡ Some row) × bad key row × ((k : K) (r : X) → cmp k key ≡ Less → find cmp k es ≡ Some r → right k r)
 
-    found_at : (es : List (K × X)) → T (is_sorted cmp es) → (key : K) → FirstIn es (Some key) → Found es key
+    found_at : (es : List (K × X)) → T (is_sorted cmp es) → (key : K) → FirstIn right bad es (Some key) → Found es key
     found_at [] s key f = absurd (none-some key (sym f))
     found_at (x ∷ es) s key (inr f) =
         let is : key ≡ x.0 = same_Some key x.0 f.1 in

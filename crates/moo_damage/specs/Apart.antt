@@ -14,7 +14,8 @@ use Rattle.moo_damage.specs.Local.{has_slot}
 -- no two properties of which x has slots have one name
 abbrev pub NamesApart : Maps → ObjNo → Type 0
 NamesApart m x =
-    (i j : PropId) (p q : PropRow) → get m.props i ≡ Some p → get m.props j ≡ Some q → 0 < i.0 → 0 < j.0 → has_slot m x i ≡ true → has_slot m x j ≡ true → folded p.name ≡ folded q.name → i ≡ j
+    (i j : PropId) (p q : PropRow) → get m.props i ≡ Some p → get m.props j ≡ Some q → 0 < i.0 → 0 < j.0 →
+    has_slot m x i ≡ true → has_slot m x j ≡ true → folded p.name ≡ folded q.name → i ≡ j
 
 -- of these objects it is known
 abbrev pub AreApart : Maps → FinMap object_cmp (Unit {0}) → Type 0
@@ -37,4 +38,5 @@ is_alone (Some other) id = nat_eq other.0 id.0
 abbrev pub NotesProp : Option PropRow → PropId → (old new : Noted) → Bool → Type 0
 NotesProp None id old new alone = (new ≡ old) × (alone ≡ true)
 NotesProp (Some p) id old new alone =
-    ((n : Name) → noted_as new n ≡ (if same_text n (folded p.name) then Some id else noted_as old n)) × (alone ≡ is_alone (noted_as old (folded p.name)) id)
+    ((n : Name) → noted_as new n ≡ (if same_text n (folded p.name) then Some id else noted_as old n))
+    × (alone ≡ is_alone (noted_as old (folded p.name)) id)

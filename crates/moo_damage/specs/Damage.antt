@@ -1,5 +1,6 @@
 -- What can be wrong with rows. Each kind is a test of one row, or what a chain of links leads to.
-use Rattle.std.specs.Prelude.{◌≡◌, pos, nat_lt, nat_le, int_lt, Bool, true, false, not, ◌&&◌, ◌||◌, List, Option, None, Some, is_some, unwrap_or, ◌⊎◌}
+use Rattle.std.specs.Prelude.{◌≡◌, ◌⊎◌, Bool, true, false, not, ◌&&◌, ◌||◌, pos, nat_lt, nat_le, int_lt}
+use Rattle.std.specs.Prelude.{List, Option, None, Some, is_some, unwrap_or}
 use Rattle.std.specs.Option.{option_map}
 use Rattle.std.specs.List.{list_any}
 use Rattle.std.specs.FinMap.{get, entries}
@@ -63,7 +64,8 @@ lacks_definer m p = not (is_object (world_of m) p.definer)
 
 -- two properties have one name, on one object or on an object and its ancestor
 abbrev pub share_name : World → PropRow → PropRow → Bool
-share_name w p q = same_text (folded p.name) (folded q.name) && (is_among q.definer (chain w p.definer) || is_among p.definer (chain w q.definer))
+share_name w p q =
+    same_text (folded p.name) (folded q.name) && (is_among q.definer (chain w p.definer) || is_among p.definer (chain w q.definer))
 
 -- double-name: a property of lesser number has the name already
 abbrev pub is_double : Maps → PropId → PropRow → Bool
@@ -91,7 +93,8 @@ is_strange_verb m key = not (is_object (world_of m) key.0)
 
 -- each link names an object, or nothing, which isn't an object
 pub record LinksHold (link : TreeLink) (m : Maps) : Type 0 where
-  pub links : (x : ObjNo) (row : ObjRow) → get m.objects x ≡ Some row → (link_of link row ≡ nothing) ⊎ (is_some (get m.objects (link_of link row)) ≡ true)
+  pub links : (x : ObjNo) (row : ObjRow) → get m.objects x ≡ Some row →
+      (link_of link row ≡ nothing) ⊎ (is_some (get m.objects (link_of link row)) ≡ true)
   pub nothing : get m.objects nothing ≡ None
 
 -- each object is linked to a number that is less than its own
@@ -115,7 +118,8 @@ pub record PropsRight (m : Maps) : Type 0 where
 
 pub record SlotsRight (m : Maps) : Type 0 where
   pub owed : (key : ObjNo × PropId) (s : SlotRow) → get m.slots key ≡ Some s → is_strange m key ≡ false
-  pub there : (x : ObjNo) (row : ObjRow) → get m.objects x ≡ Some row → (id : PropId) (p : PropRow) → get m.props id ≡ Some p → is_missing m (x, id) ≡ false
+  pub there : (x : ObjNo) (row : ObjRow) → get m.objects x ≡ Some row →
+      (id : PropId) (p : PropRow) → get m.props id ≡ Some p → is_missing m (x, id) ≡ false
   pub set : (key : ObjNo × PropId) (s : SlotRow) → get m.slots key ≡ Some s → is_clear_definer m key s ≡ false
   pub verbs : (key : ObjNo × VerbId) (v : VerbRow) → get m.verbs key ≡ Some v → is_strange_verb m key ≡ false
 

@@ -20,7 +20,8 @@ use Rattle.moo_damage.specs.Damage.{lacks_definer, is_double, is_strange, is_mis
 pub record SlotsHold (m : Maps) : Type 0 where
   pub names : (id : PropId) (p : PropRow) → get m.props id ≡ Some p → is_double m id p ≡ false
   pub owed : (key : ObjNo × PropId) (s : SlotRow) → get m.slots key ≡ Some s → is_strange m key ≡ false
-  pub there : (x : ObjNo) (row : ObjRow) → get m.objects x ≡ Some row → (id : PropId) (p : PropRow) → get m.props id ≡ Some p → is_missing m (x, id) ≡ false
+  pub there : (x : ObjNo) (row : ObjRow) → get m.objects x ≡ Some row →
+      (id : PropId) (p : PropRow) → get m.props id ≡ Some p → is_missing m (x, id) ≡ false
 
 abbrev pub has_slot : Maps → ObjNo → PropId → Bool
 has_slot m x id = is_some (get m.slots (x, id))
@@ -38,8 +39,10 @@ pub record AreLocal (m : Maps) : Type 0 where
   pub numbered : (id : PropId) (p : PropRow) → get m.props id ≡ Some p → 0 < id.0
   pub own : (id : PropId) (p : PropRow) → get m.props id ≡ Some p → has_slot m p.definer id ≡ true
   pub from : (key : ObjNo × PropId) (s : SlotRow) → get m.slots key ≡ Some s → comes_down m key ≡ true
-  pub down : (x : ObjNo) (row : ObjRow) → get m.objects x ≡ Some row → (id : PropId) → 0 < id.0 → has_slot m row.parent id ≡ true → has_slot m x id ≡ true
-  pub apart : (i j : PropId) (p q : PropRow) → get m.props i ≡ Some p → get m.props j ≡ Some q → has_slot m p.definer j ≡ true → folded p.name ≡ folded q.name → i ≡ j
+  pub down : (x : ObjNo) (row : ObjRow) → get m.objects x ≡ Some row →
+      (id : PropId) → 0 < id.0 → has_slot m row.parent id ≡ true → has_slot m x id ≡ true
+  pub apart : (i j : PropId) (p q : PropRow) → get m.props i ≡ Some p → get m.props j ≡ Some q →
+      has_slot m p.definer j ≡ true → folded p.name ≡ folded q.name → i ≡ j
 
 -- if it holds along chains that end, the slots are just those that are owed, and their names are apart
 abbrev pub LocalSlotsHold : Type 0

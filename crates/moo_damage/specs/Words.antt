@@ -2,7 +2,8 @@
 use Rattle.std.specs.Prelude.{ℕ, List, ◌++◌, codes}
 use Rattle.std.specs.Fmt.{signed_decimal}
 use Rattle.moo_damage.specs.declared.kind.Kind.{Kind}
-use Rattle.moo_damage.specs.declared.kind.Kind.TheVariants.{BadHead, BadCell, PastHead, NoParent, ParentLoop, NoPlace, PlaceLoop, NoDefiner, DoubleName, StrangeSlot, MissingSlot, ClearDefiner, StrangeVerb, Mismatch}
+use Rattle.moo_damage.specs.declared.kind.Kind.TheVariants.{BadHead, BadCell, PastHead, NoParent, ParentLoop, NoPlace, PlaceLoop, NoDefiner}
+use Rattle.moo_damage.specs.declared.kind.Kind.TheVariants.{DoubleName, StrangeSlot, MissingSlot, ClearDefiner, StrangeVerb, Mismatch}
 use Rattle.moo_damage.specs.declared.kind.Key.{Key}
 use Rattle.moo_damage.specs.declared.kind.Key.TheVariants.{Head, Object, Prop, Slot, Verb, Petition}
 

@@ -12,6 +12,7 @@ ghost use Rattle.moo_damage.specs.Damage.{is_object_past, is_prop_past, is_verb_
 ghost use Rattle.moo_damage.specs.OwnClear.{has_clear};
 ghost use Rattle.moo_damage.specs.Missing.{IsFirstMissing};
 
+use crate::first::first_bad;
 use crate::trees::TreeLink;
 use moo_rows::{
     Head, ObjRow, PetitionId, PropId, PropRow, Rows, SlotRow, SlotState, VerbId, each_object,
@@ -155,72 +156,48 @@ fn is_strange_verb<R: Rows>(rows: &R, key: (ObjNo, VerbId)) -> bool
 pub(crate) fn first_object_past<R: Rows>(rows: &R) -> Option<ObjNo>
     ensures { IsLeastBad (R.held rows.now).maps.objects (λ k r. is_object_past (R.held rows.now).maps.head k ≡ false) (λ k r. is_object_past (R.held rows.now).maps.head k ≡ true) result }
 {
-    for (key, _row) in each_object(rows) {
-        if is_object_past(rows.head(), key) {
-            return Some(key);
-        }
-    }
-    None
+    first_bad(
+        each_object(rows),
+        |key, _row| is_object_past(rows.head(), key),
+    )
 }
 
 /// The least property whose number was never given, or none.
 pub(crate) fn first_prop_past<R: Rows>(rows: &R) -> Option<PropId>
     ensures { IsLeastBad (R.held rows.now).maps.props (λ k r. is_prop_past (R.held rows.now).maps.head k ≡ false) (λ k r. is_prop_past (R.held rows.now).maps.head k ≡ true) result }
 {
-    for (key, _row) in each_prop(rows) {
-        if is_prop_past(rows.head(), key) {
-            return Some(key);
-        }
-    }
-    None
+    first_bad(each_prop(rows), |key, _row| is_prop_past(rows.head(), key))
 }
 
 /// The least verb whose number was never given, or none.
 pub(crate) fn first_verb_past<R: Rows>(rows: &R) -> Option<(ObjNo, VerbId)>
     ensures { IsLeastBad (R.held rows.now).maps.verbs (λ k r. is_verb_past (R.held rows.now).maps.head k ≡ false) (λ k r. is_verb_past (R.held rows.now).maps.head k ≡ true) result }
 {
-    for (key, _row) in each_verb(rows) {
-        if is_verb_past(rows.head(), key) {
-            return Some(key);
-        }
-    }
-    None
+    first_bad(each_verb(rows), |key, _row| is_verb_past(rows.head(), key))
 }
 
 /// The least petition whose number was never given, or none.
 pub(crate) fn first_petition_past<R: Rows>(rows: &R) -> Option<PetitionId>
     ensures { IsLeastBad (R.held rows.now).maps.petitions (λ k r. is_petition_past (R.held rows.now).maps.head k ≡ false) (λ k r. is_petition_past (R.held rows.now).maps.head k ≡ true) result }
 {
-    for (key, _row) in each_petition(rows) {
-        if is_petition_past(rows.head(), key) {
-            return Some(key);
-        }
-    }
-    None
+    first_bad(
+        each_petition(rows),
+        |key, _row| is_petition_past(rows.head(), key),
+    )
 }
 
 /// The least object whose link names neither an object nor `#-1`, or none.
 pub(crate) fn first_lost<R: Rows>(rows: &R, link: TreeLink) -> Option<ObjNo>
     ensures { IsLeastBad (R.held rows.now).maps.objects (λ k r. is_lost link (R.held rows.now).maps r ≡ false) (λ k r. is_lost link (R.held rows.now).maps r ≡ true) result }
 {
-    for (key, row) in each_object(rows) {
-        if is_lost(rows, link, row) {
-            return Some(key);
-        }
-    }
-    None
+    first_bad(each_object(rows), |_key, row| is_lost(rows, link, row))
 }
 
 /// The least property whose definer isn't an object, or none.
 pub(crate) fn first_undefined<R: Rows>(rows: &R) -> Option<PropId>
     ensures { IsLeastBad (R.held rows.now).maps.props (λ k r. lacks_definer (R.held rows.now).maps r ≡ false) (λ k r. lacks_definer (R.held rows.now).maps r ≡ true) result }
 {
-    for (key, row) in each_prop(rows) {
-        if lacks_definer(rows, row) {
-            return Some(key);
-        }
-    }
-    None
+    first_bad(each_prop(rows), |_key, row| lacks_definer(rows, row))
 }
 
 /// The least property whose name one of lesser number has on its definer, an ancestor or a descendant of it, or none.
@@ -228,12 +205,7 @@ pub(crate) fn first_double<R: Rows>(rows: &R) -> Option<PropId>
     requires { IsTree (world_of (R.held rows.now).maps) }
     ensures { IsLeastBad (R.held rows.now).maps.props (λ k r. is_double (R.held rows.now).maps k r ≡ false) (λ k r. is_double (R.held rows.now).maps k r ≡ true) result }
 {
-    for (key, row) in each_prop(rows) {
-        if is_double(rows, key, row) {
-            return Some(key);
-        }
-    }
-    None
+    first_bad(each_prop(rows), |key, row| is_double(rows, key, row))
 }
 
 /// The least slot of a property that its object is not owed, or none.
@@ -241,12 +213,7 @@ pub(crate) fn first_strange<R: Rows>(rows: &R) -> Option<(ObjNo, PropId)>
     requires { IsTree (world_of (R.held rows.now).maps) }
     ensures { IsLeastBad (R.held rows.now).maps.slots (λ k r. is_strange (R.held rows.now).maps k ≡ false) (λ k r. is_strange (R.held rows.now).maps k ≡ true) result }
 {
-    for (key, _row) in each_slot(rows) {
-        if is_strange(rows, key) {
-            return Some(key);
-        }
-    }
-    None
+    first_bad(each_slot(rows), |key, _row| is_strange(rows, key))
 }
 
 /// Whether an object has a clear slot of a property.
@@ -275,12 +242,7 @@ fn any_clear_own<R: Rows>(rows: &R) -> bool
 fn search_clear<R: Rows>(rows: &R) -> Option<(ObjNo, PropId)>
     ensures { IsLeastBad (R.held rows.now).maps.slots (λ k r. is_clear_definer (R.held rows.now).maps k r ≡ false) (λ k r. is_clear_definer (R.held rows.now).maps k r ≡ true) result }
 {
-    for (key, row) in each_slot(rows) {
-        if is_clear_definer(rows, key, row) {
-            return Some(key);
-        }
-    }
-    None
+    first_bad(each_slot(rows), |key, row| is_clear_definer(rows, key, row))
 }
 
 /// The least slot on its definer that is clear, or none: slots are looked at only if a property has such a one.
@@ -297,12 +259,7 @@ pub(crate) fn first_clear<R: Rows>(rows: &R) -> Option<(ObjNo, PropId)>
 pub(crate) fn first_strange_verb<R: Rows>(rows: &R) -> Option<(ObjNo, VerbId)>
     ensures { IsLeastBad (R.held rows.now).maps.verbs (λ k r. is_strange_verb (R.held rows.now).maps k ≡ false) (λ k r. is_strange_verb (R.held rows.now).maps k ≡ true) result }
 {
-    for (key, _row) in each_verb(rows) {
-        if is_strange_verb(rows, key) {
-            return Some(key);
-        }
-    }
-    None
+    first_bad(each_verb(rows), |key, _row| is_strange_verb(rows, key))
 }
 
 /// The least property that x is owed and has no slot of, or none.
@@ -310,12 +267,7 @@ pub(crate) fn first_missing_of<R: Rows>(rows: &R, x: ObjNo) -> Option<PropId>
     requires { IsTree (world_of (R.held rows.now).maps) }
     ensures { IsLeastBad (R.held rows.now).maps.props (λ k r. is_missing (R.held rows.now).maps (x, k) ≡ false) (λ k r. is_missing (R.held rows.now).maps (x, k) ≡ true) result }
 {
-    for (key, _row) in each_prop(rows) {
-        if is_missing(rows, (x, key)) {
-            return Some(key);
-        }
-    }
-    None
+    first_bad(each_prop(rows), |key, _row| is_missing(rows, (x, key)))
 }
 
 /// The least slot that is owed and isn't there, or none.

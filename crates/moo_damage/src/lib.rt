@@ -4,6 +4,7 @@
 mod checks;
 mod damage;
 mod differences;
+mod first;
 mod kind;
 mod laws;
 mod local;

@@ -1,19 +1,18 @@
 //! The desk: connections side by side, and the next one whose request is whole.
 
-ghost use Rattle.std.specs.Prelude.{◌≡◌, ⊤, IfSome, true};
+ghost use Rattle.std.specs.Prelude.{◌≡◌, ⊤, IfOk, IfSome, true, length};
 ghost use Rattle.moo_desk.specs.Ripe.{IsRipe};
 
-use crate::gate::{Gate, Taken};
+use crate::gate::{Gate, NEWS, Taken};
 use crate::gathered::Gathered;
 use crate::leaving::{Leaving, Stage};
 use crate::losses::Losses;
 use crate::outgoing::Outgoing;
+use crate::rounds::{BUDGET, gather_all, held, mark_all, mark_due, step_all, watch_all};
 use crate::slot::Slot;
 use moo_arrivals::{Arrivals, Cause, Closing, Connection, Loss, Route};
 use moo_request::Routes;
 use std::alloc::{AllocError, Global};
-use std::io::{Read, Write};
-use std::net::OpenStream;
 use std::time::{Clock, Duration};
 
 /// How many connections may be open at once.
@@ -25,8 +24,10 @@ const GRACE: u64 = 200;
 /// How long the desk waits at once, in milliseconds, if no connection is to be ended before.
 const PAUSE: u64 = 1000;
 
-/// How many bytes are gathered at once, and how many of answers are held, beside the largest of each.
-const BUDGET: usize = 32 * 1024 * 1024;
+/// After how many connections that were handed out, or how many milliseconds, it is asked what may have changed, though some are whole.
+const TURNS: u32 = 8;
+
+const PERIOD: u64 = 1;
 
 /// What came of taking a connection.
 #[derive(Clone, Copy, PartialEq, Eq, Drop)]
@@ -47,57 +48,24 @@ pub struct Desk<'a, G: Gate, C> {
     /// Those whose requests were judged.
     leaving: Vec<Leaving<G::Reader, G::Writer>>,
     losses: Losses,
-}
-
-/// Steps each of them, but only the oldest unfinished one once too much was gathered; whether anything changed.
-fn gather_all<R: Read, W>(slots: &mut [Slot<R, W>], routes: &Routes, now: Duration) -> bool {
-    let is_full = gathered(slots) >= BUDGET;
-    let mut changed = false;
-    let mut is_first = true;
-    for slot in slots {
-        if !slot.rests && (is_first || !is_full) {
-            is_first = false;
-            changed |= slot.step(routes, now);
-        }
-    }
-    changed
-}
-
-/// How many bytes were gathered.
-fn gathered<R, W>(slots: &[Slot<R, W>]) -> usize {
-    let mut sum: usize = 0;
-    for slot in slots {
-        sum = sum.saturating_add(slot.reader.bytes.len());
-    }
-    sum
-}
-
-/// Steps each of them; whether anything went or came.
-fn step_all<R: Read + OpenStream, W: Write + OpenStream>(
-    leaving: &mut [Leaving<R, W>],
-    now: Duration,
-) -> bool {
-    let mut changed = false;
-    for connection in leaving {
-        changed |= connection.step(now);
-    }
-    changed
-}
-
-/// How many bytes of answers are held, beside the largest.
-fn held<R: Read + OpenStream, W: Write + OpenStream>(leaving: &[Leaving<R, W>]) -> usize {
-    let mut sum: usize = 0;
-    let mut largest = 0;
-    for connection in leaving {
-        sum = sum.saturating_add(connection.held());
-        largest = connection.held().max(largest);
-    }
-    sum.saturating_sub(largest)
+    /// The mark that was given last.
+    mark: usize,
+    /// A connection may be at the gate.
+    has_news: bool,
+    /// What the last wait told.
+    told: Vec<usize>,
+    /// When it was asked last what may have changed, and how many were handed out since.
+    asked: Duration,
+    turns: u32,
+    /// When each connection was looked at last.
+    swept: Duration,
 }
 
 impl<'a, G: Gate + Drop, C: Clock> Desk<'a, G, C> {
     /// A desk with no connections, and room for all that it may have.
-    pub fn new(alloc: Global, clock: &'a C, gate: G) -> Result<Desk<'a, G, C>, AllocError> {
+    pub fn new(alloc: Global, clock: &'a C, gate: G) -> Result<Desk<'a, G, C>, AllocError>
+        ensures { IfOk result (λ desk. (length desk.slots.items ≡ 0) × (length desk.leaving.items ≡ 0)) }
+    {
         Ok(Desk {
             clock,
             gate,
@@ -105,6 +73,12 @@ impl<'a, G: Gate + Drop, C: Clock> Desk<'a, G, C> {
             slots: Vec::with_capacity(alloc, MOST + 1)?,
             leaving: Vec::with_capacity(alloc, MOST + 1)?,
             losses: Losses::new(alloc, 2 * MOST)?,
+            mark: NEWS,
+            has_news: true,
+            told: Vec::with_capacity(alloc, MOST)?,
+            asked: Duration::from_secs(0),
+            turns: 0,
+            swept: Duration::from_secs(0),
         })
     }
 
@@ -151,13 +125,24 @@ impl<'a, G: Gate + Drop, C: Clock> Desk<'a, G, C> {
         }
     }
 
+    /// A mark that no other connection has.
+    fn next_mark(&mut self) -> usize {
+        self.mark = self.mark.wrapping_add(1).max(NEWS + 1);
+        self.mark
+    }
+
     /// Takes the connection that came, if one did.
     fn take_one(&mut self, now: Duration) -> Took {
         match self.gate.take() {
-            Taken::Nobody => Took::Nobody,
+            Taken::Nobody => {
+                self.has_news = false;
+                Took::Nobody
+            }
+            Taken::NoRoom => Took::Nobody,
             Taken::Failed => Took::Lost,
             Taken::Came(reader, writer, is_limited) => {
-                let slot = Slot::new(self.alloc, reader, writer, is_limited, now);
+                let mark = self.next_mark();
+                let slot = Slot::new(self.alloc, reader, writer, is_limited, mark, now);
                 match self.slots.push(slot) {
                     Ok(()) => Took::One,
                     Err(_) => Took::Lost,
@@ -169,7 +154,7 @@ impl<'a, G: Gate + Drop, C: Clock> Desk<'a, G, C> {
     /// Takes the next connection, if one came and so many are still to come. If there is no room, it is taken in place of another.
     fn take_next(&mut self, left: usize, now: Duration) -> Took {
         let is_full = self.is_full();
-        if self.slots.len() >= left || (is_full && !self.has_spare(now)) {
+        if !self.has_news || self.slots.len() >= left || (is_full && !self.has_spare(now)) {
             return Took::Nobody;
         }
         let took = self.take_one(now);
@@ -180,8 +165,7 @@ impl<'a, G: Gate + Drop, C: Clock> Desk<'a, G, C> {
     }
 
     /// Does what can be done for those that were judged; whether anything changed.
-    fn send_all(&mut self) -> bool {
-        let now = self.now();
+    fn send_all(&mut self, now: Duration) -> bool {
         let mut changed = step_all(&mut self.leaving, now);
         for _ in 0..=MOST {
             let Some(place) = self.leaving.iter().position(|it| it.is_over()) else {
@@ -228,16 +212,58 @@ impl<'a, G: Gate + Drop, C: Clock> Desk<'a, G, C> {
         if left.is_zero() { None } else { Some(left) }
     }
 
-    /// Waits until something may have changed, but not past a time at which something may be due.
-    fn pause(&mut self, now: Duration) {
-        let most = if self.leaving.is_empty() {
+    /// How long the desk waits at most, and how long it doesn't look at a connection of which nothing was told.
+    fn period(&self) -> Duration {
+        if self.leaving.is_empty() {
             Duration::from_millis(PAUSE)
         } else {
             Duration::from_millis(GRACE)
-        };
+        }
+    }
+
+    /// Waits until something may have changed, but not past a time at which something may be due.
+    fn pause(&mut self, now: Duration) {
+        let most = self.period();
         match self.spared(now) {
-            Some(left) if self.is_full() => self.gate.wait(left.min(most)),
-            _ => self.gate.wait(most),
+            Some(left) if self.is_full() => self.wait(left.min(most)),
+            _ => self.wait(most),
+        }
+    }
+
+    /// Waits for so long at most, and has those be looked at of which something is told.
+    fn wait(&mut self, most: Duration) {
+        watch_all(&mut self.gate, &mut self.slots);
+        self.gate.wait(most, &mut self.told);
+        for mark in &self.told {
+            self.has_news |= *mark == NEWS;
+            mark_due(&mut self.slots, &mut self.leaving, *mark);
+        }
+        self.asked = self.now();
+        self.turns = 0;
+    }
+
+    /// Asks what may have changed, if that is due, so that nobody waits for long though some are always whole.
+    fn listen(&mut self, now: Duration) {
+        let is_due = now.saturating_sub(self.asked) > Duration::from_millis(PERIOD);
+        if is_due || self.turns >= TURNS {
+            self.wait(Duration::from_secs(0));
+        }
+        if now.saturating_sub(self.swept) >= self.period() {
+            self.swept = now;
+            self.has_news = true;
+            mark_all(&mut self.slots, &mut self.leaving);
+        }
+    }
+
+    /// If too much of answers is held and a request is whole, gives up an answer of which its peer took nothing for a while.
+    fn relieve(&mut self, now: Duration) {
+        if held(&self.leaving) < BUDGET || !self.slots.iter().any(|slot| slot.rests) {
+            return;
+        }
+        if let Some(place) = self.leaving.iter().position(|it| it.is_stuck(now)) {
+            if place < self.leaving.len() {
+                self.leaving[place].stage = Stage::Lost(Cause::Crowded);
+            }
         }
     }
 }
@@ -259,13 +285,16 @@ impl<'a, G: Gate + Drop, C: Clock> Arrivals for Desk<'a, G, C> {
     {
         for _ in 0..u64::MAX {
             let now = self.now();
+            self.listen(now);
             let took = self.take_next(left as usize, now);
             if took == Took::Lost {
                 return None;
             }
             let has_gathered = gather_all(&mut self.slots, routes, now);
-            let has_sent = self.send_all();
+            self.relieve(now);
+            let has_sent = self.send_all(now);
             if let Some(slot) = self.next_whole() {
+                self.turns = self.turns.saturating_add(1);
                 return Some(Connection {
                     reader: slot.reader,
                     writer: slot.writer,
@@ -297,13 +326,17 @@ impl<'a, G: Gate + Drop, C: Clock> Arrivals for Desk<'a, G, C> {
             stage: Stage::Sending,
             since: now,
             drained: 0,
+            moved: now,
+            mark: NEWS,
+            is_due: true,
         };
         let _began = leaving.step(now) && leaving.step(now);
         if leaving.is_over() {
             self.note(leaving);
             return;
         }
-        self.gate.watch(&leaving.writer.writer);
+        leaving.mark = self.next_mark();
+        let _watched = self.gate.watch_writer(&leaving.writer.writer, leaving.mark);
         if self.leaving.push(leaving).is_err() {
             self.losses.add(Loss {
                 route,
@@ -326,12 +359,13 @@ impl<'a, G: Gate + Drop, C: Clock> Desk<'a, G, C> {
     /// Waits until each answer is sent or lost.
     fn send_out(&mut self) {
         for _ in 0..u64::MAX {
-            let has_sent = self.send_all();
+            let now = self.now();
+            self.listen(now);
+            let has_sent = self.send_all(now);
             if self.leaving.is_empty() {
                 return;
             }
             if !has_sent {
-                let now = self.now();
                 self.pause(now);
             }
         }

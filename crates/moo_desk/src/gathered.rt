@@ -8,7 +8,7 @@ use std::alloc::Global;
 use std::io::{Error, ErrorKind, Read, Result};
 
 /// How many bytes are taken at once.
-const PIECE: usize = 16_384;
+const PIECE: usize = 4096;
 
 /// What came of filling.
 #[derive(Clone, Copy, Drop)]

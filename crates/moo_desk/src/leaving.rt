@@ -1,7 +1,8 @@
 //! A connection after its request was judged.
 
-ghost use Rattle.std.specs.Prelude.{◌≡◌, ◌≤◌, ◌+◌, ℕ, List, length};
-ghost use Rattle.std.specs.Io.KnownBytes.{Consumes};
+ghost use Rattle.std.specs.Prelude.{◌≡◌, ◌≤◌, ◌+◌, ◌-◌, ◌⊎◌, ℕ, List, length, drop, true, false, IfSome};
+ghost use Rattle.std.specs.Io.KnownBytes.{Consumes, Keeps, append_known};
+ghost use Rattle.moo_desk.specs.declared.leaving.Stage.TheVariants.{Sending as StillSends, Lingering, Lost};
 
 use crate::gathered::Gathered;
 use crate::outgoing::{Outgoing, Sending};
@@ -14,6 +15,9 @@ use std::time::Duration;
 const PATIENCE: u64 = 60;
 
 const MEGABYTE: usize = 1_000_000;
+
+/// After how many seconds in which its peer takes nothing an answer may be given up if too much of answers is held.
+const STALL: u64 = 1;
 
 /// For how many seconds a peer is listened to after its answer, and how many bytes are thrown away.
 const LINGER: u64 = 1;
@@ -46,6 +50,12 @@ pub struct Leaving<R, W> {
     /// When it came to this stage.
     pub since: Duration,
     pub drained: usize,
+    /// When its peer took or sent something last.
+    pub moved: Duration,
+    /// By which a wait tells that something may have changed.
+    pub mark: usize,
+    /// Something may have changed since it was looked at.
+    pub is_due: bool,
 }
 
 impl<R, W> Leaving<R, W> {
@@ -128,25 +138,44 @@ impl<R: Read + OpenStream, W: Write + OpenStream> Leaving<R, W> {
         false
     }
 
-    /// Does what can be done without waiting; whether anything went or came.
+    /// Does what can be done without waiting; whether anything went or came. It isn't due if nothing did.
     pub fn step(&mut self, now: Duration) -> bool {
-        match self.stage {
+        let went = match self.stage {
             Stage::Sending => self.send(now),
             Stage::Lingering => self.drain(now),
             Stage::Done | Stage::Lost(_) => false,
+        };
+        self.is_due = went;
+        if went {
+            self.moved = now;
         }
+        went
     }
 
-    pub fn is_over(&self) -> bool {
+    /// Whether its answer is held, and its peer took nothing of it for a while.
+    pub fn is_stuck(&self, now: Duration) -> bool
+        ensures { result ≡ true → self.now.stage ≡ StillSends }
+    {
+        matches!(self.stage, Stage::Sending)
+            && now.saturating_sub(self.moved) > Duration::from_secs(STALL)
+    }
+
+    pub fn is_over(&self) -> bool
+        ensures { result ≡ false → (self.now.stage ≡ StillSends) ⊎ (self.now.stage ≡ Lingering) }
+    {
         matches!(self.stage, Stage::Done | Stage::Lost(_))
     }
 
-    pub fn is_lingering(&self) -> bool {
+    pub fn is_lingering(&self) -> bool
+        ensures { result ≡ true → self.now.stage ≡ Lingering }
+    {
         matches!(self.stage, Stage::Lingering)
     }
 
     /// What is told of it, if its answer was lost.
-    pub fn loss(&self) -> Option<Loss> {
+    pub fn loss(&self) -> Option<Loss>
+        ensures { IfSome result (λ loss. (loss.route ≡ self.now.route) × (self.now.stage ≡ Lost loss.cause)) }
+    {
         match self.stage {
             Stage::Lost(cause) => Some(Loss {
                 route: self.route,
@@ -157,7 +186,9 @@ impl<R: Read + OpenStream, W: Write + OpenStream> Leaving<R, W> {
     }
 
     /// How many bytes of its answer are held.
-    pub fn held(&self) -> usize {
+    pub fn held(&self) -> usize
+        ensures { self.now.stage ≡ StillSends → result ≡ length self.now.writer.text.items - self.now.writer.sent }
+    {
         match self.stage {
             Stage::Sending => self.writer.unsent(),
             _ => 0,

@@ -4,15 +4,18 @@
 mod desk;
 mod gate;
 mod gathered;
+mod half;
 mod leaving;
 mod losses;
 mod outgoing;
+mod rounds;
 mod slot;
 mod sockets;
 
 pub use desk::Desk;
-pub use gate::{Gate, Taken};
+pub use gate::{Gate, NEWS, Taken};
 pub use gathered::{Coming, Filled, Gathered};
+pub use half::Half;
 pub use leaving::{Leaving, Stage};
 pub use losses::Losses;
 pub use outgoing::{Outgoing, Sending};

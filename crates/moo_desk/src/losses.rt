@@ -1,5 +1,8 @@
 //! The connections whose answers were lost.
 
+ghost use Rattle.std.specs.Prelude.{◌≡◌, ◌+◌, ◌-◌, ◌^◌, ◌⊎◌, ◌∷◌, ◌++◌, [], min, length};
+ghost use Rattle.std.specs.Prelude.{IfOk, MatchOption};
+
 use moo_arrivals::{Cause, Loss, Route};
 use std::alloc::{AllocError, Global};
 
@@ -13,7 +16,9 @@ pub struct Losses {
 
 impl Losses {
     /// None, with room for so many.
-    pub fn new(alloc: Global, room: usize) -> Result<Losses, AllocError> {
+    pub fn new(alloc: Global, room: usize) -> Result<Losses, AllocError>
+        ensures { IfOk result (λ losses. (length losses.all.items ≡ 0) × (losses.more ≡ 0)) }
+    {
         Ok(Losses {
             all: Vec::with_capacity(alloc, room)?,
             more: 0,
@@ -21,14 +26,20 @@ impl Losses {
     }
 
     /// One more was lost.
-    pub fn add(&mut self, loss: Loss) {
+    pub fn add(&mut self, loss: Loss)
+        ensures { ((self.new.all.items ≡ self.old.all.items ++ loss ∷ []) × (self.new.more ≡ self.old.more))
+            ⊎ ((self.new.all.items ≡ self.old.all.items) × (self.new.more ≡ min (self.old.more + 1) (2 ^ 32 - 1))) }
+    {
         if self.all.push(loss).is_err() {
             self.more = self.more.saturating_add(1);
         }
     }
 
     /// Takes one of them, to be told of.
-    pub fn take(&mut self) -> Option<Loss> {
+    pub fn take(&mut self) -> Option<Loss>
+        ensures { MatchOption result ((length self.old.all.items ≡ 0) × (self.old.more ≡ 0))
+            (λ _. length self.new.all.items + self.new.more + 1 ≡ length self.old.all.items + self.old.more) }
+    {
         if let Some(loss) = self.all.pop() {
             return Some(loss);
         }

@@ -1,9 +1,12 @@
 //! A connection while its request is gathered.
 
-ghost use Rattle.std.specs.Prelude.{◌≡◌, true};
+ghost use Rattle.std.specs.Prelude.{◌≡◌, true, false, length, drop};
+ghost use Rattle.std.specs.Io.KnownBytes.{Keeps, prepend_known};
+ghost use Rattle.moo_desk.specs.declared.gathered.Coming.TheVariants.{Unread};
 ghost use Rattle.moo_request.specs.Whole.{IsWhole};
 ghost use Rattle.moo_desk.specs.Ripe.{IsKnownFrom, IsRipe};
 
+use crate::gate::Gate;
 use crate::gathered::{Coming, Filled, Gathered};
 use crate::outgoing::Outgoing;
 use moo_arrivals::Cause;
@@ -34,6 +37,12 @@ pub struct Slot<R, W> {
     pub total: Option<usize>,
     /// It is to be handed out.
     pub rests: bool,
+    /// By which a wait tells that bytes may have come.
+    pub mark: usize,
+    /// Bytes may have come since it was looked at.
+    pub is_due: bool,
+    /// A wait ends when bytes come.
+    pub is_watched: bool,
     ghost known: { ∥ IsKnownFrom reader.bytes.items total ∥₁ },
     ghost ripe: { ∥ (rests ≡ true → IsRipe is_limited reader.coming reader.bytes.items) ∥₁ },
 }
@@ -54,7 +63,17 @@ fn total_of(routes: &Routes, bytes: &[u8], known: Option<usize>) -> Option<usize
 }
 
 impl<R, W> Slot<R, W> {
-    pub fn new(alloc: Global, reader: R, writer: W, is_limited: bool, now: Duration) -> Slot<R, W> {
+    pub fn new(
+        alloc: Global,
+        reader: R,
+        writer: W,
+        is_limited: bool,
+        mark: usize,
+        now: Duration,
+    ) -> Slot<R, W>
+        ensures reader { (result.reader.reader ≡ reader) × (length result.reader.bytes.items ≡ 0) }
+        ensures writer { (result.writer.writer ≡ writer) × (result.writer.sent ≡ 0) × (length result.writer.text.items ≡ 0) }
+    {
         Slot {
             reader: Gathered::new(alloc, reader),
             writer: Outgoing::new(alloc, writer),
@@ -64,24 +83,50 @@ impl<R, W> Slot<R, W> {
             cause: Cause::BrokenOff,
             total: None,
             rests: !is_limited,
+            mark,
+            is_due: true,
+            is_watched: false,
         }
     }
 
+    /// It is looked at, since bytes may have come.
+    pub fn wake(&mut self)
+        ensures { (self.new.reader ≡ self.old.reader) × (self.new.writer ≡ self.old.writer) × (self.new.is_due ≡ true) }
+    {
+        self.is_due = true;
+    }
+
+    /// From now on a wait ends when bytes come, if it can be watched.
+    pub fn watch<G: Gate<Reader = R, Writer = W>>(&mut self, gate: &mut G)
+        ensures { (self.new.reader ≡ self.old.reader) × (self.new.writer ≡ self.old.writer) }
+    {
+        self.is_watched = gate.watch(&self.reader.reader, self.mark);
+    }
+
     /// Nothing more is waited for, for this cause. What came of the request isn't judged, unless it is whole.
-    pub fn give_up(&mut self, cause: Cause) {
+    pub fn give_up(&mut self, cause: Cause)
+        ensures stays { (self.new.reader.bytes ≡ self.old.reader.bytes) × (self.new.reader.at ≡ self.old.reader.at)
+            × (self.new.reader.reader ≡ self.old.reader.reader) × (self.new.writer ≡ self.old.writer) }
+        ensures ends { (self.new.reader.coming ≡ Unread) × (self.new.rests ≡ true) × (self.new.cause ≡ cause) }
+    {
         self.reader.coming = Coming::Unread;
         self.cause = cause;
         self.rests = true;
     }
 
     /// Its peer has ended. What came is judged.
-    fn end(&mut self) {
+    fn end(&mut self)
+        ensures stays { (self.new.reader.bytes ≡ self.old.reader.bytes) × (self.new.reader.at ≡ self.old.reader.at)
+            × (self.new.reader.reader ≡ self.old.reader.reader) × (self.new.writer ≡ self.old.writer) }
+    {
         self.reader.coming = Coming::Nothing;
         self.rests = true;
     }
 
     /// Whether its request is unfinished, and it came so long ago.
-    pub fn is_older(&self, now: Duration, age: Duration) -> bool {
+    pub fn is_older(&self, now: Duration, age: Duration) -> bool
+        ensures { result ≡ true → self.now.rests ≡ false }
+    {
         !self.rests && now.saturating_sub(self.since) > age
     }
 
@@ -116,8 +161,12 @@ impl<R, W> Slot<R, W> {
 }
 
 impl<R: Read, W> Slot<R, W> {
-    /// Takes what is there of its request, without waiting; whether anything changed.
-    pub fn step(&mut self, routes: &Routes, now: Duration) -> bool {
+    /// Takes what is there of its request, without waiting; whether anything changed. Whoever reads sees no difference.
+    pub fn step(&mut self, routes: &Routes, now: Duration) -> bool
+        ensures invisible { Keeps (prepend_known (drop self.old.reader.at self.old.reader.bytes.items) (R.remaining self.old.reader.reader))
+            (prepend_known (drop self.new.reader.at self.new.reader.bytes.items) (R.remaining self.new.reader.reader)) }
+        ensures writer { self.new.writer ≡ self.old.writer }
+    {
         if self.rests {
             return false;
         }
@@ -142,6 +191,7 @@ impl<R: Read, W> Slot<R, W> {
                 true
             }
             Filled::Waits => {
+                self.is_due = false;
                 if let Some(cause) = self.lateness(now) {
                     self.give_up(cause);
                 }

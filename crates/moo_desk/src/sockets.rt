@@ -4,15 +4,17 @@ ghost use Rattle.std.specs.Prelude.{⊤, IfSome};
 ghost use Rattle.moo_desk.specs.Ripe.{IsRipe};
 
 use crate::desk::Desk;
-use crate::gate::{Gate, Taken};
+use crate::gate::{Gate, NEWS, Taken};
 use crate::gathered::Gathered;
+use crate::half::Half;
 use crate::outgoing::Outgoing;
 use mio::unix::SourceFd;
 use mio::{Events, Interest, Poll, Token};
 use moo_arrivals::{Arrivals, Closing, Connection, Loss, Route};
 use moo_request::Routes;
+use std::alloc::Global;
 use std::io::{Error, ErrorKind, Result};
-use std::net::{Ipv4Addr, TcpListener, TcpStream};
+use std::net::{Ipv4Addr, TcpListener};
 use std::os::fd::AsRawFd;
 use std::time::Duration;
 
@@ -22,25 +24,42 @@ const NO_FILES: [i32; 2] = [24, 23];
 /// The connections of a port of 127.0.0.1. Nothing is known of what they ask.
 #[derive(Drop)]
 pub struct SocketGate {
+    alloc: Global,
     poll: Poll,
     events: Events,
     listener: TcpListener,
 }
 
-/// Has a change of this source end a wait. Which source changed isn't asked: each is looked at.
-fn register<S: AsRawFd>(poll: &Poll, source: &S, interest: Interest) -> Result<()> {
+/// Has a change of this source end a wait, which then tells this mark.
+fn register<S: AsRawFd>(poll: &Poll, source: &S, mark: usize, interest: Interest) -> Result<()> {
     let fd = source.as_raw_fd();
     poll.registry()
-        .register(&mut SourceFd(&fd), Token(0), interest)
+        .register(&mut SourceFd(&fd), Token(mark), interest)
 }
 
-/// Whether no connection was taken, so that none is lost.
-fn is_nobody(error: &Error) -> bool {
-    let is_no_file = match error.raw_os_error() {
+/// The same of a source that may be registered already.
+fn register_anew<S: AsRawFd>(
+    poll: &Poll,
+    source: &S,
+    mark: usize,
+    interest: Interest,
+) -> Result<()> {
+    let fd = source.as_raw_fd();
+    let changed = poll
+        .registry()
+        .reregister(&mut SourceFd(&fd), Token(mark), interest);
+    if changed.is_ok() {
+        return changed;
+    }
+    register(poll, source, mark, interest)
+}
+
+/// Whether the system has no room for another open file.
+fn is_no_file(error: &Error) -> bool {
+    match error.raw_os_error() {
         Some(number) => NO_FILES.contains(&number),
         None => false,
-    };
-    is_no_file || error.kind() == ErrorKind::WouldBlock
+    }
 }
 
 impl SocketGate {
@@ -50,8 +69,9 @@ impl SocketGate {
         let events = Events::with_capacity(rt.alloc(), 64)?;
         let listener = TcpListener::bind(rt, (Ipv4Addr::LOCALHOST, port))?;
         listener.set_nonblocking(true)?;
-        register(&poll, &listener, Interest::READABLE)?;
+        register(&poll, &listener, NEWS, Interest::READABLE)?;
         Ok(SocketGate {
+            alloc: rt.alloc(),
             poll,
             events,
             listener,
@@ -60,31 +80,39 @@ impl SocketGate {
 }
 
 impl Gate for SocketGate {
-    type Reader = TcpStream;
+    type Reader = Half;
 
-    type Writer = TcpStream;
+    type Writer = Half;
 
-    fn take(&mut self) -> Taken<TcpStream, TcpStream> {
-        let reader = match self.listener.accept() {
-            Ok((reader, _)) => reader,
-            Err(error) if is_nobody(&error) => return Taken::Nobody,
+    fn take(&mut self) -> Taken<Half, Half> {
+        let socket = match self.listener.accept() {
+            Ok((socket, _)) => socket,
+            Err(error) if error.kind() == ErrorKind::WouldBlock => return Taken::Nobody,
+            Err(error) if is_no_file(&error) => return Taken::NoRoom,
             Err(_) => return Taken::Failed,
         };
-        let Ok(writer) = reader.try_clone() else {
-            return Taken::Failed;
-        };
-        let is_limited = reader.set_nonblocking(true).is_ok()
-            && register(&self.poll, &reader, Interest::READABLE).is_ok();
-        Taken::Came(reader, writer, is_limited)
+        let is_limited = socket.set_nonblocking(true).is_ok();
+        match Half::both(self.alloc, socket) {
+            Some((reader, writer)) => Taken::Came(reader, writer, is_limited),
+            None => Taken::Failed,
+        }
     }
 
-    // If it can't be watched, it is tried again after each wait, and a wait is short while answers are sent.
-    fn watch(&mut self, writer: &TcpStream) {
-        let _watched = register(&self.poll, writer, Interest::WRITABLE);
+    fn watch(&mut self, reader: &Half, mark: usize) -> bool {
+        register(&self.poll, reader, mark, Interest::READABLE).is_ok()
     }
 
-    fn wait(&mut self, most: Duration) {
+    fn watch_writer(&mut self, writer: &Half, mark: usize) -> bool {
+        let both = Interest::READABLE | Interest::WRITABLE;
+        register_anew(&self.poll, writer, mark, both).is_ok()
+    }
+
+    fn wait(&mut self, most: Duration, told: &mut Vec<usize>) {
+        told.clear();
         let _waited = self.poll.poll(&mut self.events, Some(most));
+        for event in self.events.iter() {
+            let _kept = told.push(event.token().0);
+        }
     }
 }
 
@@ -106,15 +134,15 @@ impl<'a> SocketDesk<'a> {
 impl<'a> Arrivals for SocketDesk<'a> {
     ghost hands_out = { λ _ handed _. IfSome handed (λ it. ∥ IsRipe it.is_limited it.reader.coming it.reader.bytes.items ∥₁) };
 
-    type Reader = Gathered<TcpStream>;
+    type Reader = Gathered<Half>;
 
-    type Writer = Outgoing<TcpStream>;
+    type Writer = Outgoing<Half>;
 
     fn accept(
         &mut self,
         routes: &Routes,
         left: u32,
-    ) -> Option<Connection<Gathered<TcpStream>, Outgoing<TcpStream>>>
+    ) -> Option<Connection<Gathered<Half>, Outgoing<Half>>>
         ensures ripe { IfSome result (λ it. ∥ IsRipe it.is_limited it.reader.coming it.reader.bytes.items ∥₁) }
     {
         self.desk.accept(routes, left)
@@ -122,7 +150,7 @@ impl<'a> Arrivals for SocketDesk<'a> {
 
     fn close(
         &mut self,
-        connection: Connection<Gathered<TcpStream>, Outgoing<TcpStream>>,
+        connection: Connection<Gathered<Half>, Outgoing<Half>>,
         closing: Closing,
         route: Route,
     )

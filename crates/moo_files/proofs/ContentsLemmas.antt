@@ -21,7 +21,7 @@ clean_either old new Commits (inr it) clean = was_clean (file_state old) (file_s
 pub has_held : (image : Image) (store : Database) (trees : Trees) → FindsIn image store → HoldsTrees image trees → store.committed.trees ≡ trees
 has_held image store trees found holds = ∥∥₁_elim holds (Trees-set _ _) (found.holds trees)
 
-shows_trees : (image : Image) (store : Database) (trees : Trees) → Opens store → FindsIn image store → HoldsTrees image trees → store.now.trees ≡ trees
+pub shows_trees : (image : Image) (store : Database) (trees : Trees) → Opens store → FindsIn image store → HoldsTrees image trees → store.now.trees ≡ trees
 shows_trees image store trees opens found holds = ap (λ db. db.trees) opens.clean ∙ has_held image store trees found holds
 
 -- what a refused call leaves is what it could leave before, or what it may commit

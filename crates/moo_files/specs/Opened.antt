@@ -49,7 +49,7 @@ module _ {D : Type 0} {g : Ghosts D} where
     pub ours : ¬ HasOtherTables trees
     pub state : (s : State) → LeavesState trees s → StandsFor over_files true world s × Left (store_of over_files world) s
     pub tables : (tables : Tables) → Leaves trees tables → ShowsRows tables world.rows.maps
-        × RestsCurrent (store_of over_files world) tables world.rows.maps
+        × RestsCurrent (store_of over_files world) trees tables world.rows.maps
     pub kept : (found : Trees) → (store_of over_files world).may_leave found → IsKept trees found
 
   -- a World opens over a database of ours, and over nothing else
@@ -97,8 +97,8 @@ module _ {T D : Type 0} {g : Ghosts D} where
 
   -- and these tables rest in its connection, cell by cell, or those that they were migrated to
   abbrev pub OpensCurrent : Image → Attempt T D g → Type 0
-  OpensCurrent image r = (tables : Tables) → HoldsTables image tables →
-      IfOk r (λ world. HasCleanDisk (store_of over_files world) → RestsCurrent (store_of over_files world) tables world.rows.maps)
+  OpensCurrent image r = (tables : Tables) (held : HoldsTables image tables) →
+      IfOk r (λ world. HasCleanDisk (store_of over_files world) → RestsCurrent (store_of over_files world) held.trees tables world.rows.maps)
 
   -- whatever the files hold, they are good, and what is said of rows alone is said of them
   abbrev pub OpensGood : Attempt T D g → Type 0

@@ -1,5 +1,5 @@
 -- From what the judge sees through a desk to what the peer sees.
-use Rattle.moo_http.{proofs.Words.{◌≡◌, inl, inr, ℕ, zero, suc, List, [], ◌∷◌, ◌++◌, length, take, Option, Some, None, refl, sym, ap, subst, ◌∙◌, append_assoc, append-nil, Result, Ok, Err, Stand, Keeps, Appends, Consumes, Takes, Yields, Exchanged, ServeFault, Read, Write, OutOfMemory}, specs.Through.{Passes, FailedThrough}}
+use Rattle.moo_http.{proofs.Words.{◌≡◌, inl, inr, ℕ, zero, suc, List, [], ◌∷◌, ◌++◌, length, take, Option, Some, None, refl, sym, ap, subst, ◌∙◌, append_assoc, append-nil, Result, Ok, Err, Stand, Keeps, Appends, Consumes, Takes, Yields, Exchanged, ServeFault, Read, Write, OutOfMemory, Traffic, Ledger}, specs.Through.{Passes, FailedThrough}}
 use Rattle.std.specs.Io.KnownBytes.{append_known, prepend_known}
 use Rattle.std.proofs.KnownBytes.{Appends-nil}
 use Rattle.std.proofs.lemmas.List.{append_cancel_left}
@@ -12,16 +12,17 @@ consumes_given (Some x) None rest bs p q = absurd p
 consumes_given (Some x) (Some y) None bs p q = absurd q
 consumes_given (Some x) (Some y) (Some z) bs p q = sym p ∙ q
 
-takes_given : (given left rest : Option (List ℕ)) (received : Received) → Keeps (prepend_known [] given) left → Takes left rest received → Takes given rest received
-takes_given given left rest received kept it = record {
-  given = it.given;
-  gives = record { known = consumes_given given left rest it.given kept it.gives.known; sparing = it.gives.sparing };
-  settles = it.settles;
-  behind = it.behind;
-}
+module _ (old new : Stand) (peer judge : Traffic) (unsent : List ℕ) (it : Passes peer judge unsent) where
+  takes_given : (received : Received) → Takes judge.left judge.rest received → Takes peer.left peer.rest received
+  takes_given received taken = subst (λ rest. Takes peer.left rest received) (sym it.rest) (record {
+    given = taken.given;
+    gives = record { known = consumes_given peer.left judge.left judge.rest taken.given it.gathered taken.gives.known; sparing = taken.gives.sparing };
+    settles = taken.settles;
+    behind = taken.behind;
+  })
 
-yields_given : (old new : Stand) (given left rest : Option (List ℕ)) (output : List ℕ) → Keeps (prepend_known [] given) left → Yields old new left rest output → Yields old new given rest output
-yields_given old new given left rest output kept (received, takes, gets) = (received, takes_given given left rest received kept takes, gets)
+  yields_given : (output : List ℕ) (ledger : Ledger) → Yields old new judge output ledger → Yields old new peer output ledger
+  yields_given output ledger (received, takes, gets) = (received, takes_given received takes, gets)
 
 -- a front of a front is one
 take_within : (m n : ℕ) (xs : List ℕ) → (k : ℕ) × (take m (take n xs) ≡ take k xs)
@@ -52,17 +53,6 @@ front_sent (Some b) (Some a) (Some t) (Some w) unsent output bytes fresh sent fr
     let cut : bytes ≡ take (length bytes) output = sym (take-append_seam bytes unsent) ∙ ap (take (length bytes)) is in
     (length bytes, front ∙ ap (λ l. t ++ l) cut)
 
-pub passes_answer : (old new : Stand) (given left rest before after taken told : Option (List ℕ)) → Passes given left before after taken told [] → Exchanged (Ok tt) old new left rest before after
-    → Exchanged (Ok tt) old new given rest taken told
-passes_answer old new given left rest before after taken told it (output, yields, wrote) =
-    (output, yields_given old new given left rest output it.gathered yields, all_sent before after taken told output it.fresh it.sent wrote)
-
-pub passes_front : (old new : Stand) (given left rest before after taken told : Option (List ℕ)) (unsent : List ℕ) → Passes given left before after taken told unsent → Exchanged (Ok tt) old new left rest before after
-    → Exchanged (Err Write) old new given rest taken told
-passes_front old new given left rest before after taken told unsent it (output, yields, wrote) =
-    let front = front_sent before after taken told unsent output it.front.0 it.fresh it.sent it.front.1 wrote in
-    (output, yields_given old new given left rest output it.gathered yields, front.0, front.1)
-
 -- nothing was written
 none_sent : (before after taken told : Option (List ℕ)) (unsent bytes : List ℕ) → Keeps (append_known taken []) before → Keeps after (append_known told unsent) → Appends taken told bytes → after ≡ before → Keeps taken told
 none_sent before after None told unsent bytes fresh sent front same = tt
@@ -71,15 +61,30 @@ none_sent before after (Some t) (Some w) unsent bytes fresh sent front same =
     let it = front_sent before after (Some t) (Some w) unsent [] bytes fresh sent front (subst (λ a. Appends before a []) (sym same) (Appends-nil before)) in
     it.1 ∙ ap (λ l. t ++ l) (take-nil it.0) ∙ append-nil t
 
-pub passes_fault : (fault : ServeFault) (old new : Stand) (given left rest before after taken told : Option (List ℕ)) (unsent : List ℕ) → Passes given left before after taken told unsent → Exchanged (Err fault) old new left rest before after
-    → FailedThrough fault old new given rest taken told
-passes_fault Write old new given left rest before after taken told unsent it (output, yields, count, wrote) =
-    let front = front_sent before after taken told unsent (take count output) it.front.0 it.fresh it.sent it.front.1 wrote in
-    let cut = take_within front.0 count output in
-    (output, yields_given old new given left rest output it.gathered yields, cut.0, subst (Appends taken told) cut.1 front.1)
-passes_fault Read old new given left rest before after taken told unsent it (same, unwritten) =
-    (same, none_sent before after taken told unsent it.front.0 it.fresh it.sent it.front.1 unwritten)
-passes_fault OutOfMemory old new given left rest before after taken told unsent it (unwritten, inl same) =
-    (none_sent before after taken told unsent it.front.0 it.fresh it.sent it.front.1 unwritten, inl same)
-passes_fault OutOfMemory old new given left rest before after taken told unsent it (unwritten, inr (output, yields)) =
-    (none_sent before after taken told unsent it.front.0 it.fresh it.sent it.front.1 unwritten, inr (output, yields_given old new given left rest output it.gathered yields))
+module _ (old new : Stand) (ledger : Ledger) (peer judge : Traffic) where
+  pub passes_answer : Passes peer judge [] → Exchanged (Ok tt) old new judge ledger → Exchanged (Ok tt) old new peer ledger
+  passes_answer it (output, yields, wrote) =
+      (output, yields_given old new peer judge [] it output ledger yields, all_sent judge.before judge.after peer.before peer.after output it.fresh it.sent wrote)
+
+  module _ (unsent : List ℕ) (it : Passes peer judge unsent) where
+    -- of what is written a front is sent
+    fronted : (output : List ℕ) → Appends judge.before judge.after output → (count : ℕ) × Appends peer.before peer.after (take count output)
+    fronted output wrote = front_sent judge.before judge.after peer.before peer.after unsent output it.front.0 it.fresh it.sent it.front.1 wrote
+
+    unwritten : judge.after ≡ judge.before → Keeps peer.before peer.after
+    unwritten same = none_sent judge.before judge.after peer.before peer.after unsent it.front.0 it.fresh it.sent it.front.1 same
+
+    given : (output : List ℕ) → Yields old new judge output ledger → Yields old new peer output ledger
+    given output yields = yields_given old new peer judge unsent it output ledger yields
+
+    pub passes_front : Exchanged (Ok tt) old new judge ledger → Exchanged (Err Write) old new peer ledger
+    passes_front (output, yields, wrote) = let front = fronted output wrote in (output, given output yields, front.0, front.1)
+
+    pub passes_fault : (fault : ServeFault) → Exchanged (Err fault) old new judge ledger → FailedThrough fault old new peer ledger
+    passes_fault Write (output, yields, count, wrote) =
+        let front = fronted (take count output) wrote in
+        let cut = take_within front.0 count output in
+        (output, given output yields, cut.0, subst (Appends peer.before peer.after) cut.1 front.1)
+    passes_fault Read (same, none, still) = (same, none, unwritten still)
+    passes_fault OutOfMemory (still, inl (same, none)) = (unwritten still, inl (same, none))
+    passes_fault OutOfMemory (still, inr (output, yields)) = (unwritten still, inr (output, given output yields))

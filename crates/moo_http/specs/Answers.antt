@@ -10,6 +10,7 @@ use Rattle.moo_store.specs.Answered.{reply_of, answer_of, answers_alone, state_b
 use Rattle.moo_store.specs.Stand.{Stand, Works, Failed, StoreFailed, RunsBatch, AsksBatch}
 use Rattle.moo_store.specs.Kept.{World}
 use Rattle.moo_store.specs.World.{store_of, CrashLeaves, StandsAt}
+use Rattle.moo_http.specs.Ledger.{Ledger, IsMovedIn}
 use Rattle.moo_request.specs.declared.asked.Asked.{Asked}
 use Rattle.moo_request.specs.declared.asked.Asked.TheVariants.{Refused, Calls, Each, Question}
 use Rattle.moo_request.specs.declared.each.Each.{Each as Apart}
@@ -59,6 +60,11 @@ TakesMemory (Question question) = TellingTakesMemory question
 abbrev pub MayAnswer : Stand → Asked → Outcome → Stand → Type 0
 MayAnswer old asked o new = Comes old asked o new ⊎ (TakesMemory asked × (o ≡ outcome.NoMemory) × (new ≡ old))
 
+-- Wherever the World stood that was asked, it stands where the answer leaves it.
+abbrev pub IsAnswered : {S : Type 0} → Ghosts S → World S → World S → Asked → Outcome → Type 0
+IsAnswered g was world asked o = (known : Bool) (stand : Stand) → StandsAt g known was stand →
+    (new : Stand) × StandsAt g known world new × MayAnswer stand asked o new
+
 -- A World that stood there was asked. It stands where the answer leaves it, and so does whatever a crash leaves.
 pub record Consulted {S : Type 0} (g : Ghosts S) (known : Bool) (old : Stand) (world : World S) (asked : Asked) (o : Outcome) : Type 0 where
   pub new : Stand
@@ -91,3 +97,10 @@ failed_by (Calls Run batch) o = failed_of batch o
 failed_by (Calls Ask batch) o = []
 failed_by (Each each) o = []
 failed_by (Question question) o = []
+
+abbrev pub ledger_by : Asked → Outcome → Ledger
+ledger_by asked o = record { taken = taken_by asked o; lost = failed_by asked o }
+
+-- the World was moved by the batch of what was asked, and by nothing else
+abbrev pub IsMovedAs : {S : Type 0} → Ghosts S → World S → World S → Asked → Outcome → Type 0
+IsMovedAs g was world asked o = IsMovedIn g was world (ledger_by asked o)

@@ -1,4 +1,6 @@
 pub mod Faults
+pub mod Traffic
+pub mod Ledger
 pub mod Answers
 pub mod Settled
 pub mod Serves

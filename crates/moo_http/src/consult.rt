@@ -1,13 +1,12 @@
 //! Asking the World.
 
 ghost use Rattle.std.specs.Prelude.{◌≡◌, Bool};
-ghost use Rattle.moo_store.specs.Untouched.{IsMovedBy};
 ghost use Rattle.moo_world.specs.Judge.{State, state_of, is_due};
 ghost use Rattle.moo_world.specs.Rows.{IsGood};
 ghost use Rattle.moo_store.specs.Stand.{Stand, Works};
 ghost use Rattle.sqlite.specs.State.{HasCleanDisk};
 ghost use Rattle.moo_store.specs.World.{store_of, StandsAt, StandsFor};
-ghost use Rattle.moo_http.specs.Answers.{MayAnswer, Consulted, taken_by, failed_by};
+ghost use Rattle.moo_http.specs.Answers.{MayAnswer, IsAnswered, Consulted, IsMovedAs};
 ghost use Rattle.moo_http.specs.Settled.{lost_by, came_of};
 
 use moo_request::{Asked, Each, Mode, Question};
@@ -44,14 +43,15 @@ fn came(reply: Result<Reply, StoreFault>) -> Outcome
 
 fn run_batch<S: Alter + Drop>(world: &mut World<S>, batch: &Batch) -> Outcome
     ensures clean { HasCleanDisk (store_of S.Store world.new) → HasCleanDisk (store_of S.Store world.old) }
-    ensures comes { (known : Bool) (stand : Stand) → StandsAt S.Store known world.old stand → (new : Stand) × StandsAt S.Store known world.new new × MayAnswer stand (Asked.Calls Mode.Run batch.now) result new }
-    ensures moved { IsMovedBy S.Store world.old world.new (taken_by (Asked.Calls Mode.Run batch.now) result) (failed_by (Asked.Calls Mode.Run batch.now) result) }
+    ensures comes { IsAnswered S.Store world.old world.new (Asked.Calls Mode.Run batch.now) result }
+    ensures moved { IsMovedAs S.Store world.old world.new (Asked.Calls Mode.Run batch.now) result }
 {
     came(world.run_one(batch))
 }
 
 fn ask_batch<S: Alter + Drop>(world: &World<S>, batch: &Batch) -> Outcome
-    ensures { (known : Bool) (stand : Stand) → StandsAt S.Store known world.now stand → MayAnswer stand (Asked.Calls Mode.Ask batch.now) result stand }
+    ensures { (known : Bool) (stand : Stand) → StandsAt S.Store known world.now stand →
+        MayAnswer stand (Asked.Calls Mode.Ask batch.now) result stand }
 {
     came(world.ask(batch))
 }
@@ -68,7 +68,8 @@ fn is_due(at: Option<u64>, seq: u64) -> bool
 
 /// What comes of calls that are asked each alone, at this present number.
 fn ask_each_at<S: Alter + Drop>(world: &World<S>, each: &Each, seq: u64) -> Outcome
-    ensures { (known : Bool) (s : State) → StandsFor S.Store known world.now s → s.seq ≡ seq → MayAnswer (Works s) (Asked.Each each.now) result (Works s) }
+    ensures { (known : Bool) (s : State) → StandsFor S.Store known world.now s → s.seq ≡ seq →
+        MayAnswer (Works s) (Asked.Each each.now) result (Works s) }
 {
     if !is_due(each.at, seq) {
         return Outcome::Replied(Reply::Stale { seq });
@@ -81,7 +82,8 @@ fn ask_each_at<S: Alter + Drop>(world: &World<S>, each: &Each, seq: u64) -> Outc
 
 /// What comes of calls that are asked each alone.
 fn ask_each<S: Alter + Drop>(world: &World<S>, each: &Each) -> Outcome
-    ensures { (known : Bool) (stand : Stand) → StandsAt S.Store known world.now stand → MayAnswer stand (Asked.Each each.now) result stand }
+    ensures { (known : Bool) (stand : Stand) → StandsAt S.Store known world.now stand →
+        MayAnswer stand (Asked.Each each.now) result stand }
 {
     match world.seq() {
         Ok(seq) => ask_each_at(world, each, seq),
@@ -92,7 +94,7 @@ fn ask_each<S: Alter + Drop>(world: &World<S>, each: &Each) -> Outcome
 /// What comes of a question to a World of these rows that works.
 fn ask_rows<R: Rows>(alloc: Global, rows: &R, question: Question) -> Outcome
     requires { IsGood (R.held rows.now).maps }
-    ensures { MayAnswer (Works (state_of (R.held rows.now).maps)) (Asked.Question question) result (Works (state_of (R.held rows.now).maps)) }
+    ensures { let stand = Works (state_of (R.held rows.now).maps) in MayAnswer stand (Asked.Question question) result stand }
 {
     match tell(alloc, rows, question) {
         Ok(told) => Outcome::Told(told),
@@ -102,7 +104,8 @@ fn ask_rows<R: Rows>(alloc: Global, rows: &R, question: Question) -> Outcome
 
 /// What comes of a question.
 fn ask_question<S: Alter + Drop>(alloc: Global, world: &World<S>, question: Question) -> Outcome
-    ensures { (known : Bool) (stand : Stand) → StandsAt S.Store known world.now stand → MayAnswer stand (Asked.Question question) result stand }
+    ensures { (known : Bool) (stand : Stand) → StandsAt S.Store known world.now stand →
+        MayAnswer stand (Asked.Question question) result stand }
 {
     match world.good_rows() {
         Some(rows) => ask_rows(alloc, rows, question),
@@ -113,8 +116,8 @@ fn ask_question<S: Alter + Drop>(alloc: Global, world: &World<S>, question: Ques
 /// Runs or asks one batch.
 fn take_batch<S: Alter + Drop>(world: &mut World<S>, mode: Mode, batch: &Batch) -> Outcome
     ensures clean { HasCleanDisk (store_of S.Store world.new) → HasCleanDisk (store_of S.Store world.old) }
-    ensures comes { (known : Bool) (stand : Stand) → StandsAt S.Store known world.old stand → (new : Stand) × StandsAt S.Store known world.new new × MayAnswer stand (Asked.Calls mode batch.now) result new }
-    ensures moved { IsMovedBy S.Store world.old world.new (taken_by (Asked.Calls mode batch.now) result) (failed_by (Asked.Calls mode batch.now) result) }
+    ensures comes { IsAnswered S.Store world.old world.new (Asked.Calls mode batch.now) result }
+    ensures moved { IsMovedAs S.Store world.old world.new (Asked.Calls mode batch.now) result }
 {
     match mode {
         Mode::Run => run_batch(world, batch),
@@ -124,8 +127,8 @@ fn take_batch<S: Alter + Drop>(world: &mut World<S>, mode: Mode, batch: &Batch) 
 
 fn answer<S: Alter + Drop>(alloc: Global, world: &mut World<S>, asked: &Asked) -> Outcome
     ensures clean { HasCleanDisk (store_of S.Store world.new) → HasCleanDisk (store_of S.Store world.old) }
-    ensures comes { (known : Bool) (stand : Stand) → StandsAt S.Store known world.old stand → (new : Stand) × StandsAt S.Store known world.new new × MayAnswer stand asked.now result new }
-    ensures moved { IsMovedBy S.Store world.old world.new (taken_by asked.now result) (failed_by asked.now result) }
+    ensures comes { IsAnswered S.Store world.old world.new asked.now result }
+    ensures moved { IsMovedAs S.Store world.old world.new asked.now result }
 {
     match asked {
         Asked::Refused(refusal) => Outcome::Refused(*refusal),
@@ -142,9 +145,10 @@ pub(crate) fn consult<S: Alter + Drop>(
     asked: &Asked,
 ) -> Outcome
     ensures clean { HasCleanDisk (store_of S.Store world.new) → HasCleanDisk (store_of S.Store world.old) }
-    ensures comes { (known : Bool) (stand : Stand) → StandsAt S.Store known world.old stand → Consulted S.Store known stand world.new asked.now result }
+    ensures comes { (known : Bool) (stand : Stand) → StandsAt S.Store known world.old stand →
+        Consulted S.Store known stand world.new asked.now result }
     // Only a batch that is run changes rows and tables: it keeps the cells of the rows that it leaves as they are, and all numbers.
-    ensures moved { IsMovedBy S.Store world.old world.new (taken_by asked.now result) (failed_by asked.now result) }
+    ensures moved { IsMovedAs S.Store world.old world.new asked.now result }
 {
     let outcome = answer(alloc, world, asked);
     world.leaves();

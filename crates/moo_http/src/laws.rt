@@ -11,7 +11,8 @@ ghost use Rattle.moo_http.specs.Through.{AnswersPass, FrontsPass, FaultsPass};
 
 /// Whatever a World that works answers but 503, is the defined answer at its state, and leaves the defined next state.
 pub fn answers_are_defined()
-    ensures { (s : State) (asked : Asked) (o : Outcome) (new : Stand) → MayAnswer (Works s) asked o new → (response_of o).status ≢ 503 → (o ≡ (answer s asked).0) × (state_at new ≡ (answer s asked).1) }
+    ensures { (s : State) (asked : Asked) (o : Outcome) (new : Stand) → MayAnswer (Works s) asked o new →
+        (response_of o).status ≢ 503 → (o ≡ (answer s asked).0) × (state_at new ≡ (answer s asked).1) }
 {}
 
 /// What is exchanged through a desk is what the peer sees: all of its answer once nothing is left to be sent, else a front of it.

@@ -20,5 +20,5 @@ pub use listen::{Served, serve_connection, serve_next, serve_on};
 pub use log::Log;
 pub use note::{Note, Trouble};
 pub use ports::Ports;
-pub use serve::serve_one;
-pub use service::{ServiceFault, serve_from, serve_port};
+pub use serve::{Means, serve_one};
+pub use service::{Duty, ServiceFault, Tools, serve_from, serve_port};

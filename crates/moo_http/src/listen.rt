@@ -6,18 +6,17 @@ ghost use Rattle.moo_store.specs.Untouched.{IsMovedBy};
 ghost use Rattle.sqlite.specs.State.{HasCleanDisk};
 ghost use Rattle.moo_store.specs.Stand.{Stand};
 ghost use Rattle.moo_store.specs.World.{store_of, StandsAt};
-ghost use Rattle.moo_http.specs.Connections.{Connected, StandsAtEnd};
+ghost use Rattle.moo_http.specs.Traffic.{traffic_of};
+ghost use Rattle.moo_http.specs.Connections.{Connected, ConveysBy};
 ghost use Rattle.moo_http.specs.Turns.{Visited, Visit, Attended};
 ghost use Rattle.moo_http.specs.Settling.{TellsLoss, TellsLosses};
 
 use crate::log::Log;
 use crate::note::{Note, Trouble};
-use crate::serve::serve_one;
+use crate::serve::{Means, serve_one};
 use moo_arrivals::{Arrivals, Connection};
-use moo_request::Routes;
 use moo_store::World;
 use sqlite::Alter;
-use std::alloc::Global;
 use std::io::{Eprint, Read, Write};
 use std::time::Clock;
 
@@ -28,80 +27,63 @@ pub struct Served {
     pub failed: u32,
 }
 
-/// Serves a connection, of which these are the reader and the writer; whether it was answered. If its waits aren't limited, nothing is
-/// read and nothing is written.
+/// Serves a connection; whether it was answered. If its waits aren't limited, nothing is read and nothing is written.
 pub fn serve_connection<S: Alter + Drop, R: Read, W: Write>(
-    alloc: Global,
-    routes: &Routes,
-    is_limited: bool,
-    reader: &mut R,
-    writer: &mut W,
+    means: &Means<'_>,
+    connection: &mut Connection<R, W>,
     world: &mut World<S>,
     note: &mut Note,
 ) -> bool
     // It is answered, and then all of its answer is written; or it met a fault of `serve_one`, and what was written of the answer is
     // by the fault.
-    ensures served { IsTrue is_limited → (known : Bool) (stand : Stand) → StandsAt S.Store known world.old stand →
-        Connected S.Store known result stand world.old world.new (R.remaining reader.old) (R.remaining reader.new) (W.contents writer.old) (W.contents writer.new) }
-    ensures unlimited { is_limited ≡ false → (result ≡ false) × (world.new ≡ world.old) × (reader.new ≡ reader.old) × (writer.new ≡ writer.old) }
-    // The same, from where the World stood to where it stands.
-    ensures visited { (known : Bool) (stand : Stand) → StandsAt S.Store known world.old stand → StandsAtEnd S.Store known world.new (λ end.
-        Visited result stand end (R.remaining reader.old) (R.remaining reader.new) (W.contents writer.old) (W.contents writer.new)) }
+    ensures served { IsTrue connection.old.is_limited → (known : Bool) (stand : Stand) → StandsAt S.Store known world.old stand →
+        Connected S.Store known result stand world.old world.new (traffic_of R.Read W.Write connection.old connection.new) }
+    ensures unlimited { connection.old.is_limited ≡ false →
+        (result ≡ false) × (world.new ≡ world.old) × (connection.new ≡ connection.old) }
+    // The same, from where the World stood to where it stands. Just the batch that was asked moved it, if that was run.
+    ensures visited { ConveysBy S.Store world.old world.new (λ ledger stand end.
+        Visited result stand end (traffic_of R.Read W.Write connection.old connection.new) ledger) }
     ensures moved { (batches lost : List Batch) × IsMovedBy S.Store world.old world.new batches lost }
     ensures clean { HasCleanDisk (store_of S.Store world.new) → HasCleanDisk (store_of S.Store world.old) }
 {
     world.leaves();
+    let is_limited = connection.is_limited;
     if !is_limited {
         note.fails(Trouble::NotLimited);
         return false;
     }
-    let served = serve_one(alloc, routes, reader, writer, world, note);
+    let served = serve_one(
+        means,
+        &mut connection.reader,
+        &mut connection.writer,
+        world,
+        note,
+    );
     note.ends(served)
 }
 
 /// Takes the next connection of a source, of which so many are still to come, serves it, and gives it back to be closed; whether it was
 /// answered. If none can be taken that is noted, and nothing is done.
 pub fn serve_next<S: Alter + Drop, A: Arrivals>(
-    alloc: Global,
-    routes: &Routes,
+    means: &Means<'_>,
     arrivals: &mut A,
     left: u32,
     world: &mut World<S>,
     note: &mut Note,
 ) -> bool
-    ensures turn { (known : Bool) (stand : Stand) → StandsAt S.Store known world.old stand → StandsAtEnd S.Store known world.new (λ end.
-        Visit A.hands_out A.takes_back A.loses A.Reader.remaining A.Writer.contents result arrivals.old stand arrivals.new end) }
+    ensures turn { ConveysBy S.Store world.old world.new (λ ledger stand end.
+        Visit A.Arrivals A.Reader.Read A.Writer.Write result ledger arrivals.old stand arrivals.new end) }
     ensures moved { (batches lost : List Batch) × IsMovedBy S.Store world.old world.new batches lost }
     ensures clean { HasCleanDisk (store_of S.Store world.new) → HasCleanDisk (store_of S.Store world.old) }
 {
     world.leaves();
-    let Some(connection) = arrivals.accept(routes, left) else {
+    let Some(mut connection) = arrivals.accept(means.routes, left) else {
         note.fails(Trouble::NotTaken);
         return false;
     };
-    let Connection {
-        mut reader,
-        mut writer,
-        is_limited,
-        cause,
-    } = connection;
-    note.cause = cause;
-    let is_answered = serve_connection(
-        alloc,
-        routes,
-        is_limited,
-        &mut reader,
-        &mut writer,
-        world,
-        note,
-    );
-    let served = Connection {
-        reader,
-        writer,
-        is_limited,
-        cause,
-    };
-    arrivals.close(served, note.closing, note.route);
+    note.cause = connection.cause;
+    let is_answered = serve_connection(means, &mut connection, world, note);
+    arrivals.close(connection, note.closing, note.route);
     is_answered
 }
 
@@ -114,7 +96,8 @@ fn settle_one<'a, A: Arrivals, C: Clock + Eprint>(
     is_last: bool,
 ) -> bool
     requires { served.old.answered + served.old.failed < 2 ^ 32 }
-    ensures { TellsLoss A.loses arrivals.old served.old.answered served.old.failed arrivals.new served.new.answered served.new.failed }
+    ensures { TellsLoss A.loses arrivals.old served.old.answered served.old.failed
+        arrivals.new served.new.answered served.new.failed }
 {
     if served.answered == 0 {
         return false;
@@ -135,7 +118,8 @@ fn settle_rest<'a, A: Arrivals, C: Clock + Eprint>(
     served: &mut Served,
 )
     requires { served.old.answered + served.old.failed < 2 ^ 32 }
-    ensures { (asked : ℕ) × TellsLosses A.loses asked arrivals.old served.old.answered served.old.failed arrivals.new served.new.answered served.new.failed }
+    ensures { (asked : ℕ) × TellsLosses A.loses asked arrivals.old served.old.answered served.old.failed
+        arrivals.new served.new.answered served.new.failed }
 {
     for _ in 0..served.answered {
         if !settle_one(arrivals, log, served, true) {
@@ -146,16 +130,15 @@ fn settle_rest<'a, A: Arrivals, C: Clock + Eprint>(
 
 /// Serves this many connections of a source, one after another, and asks after each for one whose answer was lost.
 fn serve_each<'a, S: Alter + Drop, A: Arrivals, C: Clock + Eprint>(
-    alloc: Global,
-    routes: &Routes,
+    means: &Means<'_>,
     arrivals: &mut A,
     log: &mut Log<'a, C>,
     world: &mut World<S>,
     count: u32,
 ) -> Served
     ensures count { result.answered + result.failed ≡ count }
-    ensures serves { (known : Bool) (stand : Stand) → StandsAt S.Store known world.old stand → StandsAtEnd S.Store known world.new (λ end.
-        Attended A.hands_out A.takes_back A.loses A.Reader.remaining A.Writer.contents result.answered result.failed arrivals.old stand arrivals.new end) }
+    ensures serves { ConveysBy S.Store world.old world.new (λ ledger stand end. Attended A.Arrivals A.Reader.Read A.Writer.Write
+        result.answered result.failed ledger arrivals.old stand arrivals.new end) }
     ensures moved { (batches lost : List Batch) × IsMovedBy S.Store world.old world.new batches lost }
     ensures clean { HasCleanDisk (store_of S.Store world.new) → HasCleanDisk (store_of S.Store world.old) }
 {
@@ -166,7 +149,7 @@ fn serve_each<'a, S: Alter + Drop, A: Arrivals, C: Clock + Eprint>(
     };
     for turn in 0..count {
         let mut note = Note::new();
-        if serve_next(alloc, routes, arrivals, count - turn, world, &mut note) {
+        if serve_next(means, arrivals, count - turn, world, &mut note) {
             served.answered += 1;
         } else {
             served.failed += 1;
@@ -180,8 +163,7 @@ fn serve_each<'a, S: Alter + Drop, A: Arrivals, C: Clock + Eprint>(
 /// Serves this many connections of a source, one after another: how many were answered, and how many failed, since they couldn't be
 /// taken, `serve_one` met a fault, or the answer was lost after that. One that failed doesn't stop the next. The log is told of each.
 pub fn serve_on<'a, S: Alter + Drop, A: Arrivals, C: Clock + Eprint>(
-    alloc: Global,
-    routes: &Routes,
+    means: &Means<'_>,
     arrivals: &mut A,
     log: &mut Log<'a, C>,
     world: &mut World<S>,
@@ -189,14 +171,15 @@ pub fn serve_on<'a, S: Alter + Drop, A: Arrivals, C: Clock + Eprint>(
 ) -> Served
     ensures count { result.answered + result.failed ≡ count }
     // The World moved by what the connections asked that the source handed out, in their order, each of which got its answer or failed,
-    // and by nothing else. So many of them were answered, and so many failed.
-    ensures serves { (known : Bool) (stand : Stand) → StandsAt S.Store known world.old stand → StandsAtEnd S.Store known world.new (λ end.
-        Attended A.hands_out A.takes_back A.loses A.Reader.remaining A.Writer.contents result.answered result.failed arrivals.old stand arrivals.new end) }
+    // and by nothing else. So many of them were answered, and so many failed. Just the batches that they asked and that were run wrote to
+    // the tables: each keeps the cells of what stays, and all numbers.
+    ensures serves { ConveysBy S.Store world.old world.new (λ ledger stand end. Attended A.Arrivals A.Reader.Read A.Writer.Write
+        result.answered result.failed ledger arrivals.old stand arrivals.new end) }
     // It moved by accepted batches, one after another: each wrote only rows that differ, and kept all numbers.
     ensures moved { (batches lost : List Batch) × IsMovedBy S.Store world.old world.new batches lost }
     ensures clean { HasCleanDisk (store_of S.Store world.new) → HasCleanDisk (store_of S.Store world.old) }
 {
-    let mut served = serve_each(alloc, routes, arrivals, log, world, count);
+    let mut served = serve_each(means, arrivals, log, world, count);
     settle_rest(arrivals, log, &mut served);
     served
 }

@@ -1,20 +1,20 @@
 //! The service on a port of this machine, from binding to its last line.
 
-ghost use Rattle.std.specs.Prelude.{◌≡◌, ◌≢◌, IfOk, IfErr, OnOk, OnErr, Bool, List, string_bytes};
+ghost use Rattle.std.specs.Prelude.{◌≡◌, ◌≢◌, IfOk, IfErr, OnOk, OnErr, List, string_bytes};
 ghost use Rattle.sqlite.specs.State.{HasCleanDisk};
 ghost use Rattle.moo_world.specs.declared.call.Batch.{Batch};
 ghost use Rattle.moo_store.specs.Untouched.{IsMovedBy};
-ghost use Rattle.moo_store.specs.Stand.{Stand};
-ghost use Rattle.moo_store.specs.World.{store_of, StandsAt};
+ghost use Rattle.moo_store.specs.World.{store_of};
 ghost use Rattle.moo_http.specs.declared.service.ServiceFault.TheVariants.{OutOfMemory};
 ghost use Rattle.std.specs.Io.KnownBytes.{Appends};
 ghost use Rattle.moo_http.specs.Lines.{listening_line, served_line};
-ghost use Rattle.moo_http.specs.Connections.{StandsAtEnd, ServesPort, WritesFront};
+ghost use Rattle.moo_http.specs.Connections.{Conveys, ConveysBy, ServesPort, WritesFront};
 ghost use Rattle.moo_http.specs.Turns.{ServesFrom, attended_between, ServesOn};
 
 use crate::listen::{Served, serve_on};
 use crate::log::Log;
 use crate::ports::Ports;
+use crate::serve::Means;
 use moo_arrivals::Arrivals;
 use moo_dump::put_all;
 use moo_request::Routes;
@@ -23,6 +23,20 @@ use sqlite::Alter;
 use std::alloc::{AllocError, Global};
 use std::io::{Eprint, Write};
 use std::time::Clock;
+
+/// What a service works with: memory, and the console, whose clock it asks and on whose standard error it tells of failures.
+#[derive(Drop)]
+pub struct Tools<'s, C> {
+    pub alloc: Global,
+    pub console: &'s C,
+}
+
+/// What a service is to do: on this port, to serve so many connections.
+#[derive(Clone, Copy, Drop)]
+pub struct Duty {
+    pub port: u16,
+    pub count: u32,
+}
 
 /// Why the service ended before its last line.
 #[derive(Clone, Copy, Drop)]
@@ -81,7 +95,8 @@ fn say_listening<W: Write>(alloc: Global, output: &mut W, port: u16) -> Result<(
 
 fn say_served<W: Write>(alloc: Global, output: &mut W, served: Served) -> Result<(), ServiceFault>
     ensures ok { OnOk result (Appends (W.contents output.old) (W.contents output.new) (served_line served.answered served.failed)) }
-    ensures err { OnErr result (WritesFront (served_line served.answered served.failed) (W.contents output.old) (W.contents output.new)) }
+    ensures err { OnErr result (WritesFront (served_line served.answered served.failed)
+        (W.contents output.old) (W.contents output.new)) }
     ensures fault { IfErr result (λ fault. fault ≢ ServiceFault.Port) }
 {
     let line = served_text(alloc, served.answered, served.failed)?;
@@ -93,31 +108,34 @@ fn say_served<W: Write>(alloc: Global, output: &mut W, served: Served) -> Result
 /// The faults: Write if the output fails, and OutOfMemory, with a front of the two lines written: then no connection was taken, or all of
 /// them were. A connection that fails isn't a fault.
 pub fn serve_from<S: Alter + Drop, A: Arrivals, C: Clock + Eprint, W: Write>(
-    alloc: Global,
-    console: &C,
+    tools: &Tools<'_, C>,
     arrivals: &mut A,
     world: &mut World<S>,
-    port: u16,
-    count: u32,
+    duty: Duty,
     output: &mut W,
 ) -> Result<(), ServiceFault>
-    ensures serves { (known : Bool) (stand : Stand) → StandsAt S.Store known world.old stand → StandsAtEnd S.Store known world.new (λ end.
-        ServesFrom A.hands_out A.takes_back A.loses A.Reader.remaining A.Writer.contents result port count arrivals.old stand arrivals.new end (W.contents output.old) (W.contents output.new)) }
+    ensures serves { ConveysBy S.Store world.old world.new (λ ledger stand end.
+        ServesFrom A.Arrivals A.Reader.Read A.Writer.Write result duty.port duty.count ledger
+        arrivals.old stand arrivals.new end (W.contents output.old) (W.contents output.new)) }
     // The same of the World alone, whatever the source tells.
-    ensures moves { (known : Bool) (stand : Stand) → StandsAt S.Store known world.old stand →
-        StandsAtEnd S.Store known world.new (λ end. ServesPort result port count stand end (W.contents output.old) (W.contents output.new)) }
+    ensures moves { Conveys S.Store world.old world.new (λ stand end.
+        ServesPort result duty.port duty.count stand end (W.contents output.old) (W.contents output.new)) }
     ensures fault { IfErr result (λ fault. fault ≢ ServiceFault.Port) }
     ensures clean { HasCleanDisk (store_of S.Store world.new) → HasCleanDisk (store_of S.Store world.old) }
     // It moved by accepted batches, one after another: each wrote only rows that differ, and kept all numbers.
     ensures moved { (batches lost : List Batch) × IsMovedBy S.Store world.old world.new batches lost }
 {
     world.leaves();
-    let routes = Routes::new(alloc)?;
-    say_listening(alloc, output, port)?;
-    let mut log = Log::new(console);
-    let served = serve_on(alloc, &routes, arrivals, &mut log, world, count);
+    let routes = Routes::new(tools.alloc)?;
+    say_listening(tools.alloc, output, duty.port)?;
+    let mut log = Log::new(tools.console);
+    let means = Means {
+        alloc: tools.alloc,
+        routes: &routes,
+    };
+    let served = serve_on(&means, arrivals, &mut log, world, duty.count);
     log.finish();
-    say_served(alloc, output, served)
+    say_served(tools.alloc, output, served)
 }
 
 /// Listens on a port, says so, serves so many connections, says how many were answered and how many failed, and stops listening. Standard
@@ -125,28 +143,27 @@ pub fn serve_from<S: Alter + Drop, A: Arrivals, C: Clock + Eprint, W: Write>(
 ///
 /// The faults: Port if the port can't be bound, and nothing is written; else those of `serve_from`.
 pub fn serve_port<S: Alter + Drop, P: Ports, C: Clock + Eprint, W: Write>(
-    alloc: Global,
-    console: &C,
+    tools: &Tools<'_, C>,
     ports: &mut P,
     world: &mut World<S>,
-    port: u16,
-    count: u32,
+    duty: Duty,
     output: &mut W,
 ) -> Result<(), ServiceFault>
-    // The World moved by what the connections asked that came to this port, as `serve_from` says it, and by nothing else. No other port
-    // was listened on, and none was taken after the last of them.
-    ensures serves { (known : Bool) (stand : Stand) → StandsAt S.Store known world.old stand → StandsAtEnd S.Store known world.new (λ end.
-        ServesOn (attended_between P.Source.hands_out P.Source.takes_back P.Source.loses P.Source.Reader.remaining P.Source.Writer.contents P.listens P.closes ports.old ports.new) result port count stand end (W.contents output.old) (W.contents output.new)) }
+    // The World moved by what the connections asked that came to this port, as `serve_from` says it, and by nothing else: just the batches
+    // that they asked wrote to the tables. No other port was listened on, and none was taken after the last of them.
+    ensures serves { ConveysBy S.Store world.old world.new (λ ledger stand end. ServesOn
+        (attended_between P.Source.Arrivals P.Source.Reader.Read P.Source.Writer.Write P.Ports ports.old ports.new)
+        result duty.port duty.count ledger stand end (W.contents output.old) (W.contents output.new)) }
     // A disk that returns what was written did so before.
     ensures clean { HasCleanDisk (store_of S.Store world.new) → HasCleanDisk (store_of S.Store world.old) }
     // It moved by accepted batches, one after another: each wrote only rows that differ, and kept all numbers.
     ensures moved { (batches lost : List Batch) × IsMovedBy S.Store world.old world.new batches lost }
 {
     world.leaves();
-    let Some(mut source) = ports.listen(port) else {
+    let Some(mut source) = ports.listen(duty.port) else {
         return Err(ServiceFault::Port);
     };
-    let done = serve_from(alloc, console, &mut source, world, port, count, output);
+    let done = serve_from(tools, &mut source, world, duty, output);
     ports.close(source);
     done
 }

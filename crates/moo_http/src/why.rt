@@ -4,6 +4,7 @@ ghost use Rattle.std.specs.Prelude.{◌≡◌, ℕ, List, Option, IfOk};
 ghost use Rattle.moo_responses.specs.Responses.{response_with, response_text};
 ghost use Rattle.moo_http.specs.Serves.{IsWhyOf};
 
+use crate::serve::Inquiry;
 use moo_reasons::{call_why, reply_why};
 use moo_request::{Asked, BodyFault, Each};
 use moo_responses::{Outcome, Replies, answer_text};
@@ -114,18 +115,24 @@ fn find_whys<S: Alter + Drop>(
 pub(crate) fn told_answer<S: Alter + Drop>(
     alloc: Global,
     world: &World<S>,
-    asked: &Asked,
+    inquiry: &Inquiry,
     outcome: Outcome,
-    wrong: Option<&BodyFault>,
-    is_head: bool,
-    asks_why: bool,
 ) -> Result<Vec<u8>, AllocError>
-    ensures { IfOk result (λ bytes. (whys : List (Option (List ℕ))) × IsWhyOf asks_why whys × (bytes.items ≡ response_text is_head (response_with whys outcome))) }
+    ensures { IfOk result (λ bytes. (whys : List (Option (List ℕ))) × IsWhyOf inquiry.now.asks_why whys
+        × (bytes.items ≡ response_text inquiry.now.is_head (response_with whys outcome))) }
 {
+    let is_head = inquiry.is_head;
+    let asks_why = inquiry.asks_why;
     if !asks_why {
         return answer_text(alloc, outcome, &[], is_head);
     }
-    let whys = match find_whys(alloc, world, asked, &outcome, wrong) {
+    let whys = match find_whys(
+        alloc,
+        world,
+        &inquiry.asked,
+        &outcome,
+        inquiry.wrong.as_ref(),
+    ) {
         Ok(whys) => whys,
         Err(_) => Vec::new(alloc),
     };

@@ -120,7 +120,8 @@ fn bits_to_define<R: Rows>(
     requires { IsGood (R.held rows.now).maps }
     ensures ok { IfOk result (λ bits. (v : Value) →
         add_property (world_in (R.held rows.now)) programmer x name.now v (info.entry.owner, info.entry.perms.now)
-        ≡ Done zero (property_added (world_in (R.held rows.now)) x name.now (record { definer = x; owner = info.entry.owner; bits = bits; state = Set v }))) }
+        ≡ Done zero (property_added (world_in (R.held rows.now)) x name.now
+        (record { definer = x; owner = info.entry.owner; bits = bits; state = Set v }))) }
     ensures err { IfErr result (λ fault. (v : Value) →
         Answers (add_property (world_in (R.held rows.now)) programmer x name.now v (info.entry.owner, info.entry.perms.now))
         (R.held rows.now) (Err fault)) }
@@ -163,7 +164,8 @@ pub fn add_property<R: Rows>(
 ) -> Result<Value, Fault>
     requires good { IsGood (R.held rows.old).maps }
     requires fit { fits value.now ≡ true }
-    ensures comes { ComesTo (add_property (world_in (R.held rows.old)) programmer x name.now value.now (info.entry.owner, info.entry.perms.now)) (R.held rows.old) (R.held rows.new) result }
+    ensures comes { ComesTo (add_property (world_in (R.held rows.old)) programmer x name.now value.now
+        (info.entry.owner, info.entry.perms.now)) (R.held rows.old) (R.held rows.new) result }
     ensures kept { OnOk result (Keeps (R.held rows.old) (R.held rows.new)) }
     ensures told { IsTold (R.held rows.old).maps programmer (about_new_property x name.now info.entry.perms.now) result }
 {

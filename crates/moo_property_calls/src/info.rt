@@ -82,8 +82,8 @@ fn change_info<R: Rows>(
     requires good { IsGood (R.held rows.old).maps }
     requires has { is_some (get (R.held rows.old).maps.slots (x, id)) ≡ true }
     requires may { may_rename (world_of (R.held rows.old).maps) x (spelling_of (R.held rows.old).maps id) new ≡ true }
-    ensures world { OnOk result (world_of (R.held rows.new).maps
-        ≡ renamed_to (info_set (world_of (R.held rows.old).maps) x (spelling_of (R.held rows.old).maps id) owner bits) x (spelling_of (R.held rows.old).maps id) new) }
+    ensures world { OnOk result (let name = spelling_of (R.held rows.old).maps id in
+        world_of (R.held rows.new).maps ≡ renamed_to (info_set (world_of (R.held rows.old).maps) x name owner bits) x name new) }
     ensures kept { OnOk result (Keeps (R.held rows.old) (R.held rows.new)) }
 {
     set_info(alloc, rows, x, id, owner, bits)?;
@@ -103,13 +103,17 @@ fn property_to_change<R: Rows>(
     new_name: Option<&MooStr>,
 ) -> Result<(PropId, Bits), Fault>
     requires { IsGood (R.held rows.now).maps }
-    ensures ok { IfOk result (λ found. set_property_info (world_in (R.held rows.now)) programmer x name.now (info.entry.owner, info.entry.perms.now) (option_map (λ n. n.now) new_name.entry)
-        ≡ Done zero (renamed_to (info_set (world_in (R.held rows.now)) x name.now info.entry.owner found.1) x name.now (option_map (λ n. n.now) new_name.entry))) }
-    ensures err { IfErr result (λ fault. Answers (set_property_info (world_in (R.held rows.now)) programmer x name.now (info.entry.owner, info.entry.perms.now) (option_map (λ n. n.now) new_name.entry)) (R.held rows.now) (Err fault)) }
+    ensures ok { IfOk result (λ found. let w = world_in (R.held rows.now) in let new = option_map (λ n. n.now) new_name.entry in
+        set_property_info w programmer x name.now (info.entry.owner, info.entry.perms.now) new
+        ≡ Done zero (renamed_to (info_set w x name.now info.entry.owner found.1) x name.now new)) }
+    ensures err { IfErr result (λ fault. let new = option_map (λ n. n.now) new_name.entry in
+        Answers (set_property_info (world_in (R.held rows.now)) programmer x name.now (info.entry.owner, info.entry.perms.now) new)
+        (R.held rows.now) (Err fault)) }
     ensures held { IfOk result (λ found. is_some (get (R.held rows.now).maps.slots (x, found.0)) ≡ true) }
     ensures named { IfOk result (λ found. name_of (R.held rows.now).maps found.0 ≡ folded name.now) }
     ensures may { OnOk result (may_rename (world_in (R.held rows.now)) x name.now (option_map (λ n. n.now) new_name.entry) ≡ true) }
-    ensures told { IsTold (R.held rows.now).maps programmer (about_info x name.now info.entry.perms.now (option_map (λ n. n.now) new_name.entry)) result }
+    ensures told { let new = option_map (λ n. n.now) new_name.entry in
+        IsTold (R.held rows.now).maps programmer (about_info x name.now info.entry.perms.now new) result }
 {
     if !valid(rows, x) {
         return Err(Fault::Moo(Reason::NoObject(x)));
@@ -149,7 +153,8 @@ pub fn set_property_info<R: Rows>(
     ensures comes { ComesTo (set_property_info (world_in (R.held rows.old)) programmer x name.now (info.entry.owner, info.entry.perms.now)
         (option_map (λ n. n.now) new_name.entry)) (R.held rows.old) (R.held rows.new) result }
     ensures kept { OnOk result (Keeps (R.held rows.old) (R.held rows.new)) }
-    ensures told { IsTold (R.held rows.old).maps programmer (about_info x name.now info.entry.perms.now (option_map (λ n. n.now) new_name.entry)) result }
+    ensures told { let new = option_map (λ n. n.now) new_name.entry in
+        IsTold (R.held rows.old).maps programmer (about_info x name.now info.entry.perms.now new) result }
 {
     let (id, bits) = property_to_change(rows, programmer, x, name, info, new_name)?;
     let new = copy_of(alloc, new_name)?;

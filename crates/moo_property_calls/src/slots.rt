@@ -68,8 +68,10 @@ pub(crate) fn writable_slot<'a, R: Rows>(
     name: &MooStr,
 ) -> Result<FoundSlot<'a>, Reason>
     requires { IsGood (R.held rows.now).maps }
-    ensures slot { IfOk result (λ found. slot_of (world_in (R.held rows.now)) x (folded name.now) ≡ Some (slot_seen found.definer found.slot.now)) }
-    ensures may { IfOk result (λ found. may_write_slot (world_in (R.held rows.now)) programmer (slot_seen found.definer found.slot.now) ≡ true) }
+    ensures slot { IfOk result (λ found.
+        slot_of (world_in (R.held rows.now)) x (folded name.now) ≡ Some (slot_seen found.definer found.slot.now)) }
+    ensures may { IfOk result (λ found.
+        may_write_slot (world_in (R.held rows.now)) programmer (slot_seen found.definer found.slot.now) ≡ true) }
     ensures err { IfErr result (λ reason. (then : Slot → Outcome World) →
         writing_slot (world_in (R.held rows.now)) programmer x name.now then ≡ Failed (error_of reason)) }
     ensures held { IfOk result (λ found. is_some (get (R.held rows.now).maps.slots (x, found.id)) ≡ true) }

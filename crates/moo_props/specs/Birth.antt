@@ -12,4 +12,7 @@ new_row parent owner = plain_row [] owner parent
 
 -- what is held once its row is put
 abbrev pub with_new_row : ObjNo → ObjNo → ObjNo → Held → Held
-with_new_row object parent owner held = wrote held (record (held.maps) { head = record (held.maps.head) { top = object.0 }; objects = insert held.maps.objects object (new_row parent owner) })
+with_new_row object parent owner held = wrote held (record (held.maps) {
+  head = record (held.maps.head) { top = object.0 };
+  objects = insert held.maps.objects object (new_row parent owner);
+})

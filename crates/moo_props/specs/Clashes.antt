@@ -13,7 +13,9 @@ use Rattle.moo_world.specs.World.{World, chain, property_names_of, defined_by_an
 
 -- the object itself defines a property of a name that the new parent or an ancestor of it defines
 abbrev pub meets_on : World → ObjNo → ObjNo → Bool
-meets_on world new_parent object = list_any (λ name. is_some (property_named (defined_by_any world (chain world new_parent)) (folded name))) (property_names_of world object)
+meets_on world new_parent object =
+    list_any (λ name. is_some (property_named (defined_by_any world (chain world new_parent)) (folded name)))
+    (property_names_of world object)
 
 -- the definer, which is the object, above it or under it, itself defines a property of the name
 abbrev pub IsTaken : World → ObjNo → Name → ObjNo → Type 0
@@ -23,7 +25,8 @@ IsTaken world object name definer =
 -- the definer itself defines this property, and the new parent has one of its name
 abbrev pub IsShared : Maps → ObjNo → ObjNo → PropId → Type 0
 IsShared maps new_parent definer property =
-    (row : PropRow) × (get maps.props property ≡ Some row) × (row.definer ≡ definer) × (is_some (slot_of (world_of maps) new_parent (folded row.name)) ≡ true)
+    (row : PropRow) × (get maps.props property ≡ Some row) × (row.definer ≡ definer)
+    × (is_some (slot_of (world_of maps) new_parent (folded row.name)) ≡ true)
 
 -- and the definer is the object or under it
 abbrev pub SharesProperty : Maps → ObjNo → ObjNo → ObjNo → PropId → Type 0

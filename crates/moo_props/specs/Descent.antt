@@ -33,7 +33,8 @@ branches maps objects = flat_map (λ object. object ∷ descendants maps object)
 -- what comes after an object and all that is below it, up to the end of the subtree of the top, by the ancestors of the object
 abbrev pub after_branch : Maps → ObjNo → ObjNo → List ObjNo → List ObjNo
 after_branch maps top object [] = []
-after_branch maps top object (parent ∷ ancestors) = if same_object top object then [] else branches maps (children_past maps parent object) ++ after_branch maps top parent ancestors
+after_branch maps top object (parent ∷ ancestors) =
+    if same_object top object then [] else branches maps (children_past maps parent object) ++ after_branch maps top parent ancestors
 
 abbrev pub after_below : Maps → ObjNo → ObjNo → List ObjNo
 after_below maps top object = after_branch maps top object (drop 1 (chain (world_of maps) object))

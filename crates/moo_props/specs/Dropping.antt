@@ -47,13 +47,17 @@ dropped_over object all own (pair ∷ pairs) = keys_on pair.0 (ids_for object al
 
 -- a row that has the object as parent or place no more
 abbrev pub released_row : ObjNo → ObjNo → ObjRow → ObjRow
-released_row object parent row = record row { parent = if same_object object row.parent then parent else row.parent; location = if same_object object row.location then nothing else row.location }
+released_row object parent row = record row {
+  parent = if same_object object row.parent then parent else row.parent;
+  location = if same_object object row.location then nothing else row.location;
+}
 
 -- ---- what is held after each step
 
 abbrev pub slots_dropped : ObjNo → List PropId → List PropId → List (ObjNo × ObjNo) → Held → Held
 slots_dropped object all own [] held = held
-slots_dropped object all own (pair ∷ pairs) held = slots_dropped object all own pairs (without_on pair.0 (ids_for object all own pair.0) held)
+slots_dropped object all own (pair ∷ pairs) held =
+    slots_dropped object all own pairs (without_on pair.0 (ids_for object all own pair.0) held)
 
 abbrev pub props_removed : List PropId → Held → Held
 props_removed [] held = held
@@ -66,7 +70,8 @@ verbs_removed (key ∷ keys) held = verbs_removed keys (wrote held (record (held
 -- with the other's row released, if it has one
 abbrev pub with_released : ObjNo → ObjNo → ObjNo → Held → Option ObjRow → Held
 with_released object parent other held None = held
-with_released object parent other held (Some row) = wrote held (record (held.maps) { objects = insert held.maps.objects other (released_row object parent row) })
+with_released object parent other held (Some row) =
+    wrote held (record (held.maps) { objects = insert held.maps.objects other (released_row object parent row) })
 
 abbrev pub row_released : ObjNo → ObjNo → ObjNo → Held → Held
 row_released object parent other held = with_released object parent other held (get held.maps.objects other)

@@ -7,4 +7,5 @@ use Rattle.moo_world.specs.Objects.{Name}
 
 -- what is held once a property that the object defines has the name
 abbrev pub with_name : ObjNo → PropId → Name → Held → Held
-with_name object id name held = wrote held (record (held.maps) { props = insert held.maps.props id (record { definer = object; name = name }) })
+with_name object id name held =
+    wrote held (record (held.maps) { props = insert held.maps.props id (record { definer = object; name = name }) })

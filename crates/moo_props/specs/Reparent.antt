@@ -31,13 +31,17 @@ is_defined_only these others maps id = unwrap_or (option_map (λ row. is_only_of
 -- on each of these objects without the slots of some properties, and with fresh ones
 abbrev pub slots_moved : List PropId → List Origin → List (ObjNo × ObjNo) → Held → Held
 slots_moved lost gained [] held = held
-slots_moved lost gained (pair ∷ pairs) held = slots_moved lost gained pairs (with_fresh pair.0 pair.1 gained (without_on pair.0 lost held))
+slots_moved lost gained (pair ∷ pairs) held =
+    slots_moved lost gained pairs (with_fresh pair.0 pair.1 gained (without_on pair.0 lost held))
 
 -- ---- the parent link
 
 -- the object's row with the new parent is put, unless that is its parent
 abbrev pub relinked : ObjNo → ObjRow → ObjNo → Held → Held
-relinked object row new_parent held = if same_object row.parent new_parent then held else wrote held (record (held.maps) { objects = insert held.maps.objects object (record row { parent = new_parent }) })
+relinked object row new_parent held =
+    if same_object row.parent new_parent
+    then held
+    else wrote held (record (held.maps) { objects = insert held.maps.objects object (record row { parent = new_parent }) })
 
 abbrev pub relinked_list : ObjNo → ObjRow → ObjNo → List ObjNo
 relinked_list object row new_parent = if same_object row.parent new_parent then [] else object ∷ []

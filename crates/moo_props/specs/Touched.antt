@@ -1,5 +1,5 @@
 -- What a change of parent touches, key by key.
-use Rattle.std.specs.Prelude.{◌≡◌, Bool, false, List, [], map, Option, None, unwrap_or, if◌then◌else◌}
+use Rattle.std.specs.Prelude.{◌≡◌, Bool, false, ℕ, ◌+◌, List, [], length, map, Option, None, unwrap_or, if◌then◌else◌}
 use Rattle.std.specs.Option.{option_map}
 use Rattle.std.specs.List.{filter}
 use Rattle.std.specs.FinMap.{FinMap, get, entries}
@@ -8,14 +8,16 @@ use Rattle.moo_rows.specs.declared.row.ObjRow.{ObjRow}
 use Rattle.moo_rows.specs.declared.row.PropId.{PropId}
 use Rattle.moo_rows.specs.declared.row.PropRow.{PropRow}
 use Rattle.moo_rows.specs.declared.row.SlotRow.{SlotRow}
-use Rattle.moo_rows.specs.Maps.{Maps, prop_cmp}
+use Rattle.moo_rows.specs.Maps.{Maps, prop_cmp, slot_cmp}
 use Rattle.moo_world.specs.Objects.{same_object, is_among}
 use Rattle.moo_world.specs.World.{chain, owner_of}
 use Rattle.moo_world.specs.Rows.{world_of}
 use Rattle.moo_world.specs.Manual.{lost, gained}
 use Rattle.moo_tree.specs.Under.{owners_under}
+use Rattle.moo_props.specs.Present.{ArePresent, AreAbsent, AreAscending}
 use Rattle.moo_props.specs.Reparent.{relinked_list}
 use Rattle.moo_props.specs.Slots.{fresh_row, keys_over}
+use Rattle.moo_props.specs.declared.reparenting.Touched.{Touched}
 
 -- the properties of these entries that objects of a list define
 abbrev pub props_among : List ObjNo → List (PropId × PropRow) → List PropId
@@ -53,8 +55,35 @@ slot_after maps object new_parent key =
 
 -- the row of another object after the object is put under the new parent
 abbrev pub row_after : Maps → ObjNo → ObjNo → ObjNo → Option ObjRow
-row_after maps object new_parent other = option_map (λ row. if same_object object other then record row { parent = new_parent } else row) (get maps.objects other)
+row_after maps object new_parent other =
+    option_map (λ row. if same_object object other then record row { parent = new_parent } else row) (get maps.objects other)
 
 -- the head, the properties, the verbs and the petitions are as they were
 abbrev pub IsSameButSlotsAndObjects : Maps → Maps → Type 0
 IsSameButSlotsAndObjects old new = new ≡ record old { objects = new.objects; slots = new.slots }
+
+-- ---- what a change of parent leaves
+
+-- What is listed is the slots that go, those that come, and the object if it has another parent, the slots ascending. Each slot that goes
+-- was there, and none that comes was.
+pub record ListsTouched (old : Maps) (object new_parent : ObjNo) (touched : Touched) : Type 0 where
+  pub removed : touched.removed ≡ removed_keys old object new_parent
+  pub added : touched.added ≡ added_keys old object new_parent
+  pub relinked : touched.relinked ≡ relinked_objects old object new_parent
+  pub removed_order : AreAscending slot_cmp touched.removed
+  pub added_order : AreAscending slot_cmp touched.added
+  pub had : ArePresent old.slots (removed_keys old object new_parent)
+  pub lacked : AreAbsent old.slots (added_keys old object new_parent)
+
+-- The slots that go are gone, and those that come are there. Each slot and each object is as it is after this change, and the rest is as
+-- it was.
+pub record LeavesTouched (old : Maps) (object new_parent : ObjNo) (new : Maps) : Type 0 where
+  pub gone : AreAbsent new.slots (removed_keys old object new_parent)
+  pub came : ArePresent new.slots (added_keys old object new_parent)
+  pub slots : (key : ObjNo × PropId) → get new.slots key ≡ slot_after old object new_parent key
+  pub objects : (other : ObjNo) → get new.objects other ≡ row_after old object new_parent other
+  pub rest : IsSameButSlotsAndObjects old new
+
+-- how many rows are listed
+abbrev pub rows_touched : Touched → ℕ
+rows_touched touched = length touched.removed + length touched.added + length touched.relinked

@@ -48,7 +48,8 @@ pub fn make<R: Rows>(
     requires parent { (is_object (world_of (R.held rows.old).maps) parent || same_object nothing parent) ≡ true }
     ensures world { OnOk result (world_of (R.held rows.new).maps ≡ created (world_of (R.held rows.old).maps) x parent owner) }
     ensures kept { OnOk result (Keeps (R.held rows.old) (R.held rows.new)) }
-    ensures reads { OnOk result ((o : ObjNo) (n : Name) → is_object (world_of (R.held rows.old).maps) o ≡ true → read_of (world_of (R.held rows.new).maps) o n ≡ read_of (world_of (R.held rows.old).maps) o n) }
+    ensures reads { OnOk result ((o : ObjNo) (n : Name) → is_object (world_of (R.held rows.old).maps) o ≡ true →
+        read_of (world_of (R.held rows.new).maps) o n ≡ read_of (world_of (R.held rows.old).maps) o n) }
 {
     let inherited = origins_on(alloc, rows, parent)?;
     put_new(alloc, rows, x, parent, owner)?;

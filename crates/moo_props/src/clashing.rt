@@ -28,7 +28,8 @@ fn defines_named<R: Rows>(rows: &R, y: ObjNo, name: &MooStr, hash: u64) -> bool
 /// The first among x and its descendants that defines a property of the name.
 fn is_defined_under<R: Rows>(rows: &R, x: ObjNo, name: &MooStr) -> Option<ObjNo>
     requires { IsGood (R.held rows.now).maps }
-    ensures exact { let w = world_of (R.held rows.now).maps in is_some result ≡ is_some (property_named (defined_by_any w (subtree_of w x)) (folded name.now)) }
+    ensures exact { let w = world_of (R.held rows.now).maps in
+        is_some result ≡ is_some (property_named (defined_by_any w (subtree_of w x)) (folded name.now)) }
     ensures under { IfSome result (λ y. is_among x (chain (world_of (R.held rows.now).maps) y) ≡ true) }
     ensures defines { IfSome result (λ y. defines_name (world_of (R.held rows.now).maps) y name.now ≡ true) }
 {

@@ -65,10 +65,12 @@ pub fn define<R: Rows>(
     requires free { clashes (world_of (R.held rows.old).maps) x name ≡ false }
     requires left { (R.held rows.old).maps.head.next_prop < 4294967295 }
     requires fit { fits value ≡ true }
-    ensures world { OnOk result (world_of (R.held rows.new).maps ≡ property_added (world_of (R.held rows.old).maps) x name (record { definer = x; owner = owner; bits = bits; state = SlotState.Set value })) }
+    ensures world { OnOk result (world_of (R.held rows.new).maps ≡ property_added (world_of (R.held rows.old).maps) x name
+        (record { definer = x; owner = owner; bits = bits; state = SlotState.Set value })) }
     ensures kept { OnOk result (Keeps (R.held rows.old) (R.held rows.new)) }
     ensures id { IfOk result (λ id. id.0 ≡ (R.held rows.old).maps.head.next_prop) }
-    ensures props { OnOk result ((R.held rows.new).maps.props ≡ insert (R.held rows.old).maps.props (prop_id (R.held rows.old).maps.head.next_prop) (record { definer = x; name = name })) }
+    ensures props { OnOk result (let old = (R.held rows.old).maps in
+        (R.held rows.new).maps.props ≡ insert old.props (prop_id old.head.next_prop) (record { definer = x; name = name })) }
 {
     let under = owners_under(alloc, rows, x)?;
     let id = put_definition(rows, x, name)?;

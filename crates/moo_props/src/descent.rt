@@ -52,7 +52,8 @@ pub(crate) fn next_under<R: Rows>(rows: &R, x: ObjNo, y: ObjNo) -> Option<ObjNo>
 /// Where the walk down from x begins: at x, if that is an object.
 pub(crate) fn subtree_top<R: Rows>(rows: &R, x: ObjNo) -> Option<ObjNo>
     requires tree { IsTree (world_of (R.held rows.now).maps) }
-    ensures top { (test : ObjNo → Bool) → list_any test (from_here (R.held rows.now).maps x result) ≡ list_any test (subtree_of (world_of (R.held rows.now).maps) x) }
+    ensures top { (test : ObjNo → Bool) →
+        list_any test (from_here (R.held rows.now).maps x result) ≡ list_any test (subtree_of (world_of (R.held rows.now).maps) x) }
     ensures under { IfSome result (λ z. is_among x (chain (world_of (R.held rows.now).maps) z) ≡ true) }
 {
     if valid(rows, x) { Some(x) } else { None }

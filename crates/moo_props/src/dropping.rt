@@ -1,20 +1,20 @@
 //! The end of an object.
 //! LambdaMOO Programmer's Manual, 'Fundamental Operations on Objects': `recycle`.
 
-ghost use Rattle.std.specs.Prelude.{◌≡◌, ◌≤◌, ◌+◌, ◌++◌, [], ◌∷◌, length, true, if◌then◌else◌, IfOk, OnOk};
+ghost use Rattle.std.specs.Prelude.{◌≡◌, ◌≤◌, ◌+◌, ◌++◌, [], ◌∷◌, true, if◌then◌else◌, IfOk, OnOk};
 ghost use Rattle.std.specs.FinMap.{get, entries};
 ghost use Rattle.moo_rows.specs.Links.{IsFirst};
-ghost use Rattle.moo_rows.specs.Maps.{object_cmp, prop_cmp, slot_cmp, verb_cmp, without_object};
+ghost use Rattle.moo_rows.specs.Maps.{object_cmp, without_object};
 ghost use Rattle.moo_rows.specs.Walk.{slots_of_left};
 ghost use Rattle.moo_tree.specs.Under.{owners_under};
 ghost use Rattle.moo_world.specs.Objects.{same_object};
 ghost use Rattle.moo_world.specs.Recycling.{recycled};
 ghost use Rattle.moo_world.specs.Rows.{world_of, IsGood};
 ghost use Rattle.moo_world.specs.World.{is_object};
-ghost use Rattle.moo_props.specs.Dropped.{dropped_keys, slot_left, prop_left, verb_left, row_left};
-ghost use Rattle.moo_props.specs.Dropping.{row_linked, released_row, ids_for, ids_among, verbs_among, linked_among, slots_dropped, dropped_over, props_removed, verbs_removed, row_released, rows_released};
+ghost use Rattle.moo_props.specs.Dropped.{ListsDropped, LeavesDropped, rows_dropped};
+ghost use Rattle.moo_props.specs.Dropping.{row_linked, released_row, row_released, rows_released, linked_among, verbs_among, ids_among};
+ghost use Rattle.moo_props.specs.Dropping.{ids_for, slots_dropped, dropped_over, props_removed, verbs_removed};
 ghost use Rattle.moo_world.specs.Keeps.{Keeps};
-ghost use Rattle.moo_props.specs.Present.{ArePresent, AreAbsent, AreAscending};
 ghost use Rattle.moo_props.specs.Touched.{props_of};
 
 use crate::slots::{SlotKeys, remove_on};
@@ -178,8 +178,10 @@ fn drop_under<R: Rows>(
     own: &[PropId],
 ) -> Result<SlotKeys, AllocError>
     requires { IsGood (R.held rows.old).maps }
-    ensures rows { OnOk result (R.held rows.new ≡ slots_dropped x (ids_among (slots_of_left x (record { 0 = 0 }) (R.held rows.old).maps)) own.now (owners_under (R.held rows.old).maps x) (R.held rows.old)) }
-    ensures list { IfOk result (λ keys. keys ≡ dropped_over x (ids_among (slots_of_left x (record { 0 = 0 }) (R.held rows.old).maps)) own.now (owners_under (R.held rows.old).maps x)) }
+    ensures rows { OnOk result (let old = (R.held rows.old).maps in R.held rows.new
+        ≡ slots_dropped x (ids_among (slots_of_left x (record { 0 = 0 }) old)) own.now (owners_under old x) (R.held rows.old)) }
+    ensures list { IfOk result (λ keys. let old = (R.held rows.old).maps in keys
+        ≡ dropped_over x (ids_among (slots_of_left x (record { 0 = 0 }) old)) own.now (owners_under old x)) }
 {
     let under = owners_under(alloc, rows, x)?;
     let all = ids_on(alloc, rows, x)?;
@@ -262,7 +264,8 @@ fn drop_rows<R: Rows>(
     verbs: &[(ObjNo, VerbId)],
     relinked: &[ObjNo],
 ) -> Result<(), AllocError>
-    ensures { OnOk result (R.held rows.new ≡ without_object (rows_released x parent relinked.now (verbs_removed verbs.now (props_removed own.now (R.held rows.old)))) x) }
+    ensures { OnOk result (R.held rows.new
+        ≡ without_object (rows_released x parent relinked.now (verbs_removed verbs.now (props_removed own.now (R.held rows.old)))) x) }
 {
     remove_props(rows, own)?;
     remove_verbs(rows, verbs)?;
@@ -278,25 +281,11 @@ fn drop_rows<R: Rows>(
 pub fn drop_object<R: Rows>(alloc: Global, rows: &mut R, x: ObjNo) -> Result<Dropped, AllocError>
     requires good { IsGood (R.held rows.old).maps }
     requires object { is_object (world_of (R.held rows.old).maps) x ≡ true }
-    ensures removed { IfOk result (λ dropped. dropped.removed ≡ dropped_keys (R.held rows.old).maps x) }
-    ensures props { IfOk result (λ dropped. dropped.props ≡ props_of (x ∷ []) (R.held rows.old).maps.props) }
-    ensures verbs { IfOk result (λ dropped. dropped.verbs ≡ verbs_among x (entries (R.held rows.old).maps.verbs)) }
-    ensures relinked { IfOk result (λ dropped. dropped.relinked ≡ linked_among x (entries (R.held rows.old).maps.objects)) }
-    ensures removed_order { IfOk result (λ dropped. AreAscending slot_cmp dropped.removed) }
-    ensures props_order { IfOk result (λ dropped. AreAscending prop_cmp dropped.props) }
-    ensures verbs_order { IfOk result (λ dropped. AreAscending verb_cmp dropped.verbs) }
-    ensures relinked_order { IfOk result (λ dropped. AreAscending object_cmp dropped.relinked) }
-    ensures had { OnOk result (ArePresent (R.held rows.old).maps.slots (dropped_keys (R.held rows.old).maps x)) }
-    ensures gone { OnOk result (AreAbsent (R.held rows.new).maps.slots (dropped_keys (R.held rows.old).maps x)) }
-    ensures stay { OnOk result (ArePresent (R.held rows.new).maps.objects (linked_among x (entries (R.held rows.old).maps.objects))) }
-    ensures slots_left { OnOk result ((key : ObjNo × PropId) → get (R.held rows.new).maps.slots key ≡ slot_left (R.held rows.old).maps x key) }
-    ensures props_left { OnOk result ((id : PropId) → get (R.held rows.new).maps.props id ≡ prop_left (R.held rows.old).maps x id) }
-    ensures verbs_left { OnOk result ((key : ObjNo × VerbId) → get (R.held rows.new).maps.verbs key ≡ verb_left (R.held rows.old).maps x key) }
-    ensures objects_left { OnOk result ((y : ObjNo) → get (R.held rows.new).maps.objects y ≡ row_left (R.held rows.old).maps x y) }
-    ensures head { OnOk result ((R.held rows.new).maps.head ≡ (R.held rows.old).maps.head) }
+    ensures lists { IfOk result (ListsDropped (R.held rows.old).maps x) }
+    ensures leaves { OnOk result (LeavesDropped (R.held rows.old).maps x (R.held rows.new).maps) }
     ensures world { OnOk result (world_of (R.held rows.new).maps ≡ recycled (world_of (R.held rows.old).maps) x) }
     ensures kept { OnOk result (Keeps (R.held rows.old) (R.held rows.new)) }
-    ensures writes { IfOk result (λ dropped. (R.held rows.new).writes ≤ (R.held rows.old).writes + (length dropped.removed + length dropped.props + length dropped.verbs + length dropped.relinked + 1)) }
+    ensures writes { IfOk result (λ dropped. (R.held rows.new).writes ≤ (R.held rows.old).writes + (rows_dropped dropped + 1)) }
 {
     let parent = match rows.object(x) {
         None => unreachable!(),

@@ -65,7 +65,8 @@ pub fn find<R: Rows>(rows: &R, x: ObjNo, name: &MooStr) -> Option<PropId>
 /// The slot on x of the property of a name. Names compare without ASCII case.
 pub fn slot_of<'a, R: Rows>(rows: &'a R, x: ObjNo, name: &MooStr) -> Option<FoundSlot<'a>>
     requires { IsGood (R.held rows.now).maps }
-    ensures slot { option_map (λ f. slot_seen f.definer f.slot.now) result ≡ slot_of (world_of (R.held rows.now).maps) x (folded name.now) }
+    ensures slot { option_map (λ f. slot_seen f.definer f.slot.now) result
+        ≡ slot_of (world_of (R.held rows.now).maps) x (folded name.now) }
     ensures held { IfSome result (λ f. is_some (get (R.held rows.now).maps.slots (x, f.id)) ≡ true) }
     ensures named { IfSome result (λ f. name_of (R.held rows.now).maps f.id ≡ folded name.now) }
 {

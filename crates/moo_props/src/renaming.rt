@@ -25,7 +25,8 @@ pub fn rename<R: Rows>(rows: &mut R, x: ObjNo, id: PropId, name: MooStr) -> Resu
     requires name { is_property_name name ≡ true }
     requires free { clashes (world_of (R.held rows.old).maps) x name ≡ false }
     ensures rows { OnOk result (R.held rows.new ≡ with_name x id name (R.held rows.old)) }
-    ensures world { OnOk result (world_of (R.held rows.new).maps ≡ property_renamed (world_of (R.held rows.old).maps) x (spelling_of (R.held rows.old).maps id) name) }
+    ensures world { OnOk result (world_of (R.held rows.new).maps
+        ≡ property_renamed (world_of (R.held rows.old).maps) x (spelling_of (R.held rows.old).maps id) name) }
     ensures kept { OnOk result (Keeps (R.held rows.old) (R.held rows.new)) }
     ensures err { OnErr result (R.held rows.new ≡ R.held rows.old) }
 {

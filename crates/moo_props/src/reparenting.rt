@@ -1,8 +1,7 @@
 //! A change of parent.
 
-ghost use Rattle.std.specs.Prelude.{◌≡◌, true, ◌++◌, ◌+◌, ◌≤◌, map, length, IfOk, OnOk};
-ghost use Rattle.std.specs.FinMap.{get, entries};
-ghost use Rattle.moo_rows.specs.Maps.{slot_cmp};
+ghost use Rattle.std.specs.Prelude.{◌≡◌, true, ◌++◌, ◌+◌, ◌≤◌, map, IfOk, OnOk};
+ghost use Rattle.std.specs.FinMap.{entries};
 ghost use Rattle.moo_tree.specs.Under.{owners_under};
 ghost use Rattle.moo_world.specs.Objects.{is_among};
 ghost use Rattle.moo_world.specs.World.{chain, reparented};
@@ -11,8 +10,7 @@ ghost use Rattle.moo_world.specs.Laws.{MayReparent};
 ghost use Rattle.moo_world.specs.Keeps.{Keeps};
 ghost use Rattle.moo_props.specs.Reparent.{is_defined_only, props_only_of, slots_moved, relinked, relinked_list};
 ghost use Rattle.moo_props.specs.Slots.{id_of, keys_over, origins};
-ghost use Rattle.moo_props.specs.Present.{ArePresent, AreAbsent, AreAscending};
-ghost use Rattle.moo_props.specs.Touched.{removed_keys, added_keys, relinked_objects, slot_after, row_after, IsSameButSlotsAndObjects};
+ghost use Rattle.moo_props.specs.Touched.{ListsTouched, LeavesTouched, rows_touched};
 
 use crate::slots::{Origin, SlotKeys, list_on, origins, put_fresh, remove_on};
 use moo_rows::{ObjList, ObjRow, PropId, Row, Rows, each_slot_of};
@@ -98,9 +96,12 @@ fn turnover<R: Rows>(
     new: ObjNo,
 ) -> Result<(Vec<PropId>, Vec<Origin>), AllocError>
     requires good { IsGood (R.held rows.now).maps }
-    requires above { (d : ObjNo) → is_among d (chain (world_of (R.held rows.now).maps) parent) ≡ true → is_among d (chain (world_of (R.held rows.now).maps) x) ≡ true }
-    ensures lost { IfOk result (λ both. both.0.items ≡ props_only_of (chain (world_of (R.held rows.now).maps) parent) (chain (world_of (R.held rows.now).maps) new) (entries (R.held rows.now).maps.props)) }
-    ensures gained { IfOk result (λ both. both.1.items ≡ origins (R.held rows.now).maps.slots new (props_only_of (chain (world_of (R.held rows.now).maps) new) (chain (world_of (R.held rows.now).maps) parent) (entries (R.held rows.now).maps.props))) }
+    requires above { (d : ObjNo) → is_among d (chain (world_of (R.held rows.now).maps) parent) ≡ true →
+        is_among d (chain (world_of (R.held rows.now).maps) x) ≡ true }
+    ensures lost { IfOk result (λ both. let w = world_of (R.held rows.now).maps in
+        both.0.items ≡ props_only_of (chain w parent) (chain w new) (entries (R.held rows.now).maps.props)) }
+    ensures gained { IfOk result (λ both. let maps = (R.held rows.now).maps in let w = world_of maps in
+        both.1.items ≡ origins maps.slots new (props_only_of (chain w new) (chain w parent) (entries maps.props))) }
 {
     let above = chain(alloc, rows, parent)?;
     let ahead = chain(alloc, rows, new)?;
@@ -119,7 +120,8 @@ fn move_under<R: Rows>(
     gained: &[Origin],
 ) -> Result<(SlotKeys, SlotKeys), AllocError>
     requires { IsGood (R.held rows.old).maps }
-    ensures rows { OnOk result (R.held rows.new ≡ slots_moved lost.now gained.now (owners_under (R.held rows.old).maps x) (R.held rows.old)) }
+    ensures rows { OnOk result (R.held rows.new
+        ≡ slots_moved lost.now gained.now (owners_under (R.held rows.old).maps x) (R.held rows.old)) }
     ensures removed { IfOk result (λ both. both.0 ≡ keys_over lost.now (owners_under (R.held rows.old).maps x)) }
     ensures added { IfOk result (λ both. both.1 ≡ keys_over (map id_of gained.now) (owners_under (R.held rows.old).maps x)) }
 {
@@ -173,21 +175,11 @@ pub fn reparent<R: Rows>(
 ) -> Result<Touched, AllocError>
     requires good { IsGood (R.held rows.old).maps }
     requires may { MayReparent (world_of (R.held rows.old).maps) x new }
-    ensures removed { IfOk result (λ touched. touched.removed ≡ removed_keys (R.held rows.old).maps x new) }
-    ensures added { IfOk result (λ touched. touched.added ≡ added_keys (R.held rows.old).maps x new) }
-    ensures relinked { IfOk result (λ touched. touched.relinked ≡ relinked_objects (R.held rows.old).maps x new) }
-    ensures removed_order { IfOk result (λ touched. AreAscending slot_cmp touched.removed) }
-    ensures added_order { IfOk result (λ touched. AreAscending slot_cmp touched.added) }
-    ensures had { OnOk result (ArePresent (R.held rows.old).maps.slots (removed_keys (R.held rows.old).maps x new)) }
-    ensures gone { OnOk result (AreAbsent (R.held rows.new).maps.slots (removed_keys (R.held rows.old).maps x new)) }
-    ensures lacked { OnOk result (AreAbsent (R.held rows.old).maps.slots (added_keys (R.held rows.old).maps x new)) }
-    ensures came { OnOk result (ArePresent (R.held rows.new).maps.slots (added_keys (R.held rows.old).maps x new)) }
-    ensures slots { OnOk result ((key : ObjNo × PropId) → get (R.held rows.new).maps.slots key ≡ slot_after (R.held rows.old).maps x new key) }
-    ensures objects { OnOk result ((y : ObjNo) → get (R.held rows.new).maps.objects y ≡ row_after (R.held rows.old).maps x new y) }
-    ensures rest { OnOk result (IsSameButSlotsAndObjects (R.held rows.old).maps (R.held rows.new).maps) }
+    ensures lists { IfOk result (ListsTouched (R.held rows.old).maps x new) }
+    ensures leaves { OnOk result (LeavesTouched (R.held rows.old).maps x new (R.held rows.new).maps) }
     ensures world { OnOk result (world_of (R.held rows.new).maps ≡ reparented (world_of (R.held rows.old).maps) x new) }
     ensures kept { OnOk result (Keeps (R.held rows.old) (R.held rows.new)) }
-    ensures writes { IfOk result (λ touched. (R.held rows.new).writes ≤ (R.held rows.old).writes + (length touched.removed + length touched.added + length touched.relinked)) }
+    ensures writes { IfOk result (λ touched. (R.held rows.new).writes ≤ (R.held rows.old).writes + rows_touched touched) }
 {
     let row = match rows.object(x) {
         None => unreachable!(),

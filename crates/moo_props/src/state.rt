@@ -25,7 +25,8 @@ pub(crate) fn put_state<R: Rows>(
     requires has { is_some (get (R.held rows.old).maps.slots (x, id)) ≡ true }
     requires set { state ≡ SlotState.Clear → defines (R.held rows.old).maps x id ≡ false }
     requires fit { state_fits state ≡ true }
-    ensures world { OnOk result (world_of (R.held rows.new).maps ≡ with_slot_of (world_of (R.held rows.old).maps) x (spelling_of (R.held rows.old).maps id) (λ s. record s { state = state })) }
+    ensures world { OnOk result (world_of (R.held rows.new).maps
+        ≡ with_slot_of (world_of (R.held rows.old).maps) x (spelling_of (R.held rows.old).maps id) (λ s. record s { state = state })) }
     ensures kept { OnOk result (Keeps (R.held rows.old) (R.held rows.new)) }
     ensures rest { OnOk result (IsSameButSlots (R.held rows.old).maps (R.held rows.new).maps) }
 {
@@ -47,7 +48,8 @@ pub fn set_value<R: Rows>(
     requires good { IsGood (R.held rows.old).maps }
     requires fit { fits value ≡ true }
     requires has { is_some (get (R.held rows.old).maps.slots (x, id)) ≡ true }
-    ensures world { OnOk result (world_of (R.held rows.new).maps ≡ value_set (world_of (R.held rows.old).maps) x (spelling_of (R.held rows.old).maps id) value) }
+    ensures world { OnOk result (world_of (R.held rows.new).maps
+        ≡ value_set (world_of (R.held rows.old).maps) x (spelling_of (R.held rows.old).maps id) value) }
     ensures kept { OnOk result (Keeps (R.held rows.old) (R.held rows.new)) }
 {
     put_state(rows, x, id, SlotState::Set(value))
@@ -58,7 +60,8 @@ pub fn clear<R: Rows>(rows: &mut R, x: ObjNo, id: PropId) -> Result<(), AllocErr
     requires good { IsGood (R.held rows.old).maps }
     requires has { is_some (get (R.held rows.old).maps.slots (x, id)) ≡ true }
     requires inherited { defines (R.held rows.old).maps x id ≡ false }
-    ensures world { OnOk result (world_of (R.held rows.new).maps ≡ cleared (world_of (R.held rows.old).maps) x (spelling_of (R.held rows.old).maps id)) }
+    ensures world { OnOk result (world_of (R.held rows.new).maps
+        ≡ cleared (world_of (R.held rows.old).maps) x (spelling_of (R.held rows.old).maps id)) }
     ensures kept { OnOk result (Keeps (R.held rows.old) (R.held rows.new)) }
 {
     put_state(rows, x, id, SlotState::Clear)
@@ -75,7 +78,8 @@ pub fn set_info<R: Rows>(
 ) -> Result<(), AllocError>
     requires good { IsGood (R.held rows.old).maps }
     requires has { is_some (get (R.held rows.old).maps.slots (x, id)) ≡ true }
-    ensures world { OnOk result (world_of (R.held rows.new).maps ≡ info_set (world_of (R.held rows.old).maps) x (spelling_of (R.held rows.old).maps id) owner bits) }
+    ensures world { OnOk result (world_of (R.held rows.new).maps
+        ≡ info_set (world_of (R.held rows.old).maps) x (spelling_of (R.held rows.old).maps id) owner bits) }
     ensures kept { OnOk result (Keeps (R.held rows.old) (R.held rows.new)) }
     ensures rest { OnOk result (IsSameButSlots (R.held rows.old).maps (R.held rows.new).maps) }
 {

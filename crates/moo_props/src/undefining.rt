@@ -40,7 +40,8 @@ pub fn undefine<R: Rows>(
 ) -> Result<(), AllocError>
     requires good { IsGood (R.held rows.old).maps }
     requires own { defines (R.held rows.old).maps x id ≡ true }
-    ensures world { OnOk result (world_of (R.held rows.new).maps ≡ property_removed (world_of (R.held rows.old).maps) x (spelling_of (R.held rows.old).maps id)) }
+    ensures world { OnOk result (world_of (R.held rows.new).maps
+        ≡ property_removed (world_of (R.held rows.old).maps) x (spelling_of (R.held rows.old).maps id)) }
     ensures kept { OnOk result (Keeps (R.held rows.old) (R.held rows.new)) }
     ensures props { OnOk result ((R.held rows.new).maps.props ≡ remove (R.held rows.old).maps.props id) }
 {

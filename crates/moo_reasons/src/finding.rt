@@ -1,9 +1,9 @@
-//! The check at which a call failed, by doing the batch again up to it.
+//! Why a call is refused: the check at which it failed, by doing the batch again up to it.
 
 ghost use Rattle.std.specs.Prelude.{◌≡◌, true};
 ghost use Rattle.moo_world.specs.Rows.{IsGood};
 
-use crate::given::given_by;
+use crate::given::{FIRST, Given, SECOND, given_by, object_at};
 use crate::granted::{calls_granted, tell_held};
 use crate::nearest::{nearest_property, tell_nearest};
 use crate::shown::Said;
@@ -11,49 +11,52 @@ use crate::telling::tell;
 use moo_batch::step;
 use moo_call_parts::Fault;
 use moo_memory::Draft;
-use moo_rows::Rows;
-use moo_value::ObjNo;
+use moo_rows::{ObjRow, Rows};
+use moo_value::Code;
 use moo_world::{Batch, Call, CallName};
 use std::alloc::{AllocError, Global};
 
-/// Whether a call changes nothing, whatever it answers.
-fn only_reads(name: CallName) -> bool {
-    matches!(
-        name,
-        CallName::Valid
-            | CallName::Parent
-            | CallName::Children
-            | CallName::IsPlayer
-            | CallName::Players
-            | CallName::MaxObject
-            | CallName::Get
-            | CallName::Properties
-            | CallName::PropertyInfo
-            | CallName::IsClearProperty
-            | CallName::Verbs
-            | CallName::VerbInfo
-            | CallName::VerbArgs
-            | CallName::AcceptList
-            | CallName::Petitions
-    )
+/// The row of the object that a call begins with, if there is one.
+fn first_row<'a, R: Rows>(rows: &'a R, given: Given<'_>) -> Option<&'a ObjRow> {
+    rows.object(object_at(given, FIRST)?)
 }
 
-/// Does the first calls on a draft, so many of them, but for those that only read; whether all of these were done.
-fn do_calls<R: Rows>(
-    rows: &mut R,
-    alloc: Global,
-    programmer: ObjNo,
-    calls: &[Call],
-    count: usize,
-) -> bool
+/// Whether a call of those before the refused one, each of which is done, leaves these rows as they are: it only reads, or puts an object
+/// where it is already.
+fn is_idle<R: Rows>(rows: &R, given: Given<'_>) -> bool {
+    let to = object_at(given, SECOND);
+    match given.name {
+        CallName::Chparent => first_row(rows, given).map(|row| row.parent) == to,
+        CallName::Move => first_row(rows, given).map(|row| row.location) == to,
+        CallName::Valid
+        | CallName::Parent
+        | CallName::Children
+        | CallName::IsPlayer
+        | CallName::Players
+        | CallName::MaxObject
+        | CallName::Get
+        | CallName::Properties
+        | CallName::PropertyInfo
+        | CallName::IsClearProperty
+        | CallName::Verbs
+        | CallName::VerbInfo
+        | CallName::VerbArgs
+        | CallName::AcceptList
+        | CallName::Petitions => true,
+        _ => false,
+    }
+}
+
+/// Does the first calls of a batch on a draft, so many of them, but for those that leave it as it is; whether all of these were done.
+fn do_calls<R: Rows>(rows: &mut R, alloc: Global, batch: &Batch, count: usize) -> bool
     requires { IsGood (R.held rows.old).maps }
     ensures { result ≡ true → IsGood (R.held rows.new).maps }
 {
-    for call in calls.iter().take(count) {
-        if only_reads(call.name) {
+    for call in batch.calls.items().iter().take(count) {
+        if is_idle(rows, given_by(batch.programmer, call)) {
             continue;
         }
-        match step(rows, alloc, programmer, call) {
+        match step(rows, alloc, batch.programmer, call) {
             Ok(_) => {}
             Err(_) => return false,
         }
@@ -72,8 +75,7 @@ fn tell_after<R: Rows>(
 ) -> Result<(), AllocError>
     requires { IsGood (R.held rows.old).maps }
 {
-    let calls = batch.calls.items();
-    if !do_calls(rows, said.alloc, batch.programmer, calls, place) {
+    if !do_calls(rows, said.alloc, batch, place) {
         return Ok(());
     }
     let given = given_by(batch.programmer, call);
@@ -89,16 +91,27 @@ fn tell_after<R: Rows>(
     }
 }
 
-/// The same on a draft over these rows.
-pub(crate) fn tell_refusal<R: Rows>(
-    said: &mut Said,
+/// The call of a batch with its values, the error with which it is refused, and why: which check failed in the world of these rows, after
+/// the calls before it. The first call is 1. AllocError: memory ran out.
+pub(crate) fn refusal<R: Rows>(
+    alloc: Global,
     rows: &R,
     batch: &Batch,
-    place: usize,
-    call: &Call,
-) -> Result<(), AllocError>
+    number: u32,
+    code: Code,
+) -> Result<Said, AllocError>
     requires { IsGood (R.held rows.now).maps }
 {
-    let mut draft = Draft::new(said.alloc, rows);
-    tell_after(said, &mut draft, batch, place, call)
+    let mut said = Said::new(alloc);
+    let place = (number as usize).saturating_sub(1);
+    let Some(call) = batch.calls.items().get(place) else {
+        said.put(code.name().as_bytes())?;
+        return Ok(said);
+    };
+    said.put_call(call.name, call.args.items())?;
+    said.put(b": ")?;
+    said.put(code.name().as_bytes())?;
+    let mut draft = Draft::new(alloc, rows);
+    tell_after(&mut said, &mut draft, batch, place, call)?;
+    Ok(said)
 }

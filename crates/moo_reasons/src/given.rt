@@ -49,12 +49,17 @@ pub(crate) fn value_at<'a>(given: Given<'a>, position: Position) -> Option<&'a V
     }
 }
 
+/// The object there, if there is one.
+pub(crate) fn object_at(given: Given<'_>, position: Position) -> Option<ObjNo> {
+    match value_at(given, position) {
+        Some(Value::Obj(object)) => Some(*object),
+        _ => None,
+    }
+}
+
 /// Whether it is the object that the call begins with.
 pub(crate) fn is_first(given: Given<'_>, object: ObjNo) -> bool {
-    match value_at(given, FIRST) {
-        Some(Value::Obj(first)) => *first == object,
-        _ => false,
-    }
+    object_at(given, FIRST) == Some(object)
 }
 
 /// The text there, if there is one.
@@ -74,14 +79,6 @@ pub(crate) fn built_in_at(given: Given<'_>) -> Option<BuiltIn> {
 pub(crate) fn list_at<'a>(given: Given<'a>, position: Position) -> Option<&'a ValueList> {
     match value_at(given, position) {
         Some(Value::List(list)) => Some(list),
-        _ => None,
-    }
-}
-
-/// The number that the call begins with, if it begins with one.
-pub(crate) fn first_number(given: Given<'_>) -> Option<i64> {
-    match value_at(given, FIRST) {
-        Some(Value::Int(number)) => Some(*number),
         _ => None,
     }
 }

@@ -1,8 +1,8 @@
 //! Which call of a petition is refused when it is granted.
 
-use crate::given::{Given, first_number};
+use crate::given::{FIRST, Given, value_at};
 use crate::shown::Said;
-use crate::telling::tell;
+use crate::telling::{put_some, tell};
 use moo_batch::held_call;
 use moo_call_parts::Reason;
 use moo_rows::{PetitionId, PetitionRow, Rows};
@@ -10,15 +10,12 @@ use moo_value::{Value, ValueList};
 use moo_world::CallName;
 use std::alloc::AllocError;
 
-/// The petition of a number, if there is one.
-fn petition_at<R: Rows>(rows: &R, number: i64) -> Option<&PetitionRow> {
-    rows.petition(PetitionId(u32::try_from(number).ok()?))
-}
-
 /// The petition that a call grants, if it is a grant and the petition is there.
 fn petition_granted<'a, R: Rows>(rows: &'a R, given: Given<'_>) -> Option<&'a PetitionRow> {
-    match given.name {
-        CallName::Grant => petition_at(rows, first_number(given)?),
+    match (given.name, value_at(given, FIRST)) {
+        (CallName::Grant, Some(Value::Int(number))) => {
+            rows.petition(PetitionId(u32::try_from(*number).ok()?))
+        }
         _ => None,
     }
 }
@@ -42,10 +39,7 @@ fn call_at(calls: &ValueList, place: u32) -> Option<(CallName, &[Value])> {
 /// Says of which petition a call is.
 fn put_petition(said: &mut Said, given: Given<'_>) -> Result<(), AllocError> {
     said.put(b" of petition ")?;
-    match first_number(given) {
-        Some(number) => said.put_number(number),
-        None => Ok(()),
-    }
+    put_some(said, value_at(given, FIRST))
 }
 
 /// Says after a comma which of the calls that a petition holds fails, and why, in the world of these rows.

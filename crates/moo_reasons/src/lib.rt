@@ -15,12 +15,10 @@ mod names;
 mod nearest;
 mod notes;
 mod plain;
-mod refusals;
 mod shown;
 mod telling;
 mod values;
 mod why;
-mod words;
 
 pub use notes::StandardNotes;
 pub use why::{call_why, reply_why};

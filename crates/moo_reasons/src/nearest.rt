@@ -2,7 +2,7 @@
 
 ghost use Rattle.moo_world.specs.Rows.{IsGood};
 
-use crate::given::{FIRST, Given, SECOND, text_at, value_at};
+use crate::given::{FIRST, Given, SECOND, object_at, text_at};
 use crate::names::near;
 use crate::shown::Said;
 use moo_call_parts::Reason;
@@ -10,7 +10,7 @@ use moo_call_parts::rights::may_read_object;
 use moo_props::find;
 use moo_rows::{PropId, Rows, each_defined};
 use moo_tree::chain;
-use moo_value::{MooStr, ObjNo, Value};
+use moo_value::{MooStr, ObjNo};
 use moo_world::{BuiltIn, CallName};
 use std::alloc::{AllocError, Global};
 
@@ -26,18 +26,7 @@ struct Nearest {
 }
 
 impl Nearest {
-    /// Takes a name if it is nearer than the one before.
-    fn offer(&mut self, alloc: Global, word: &MooStr, name: &MooStr) -> Result<(), AllocError> {
-        if let Some(changed) = near(word.bytes(), name.bytes()) {
-            if changed < self.least {
-                self.name = Some(name.copy(alloc)?);
-                self.least = changed;
-            }
-        }
-        Ok(())
-    }
-
-    /// Takes the names of the properties that an object defines, as far as they are looked at.
+    /// Takes the nearest name of the properties that an object defines, as far as they are looked at, if it is nearer than the one before.
     fn offer_defined<R: Rows>(
         &mut self,
         alloc: Global,
@@ -46,34 +35,28 @@ impl Nearest {
         word: &MooStr,
     ) -> Result<(), AllocError> {
         for (_id, row) in each_defined(rows, x, PropId(0)).take(self.left) {
-            self.offer(alloc, word, &row.name)?;
             self.left = self.left.saturating_sub(1);
+            let changed = near(word.bytes(), row.name.bytes()).unwrap_or(usize::MAX);
+            if changed < self.least {
+                self.name = Some(row.name.copy(alloc)?);
+                self.least = changed;
+            }
         }
         Ok(())
     }
 }
 
-/// The properties that the object of a call has, by those that define them; or that it defines itself, if the call is about these alone.
-fn definers<R: Rows>(
-    alloc: Global,
-    rows: &R,
-    given: Given<'_>,
-    x: ObjNo,
-) -> Result<Vec<ObjNo>, AllocError>
-    requires { IsGood (R.held rows.now).maps }
-{
-    match given.name {
+/// On how many objects, from that of a call upwards, a property of it may be defined: on all, or on the object itself. On none if the call
+/// isn't about a property.
+fn levels(name: CallName) -> usize {
+    match name {
         CallName::Get
         | CallName::Set
         | CallName::PropertyInfo
         | CallName::ClearProperty
-        | CallName::IsClearProperty => chain(alloc, rows, x),
-        CallName::DeleteProperty | CallName::SetPropertyInfo => {
-            let mut alone = Vec::new(alloc);
-            alone.push(x)?;
-            Ok(alone)
-        }
-        _ => Ok(Vec::new(alloc)),
+        | CallName::IsClearProperty => usize::MAX,
+        CallName::DeleteProperty | CallName::SetPropertyInfo => 1,
+        _ => 0,
     }
 }
 
@@ -86,13 +69,11 @@ pub(crate) fn nearest_property<R: Rows>(
 ) -> Result<Option<MooStr>, AllocError>
     requires { IsGood (R.held rows.now).maps }
 {
-    let Some(Value::Obj(x)) = value_at(given, FIRST) else {
+    let (Some(x), Some(word)) = (object_at(given, FIRST), text_at(given, SECOND)) else {
         return Ok(None);
     };
-    let Some(word) = text_at(given, SECOND) else {
-        return Ok(None);
-    };
-    if BuiltIn::of_name(word).is_some() || find(rows, *x, word).is_some() {
+    let levels = levels(given.name);
+    if levels == 0 || BuiltIn::of_name(word).is_some() || find(rows, x, word).is_some() {
         return Ok(None);
     }
     let mut nearest = Nearest {
@@ -100,7 +81,7 @@ pub(crate) fn nearest_property<R: Rows>(
         least: word.bytes().len(),
         left: MOST_LOOKED_AT,
     };
-    for definer in definers(alloc, rows, given, *x)?.iter() {
+    for definer in chain(alloc, rows, x)?.iter().take(levels) {
         if may_read_object(rows, given.programmer, *definer) {
             nearest.offer_defined(alloc, rows, *definer, word)?;
         }

@@ -3,10 +3,11 @@
 ghost use Rattle.std.specs.Prelude.{IfSome};
 ghost use Rattle.moo_world.specs.Rows.{IsGood};
 
-use crate::calls::call_reason;
-use crate::headers::header_reason;
-use crate::refusals::refusal_reason;
-use crate::words::{put_number, room_reason};
+use crate::calls::put_call_reason;
+use crate::finding::refusal;
+use crate::headers::put_header_reason;
+use crate::shown::Said;
+use crate::why::room_reason;
 use moo_rows::Rows;
 use moo_text::{Answer, Marks, Next, Notes, Reply};
 use std::alloc::{AllocError, Global};
@@ -26,55 +27,48 @@ pub struct StandardNotes<'a, C> {
     untold: u64,
 }
 
-/// Appends where a line is: its number, and its file if the text isn't standard input.
+/// Says where a line is: its number, and its file if the text isn't standard input.
 fn put_line_place(
-    alloc: Global,
+    said: &mut Said,
     path: Option<&str>,
     line: Option<u64>,
-    out: &mut Vec<u8>,
 ) -> Result<(), AllocError> {
-    out.extend_from_slice(b"moo: ")?;
+    said.put(b"moo: ")?;
     if let Some(path) = path {
-        out.extend_from_slice(path.as_bytes())?;
-        out.extend_from_slice(b": ")?;
+        said.put(path.as_bytes())?;
+        said.put(b": ")?;
     }
     if let Some(line) = line {
-        out.extend_from_slice(b"line ")?;
-        put_number(alloc, line, out)?;
-        out.extend_from_slice(b": ")?;
+        said.put(b"line ")?;
+        said.put_count(line)?;
+        said.put(b": ")?;
     }
     Ok(())
 }
 
-/// Appends why the first bad line of a batch is malformed, whether it is the header or not, and that it keeps a batch after it from being
-/// run.
-fn put_bad_line(
-    alloc: Global,
-    is_header: bool,
-    marks: &Marks,
-    out: &mut Vec<u8>,
-) -> Result<(), AllocError> {
+/// Says why the first bad line of a batch is malformed, whether it is the header or not, and that it keeps a batch after it from being run.
+fn put_bad_line(said: &mut Said, is_header: bool, marks: &Marks) -> Result<(), AllocError> {
     if is_header {
-        header_reason(alloc, marks.bad(), out)?;
+        put_header_reason(said, marks.bad())?;
     } else {
-        call_reason(alloc, marks.bad(), out)?;
+        put_call_reason(said, marks.bad())?;
     }
     if marks.swallows() {
-        out.extend_from_slice(b", and the batch after it wasn't run")?;
+        said.put(b", and the batch after it wasn't run")?;
     }
     Ok(())
 }
 
-/// Appends that the text ends inside a batch, and why a line of it is malformed, if one is.
-fn put_truncated(alloc: Global, marks: &Marks, out: &mut Vec<u8>) -> Result<(), AllocError> {
-    out.extend_from_slice(b"truncated: the text ends inside the batch that begins here")?;
+/// Says that the text ends inside a batch, and why a line of it is malformed, if one is.
+fn put_truncated(said: &mut Said, marks: &Marks) -> Result<(), AllocError> {
+    said.put(b"truncated: the text ends inside the batch that begins here")?;
     let Some(line) = marks.bad_line() else {
         return Ok(());
     };
-    out.extend_from_slice(b"; line ")?;
-    put_number(alloc, line, out)?;
-    out.extend_from_slice(b" is malformed: ")?;
-    put_bad_line(alloc, marks.header() == Some(line), marks, out)
+    said.put(b"; line ")?;
+    said.put_count(line)?;
+    said.put(b" is malformed: ")?;
+    put_bad_line(said, marks.header() == Some(line), marks)
 }
 
 /// Why a batch is refused, if it is and the rows are at hand. AllocError: memory ran out.
@@ -92,71 +86,57 @@ fn told_refusal<R: Rows>(
     let Next::Batch(batch) = item else {
         return Ok(None);
     };
-    match answer {
-        Answer::Replied(Reply::Refused { call, code }) => {
-            Ok(Some(refusal_reason(alloc, rows, batch, *call, *code)?))
-        }
-        _ => Ok(None),
-    }
-}
-
-/// Appends why a batch that was read isn't accepted; if it is refused, by what is told of that.
-fn put_reply(
-    alloc: Global,
-    reply: &Reply,
-    told: Option<&str>,
-    out: &mut Vec<u8>,
-) -> Result<(), AllocError> {
-    match reply {
-        Reply::Accepted { seq: _, answers: _ } => Ok(()),
-        Reply::Refused { call: _, code } => {
-            out.extend_from_slice(b"refused: ")?;
-            out.extend_from_slice(told.unwrap_or(code.name()).as_bytes())
-        }
-        Reply::Full { call } => {
-            out.extend_from_slice(b"full: ")?;
-            out.extend_from_slice(room_reason(*call).as_bytes())
-        }
-        Reply::Stale { seq } => {
-            out.extend_from_slice(b"stale: the batch names another number than ")?;
-            put_number(alloc, *seq, out)?;
-            out.extend_from_slice(b", the world's")
-        }
-        Reply::NoMemory => out.extend_from_slice(
-            b"nomemory: memory ran out in the batch, which changed nothing",
-        ),
-    }
+    let Answer::Replied(Reply::Refused { call, code }) = answer else {
+        return Ok(None);
+    };
+    Ok(Some(refusal(alloc, rows, batch, *call, *code)?.text()))
 }
 
 /// The line of the text that an answer is about.
 fn line_of(marks: &Marks, answer: &Answer) -> Option<u64> {
     match answer {
-        Answer::Malformed(number) => marks.header().map(|line| line.saturating_add(u64::from(
-            *number,
-        ).saturating_sub(1))),
+        Answer::Malformed(number) => {
+            let further = u64::from(*number).saturating_sub(1);
+            Some(marks.header()?.saturating_add(further))
+        }
         Answer::Replied(Reply::Refused { call, code: _ }) | Answer::Replied(Reply::Full { call }) =>
-            { marks.call(*call) }
+            marks.call(*call),
         _ => marks.header(),
     }
 }
 
-/// Appends what an answer says, in words.
+/// Says an answer, in words; if a batch is refused, what is told of that.
 fn put_answer(
-    alloc: Global,
+    said: &mut Said,
     marks: &Marks,
     answer: &Answer,
     told: Option<&str>,
-    out: &mut Vec<u8>,
 ) -> Result<(), AllocError> {
     match answer {
-        Answer::Replied(reply) => put_reply(alloc, reply, told, out),
-        Answer::Malformed(number) => {
-            out.extend_from_slice(b"malformed: ")?;
-            put_bad_line(alloc, *number == 1, marks, out)
+        Answer::Replied(Reply::Accepted { seq: _, answers: _ }) => Ok(()),
+        Answer::Replied(Reply::Refused { call: _, code }) => {
+            said.put(b"refused: ")?;
+            said.put(told.unwrap_or(code.name()).as_bytes())
         }
-        Answer::Truncated => put_truncated(alloc, marks, out),
-        Answer::Fault => out.extend_from_slice(b"fault: the store failed in the batch"),
-        Answer::Closed => out.extend_from_slice(b"closed: the store failed before the batch"),
+        Answer::Replied(Reply::Full { call }) => {
+            said.put(b"full: ")?;
+            said.put(room_reason(*call).as_bytes())
+        }
+        Answer::Replied(Reply::Stale { seq }) => {
+            said.put(b"stale: the batch names another number than ")?;
+            said.put_count(*seq)?;
+            said.put(b", the world's")
+        }
+        Answer::Replied(Reply::NoMemory) => {
+            said.put(b"nomemory: memory ran out in the batch, which changed nothing")
+        }
+        Answer::Malformed(number) => {
+            said.put(b"malformed: ")?;
+            put_bad_line(said, *number == 1, marks)
+        }
+        Answer::Truncated => put_truncated(said, marks),
+        Answer::Fault => said.put(b"fault: the store failed in the batch"),
+        Answer::Closed => said.put(b"closed: the store failed before the batch"),
     }
 }
 
@@ -168,14 +148,11 @@ fn line_text(
     answer: &Answer,
     told: Option<&str>,
 ) -> Result<String, AllocError> {
-    let mut text = Vec::new(alloc);
-    put_line_place(alloc, path, line_of(marks, answer), &mut text)?;
-    put_answer(alloc, marks, answer, told, &mut text)?;
-    text.push(b'\n')?;
-    match String::from_utf8(text) {
-        Ok(text) => Ok(text),
-        Err(_) => Ok(String::new(alloc)),
-    }
+    let mut said = Said::new(alloc);
+    put_line_place(&mut said, path, line_of(marks, answer))?;
+    put_answer(&mut said, marks, answer, told)?;
+    said.put(b"\n")?;
+    Ok(said.text())
 }
 
 impl<'a, C: Eprint> StandardNotes<'a, C> {

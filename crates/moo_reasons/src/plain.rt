@@ -4,32 +4,24 @@ use moo_value::{MooStr, Value, ValueList};
 use moo_verbs::read_prep;
 use moo_world::CallName;
 
-/// What a call of a petition begins with.
-fn first_held(held: &Value) -> Option<&Value> {
-    match held {
-        Value::List(values) => values.items().first(),
-        _ => None,
-    }
-}
-
-/// Whether it is a text, and doesn't name a call that a petition may ask for.
-fn is_unasked(name: &Value) -> bool {
-    let Value::Str(name) = name else {
-        return false;
+/// The text that a call of a petition begins with, if it doesn't name a call that a petition may ask for.
+fn unasked_name(held: &Value) -> Option<&Value> {
+    let Value::List(values) = held else {
+        return None;
     };
-    match CallName::read(name.bytes()) {
-        Some(name) => name.petition_call().is_some(),
-        None => true,
+    let first = values.items().first()?;
+    let Value::Str(text) = first else {
+        return None;
+    };
+    match CallName::read(text.bytes()) {
+        Some(name) if name.petition_call().is_none() => None,
+        _ => Some(first),
     }
 }
 
 /// The first name among the calls of a petition that none may ask for.
 pub(crate) fn first_unasked(calls: &ValueList) -> Option<&Value> {
-    calls
-        .items()
-        .iter()
-        .filter_map(first_held)
-        .find(|name| is_unasked(name))
+    calls.items().iter().find_map(unasked_name)
 }
 
 /// Whether a text is a direct or indirect object of a verb.

@@ -11,13 +11,24 @@ use moo_call_parts::rights::may_read_object;
 use moo_rows::{PropId, Rows};
 use moo_value::{ObjNo, Value};
 use moo_world::{BuiltIn, CallName};
-use std::alloc::AllocError;
+use std::alloc::{AllocError, Global};
 
-// In the sentences below `@` stands for the programmer, `%` for the first value of the call, `&` for the second, and `$` for what was
-// checked.
+/// What is said of a reason. In its words `@` stands for the programmer, `%` for the first value of the call, `&` for the second, and `$`
+/// for what was checked: this object, if there is one, else a value that the call is given.
+type Sentence = (Option<ObjNo>, &'static str);
+
+/// What is said of an object.
+fn of(object: ObjNo, words: &'static str) -> Option<Sentence> {
+    Some((Some(object), words))
+}
+
+/// What is said of no object, or of a value.
+fn plain(words: &'static str) -> Option<Sentence> {
+    Some((None, words))
+}
 
 /// Who may set the built-in property that the call names, or that a wizard alone may make the call.
-fn wizard_sentence(given: Given<'_>) -> &'static str {
+fn wizard_words(given: Given<'_>) -> &'static str {
     match (given.name, built_in_at(given)) {
         (CallName::Set, Some(BuiltIn::Owner)) => "only a wizard may set owner",
         (CallName::Set, Some(BuiltIn::Programmer)) => "only a wizard may set programmer",
@@ -26,88 +37,91 @@ fn wizard_sentence(given: Given<'_>) -> &'static str {
     }
 }
 
-fn sentence_on_objects(given: Given<'_>, reason: Reason) -> &'static str {
+fn of_objects(given: Given<'_>, reason: Reason) -> Option<Sentence> {
     match reason {
-        Reason::NoProgrammer => "the programmer @ isn't an object",
-        Reason::NoWizard => wizard_sentence(given),
-        Reason::NoObject(_) | Reason::NoTarget(_) => "$ isn't an object",
-        Reason::NoPlace(_) | Reason::NoParent(_) => "$ is neither an object nor #-1",
-        Reason::NotControlled(_) => "@ neither owns $ nor is a wizard",
-        Reason::NotFertile(_) => "$ isn't fertile, and @ neither owns it nor is a wizard",
-        Reason::NoOwner(_) => "only a wizard may make $ the owner",
-        Reason::NoObjectR(_) => "r of $ is 0, and @ neither owns it nor is a wizard",
-        Reason::NoObjectW(_) => "w of $ is 0, and @ neither owns it nor is a wizard",
-        Reason::ParentBelow(new) if is_first(given, new) => "% can't be its own parent",
-        Reason::ParentBelow(_) => "$ is under %",
-        Reason::NotAccepted(_) => "$ doesn't accept %",
-        Reason::PlaceInside(place) if is_first(given, place) => "% can't be inside itself",
-        Reason::PlaceInside(_) => "$ is inside %",
-        Reason::NamesPlayer(_) => "only a wizard may name a player, as $",
-        _ => "the ownership_quota of $ is used up",
+        Reason::NoProgrammer => plain("the programmer @ isn't an object"),
+        Reason::NoWizard => plain(wizard_words(given)),
+        Reason::NoObject(x) | Reason::NoTarget(x) => of(x, "$ isn't an object"),
+        Reason::NoPlace(x) | Reason::NoParent(x) => of(x, "$ is neither an object nor #-1"),
+        Reason::NotControlled(x) => of(x, "@ neither owns $ nor is a wizard"),
+        Reason::NotFertile(x) => of(x, "$ isn't fertile, and @ neither owns it nor is a wizard"),
+        Reason::NoOwner(x) => of(x, "only a wizard may make $ the owner"),
+        Reason::NoObjectR(x) => of(x, "r of $ is 0, and @ neither owns it nor is a wizard"),
+        Reason::NoObjectW(x) => of(x, "w of $ is 0, and @ neither owns it nor is a wizard"),
+        Reason::ParentBelow(x) if is_first(given, x) => plain("% can't be its own parent"),
+        Reason::ParentBelow(x) => of(x, "$ is under %"),
+        Reason::NotAccepted(x) => of(x, "$ doesn't accept %"),
+        Reason::PlaceInside(x) if is_first(given, x) => plain("% can't be inside itself"),
+        Reason::PlaceInside(x) => of(x, "$ is inside %"),
+        Reason::NamesPlayer(x) => of(x, "only a wizard may name a player, as $"),
+        Reason::NoQuota(x) => of(x, "the ownership_quota of $ is used up"),
+        _ => None,
     }
 }
 
-fn sentence_on_properties(given: Given<'_>, reason: Reason) -> &'static str {
+fn of_properties(given: Given<'_>, reason: Reason) -> Option<Sentence> {
     match reason {
-        Reason::NeverSet => "nobody may set &: `move` changes it",
-        Reason::NotTaken => "& can't be $",
+        Reason::NeverSet => plain("nobody may set &: `move` changes it"),
+        Reason::NotTaken => plain("& can't be $"),
         Reason::NoProperty(_) | Reason::NotDefined(_) if built_in_at(given).is_some() => {
-            "& is built in: `get` and `set` alone take it"
+            plain("& is built in: `get` and `set` alone take it")
         }
-        Reason::NoProperty(_) => "$ has no property &",
-        Reason::NotDefined(_) | Reason::NotRenamed(_) => "$ itself doesn't define &",
-        Reason::NotInherited(_) => "$ itself defines &",
+        Reason::NoProperty(x) => of(x, "$ has no property &"),
+        Reason::NotDefined(x) | Reason::NotRenamed(x) => of(x, "$ itself doesn't define &"),
+        Reason::NotInherited(x) => of(x, "$ itself defines &"),
         Reason::NoPropertyName => {
-            "$ can't name a property: it is built in, or hasn't 1 to 255 bytes"
+            plain("$ can't name a property: it is built in, or hasn't 1 to 255 bytes")
         }
-        Reason::NoPropertyR(_) => "& has no r on $, and @ neither owns it there nor is a wizard",
-        Reason::NoPropertyW(_) => "& has no w on $, and @ neither owns it there nor is a wizard",
-        Reason::NotGiven(_) => "only a wizard may give & on % to $",
-        _ => "$ has other letters than r, w and c",
+        Reason::NoPropertyR(x) => {
+            of(
+                x,
+                "& has no r on $, and @ neither owns it there nor is a wizard",
+            )
+        }
+        Reason::NoPropertyW(x) => {
+            of(
+                x,
+                "& has no w on $, and @ neither owns it there nor is a wizard",
+            )
+        }
+        Reason::NotGiven(x) => of(x, "only a wizard may give & on % to $"),
+        Reason::PropertyPerms => plain("$ has other letters than r, w and c"),
+        _ => None,
     }
 }
 
-fn sentence_on_verbs(given: Given<'_>, reason: Reason) -> &'static str {
+fn of_verbs_and_lists(given: Given<'_>, reason: Reason) -> Option<Sentence> {
     match reason {
-        Reason::NoVerb(_) => "$ has no verb &",
-        Reason::NoVerbR(_) => "verb & of $ has no r, and @ neither owns it nor is a wizard",
-        Reason::NoVerbW(_) => "verb & of $ has no w, and @ neither owns it nor is a wizard",
-        Reason::VerbPerms => "$ has other letters than r, w, x and d",
-        Reason::VerbNames => "$ names no verb",
-        _ => match unfit_place(given) {
-            Some(1) => "$ isn't a preposition",
-            _ => "$ isn't \"this\", \"any\" or \"none\"",
+        Reason::NoVerb(x) => of(x, "$ has no verb &"),
+        Reason::NoVerbR(x) => of(
+            x,
+            "verb & of $ has no r, and @ neither owns it nor is a wizard",
+        ),
+        Reason::NoVerbW(x) => of(
+            x,
+            "verb & of $ has no w, and @ neither owns it nor is a wizard",
+        ),
+        Reason::VerbPerms => plain("$ has other letters than r, w, x and d"),
+        Reason::VerbNames => plain("$ names no verb"),
+        Reason::VerbArgs => match unfit_place(given) {
+            Some(1) => plain("$ isn't a preposition"),
+            _ => plain("$ isn't \"this\", \"any\" or \"none\""),
         },
+        Reason::LongList => plain("the list has over 1000 entries"),
+        Reason::NotFew => plain("a petition asks for 1 to 64 calls"),
+        Reason::Unasked => plain("$ is no call that a petition may ask for"),
+        Reason::Deep => plain("lists are over 30 deep in a petition"),
+        Reason::NoPetition => plain("there is no petition %"),
+        Reason::NotAsker => plain("@ neither made petition % nor is a wizard"),
+        _ => None,
     }
 }
 
-fn sentence(given: Given<'_>, reason: Reason) -> &'static str {
-    match reason {
-        Reason::LongList => "the list has over 1000 entries",
-        Reason::NotFew => "a petition asks for 1 to 64 calls",
-        Reason::Unasked => "$ is no call that a petition may ask for",
-        Reason::Deep => "lists are over 30 deep in a petition",
-        Reason::NoPetition => "there is no petition %",
-        Reason::NotAsker => "@ neither made petition % nor is a wizard",
-        Reason::NeverSet
-        | Reason::NotTaken
-        | Reason::NoProperty(_)
-        | Reason::NotDefined(_)
-        | Reason::NotRenamed(_)
-        | Reason::NotInherited(_)
-        | Reason::NoPropertyName
-        | Reason::NoPropertyR(_)
-        | Reason::NoPropertyW(_)
-        | Reason::NotGiven(_)
-        | Reason::PropertyPerms => sentence_on_properties(given, reason),
-        Reason::NoVerb(_)
-        | Reason::NoVerbR(_)
-        | Reason::NoVerbW(_)
-        | Reason::VerbPerms
-        | Reason::VerbNames
-        | Reason::VerbArgs => sentence_on_verbs(given, reason),
-        _ => sentence_on_objects(given, reason),
-    }
+/// What is said of a reason, if it isn't that the call is written otherwise, or that a name is in use.
+fn sentence(given: Given<'_>, reason: Reason) -> Option<Sentence> {
+    of_objects(given, reason)
+        .or(of_properties(given, reason))
+        .or(of_verbs_and_lists(given, reason))
 }
 
 /// The place of the first argument that no verb may have.
@@ -147,99 +161,59 @@ fn checked<'a>(given: Given<'a>, reason: Reason) -> Option<&'a Value> {
     }
 }
 
-/// The object for which a check failed.
-fn object_of(reason: Reason) -> Option<ObjNo> {
-    match reason {
-        Reason::NoObject(x)
-        | Reason::NoTarget(x)
-        | Reason::NoPlace(x)
-        | Reason::NoParent(x)
-        | Reason::NotControlled(x)
-        | Reason::NotFertile(x)
-        | Reason::NoOwner(x)
-        | Reason::NoObjectR(x)
-        | Reason::NoObjectW(x)
-        | Reason::ParentBelow(x)
-        | Reason::NotAccepted(x)
-        | Reason::PlaceInside(x)
-        | Reason::NoQuota(x)
-        | Reason::NamesPlayer(x)
-        | Reason::NoProperty(x)
-        | Reason::NotDefined(x)
-        | Reason::NotRenamed(x)
-        | Reason::NotInherited(x)
-        | Reason::NoPropertyR(x)
-        | Reason::NoPropertyW(x)
-        | Reason::NotGiven(x)
-        | Reason::NoVerb(x)
-        | Reason::NoVerbR(x)
-        | Reason::NoVerbW(x) => Some(x),
-        _ => None,
-    }
-}
-
 /// Says the value, if there is one.
-fn put_some(said: &mut Said, value: Option<&Value>) -> Result<(), AllocError> {
+pub(crate) fn put_some(said: &mut Said, value: Option<&Value>) -> Result<(), AllocError> {
     match value {
         Some(value) => said.put_value(value),
         None => Ok(()),
     }
 }
 
-fn put_checked(said: &mut Said, given: Given<'_>, reason: Reason) -> Result<(), AllocError> {
-    match object_of(reason) {
-        Some(object) => said.put_object(object),
-        None => put_some(said, checked(given, reason)),
-    }
-}
-
-/// Says a byte of a sentence, or what it stands for.
-fn put_byte(said: &mut Said, given: Given<'_>, reason: Reason, byte: u8) -> Result<(), AllocError> {
-    match byte {
-        b'@' => said.put_object(given.programmer),
-        b'%' => put_some(said, value_at(given, FIRST)),
-        b'&' => put_some(said, value_at(given, SECOND)),
-        b'$' => put_checked(said, given, reason),
-        _ => said.put(&[byte]),
-    }
-}
-
-/// Says the name of a property, if the programmer may list what its definer defines.
-fn put_property<R: Rows>(
+/// Says the words of a sentence, each letter or what it stands for.
+fn put_sentence(
     said: &mut Said,
+    given: Given<'_>,
+    reason: Reason,
+    sentence: Sentence,
+) -> Result<(), AllocError> {
+    for byte in sentence.1.as_bytes() {
+        match (*byte, sentence.0) {
+            (b'@', _) => said.put_object(given.programmer)?,
+            (b'%', _) => put_some(said, value_at(given, FIRST))?,
+            (b'&', _) => put_some(said, value_at(given, SECOND))?,
+            (b'$', Some(object)) => said.put_object(object)?,
+            (b'$', None) => put_some(said, checked(given, reason))?,
+            (letter, _) => said.put(&[letter])?,
+        }
+    }
+    Ok(())
+}
+
+/// Says that an object defines a property of the name already.
+fn put_taken(said: &mut Said, definer: ObjNo, name: Option<&Value>) -> Result<(), AllocError> {
+    said.put_object(definer)?;
+    said.put(b" defines ")?;
+    match name {
+        Some(name) => said.put_value(name)?,
+        None => said.put(b"a property")?,
+    }
+    said.put(b" already")
+}
+
+/// The name of a property, if the programmer may list what its definer defines.
+fn name_listed<R: Rows>(
+    alloc: Global,
     rows: &R,
     programmer: ObjNo,
     definer: ObjNo,
     property: PropId,
-) -> Result<(), AllocError> {
+) -> Result<Option<Value>, AllocError> {
     match rows.prop(property) {
-        Some(row) if may_read_object(rows, programmer, definer) => said.put_text(&row.name),
-        _ => said.put(b"a property"),
+        Some(row) if may_read_object(rows, programmer, definer) => {
+            Ok(Some(Value::Str(row.name.copy(alloc)?)))
+        }
+        _ => Ok(None),
     }
-}
-
-/// Says that the object defines a property of the name, and the new parent has one too.
-fn tell_shared<R: Rows>(
-    said: &mut Said,
-    rows: &R,
-    given: Given<'_>,
-    definer: ObjNo,
-    property: PropId,
-) -> Result<(), AllocError> {
-    said.put_object(definer)?;
-    said.put(b" defines ")?;
-    put_property(said, rows, given.programmer, definer, property)?;
-    said.put(b" already, which ")?;
-    put_some(said, value_at(given, SECOND))?;
-    said.put(b" has too")
-}
-
-/// Says that the object defines a property of the name that a property would get.
-fn tell_taken(said: &mut Said, given: Given<'_>, definer: ObjNo) -> Result<(), AllocError> {
-    said.put_object(definer)?;
-    said.put(b" defines ")?;
-    put_some(said, value_at(given, name_position(given.name)))?;
-    said.put(b" already")
 }
 
 /// Says after the lead which check of a call failed, in the world of these rows, or how the call is written.
@@ -251,20 +225,21 @@ pub(crate) fn tell<R: Rows>(
     reason: Reason,
 ) -> Result<(), AllocError> {
     said.put(lead)?;
-    match reason {
-        Reason::Given(_) | Reason::Unnamed => {
+    if let Reason::NameShared { definer, property } = reason {
+        let name = name_listed(said.alloc, rows, given.programmer, definer, property)?;
+        put_taken(said, definer, name.as_ref())?;
+        said.put(b", which ")?;
+        put_some(said, value_at(given, SECOND))?;
+        return said.put(b" has too");
+    }
+    if let Reason::NameTaken { definer } = reason {
+        return put_taken(said, definer, value_at(given, name_position(given.name)));
+    }
+    match sentence(given, reason) {
+        Some(sentence) => put_sentence(said, given, reason, sentence),
+        None => {
             said.put(b"it is written ")?;
             said.put(form_of(given.name).as_bytes())
-        }
-        Reason::NameShared { definer, property } => {
-            tell_shared(said, rows, given, definer, property)
-        }
-        Reason::NameTaken { definer } => tell_taken(said, given, definer),
-        _ => {
-            for byte in sentence(given, reason).as_bytes() {
-                put_byte(said, given, reason, *byte)?;
-            }
-            Ok(())
         }
     }
 }

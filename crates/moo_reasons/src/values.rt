@@ -1,52 +1,43 @@
 //! Why bytes aren't a value.
 
-use crate::words::{after_mark, put_number, put_shown};
+use crate::shown::{LINE_ENDS, Said};
 use moo_text::{next_word, skip_blanks};
 use moo_value::{LiteralFault, read_literal};
 use std::alloc::{AllocError, Global};
 
-/// Whether a text that the bytes begin has no closing quote.
-fn is_open_text(bytes: &[u8]) -> bool {
-    let mut is_open = false;
-    let mut is_escaped = false;
-    for byte in bytes {
-        if is_escaped {
-            is_escaped = false;
-        } else if *byte == b'"' {
-            is_open = !is_open;
-        } else {
-            is_escaped = is_open && *byte == b'\\';
-        }
-    }
-    is_open
-}
-
-/// Whether the bytes begin a list that isn't closed in them. What is between quotes doesn't count.
-fn is_open_list(bytes: &[u8]) -> bool {
+/// That the bytes leave a text open at their end, or the list that they begin. What is between quotes doesn't count for the list.
+fn unclosed_reason(bytes: &[u8]) -> Option<&'static [u8]> {
     let mut depth: usize = 0;
+    let mut is_list = bytes.starts_with(b"{");
     let mut is_text = false;
     let mut is_escaped = false;
     for byte in bytes {
         if is_escaped {
             is_escaped = false;
+        } else if *byte == b'"' {
+            is_text = !is_text;
         } else if is_text {
             is_escaped = *byte == b'\\';
-            is_text = *byte != b'"';
-        } else if *byte == b'"' {
-            is_text = true;
         } else if *byte == b'{' {
             depth = depth.saturating_add(1);
         } else if *byte == b'}' {
             depth = depth.saturating_sub(1);
-            if depth == 0 {
-                return false;
-            }
         }
-        if depth == 0 {
-            return false;
-        }
+        is_list = is_list && 0 < depth;
     }
-    0 < depth
+    match (is_text, is_list) {
+        (true, _) => Some(b"a text without its closing quote"),
+        (_, true) => Some(b"a list without its closing `}`"),
+        _ => None,
+    }
+}
+
+/// What follows the mark, if the bytes begin with it after blanks.
+pub(crate) fn after_mark(mark: u8, bytes: &[u8]) -> Option<&[u8]> {
+    match skip_blanks(bytes).split_first() {
+        Some((first, rest)) if *first == mark => Some(rest),
+        _ => None,
+    }
 }
 
 /// What is wrong inside a list.
@@ -69,7 +60,7 @@ fn wrong_inside<'a>(alloc: Global, bytes: &'a [u8]) -> Inside<'a> {
         let after = rest.get(count..).unwrap_or(&[]);
         match after_mark(b',', after) {
             Some(others) => rest = others,
-            None => return Inside::Mark(skip_blanks(after)),
+            None => return Inside::Mark(after),
         }
     }
     Inside::Item(rest)
@@ -93,67 +84,57 @@ fn wrong_innermost<'a>(alloc: Global, bytes: &'a [u8]) -> Inside<'a> {
     Inside::Item(at)
 }
 
-/// The first byte that no text may hold.
-fn bad_byte(bytes: &[u8]) -> Option<u8> {
-    bytes
-        .iter()
-        .find(|byte| !matches!(**byte, 9 | 32..=126))
-        .copied()
+/// Says that a comma or the closing mark is missing before these bytes.
+pub(crate) fn put_missing(said: &mut Said, mark: u8, rest: &[u8]) -> Result<(), AllocError> {
+    said.put(b"a comma or `")?;
+    said.put(&[mark])?;
+    said.put(b"` is missing before ")?;
+    said.put_of(skip_blanks(rest), b"")
 }
 
-/// Says that no value begins with the bytes.
-fn put_not_a_value(bytes: &[u8], out: &mut Vec<u8>) -> Result<(), AllocError> {
-    match next_word(bytes) {
-        Some((word, _)) => {
-            put_shown(word, out)?;
-            out.extend_from_slice(b" isn't a value: 12, #4, \"a text\", E_PERM or {1, #2}")
-        }
-        None => out.extend_from_slice(b"the line ends where a value is missing"),
+/// Says what is wrong where a value is wanted.
+fn put_no_value(said: &mut Said, bytes: &[u8]) -> Result<(), AllocError> {
+    if let Some(reason) = unclosed_reason(bytes) {
+        return said.put(reason);
     }
-}
-
-fn put_no_value(alloc: Global, bytes: &[u8], out: &mut Vec<u8>) -> Result<(), AllocError> {
-    if is_open_text(bytes) {
-        return out.extend_from_slice(b"a text without its closing quote");
-    }
-    if is_open_list(bytes) {
-        return out.extend_from_slice(b"a list without its closing `}`");
-    }
-    match wrong_innermost(alloc, bytes) {
-        Inside::Item(item) => put_not_a_value(item, out),
-        Inside::Mark(rest) => {
-            out.extend_from_slice(b"a comma or `}` is missing before ")?;
-            put_shown(rest, out)
-        }
+    let item = match wrong_innermost(said.alloc, bytes) {
+        Inside::Item(item) => item,
+        Inside::Mark(rest) => return put_missing(said, b'}', rest),
+    };
+    match next_word(item) {
+        Some((word, _)) => said.put_of(
+            word,
+            b" isn't a value: 12, #4, \"a text\", E_PERM or {1, #2}",
+        ),
+        None => said.put(LINE_ENDS),
     }
 }
 
-fn put_bad_byte(alloc: Global, bytes: &[u8], out: &mut Vec<u8>) -> Result<(), AllocError> {
-    match bad_byte(bytes) {
-        Some(byte) => {
-            out.extend_from_slice(b"byte ")?;
-            put_number(alloc, u64::from(byte), out)?;
-            out.extend_from_slice(b" in a text: only tabs, spaces and printing ASCII")
-        }
-        None => put_no_value(alloc, bytes, out),
-    }
+/// Says which is the first byte that no text may hold.
+fn put_bad_byte(said: &mut Said, bytes: &[u8]) -> Result<(), AllocError> {
+    let bad = bytes.iter().find(|byte| !matches!(**byte, 9 | 32..=126));
+    let Some(byte) = bad else {
+        return put_no_value(said, bytes);
+    };
+    said.put(b"byte ")?;
+    said.put_count(u64::from(*byte))?;
+    said.put(b" in a text: only tabs, spaces and printing ASCII")
 }
 
-/// Appends why the bytes begin with no value.
+/// Says why the bytes begin with no value.
 pub(crate) fn put_value_reason(
-    alloc: Global,
+    said: &mut Said,
     bytes: &[u8],
     fault: LiteralFault,
-    out: &mut Vec<u8>,
 ) -> Result<(), AllocError> {
     match fault {
-        LiteralFault::NotALiteral => put_no_value(alloc, skip_blanks(bytes), out),
-        LiteralFault::OutOfRange => out.extend_from_slice(
-            b"a number out of range: an integer has 64 bits, an object 32",
-        ),
-        LiteralFault::BadByte => put_bad_byte(alloc, bytes, out),
-        LiteralFault::TooDeep => out.extend_from_slice(b"lists are over 32 deep"),
-        LiteralFault::TooLong => out.extend_from_slice(b"a text of over 65535 bytes"),
+        LiteralFault::NotALiteral => put_no_value(said, skip_blanks(bytes)),
+        LiteralFault::OutOfRange => {
+            said.put(b"a number out of range: an integer has 64 bits, an object 32")
+        }
+        LiteralFault::BadByte => put_bad_byte(said, bytes),
+        LiteralFault::TooDeep => said.put(b"lists are over 32 deep"),
+        LiteralFault::TooLong => said.put(b"a text of over 65535 bytes"),
         LiteralFault::OutOfMemory => Err(AllocError),
     }
 }

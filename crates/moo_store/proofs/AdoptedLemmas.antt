@@ -31,7 +31,7 @@ module _ {S : Type 0} (g : Ghosts S) (conn : Held S) where
   adopts_current (Ok world) it = λ clean tables rests. let now = it.rests tables rests clean in now.rests.holds.schema ∙ ap schema_of now.became.current
   adopts_current (Err e) it = tt
 
-  pub adopts_rests : (r : Result (World S) (StoreFault × Held S)) → Adopting g conn r → IfOk r (λ world. HasCleanDisk (store_of g world) → (tables : Tables) → Rests (state g conn) tables → RestsCurrent (store_of g world) tables world.rows.maps)
+  pub adopts_rests : (r : Result (World S) (StoreFault × Held S)) → Adopting g conn r → IfOk r (λ world. HasCleanDisk (store_of g world) → (tables : Tables) → Rests (state g conn) tables → RestsCurrent (store_of g world) (state g conn).now.trees tables world.rows.maps)
   adopts_rests (Ok world) it = λ clean tables rests. it.rests tables rests clean
   adopts_rests (Err e) it = tt
 

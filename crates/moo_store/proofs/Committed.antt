@@ -1,27 +1,23 @@
 -- Tables of some rows, changed, are those of the next ones.
-use Rattle.moo_store.{proofs.Words.{◌≡◌, ◌⊎◌, inl, inr, Bool, true, false, Some, Result, Ok, Err, OnOk, refl, subst, arith, Trees, Maps, Tables, tables_with, Rests, Leaves, IsCurrent, no_tables, CellChanges, clean_before, AreChanges, ShowsRows, Prints, KeepsRows, LeavesRows, KeepsCells}, proofs.Shown.{shows-written, keeps-written}, proofs.Versions.{one_tables}}
+use Rattle.moo_store.{proofs.Words.{◌≡◌, ◌⊎◌, inl, inr, Bool, true, false, Some, Result, Ok, Err, OnOk, refl, subst, arith, Trees, Maps, Tables, tables_with, Rests, Leaves, IsCurrent, no_tables, CellChanges, clean_before, AreChanges, ShowsRows, Prints, KeepsRows, KeepsCells, LeavesEither}, proofs.Crashes.{IsSettled}, proofs.Shown.{keeps-written}, proofs.Versions.{one_tables}}
+use Rattle.moo_tables.proofs.InsideLemmas.{left_by as tables_left}
 use Rattle.sqlite.specs.State.{State as Database, HasCleanDisk, Survives}
 use Rattle.sqlite_trees.specs.View.{doubt}
 use Rattle.moo_memory.specs.declared.changes.Changes.{Changes}
-
-module _ (cells : CellChanges) (changes : Changes) (base next : Maps) (printed : Prints (Some base.head.next_petition) base cells changes) (exact : AreChanges base next changes) where
-  pub shows_next : (t : Tables) → IsCurrent t → ShowsRows t base → ShowsRows (tables_with cells t) next
-  shows_next t current shows = shows-written (Some base.head.next_petition) cells changes base next t printed exact current shows.maps shows.no_head shows.counter
-
-  pub keeps_next : (old new : Database) → ((t : Tables) → Rests old t → IsCurrent t → Rests new (tables_with cells t)) → KeepsRows old base → KeepsRows new next
-  keeps_next old new rests it = record { tables = tables_with cells it.tables; rests = rests it.tables it.rests it.current; current = it.current; shows = shows_next it.tables it.current it.shows }
-
-pub at_written : {E : Type 0} (old new : Database) (cells : CellChanges) (r : Result (Unit {0}) E)
-    → OnOk r ((t : Tables) → Rests old t → IsCurrent t → Rests new (tables_with cells t))
-    → OnOk r ((changes : Changes) (base next : Maps) → Prints (Some base.head.next_petition) base cells changes → AreChanges base next changes → KeepsRows old base → KeepsRows new next)
-at_written old new cells (Ok x) f = λ changes base next printed exact it. keeps_next cells changes base next printed exact old new f it
-at_written old new cells (Err e) f = tt
 
 pub at_kept : {E : Type 0} (old new : Database) (cells : CellChanges) (r : Result (Unit {0}) E)
     → OnOk r ((t : Tables) → Rests old t → IsCurrent t → Rests new (tables_with cells t))
     → OnOk r ((changes : Changes) (base next : Maps) (t : Tables) → Prints (Some base.head.next_petition) base cells changes → AreChanges base next changes → Rests old t → IsCurrent t → ShowsRows t base → (after : Tables) × Rests new after × KeepsCells base next t after)
 at_kept old new cells (Ok x) f = λ changes base next t printed exact rests current shown. (tables_with cells t, f t rests current, keeps-written cells changes base next t printed exact current shown)
 at_kept old new cells (Err e) f = tt
+
+-- a crash leaves the tables before the write or those after it, with the cells kept of all that stays
+pub left_either : (old new : Database) (cells : CellChanges) (changes : Changes) (base next : Maps) (t : Tables) → IsSettled old → Prints (Some base.head.next_petition) base cells changes → AreChanges base next changes → Rests old t → IsCurrent t → ShowsRows t base
+    → Survives old new (λ trees. Leaves trees (tables_with cells t)) → HasCleanDisk new → (trees : Trees) → new.may_leave trees → LeavesEither base next t trees
+left_either old new cells changes base next t settled printed exact rests current shown survives clean trees lies = elim (survives.crash clean trees lies) [
+  | inl was ↦ inl (tables_left old t trees rests (settled trees rests.is_open was))
+  | inr on ↦ inr (tables_with cells t, on, keeps-written cells changes base next t printed exact current shown)
+]
 
 -- no two tables rest in one store, so that any that do show its rows, and are of the present version
 pub shown_by : (store : Database) (rows : Maps) (t : Tables) → KeepsRows store rows → Rests store t → ShowsRows t rows
@@ -50,15 +46,4 @@ pub clean_at_commit : (old new : Database) (P : Tables → Trees → Type 0) →
 clean_at_commit old new P survives clean = elim (in_doubt old.is_clean) [
   | inl was ↦ was
   | inr failed ↦ clean_before old new (P no_tables) (survives no_tables (λ was. absurd (failed was)) refl) clean
-]
-
--- The tables are known only of a clean disk, so the clean and the failed disk are told apart.
-pub survives_next : (old new : Database) (cells : CellChanges) (changes : Changes) (base next : Maps) → Prints (Some base.head.next_petition) base cells changes → AreChanges base next changes
-    → ((t : Tables) → (HasCleanDisk old → Rests old t) → IsCurrent t → Survives old new (λ trees. Leaves trees (tables_with cells t)))
-    → (HasCleanDisk old → KeepsRows old base) → Survives old new (λ trees. LeavesRows trees next)
-survives_next old new cells changes base next printed exact survives keeps = elim (in_doubt old.is_clean) [
-  | inl clean ↦ (let it = keeps clean in survives-map old new (λ trees. Leaves trees (tables_with cells it.tables)) (λ trees. LeavesRows trees next) (survives it.tables (λ _. it.rests) it.current)
-      (λ _ trees lies. record { tables = tables_with cells it.tables; leaves = lies; shows = shows_next cells changes base next printed exact it.tables it.current it.shows }))
-  | inr failed ↦ survives-map old new (λ trees. Leaves trees (tables_with cells no_tables)) (λ trees. LeavesRows trees next) (survives no_tables (λ clean. absurd (failed clean)) refl)
-      (λ clean trees lies. absurd (failed clean))
 ]

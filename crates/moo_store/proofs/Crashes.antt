@@ -1,6 +1,6 @@
 -- What a crash leaves of a connection, at rest and in a call.
-use Rattle.moo_store.proofs.Words.{◌≡◌, ◌⊎◌, inl, inr, Bool, IsTrue, refl, Trees, Ghosts, clean_before, Maps, IsGood, State, state_of, KeepsRows, LeavesRows, KeepsState, LeavesState, World, Stand, Works, Failed, StoreFailed, store_of, Left, CrashLeaves, StandsAt}
-use Rattle.sqlite.specs.State.{State as Database, HasCleanDisk, Survives}
+use Rattle.moo_store.proofs.Words.{◌≡◌, ◌⊎◌, inl, inr, Bool, IsTrue, refl, sym, ap, ◌∙◌, Trees, Ghosts, Maps, Tables, Rests, ShowsRows, LeavesEither, unread_of, IsGood, State, state_of, KeepsRows, LeavesRows, KeepsState, LeavesState, World, Stand, Works, Failed, StoreFailed, store_of, Left, CrashLeaves, StandsAt}
+use Rattle.sqlite.{specs.State.{State as Database, HasCleanDisk}, specs.Effect.{Database as Content}}
 use Rattle.moo_tables.proofs.InsideLemmas.{left_by}
 
 -- the law of a store that is open: a crash leaves the last commit
@@ -30,22 +30,18 @@ leaves_state : (trees : Trees) (rows : Maps) (s : State) → IsGood rows → sta
 leaves_state trees rows s good is it = record { rows = rows; good = good; state = is; leaves = it }
 
 -- a crash at a write leaves the rows before it, or the next ones
-pub rows_left : (old new : Database) (rows next : Maps) → IsSettled old → (HasCleanDisk old → KeepsRows old rows)
-    → Survives old new (λ trees. LeavesRows trees next) → HasCleanDisk new → (trees : Trees) → new.may_leave trees → LeavesRows trees rows ⊎ LeavesRows trees next
-rows_left old new rows next settled rests survives clean trees left = elim (survives.crash clean trees left) [
-  | inl was ↦ inl (rows_at_rest old rows settled (rests (clean_before old new (λ x. LeavesRows x next) survives clean)) trees was)
-  | inr on ↦ inr on
-]
+pub rows_either : (rows next : Maps) (tables : Tables) (trees : Trees) → ShowsRows tables rows → LeavesEither rows next tables trees → LeavesRows trees rows ⊎ LeavesRows trees next
+rows_either rows next tables trees shown (inl was) = inl (record { tables = tables; leaves = was; shows = shown })
+rows_either rows next tables trees shown (inr (after, leaves, kept)) = inr (record { tables = after; leaves = leaves; shows = kept.shows })
 
 -- so it leaves the state before it, or the next one
 pub states_left : (trees : Trees) (rows next : Maps) (s t : State) → IsGood rows → IsGood next → state_of rows ≡ s → state_of next ≡ t → LeavesRows trees rows ⊎ LeavesRows trees next → LeavesState trees s ⊎ LeavesState trees t
 states_left trees rows next s t good good_next is is_next (inl was) = inl (leaves_state trees rows s good is was)
 states_left trees rows next s t good good_next is is_next (inr on) = inr (leaves_state trees next t good_next is_next on)
 
--- what was written is there
-pub rows_written : (old new : Database) (rows next : Maps) → (HasCleanDisk old → KeepsRows old rows) → Survives old new (λ trees. LeavesRows trees next) → (HasCleanDisk new → KeepsRows old rows → KeepsRows new next)
-    → HasCleanDisk new → KeepsRows new next
-rows_written old new rows next rests survives written clean = written clean (rests (clean_before old new (λ x. LeavesRows x next) survives clean))
+-- what a crash leaves of a store at rest has the table that isn't read as it is
+pub unread_at_rest : (store : Database) (tables : Tables) (trees : Trees) → IsSettled store → Rests store tables → store.may_leave trees → unread_of trees ≡ unread_of store.now.trees
+unread_at_rest store tables trees settled rests left = ap unread_of (settled trees rests.is_open left ∙ ap (λ (db : Content). db.trees) (sym rests.committed))
 
 -- a crash leaves what a World stands at
 pub crash_leaves : {S : Type 0} (g : Ghosts S) (known : Bool) (world : World S) (stand : Stand) → IsSettled (store_of g world) → StandsAt g known world stand → IsTrue known → HasCleanDisk (store_of g world) → CrashLeaves (store_of g world) stand

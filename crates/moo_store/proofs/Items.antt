@@ -1,5 +1,5 @@
 -- What a run over a text leaves of a World.
-use Rattle.moo_store.{proofs.Words.{◌≡◌, ℕ, Bool, true, false, IsTrue, List, [], ◌∷◌, ◌++◌, append_assoc, Option, Result, Ok, Err, sym, ap, subst, ◌∙◌, append-nil, HasCleanDisk, Ghosts, Batch, items, Next, Answer, Reply, TextFault, IsGood, Tables, Rests, store_of, ShowsItsRows, StandsAt, Stand, Works, Failed, StoreFailed, RunsBatch, World, StoreFault, Store, Damaged, NewerVersion, OutOfMemory, Closed, RunsAndAnswers, answer_to, accepted_at, accepted, faulted_at, faulted, KeepsRest, KeepsLed, Applies, StopsRun, StandsOver, taken_of, lost_of, IsMovedBy, Turn, Turns, Completes, Halts}, proofs.Crashes.{IsSettled, crash_leaves}, proofs.Following.{completes-follows, halts-follows}, proofs.Running.{FailsAtStore, fails_of}, proofs.Untouched.{is_over, written_none, written_on}}
+use Rattle.moo_store.{proofs.Words.{◌≡◌, ℕ, Bool, true, false, IsTrue, List, [], ◌∷◌, ◌++◌, append_assoc, Option, Result, Ok, Err, sym, ap, subst, ◌∙◌, append-nil, HasCleanDisk, Ghosts, Batch, items, Next, Answer, Reply, TextFault, IsGood, Tables, Rests, store_of, ShowsItsRows, StandsAt, Stand, Works, Failed, StoreFailed, RunsBatch, World, StoreFault, Store, Damaged, NewerVersion, OutOfMemory, Closed, RunsAndAnswers, answer_to, accepted_at, accepted, faulted_at, faulted, KeepsRest, KeepsLed, KeepsLeft, Applies, StopsRun, StandsOver, taken_of, lost_of, IsMovedBy, Turn, Turns, Completes, Halts}, proofs.Crashes.{IsSettled, crash_leaves}, proofs.Following.{completes-follows, halts-follows}, proofs.Running.{FailsAtStore, fails_of}, proofs.Untouched.{is_over, written_none, written_on}}
 use Rattle.moo_text.specs.declared.next.Next.TheVariants.{Batch as Whole, Malformed, Truncated, End}
 
 -- ---- what is written
@@ -67,6 +67,9 @@ shows_at g known world (StoreFailed s hand) sure at works = let no : true ≡ fa
 pub keeps_led : {S : Type 0} (g : Ghosts S) (known : Bool) (old new : World S) (stand : Stand) (batches lost : List Batch) → IsMovedBy g old new batches lost → (old.failed ≡ false → IsGood old.rows.maps) → StandsAt g known old stand → IsTrue known → KeepsLed g old new batches lost
 keeps_led g known old new stand batches lost it good at sure clean works = it.led clean (shows_at g known old stand sure at works) (good works)
 
+pub keeps_left : {S : Type 0} (g : Ghosts S) (known : Bool) (old new : World S) (stand : Stand) (batches lost : List Batch) → IsMovedBy g old new batches lost → StandsAt g known old stand → IsTrue known → KeepsLeft g old new batches lost
+keeps_left g known old new stand batches lost it at sure clean tables rests = it.left clean tables (over_at g known old stand tables sure at (it.clean clean) rests)
+
 -- ---- a whole text
 
 module _ {S : Type 0} (g : Ghosts S) (settled : (w : World S) → IsSettled (store_of g w)) where
@@ -82,6 +85,7 @@ module _ {S : Type 0} (g : Ghosts S) (settled : (w : World S) → IsSettled (sto
         clean = wrote.clean;
         cells = keeps_rest g known old new stand (accepted (items c.given) c.answers) (faulted (items c.given) c.answers) wrote at;
         led = keeps_led g known old new stand (accepted (items c.given) c.answers) (faulted (items c.given) c.answers) wrote good at;
+        left = keeps_left g known old new stand (accepted (items c.given) c.answers) (faulted (items c.given) c.answers) wrote at;
       }
 
   abbrev pub stops : (old new : World S) (text before behind : Option (List ℕ)) (fault : TextFault) → (old.failed ≡ false → IsGood old.rows.maps) → Halts (RunsAndAnswers g) old new text before behind fault → (known : Bool) (stand : Stand) → StandsAt g known old stand → StopsRun g known stand text before behind old new fault
@@ -97,4 +101,5 @@ module _ {S : Type 0} (g : Ghosts S) (settled : (w : World S) → IsSettled (sto
         clean = wrote.clean;
         cells = keeps_rest g known old new stand (accepted h.done h.answers ++ accepted h.hand h.last) (faulted h.done h.answers ++ faulted h.hand h.last) wrote at;
         led = keeps_led g known old new stand (accepted h.done h.answers ++ accepted h.hand h.last) (faulted h.done h.answers ++ faulted h.hand h.last) wrote good at;
+        left = keeps_left g known old new stand (accepted h.done h.answers ++ accepted h.hand h.last) (faulted h.done h.answers ++ faulted h.hand h.last) wrote at;
       }

@@ -1,5 +1,5 @@
 -- What the accepted batches of a run leave of the tables, one after another.
-use Rattle.moo_store.{proofs.Words.{◌≡◌, ◌⊎◌, inl, inr, ℕ, zero, suc, ◌<◌, ◌≤◌, Bool, List, [], ◌∷◌, ◌++◌, append_assoc, take, drop, length, get_or, Result, Ok, Err, OnOk, OnErr, IfOk, IfErr, IsTrue, true, false, refl, sym, ap, subst, ◌∙◌, arith, append-nil, ⊤, Ghosts, Trees, Maps, Tables, Rests, IsCurrent, Batch, Reply, Value, IsGood, State, Accepted, state_of, judge, left_by, acknowledged, added, ShowsRows, store_of, ShowsItsRows, IsAt, StandsFor, MatchStore, KeepsRows, LeavesRows, BatchesLead, LeavesLed, World, KeepsCells, Writes, StandsOver, HasWritten, WritesOne, IsKnown, taken_of, lost_of, IsMovedBy, StoreFault, Store, Damaged, NewerVersion, OutOfMemory, Closed}, proofs.Crashes.{IsSettled, rows_at_rest}, proofs.Committed.{shown_by, current_by}, proofs.Numbered.{led-append, led_good, writes_led}, proofs.Running.{Progress, FailsAtStore}}
+use Rattle.moo_store.{proofs.Words.{◌≡◌, ◌⊎◌, inl, inr, ℕ, zero, suc, ◌<◌, ◌≤◌, Bool, List, [], ◌∷◌, ◌++◌, append_assoc, take, drop, length, get_or, Result, Ok, Err, OnOk, OnErr, IfOk, IfErr, IsTrue, true, false, refl, sym, ap, subst, ◌∙◌, arith, append-nil, ⊤, Ghosts, Trees, Maps, Tables, Rests, IsCurrent, Batch, Reply, Value, IsGood, State, Accepted, state_of, judge, left_by, acknowledged, added, ShowsRows, store_of, ShowsItsRows, IsAt, StandsFor, MatchStore, KeepsRows, LeavesRows, BatchesLead, LeavesLed, World, KeepsCells, LeavesEither, LeavesWritten, unread_of, SparesUnread, Writes, StandsOver, HasWritten, WritesOne, IsKnown, taken_of, lost_of, IsMovedBy, StoreFault, Store, Damaged, NewerVersion, OutOfMemory, Closed}, proofs.Crashes.{IsSettled, rows_at_rest, unread_at_rest}, proofs.Committed.{shown_by, current_by}, proofs.Numbered.{led-append, led_good, writes_led}, proofs.Running.{Progress, FailsAtStore}}
 use Rattle.std.proofs.Math.Seq.{drop-append_seam}
 use Rattle.sqlite.specs.State.{State as Database, HasCleanDisk}
 use Rattle.moo_tables.proofs.InsideLemmas.{left_by as tables_left}
@@ -49,7 +49,7 @@ acknowledged-push (b ∷ bs) (reply.NoMemory ∷ rs) batch r low is = acknowledg
 
 -- nothing is written for no batch
 pub none_written : {S : Type 0} (g : Ghosts S) (old : World S) (tables : Tables) → StandsOver g old tables → HasWritten g old old tables []
-none_written g old tables over = record { end = old.rows.maps; after = tables; rests = over.rests; current = over.current; writes = (refl, refl); rows = λ works. refl }
+none_written g old tables over = record { end = old.rows.maps; after = tables; rests = over.rests; current = over.current; writes = (refl, refl); rows = λ works. refl; unread = refl }
 
 -- what a World has written, and then, while it works, what it writes on
 pub written_then : {S : Type 0} (g : Ghosts S) (old mid new : World S) (tables : Tables) (first second : List Batch) → mid.failed ≡ false
@@ -64,7 +64,38 @@ written_then g old mid new tables first second works shown was on =
       current = here.current;
       writes = writes-append old.rows.maps tables first was.end was.after second here.end here.after was.writes (subst (λ m. Writes m was.after second here.end here.after) (was.rows works) here.writes);
       rows = here.rows;
+      unread = here.unread ∙ was.unread;
     }
+
+-- a crash of a World at rest leaves its tables
+left_at_rest : {S : Type 0} (g : Ghosts S) (old : World S) (tables : Tables) (batches others : List Batch) → IsSettled (store_of g old) → batches ≡ [] → StandsOver g old tables
+    → LeavesWritten (store_of g old) old.rows.maps tables (unread_of (store_of g old).now.trees) batches others
+left_at_rest g old tables batches others settled none over trees lies = (
+  0,
+  omega arith,
+  old.rows.maps,
+  tables,
+  subst (λ done. Writes old.rows.maps tables (done ++ []) old.rows.maps tables) (sym none) (refl, refl),
+  tables_left (store_of g old) tables trees over.rests (settled trees over.rests.is_open lies),
+  unread_at_rest (store_of g old) tables trees settled over.rests lies,
+)
+
+-- what was written, and then, from a World that works, what a crash leaves
+left_then : {S : Type 0} (g : Ghosts S) (old now next : World S) (tables : Tables) (first second others : List Batch) → now.failed ≡ false → ShowsRows tables old.rows.maps → HasWritten g old now tables first
+    → ((between : Tables) → StandsOver g now between → LeavesWritten (store_of g next) now.rows.maps between (unread_of (store_of g now).now.trees) second others)
+    → LeavesWritten (store_of g next) old.rows.maps tables (unread_of (store_of g old).now.trees) (first ++ second) others
+left_then g old now next tables first second others works shown was on trees lies =
+    let shows : ShowsRows was.after now.rows.maps = subst (ShowsRows was.after) (sym (was.rows works)) (writes-show old.rows.maps tables first was.end was.after was.writes shown) in
+    let here = on was.after (record { rests = was.rests; current = was.current; shows = λ _. shows }) trees lies in (
+      here.0,
+      here.1,
+      here.2,
+      here.3,
+      subst (λ bs. Writes old.rows.maps tables bs here.2 here.3) (sym (append_assoc first second (take here.0 others)))
+          (writes-append old.rows.maps tables first was.end was.after (second ++ take here.0 others) here.2 here.3 was.writes (subst (λ m. Writes m was.after (second ++ take here.0 others) here.2 here.3) (was.rows works) here.4)),
+      here.5,
+      here.6 ∙ was.unread,
+    )
 
 -- a batch that isn't accepted writes nothing
 pub nothing_written : {S : Type 0} (g : Ghosts S) (old : World S) (batch : Batch) (r : Result Reply StoreFault) → IsSettled (store_of g old) → (old.failed ≡ false → IsGood old.rows.maps) → taken_of batch r ≡ [] → WritesOne g old old batch r
@@ -72,6 +103,7 @@ nothing_written g old batch r settled good none = record {
   clean = λ c. c;
   written = λ c known tables over. subst (HasWritten g old old tables) (sym none) (none_written g old tables over);
   led = λ clean shown works trees lies. (0, omega arith, old.rows.maps, good works, subst (λ done. BatchesLead (done ++ []) old.rows.maps old.rows.maps) (sym none) refl, rows_at_rest (store_of g old) old.rows.maps settled (shown clean) trees lies);
+  left = λ c tables over. left_at_rest g old tables (taken_of batch r) (lost_of batch r) settled none over;
 }
 
 -- an accepted batch writes its changes, or the store failed and nothing is written
@@ -81,8 +113,10 @@ pub accepted_writes : {S : Type 0} (g : Ghosts S) (old new : World S) (batch : B
     → OnOk r ((tables : Tables) → HasCleanDisk (store_of g new) → Rests (store_of g old) tables → IsCurrent tables → ShowsRows tables old.rows.maps → (after : Tables) × Rests (store_of g new) after × KeepsCells old.rows.maps next tables after)
     → OnErr r (HasCleanDisk (store_of g new) → IsTrue (store_of g new).is_open → (tables : Tables) → Rests (store_of g old) tables → IsCurrent tables → Rests (store_of g new) tables)
     → (HasCleanDisk (store_of g new) → HasCleanDisk (store_of g old)) → IfErr r (λ fault. (error : _) × (fault ≡ Store error)) → OnErr r (new.failed ≡ true)
-    → IsSettled (store_of g new) → OnErr r (ShowsItsRows g old → HasCleanDisk (store_of g new) → (trees : Trees) → (store_of g new).may_leave trees → LeavesRows trees old.rows.maps ⊎ LeavesRows trees next) → WritesOne g old new batch r
-accepted_writes g old new batch answers seq next (Ok reply) works sound good leads judged is rows cells undone clean fault failed settled crash = record {
+    → IsSettled (store_of g new) → OnErr r (ShowsItsRows g old → HasCleanDisk (store_of g new) → (trees : Trees) → (store_of g new).may_leave trees → LeavesRows trees old.rows.maps ⊎ LeavesRows trees next)
+    → OnErr r ((tables : Tables) → HasCleanDisk (store_of g new) → Rests (store_of g old) tables → IsCurrent tables → ShowsRows tables old.rows.maps → (trees : Trees) → (store_of g new).may_leave trees → LeavesEither old.rows.maps next tables trees)
+    → (HasCleanDisk (store_of g new) → (tables : Tables) → Rests (store_of g old) tables → IsCurrent tables → SparesUnread (store_of g old) (store_of g new)) → WritesOne g old new batch r
+accepted_writes g old new batch answers seq next (Ok reply) works sound good leads judged is rows cells undone clean fault failed settled crash leaves spared = record {
   clean = clean;
   written = λ c known tables over.
       let it = cells tables c over.rests (over.current works) (over.shows works) in
@@ -93,6 +127,7 @@ accepted_writes g old new batch answers seq next (Ok reply) works sound good lea
         current = λ _. it.2.version ∙ over.current works;
         writes = subst (λ x. Writes old.rows.maps tables (acknowledged (batch ∷ []) (x ∷ [])) next it.0) (sym is) (next, it.0, good, leads, sym (ap (left_by (state_of old.rows.maps)) judged), it.2, (refl, refl));
         rows = rows;
+        unread = (spared c tables over.rests (over.current works)).kept it.1.is_open;
       };
   led = λ c shown on trees lies.
       let was = shown (clean c) in
@@ -104,8 +139,18 @@ accepted_writes g old new batch answers seq next (Ok reply) works sound good lea
         subst (λ x. BatchesLead (acknowledged (batch ∷ []) (x ∷ []) ++ []) old.rows.maps next) (sym is) (next, good, leads, sym (ap (left_by (state_of old.rows.maps)) judged), refl),
         rows_at_rest (store_of g new) next settled (record { tables = it.0; rests = it.1; current = it.2.version ∙ was.current; shows = it.2.shows }) trees lies,
       );
+  left = λ c tables over trees lies.
+      let it = cells tables c over.rests (over.current works) (over.shows works) in (
+        0,
+        omega arith,
+        next,
+        it.0,
+        subst (λ x. Writes old.rows.maps tables (acknowledged (batch ∷ []) (x ∷ []) ++ []) next it.0) (sym is) (next, it.0, good, leads, sym (ap (left_by (state_of old.rows.maps)) judged), it.2, (refl, refl)),
+        tables_left (store_of g new) it.0 trees it.1 (settled trees it.1.is_open lies),
+        (spared c tables over.rests (over.current works)).crash trees lies,
+      );
 }
-accepted_writes g old new batch answers seq next (Err (Store error)) works sound good leads judged is rows cells undone clean fault failed settled crash = record {
+accepted_writes g old new batch answers seq next (Err (Store error)) works sound good leads judged is rows cells undone clean fault failed settled crash leaves spared = record {
   clean = clean;
   written = λ c opened tables over. record {
     end = old.rows.maps;
@@ -114,16 +159,23 @@ accepted_writes g old new batch answers seq next (Err (Store error)) works sound
     current = λ on. let no : true ≡ false = sym failed ∙ on in absurd cc;
     writes = (refl, refl);
     rows = λ on. let no : true ≡ false = sym failed ∙ on in absurd cc;
+    unread = (spared c tables over.rests (over.current works)).kept opened;
   };
   led = λ c shown on trees lies. elim (crash shown c trees lies) [
     | inl was ↦ (0, omega arith, old.rows.maps, sound, refl, was)
     | inr late ↦ (1, omega arith, next, good, (next, good, leads, sym (ap (left_by (state_of old.rows.maps)) judged), refl), late)
   ];
+  left = λ c tables over trees lies.
+      let unread = (spared c tables over.rests (over.current works)).crash trees lies in
+      elim (leaves tables c over.rests (over.current works) (over.shows works) trees lies) [
+        | inl was ↦ (0, omega arith, old.rows.maps, tables, (refl, refl), was, unread)
+        | inr (after, late, kept) ↦ (1, omega arith, next, after, (next, after, good, leads, sym (ap (left_by (state_of old.rows.maps)) judged), kept, (refl, refl)), late, unread)
+      ];
 }
-accepted_writes g old new batch answers seq next (Err (Damaged kind key)) works sound good leads judged is rows cells undone clean fault failed settled crash = let no : (Damaged kind key) ≡ Store fault.0 = fault.1 in absurd cc
-accepted_writes g old new batch answers seq next (Err NewerVersion) works sound good leads judged is rows cells undone clean fault failed settled crash = let no : NewerVersion ≡ Store fault.0 = fault.1 in absurd cc
-accepted_writes g old new batch answers seq next (Err OutOfMemory) works sound good leads judged is rows cells undone clean fault failed settled crash = let no : OutOfMemory ≡ Store fault.0 = fault.1 in absurd cc
-accepted_writes g old new batch answers seq next (Err Closed) works sound good leads judged is rows cells undone clean fault failed settled crash = let no : Closed ≡ Store fault.0 = fault.1 in absurd cc
+accepted_writes g old new batch answers seq next (Err (Damaged kind key)) works sound good leads judged is rows cells undone clean fault failed settled crash leaves spared = let no : (Damaged kind key) ≡ Store fault.0 = fault.1 in absurd cc
+accepted_writes g old new batch answers seq next (Err NewerVersion) works sound good leads judged is rows cells undone clean fault failed settled crash leaves spared = let no : NewerVersion ≡ Store fault.0 = fault.1 in absurd cc
+accepted_writes g old new batch answers seq next (Err OutOfMemory) works sound good leads judged is rows cells undone clean fault failed settled crash leaves spared = let no : OutOfMemory ≡ Store fault.0 = fault.1 in absurd cc
+accepted_writes g old new batch answers seq next (Err Closed) works sound good leads judged is rows cells undone clean fault failed settled crash leaves spared = let no : Closed ≡ Store fault.0 = fault.1 in absurd cc
 
 -- an accepted batch is acknowledged, unless the store failed
 pub accepted_is_taken : {S : Type 0} (old new : World S) (batch : Batch) (answers : List Value) (seq : ℕ) (r : Result Reply StoreFault)
@@ -186,6 +238,7 @@ written_none g old settled = record {
   closed = λ failed. (refl, refl, refl);
   written = λ c known tables over. none_written g old tables over;
   led = λ c shown good. led_at_rest g old old [] [] settled c shown good (none_written g old);
+  left = λ c tables over. left_at_rest g old tables [] [] settled refl over;
 }
 
 -- one more batch was run
@@ -200,6 +253,8 @@ written_on g old now next batches lost batch (Ok reply) was works one =
       written = λ c known tables over. written_then g old now next tables batches (taken_of batch (Ok reply)) works (over.shows (was.works works)) (was.written (one.clean c) (inl works) tables over) (one.written c tt);
       led = λ c shown good. subst (LeavesLed (store_of g next) old.rows.maps (batches ++ taken_of batch (Ok reply))) (sym (append-nil lost ∙ was.none works))
           (led_then g old now next batches (taken_of batch (Ok reply)) [] works (was.clean (one.clean c)) shown (was.written (one.clean c) (inl works)) (λ shows. one.led c shows works));
+      left = λ c tables over. subst (LeavesWritten (store_of g next) old.rows.maps tables (unread_of (store_of g old).now.trees) (batches ++ taken_of batch (Ok reply))) (sym (append-nil lost ∙ was.none works))
+          (left_then g old now next tables batches (taken_of batch (Ok reply)) [] works (over.shows (was.works works)) (was.written (one.clean c) (inl works) tables over) (one.left c));
     }
 written_on g old now next batches lost batch (Err (Store error)) was fails one = record {
   clean = λ c. was.clean (one.clean c);
@@ -212,6 +267,8 @@ written_on g old now next batches lost batch (Err (Store error)) was fails one =
   ];
   led = λ c shown good. subst (λ none. LeavesLed (store_of g next) old.rows.maps (batches ++ []) (none ++ batch ∷ [])) (sym (was.none fails.0))
       (led_then g old now next batches [] (batch ∷ []) fails.0 (was.clean (one.clean c)) shown (was.written (one.clean c) (inl fails.0)) (λ shows. one.led c shows fails.0));
+  left = λ c tables over. subst (λ none. LeavesWritten (store_of g next) old.rows.maps tables (unread_of (store_of g old).now.trees) (batches ++ []) (none ++ batch ∷ [])) (sym (was.none fails.0))
+      (left_then g old now next tables batches [] (batch ∷ []) fails.0 (over.shows (was.works fails.0)) (was.written (one.clean c) (inl fails.0) tables over) (one.left c));
 }
 written_on g old now next batches lost batch (Err (Damaged kind key)) was fails one = absurd fails
 written_on g old now next batches lost batch (Err NewerVersion) was fails one = absurd fails
@@ -248,6 +305,8 @@ moved_then g old mid new first gone second lost was on = elim (fails_or_works mi
         written = λ c known tables over. written_then g old mid new tables first second works (over.shows (was.works works)) (was.written (on.clean c) (inl works) tables over) (on.written c known);
         led = λ c shown good. subst (λ bs. LeavesLed (store_of g new) old.rows.maps (first ++ second) (bs ++ lost)) (sym (was.none works))
             (led_then g old mid new first second lost works (was.clean (on.clean c)) shown (was.written (on.clean c) (inl works)) (λ shows. on.led c shows (good_when_moved g old mid first gone was works (on.clean c) shown good)));
+        left = λ c tables over. subst (λ bs. LeavesWritten (store_of g new) old.rows.maps tables (unread_of (store_of g old).now.trees) (first ++ second) (bs ++ lost)) (sym (was.none works))
+            (left_then g old mid new tables first second lost works (over.shows (was.works works)) (was.written (on.clean c) (inl works) tables over) (on.left c));
       }
 ]
 

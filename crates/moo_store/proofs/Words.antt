@@ -24,15 +24,16 @@ pub use Rattle.moo_store.specs.Stand.{AsksBatch, Failed, ReachesStore, RunsBatch
 pub use Rattle.moo_store.specs.States.{KeepsRows, KeepsState, LeavesRows, LeavesState, ShowsState}
 pub use Rattle.moo_store.specs.Stopped.{IsStopped, KeepsFaults}
 pub use Rattle.moo_store.specs.Stopping.{AppliesFirst, AreAccepted, CompletesUntil, EndAtFirst, EndsEarly, stops_after, HaltsUntil, says_accepted, up_to_first}
-pub use Rattle.moo_store.specs.Text.{Applies, KeepsLed, KeepsRest, RunsAll, RunsAndAnswers, StandsBehind, StopsRun, accepted, accepted_at, answer_to, answers_asked, batches_of, faulted, faulted_at, is_plain, replies}
+pub use Rattle.moo_store.specs.Text.{Applies, KeepsLed, KeepsLeft, KeepsRest, RunsAll, RunsAndAnswers, StandsBehind, StopsRun, accepted, accepted_at, answer_to, answers_asked, batches_of, faulted, faulted_at, is_plain, replies}
 pub use Rattle.moo_store.specs.Turns.{Completes, GivesFrontOrAll, Halts, Turn, Turns, answers_text, is_batch, is_lost_answer}
-pub use Rattle.moo_store.specs.Untouched.{HasWritten, IsKnown, IsMovedBy, KeepsCells, StandsOver, Writes, WritesOne, lost_of, taken_of}
+pub use Rattle.moo_store.specs.Untouched.{HasWritten, IsKnown, IsMovedBy, KeepsCells, LeavesEither, LeavesWritten, StandsOver, Writes, WritesOne, lost_of, taken_of}
+pub use Rattle.moo_store.specs.Current.{unread_from, unread_of}
 pub use Rattle.moo_store.specs.World.{CrashLeaves, IsAt, Left, LeftOrNext, MatchStore, ShowsItsRows, StandsAt, StandsFor, store_of}
 pub use Rattle.moo_store.specs.declared.fault.StoreFault.{StoreFault}
 pub use Rattle.moo_store.specs.declared.fault.StoreFault.TheVariants.{Closed, Damaged, NewerVersion, OutOfMemory, Store}
 pub use Rattle.moo_tables.proofs.InsideLemmas.{clean_before, stays}
 pub use Rattle.moo_tables.specs.Cells.{cells_after, counter_with, head_cells, object_cells, petition_cells, petition_head_cells, prop_cells, slot_cells, tables_with, verb_cells}
-pub use Rattle.moo_tables.specs.Inside.{FailsToRead, HasNoTables, HasTables, Holds, IsCurrent, Leaves, MayOpenAs, ReadsTables, Rests, RestsAt, no_tables}
+pub use Rattle.moo_tables.specs.Inside.{FailsToRead, HasNoTables, HasTables, Holds, IsCurrent, Leaves, MayOpenAs, ReadsTables, Rests, RestsAt, SparesUnread, no_tables}
 pub use Rattle.moo_tables.specs.Migrated.{migrated}
 pub use Rattle.moo_tables.specs.Tables.{Tables, no_schema, numbered_with, present_schema, same_number, same_numbers, schema_of, tables_in, with_cells}
 pub use Rattle.moo_tables.specs.Version.{IsEarlier, present}

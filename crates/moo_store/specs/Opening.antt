@@ -79,7 +79,7 @@ HasOthers conn = (version : Version) → conn.now.schema ≢ schema_of version
 module _ {S : Type 0} (g : Ghosts S) where
   -- A World was opened over the tables of this connection: they are ours. It works, its rows are good, and what is said of rows alone is
   -- said of them. It stands for the state that the tables show, and has their rows. They rest in it, each cell, or those that they were
-  -- migrated to; a crash leaves what it could leave before, or these.
+  -- migrated to, and the table that isn't read has its rows, or none after a migration; a crash leaves what it could leave before, or these.
   pub record IsAdopted (conn : Database) (world : World S) : Type 0 where
     pub works : world.failed ≡ false
     pub good : IsGood world.rows.maps
@@ -88,7 +88,7 @@ module _ {S : Type 0} (g : Ghosts S) where
     pub state : (s : State) → ShowsState conn s → HasCleanDisk (store_of g world) → StandsFor g true world s
     pub shown : (tables : Tables) → Rests conn tables → HasCleanDisk (store_of g world) → ShowsRows tables world.rows.maps
     pub rests : (tables : Tables) → Rests conn tables → HasCleanDisk (store_of g world) →
-        RestsCurrent (store_of g world) tables world.rows.maps
+        RestsCurrent (store_of g world) conn.now.trees tables world.rows.maps
     pub crash : Survives conn (store_of g world) (Adopts conn)
 
   -- None was opened, and the connection comes back outside a transaction. A fault of a state is one of the store, and a damage that is
@@ -115,7 +115,8 @@ module _ {S : Type 0} (g : Ghosts S) where
     pub one : (tables : Tables) (m : Maps) → Rests (state g conn) tables → ShowsRows tables m → IsGood m → HasCleanDisk (state g last) →
         rows ≡ m
     pub shown : (tables : Tables) → Rests (state g conn) tables → HasCleanDisk (state g last) → ShowsRows tables rows
-    pub rests : (tables : Tables) → Rests (state g conn) tables → HasCleanDisk (state g last) → RestsCurrent (state g last) tables rows
+    pub rests : (tables : Tables) → Rests (state g conn) tables → HasCleanDisk (state g last) →
+        RestsCurrent (state g last) (state g conn).now.trees tables rows
     pub crash : Survives (state g conn) (state g last) (Adopts (state g conn))
 
   abbrev pub Brings : Held S → Held S → Result Rows StoreFault → Type 0

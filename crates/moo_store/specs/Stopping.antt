@@ -15,7 +15,7 @@ use Rattle.moo_store.specs.World.{store_of, CrashLeaves, StandsAt}
 use Rattle.moo_store.specs.Stand.{Stand, RunsBatch}
 use Rattle.moo_text.specs.declared.fault.TextFault.{TextFault}
 use Rattle.moo_store.specs.Turns.{Turns, Completes, Halts, answers_text, is_batch, is_lost_answer, GivesFrontOrAll}
-use Rattle.moo_store.specs.Text.{accepted, faulted, KeepsRest, KeepsLed}
+use Rattle.moo_store.specs.Text.{accepted, faulted, KeepsRest, KeepsLed, KeepsLeft}
 
 abbrev pub says_accepted : Answer → Bool
 says_accepted (answer.Replied (Accepted seq answers)) = true
@@ -91,3 +91,5 @@ pub record AppliesFirst {S : Type 0} (g : Ghosts S) (known : Bool) (old : Stand)
   pub cells : IsTrue known → KeepsRest g was world (accepted early.done early.answers)
   -- a crash leaves rows that the acknowledged batches lead to, with all numbers kept, or these and the batch in which the store failed
   pub led : IsTrue known → KeepsLed g was world (accepted early.done early.answers) (faulted early.done early.answers)
+  -- and tables with the cells kept of all that these batches leave as it is
+  pub left : IsTrue known → KeepsLeft g was world (accepted early.done early.answers) (faulted early.done early.answers)

@@ -22,7 +22,8 @@ use Rattle.moo_store.specs.World.{store_of, CrashLeaves, StandsAt, MatchStore}
 use Rattle.moo_store.specs.Stand.{Stand, RunsBatch}
 use Rattle.moo_store.specs.Turns.{Turns, Completes, Halts}
 use Rattle.moo_store.specs.Led.{LeavesLed}
-use Rattle.moo_store.specs.Untouched.{HasWritten, WritesOne}
+use Rattle.moo_store.specs.Current.{unread_of}
+use Rattle.moo_store.specs.Untouched.{HasWritten, WritesOne, LeavesWritten}
 use Rattle.moo_store.specs.declared.fault.StoreFault.{StoreFault}
 use Rattle.moo_store.specs.declared.fault.StoreFault.TheVariants.{Store, OutOfMemory, Closed}
 
@@ -90,6 +91,13 @@ abbrev pub KeepsLed : {S : Type 0} (g : Ghosts S) → World S → World S → Li
 KeepsLed g was world batches others =
     HasCleanDisk (store_of g world) → was.failed ≡ false → LeavesLed (store_of g world) was.rows.maps batches others
 
+-- If the disk returns what was written: whatever a crash leaves of the tables that were in its store has the cells kept of all that these
+-- batches leave as it is, or these and one of the others; and of the table that isn't read all rows.
+abbrev pub KeepsLeft : {S : Type 0} (g : Ghosts S) → World S → World S → List Batch → List Batch → Type 0
+KeepsLeft g was world batches others =
+    HasCleanDisk (store_of g world) → (tables : Tables) → Rests (store_of g was) tables →
+    LeavesWritten (store_of g world) was.rows.maps tables (unread_of (store_of g was).now.trees) batches others
+
 -- The text was run to its end.
 pub record Applies {S : Type 0} (g : Ghosts S) (known : Bool) (old : Stand) (text before behind : Option (List ℕ)) (was world : World S)
     (batches lost : ℕ) : Type 0 where
@@ -103,6 +111,9 @@ pub record Applies {S : Type 0} (g : Ghosts S) (known : Bool) (old : Stand) (tex
   -- a crash leaves rows that the acknowledged batches lead to, with all numbers kept, or these and the batch in which the store failed
   pub led : IsTrue known →
       KeepsLed g was world (accepted (items completes.given) completes.answers) (faulted (items completes.given) completes.answers)
+  -- and tables with the cells kept of all that these batches leave as it is
+  pub left : IsTrue known →
+      KeepsLeft g was world (accepted (items completes.given) completes.answers) (faulted (items completes.given) completes.answers)
 
 -- The run of the text stopped.
 pub record StopsRun {S : Type 0} (g : Ghosts S) (known : Bool) (old : Stand) (text before behind : Option (List ℕ)) (was world : World S)
@@ -115,6 +126,9 @@ pub record StopsRun {S : Type 0} (g : Ghosts S) (known : Bool) (old : Stand) (te
   pub cells : IsTrue known → KeepsRest g was world (accepted halts.done halts.answers ++ accepted halts.hand halts.last)
   pub led : IsTrue known →
       KeepsLed g was world (accepted halts.done halts.answers ++ accepted halts.hand halts.last)
+      (faulted halts.done halts.answers ++ faulted halts.hand halts.last)
+  pub left : IsTrue known →
+      KeepsLeft g was world (accepted halts.done halts.answers ++ accepted halts.hand halts.last)
       (faulted halts.done halts.answers ++ faulted halts.hand halts.last)
 
 -- ---- if memory doesn't run out and no fault comes

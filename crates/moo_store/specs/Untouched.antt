@@ -1,15 +1,17 @@
 -- Rows that stay as they are, and columns that stay, keep their cells, byte for byte, whatever spelling of a value these hold.
-use Rattle.std.specs.Prelude.{◌≡◌, ◌⊎◌, ℤ, true, false, pos, List, [], ◌∷◌, Result, Ok, Err, Some, IsTrue, ⊤}
+use Rattle.std.specs.Prelude.{◌≡◌, ◌⊎◌, ℕ, ◌≤◌, ℤ, true, false, pos, List, [], ◌∷◌, ◌++◌, take, Result, Ok, Err, Some, IsTrue, ⊤}
 use Rattle.std.specs.FinMap.{get}
+use Rattle.sqlite.specs.Order.{Row}
 use Rattle.sqlite.specs.State.{State as Database, HasCleanDisk}
 use Rattle.sqlite.specs.Store.{Ghosts}
+use Rattle.sqlite.specs.Tree.{Trees}
 use Rattle.moo_value.specs.declared.value.ObjNo.{ObjNo}
 use Rattle.moo_rows.specs.declared.row.PropId.{PropId}
 use Rattle.moo_rows.specs.declared.row.VerbId.{VerbId}
 use Rattle.moo_rows.specs.declared.row.PetitionId.{PetitionId}
 use Rattle.moo_rows.specs.Maps.{Maps}
 use Rattle.moo_tables.specs.Tables.{Tables}
-use Rattle.moo_tables.specs.Inside.{Rests, IsCurrent}
+use Rattle.moo_tables.specs.Inside.{Rests, IsCurrent, KeepsUnread, Leaves}
 use Rattle.moo_world.specs.declared.call.Batch.{Batch}
 use Rattle.moo_world.specs.Rows.{IsGood}
 use Rattle.moo_world.specs.Between.{BatchLeads}
@@ -18,6 +20,7 @@ use Rattle.moo_text.specs.declared.reply.Reply.{Reply}
 use Rattle.moo_store.specs.Columns.{IfBoth, HeadColumns, ObjectColumns, PropColumns, SlotColumns, VerbColumns, PetitionColumns}
 use Rattle.moo_store.specs.Answered.{state_behind, acknowledged}
 use Rattle.moo_cells.specs.Shows.{ShowsRows}
+use Rattle.moo_store.specs.Current.{unread_of}
 use Rattle.moo_store.specs.World.{store_of, ShowsItsRows, MatchStore}
 use Rattle.moo_store.specs.Led.{LeavesLed}
 use Rattle.moo_store.specs.Kept.{World}
@@ -56,6 +59,17 @@ Writes rows tables (batch ∷ batches) end after =
     (next : Maps) × (between : Tables) × IsGood next × BatchLeads batch rows next × (state_of next ≡ state_behind (state_of rows) batch)
     × KeepsCells rows next tables between × Writes next between batches end after
 
+-- What a crash may leave of tables that a batch writes: these, or those that it makes of them, with the cells kept of all that stays.
+abbrev pub LeavesEither : Maps → Maps → Tables → Trees → Type 0
+LeavesEither rows next tables trees = Leaves trees tables ⊎ ((after : Tables) × Leaves trees after × KeepsCells rows next tables after)
+
+-- Whatever a crash leaves: the tables to which these batches lead from those of these rows, or these and one of the others, with the cells
+-- kept of all that stays; and of the table that isn't read these rows.
+abbrev pub LeavesWritten : Database → Maps → Tables → List Row → List Batch → List Batch → Type 0
+LeavesWritten store rows tables unread batches others =
+    (trees : Trees) → store.may_leave trees → (more : ℕ) × (more ≤ 1) × (end : Maps) × (after : Tables)
+    × Writes rows tables (batches ++ take more others) end after × Leaves trees after × (unread_of trees ≡ unread)
+
 -- the tables of a World, after these batches were written
 pub record HasWritten {S : Type 0} (g : Ghosts S) (old new : World S) (tables : Tables) (batches : List Batch) : Type 0 where
   pub end : Maps
@@ -64,6 +78,7 @@ pub record HasWritten {S : Type 0} (g : Ghosts S) (old new : World S) (tables : 
   pub current : new.failed ≡ false → IsCurrent after
   pub writes : Writes old.rows.maps tables batches end after
   pub rows : new.failed ≡ false → new.rows.maps ≡ end
+  pub unread : KeepsUnread (store_of g old).now (store_of g new).now
 
 -- the batch, if it is acknowledged
 abbrev pub taken_of : Batch → Result Reply StoreFault → List Batch
@@ -94,6 +109,9 @@ pub record WritesOne {S : Type 0} (g : Ghosts S) (old new : World S) (batch : Ba
   -- a crash leaves the rows that an accepted batch led to; if the store failed, those before the batch or those that it leads to
   pub led : HasCleanDisk (store_of g new) → ShowsItsRows g old → old.failed ≡ false →
       LeavesLed (store_of g new) old.rows.maps (taken_of batch r) (lost_of batch r)
+  -- and of its tables those that it makes of them, with the cells kept of all that stays, and the table that isn't read as it was
+  pub left : HasCleanDisk (store_of g new) → (tables : Tables) → StandsOver g old tables →
+      LeavesWritten (store_of g new) old.rows.maps tables (unread_of (store_of g old).now.trees) (taken_of batch r) (lost_of batch r)
 
 -- Accepted batches, one after another, made this World of that one: these were acknowledged, and the store failed in the others, of which
 -- there are none while the World works. One that had failed is as it was.
@@ -108,3 +126,6 @@ pub record IsMovedBy {S : Type 0} (g : Ghosts S) (old now : World S) (batches lo
   -- a crash leaves rows that these lead to, with all numbers kept, or these and one of the others
   pub led : HasCleanDisk (store_of g now) → ShowsItsRows g old → IsGood old.rows.maps →
       LeavesLed (store_of g now) old.rows.maps batches lost
+  -- and tables to which these lead, with the cells kept of all that stays, and the table that isn't read as it was
+  pub left : HasCleanDisk (store_of g now) → (tables : Tables) → StandsOver g old tables →
+      LeavesWritten (store_of g now) old.rows.maps tables (unread_of (store_of g old).now.trees) batches lost

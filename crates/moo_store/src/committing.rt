@@ -1,19 +1,19 @@
 //! Changes of rows, committed to the tables of a store.
 
 ghost use Rattle.std.specs.Prelude.{◌≡◌, ◌<◌, ◌^◌, IsTrue, Some, OnOk, OnErr, IfErr, false};
-ghost use Rattle.sqlite.specs.State.{HasCleanDisk, Survives};
+ghost use Rattle.sqlite.specs.State.{HasCleanDisk};
 ghost use Rattle.sqlite.specs.Held.{state};
+ghost use Rattle.sqlite.specs.Tree.{Trees};
 ghost use Rattle.moo_rows.specs.Maps.{Maps};
 ghost use Rattle.moo_memory.specs.declared.changes.Changes.{Changes};
 ghost use Rattle.moo_memory.specs.Changes.{AreChanges};
 ghost use Rattle.moo_cells.specs.Shows.{ShowsRows};
 ghost use Rattle.moo_store.specs.Printed.{Prints};
-ghost use Rattle.moo_store.specs.States.{KeepsRows, LeavesRows};
 ghost use Rattle.moo_tables.specs.Tables.{Tables};
 ghost use Rattle.moo_tables.specs.Cause.{StopsChange};
-ghost use Rattle.moo_tables.specs.Inside.{Rests, IsCurrent};
+ghost use Rattle.moo_tables.specs.Inside.{Rests, IsCurrent, SparesUnread};
 ghost use Rattle.moo_store.specs.Stopped.{KeepsFaults};
-ghost use Rattle.moo_store.specs.Untouched.{KeepsCells};
+ghost use Rattle.moo_store.specs.Untouched.{KeepsCells, LeavesEither};
 
 use moo_tables::{CellChanges, commit_changes};
 use sqlite::{Alter, Connection, Error};
@@ -26,9 +26,6 @@ pub(crate) fn commit_cells<S: Alter>(
     requires limit { cells.now.head.seq < 2 ^ 63 }
     requires outside { (state S.Store conn.old).in_transaction ≡ false }
     ensures outside { (state S.Store conn.new).in_transaction ≡ false }
-    ensures written { HasCleanDisk (state S.Store conn.new) →
-        OnOk result ((changes : Changes) (base next : Maps) → Prints (Some base.head.next_petition) base cells.now changes →
-        AreChanges base next changes → KeepsRows (state S.Store conn.old) base → KeepsRows (state S.Store conn.new) next) }
     ensures cells { HasCleanDisk (state S.Store conn.new) →
         OnOk result ((changes : Changes) (base next : Maps) (tables : Tables) →
         Prints (Some base.head.next_petition) base cells.now changes → AreChanges base next changes →
@@ -42,9 +39,12 @@ pub(crate) fn commit_cells<S: Alter>(
         IfErr result (λ error. (tables : Tables) → Rests (state S.Store conn.old) tables → IsCurrent tables →
         StopsChange (state S.Store conn.old) (state S.Store conn.new) error) }
     ensures kept { KeepsFaults (state S.Store conn.old) (state S.Store conn.new) }
-    ensures crash { (changes : Changes) (base next : Maps) → Prints (Some base.head.next_petition) base cells.now changes →
-        AreChanges base next changes → (HasCleanDisk (state S.Store conn.old) → KeepsRows (state S.Store conn.old) base) →
-        Survives (state S.Store conn.old) (state S.Store conn.new) (λ trees. LeavesRows trees next) }
+    ensures left { HasCleanDisk (state S.Store conn.new) → (changes : Changes) (base next : Maps) (tables : Tables) →
+        Prints (Some base.head.next_petition) base cells.now changes → AreChanges base next changes →
+        Rests (state S.Store conn.old) tables → IsCurrent tables → ShowsRows tables base → (trees : Trees) →
+        (state S.Store conn.new).may_leave trees → LeavesEither base next tables trees }
+    ensures spared { HasCleanDisk (state S.Store conn.new) → (tables : Tables) → Rests (state S.Store conn.old) tables →
+        IsCurrent tables → SparesUnread (state S.Store conn.old) (state S.Store conn.new) }
 {
     commit_changes(conn, cells)
 }

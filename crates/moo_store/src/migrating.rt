@@ -51,7 +51,7 @@ fn migrate_rows<S: Alter>(
         KeepsRows (state S.Store conn.new) rows.now.maps) }
     ensures rests { HasCleanDisk (state S.Store conn.new) →
         OnOk result ((tables : Tables) → Rests (state S.Store conn.old) tables → IsEarlier tables.version → ShowsRows tables rows.now.maps →
-        RestsCurrent (state S.Store conn.new) tables rows.now.maps) }
+        RestsCurrent (state S.Store conn.new) (state S.Store conn.old).now.trees tables rows.now.maps) }
     ensures undone { OnErr result ((conn.new ≡ conn.old)
         ⊎ (HasCleanDisk (state S.Store conn.new) → IsTrue (state S.Store conn.new).is_open →
         RestsAt (state S.Store conn.new) (state S.Store conn.old).committed)) }
@@ -85,7 +85,7 @@ pub(crate) fn make_current<S: Alter>(
         KeepsRows (state S.Store conn.new) rows.now.maps) }
     ensures rests { HasCleanDisk (state S.Store conn.new) →
         OnOk result ((tables : Tables) → Rests (state S.Store conn.old) tables → tables.version ≡ version → ShowsRows tables rows.now.maps →
-        RestsCurrent (state S.Store conn.new) tables rows.now.maps) }
+        RestsCurrent (state S.Store conn.new) (state S.Store conn.old).now.trees tables rows.now.maps) }
     ensures undone { OnErr result ((conn.new ≡ conn.old)
         ⊎ (HasCleanDisk (state S.Store conn.new) → IsTrue (state S.Store conn.new).is_open →
         RestsAt (state S.Store conn.new) (state S.Store conn.old).committed)) }

@@ -1,5 +1,5 @@
 -- What the statements do that make the tables of the present version of those of an earlier one.
-use Rattle.moo_tables.{proofs.Words.{◌≡◌, ℕ, List, [], ◌∷◌, Ok, Err, Result, OnOk, refl, sym, ap, subst, ◌∙◌, Schema, Database, Error, State, HasCleanDisk, First, Tables, schema_of, first_schema, slot2_schema, petition_schema, second_schema, slot2_table, petition_table, petition_head_table, numbered_in, paired_in, head_places, object_places, prop_places, slot_places, verb_places, petition_places, petition_head_places, with_counter, AreKeyed, Holds, Sees, StaysInside, Changes, RanStatement, IsGrown, grown, no_tables, KeepsUnread, create_text, IsEarlier, IsUnderWay, no_rows, present_schema}, proofs.TextLemmas.{create_slot2_is, create_petition_is, create_petition_head_is}, proofs.CreateLemmas.{runs_making}, proofs.InsideLemmas.{of_version, clean_before, only_first}, proofs.SeenLemmas.{same_tables}}
+use Rattle.moo_tables.{proofs.Words.{◌≡◌, ℕ, List, [], ◌∷◌, Ok, Err, Result, OnOk, refl, sym, ap, subst, ◌∙◌, Schema, Database, Error, State, HasCleanDisk, First, Tables, schema_of, first_schema, slot2_schema, petition_schema, second_schema, slot2_table, petition_table, petition_head_table, numbered_in, paired_in, head_places, object_places, prop_places, slot_places, verb_places, petition_places, petition_head_places, with_counter, AreKeyed, Holds, Sees, StaysInside, Changes, RanStatement, IsGrown, GrowsTables, grown, no_tables, KeepsUnread, create_text, IsEarlier, IsUnderWay, no_rows, present_schema}, proofs.TextLemmas.{create_slot2_is, create_petition_is, create_petition_head_is}, proofs.CreateLemmas.{runs_making}, proofs.InsideLemmas.{of_version, clean_before, only_first}, proofs.SeenLemmas.{same_tables}}
 
 pub makes_slot2 : (old new : State) (count : ℕ) → RanStatement (create_text slot2_table) [] old new (Ok count) → HasCleanDisk new → (base : Database) → IsGrown base first_schema [] old.now → IsGrown base slot2_schema (7 ∷ []) new.now
 makes_slot2 old new count ran = λ clean base was.
@@ -75,17 +75,13 @@ sees_grown base new tables is way holds first =
 abbrev Grows : Schema → List ℕ → Schema → List ℕ → State → State → Type 0
 Grows before made after more old new = HasCleanDisk new → (base : Database) → IsGrown base before made old.now → IsGrown base after more new.now
 
--- the tables of the first version are there in the present one, and those that it adds are empty
-abbrev Grown : State → State → Type 0
-Grown old new = HasCleanDisk new → (tables : Tables) → Holds old.now tables → tables.version ≡ First → Sees new (grown tables) × KeepsUnread old.now new.now
-
 -- and the first petition has its number
 abbrev pub Becomes : State → State → Type 0
 Becomes old new = HasCleanDisk new → (tables : Tables) → Holds old.now tables → IsEarlier tables.version → Sees new (with_counter 1 (grown tables)) × KeepsUnread old.now new.now
 
 pub three_made : (a : State) {b d z : State} (r : Result ℕ Error) → StaysInside b d → StaysInside d z → Grows first_schema [] slot2_schema (7 ∷ []) a b → Grows slot2_schema (7 ∷ []) petition_schema (7 ∷ 9 ∷ []) b d
     → OnOk r (HasCleanDisk z → (base : Database) → IsGrown base petition_schema (7 ∷ 9 ∷ []) d.now → IsGrown base second_schema (7 ∷ 9 ∷ 10 ∷ []) z.now × IsUnderWay z)
-    → OnOk r (Grown a z)
+    → OnOk r (GrowsTables a z)
 three_made a {b} {d} {z} (Err e) quiet-two quiet-three one two three = tt
 three_made a {b} {d} {z} (Ok count) quiet-two quiet-three one two three = λ clean tables holds first.
     let late = clean_before d z _ quiet-three.survives clean in
@@ -94,11 +90,11 @@ three_made a {b} {d} {z} (Ok count) quiet-two quiet-three one two three = λ cle
     let all = three clean a.now (two late a.now (one early a.now begun)) in
     sees_grown a.now z tables all.0 all.1 holds first
 
-pub becomes_then : (a : State) {b z : State} → StaysInside b z → Grown a b → Changes (with_counter 1) b z → Becomes a z
+pub becomes_then : (a : State) {b z : State} → StaysInside b z → GrowsTables a b → Changes (with_counter 1) b z → Becomes a z
 becomes_then a {b} {z} quiet one two = λ clean tables holds earlier.
     let was = one (clean_before b z _ quiet.survives clean) tables holds (only_first tables.version earlier) in
     let is = two clean (grown tables) was.0 in
     (is.0, is.1 ∙ was.1)
 
-pub all_made : (b z : State) (P : Type 0) → StaysInside b z → (HasCleanDisk b → P → Holds b.now (no_rows First)) → Grown b z → HasCleanDisk z → P → Sees z no_tables
+pub all_made : (b z : State) (P : Type 0) → StaysInside b z → (HasCleanDisk b → P → Holds b.now (no_rows First)) → GrowsTables b z → HasCleanDisk z → P → Sees z no_tables
 all_made b z P quiet one two clean p = (two clean (no_rows First) (one (clean_before b z _ quiet.survives clean) p) refl).0

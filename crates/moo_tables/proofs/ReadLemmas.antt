@@ -121,10 +121,10 @@ module _ {schema : Schema} {H : Type 0} (shown : H → State) {old new : H} wher
 -- ---- a query with no parameters, whose text is known
 
 module _ {schema : Schema} {sql : List ℕ} {program : Program} {names : List (List ℕ)} (known : IsSelect schema sql program names) {old new : State} (survives : Survives old new (CommitsShowing sql [] old)) where
-  plain_in : HasTables schema old → IsPlain (understood old.now.schema sql)
+  pub plain_in : HasTables schema old → IsPlain (understood old.now.schema sql)
   plain_in is = subst (λ s. IsPlain (understood s sql)) (sym is) known.plain
 
-  quiet : (HasCleanDisk old → HasTables schema old) → Survives old new (λ _. ⊥)
+  pub quiet : (HasCleanDisk old → HasTables schema old) → Survives old new (λ _. ⊥)
   quiet has = commits_nothing schema sql old new known.plain has survives
 
   pub has_read : (rows : Vec Row Global) → (HasCleanDisk new → IsPlain (understood old.now.schema sql) → Shown sql [] old new rows.items) → ReadsTables schema old new

@@ -19,7 +19,7 @@ pub use Rattle.moo_tables.specs.Columns.{all_but, cells_over}
 pub use Rattle.moo_tables.specs.Inside.{AreKeyed, Changes, FailsToRead, HasNoTables, HasTables, Holds, IsCurrent, IsMade, KeepsUnread, Leaves, RanStatement, ReadsTables, Rests, Sees, StaysInside, no_rows, no_tables}
 pub use Rattle.moo_tables.specs.Listing.{AreListed, ArePaired, IsRowBelow, ListsNumbers, ListsPairs, ListsTables, has_key_pair, tables_of}
 pub use Rattle.moo_tables.specs.Head.{put_counter_text}
-pub use Rattle.moo_tables.specs.Migrated.{HasNoSlot, IsGrown, IsUnderWay, grown, migrated}
+pub use Rattle.moo_tables.specs.Migrated.{GrowsTables, HasNoSlot, IsGrown, IsUnderWay, grown, migrated}
 pub use Rattle.moo_tables.specs.Object.{insert_object_text, keep_object_text, object_row, put_object_text, remove_object_text, update_object_text}
 pub use Rattle.moo_tables.specs.Over.{WritesOver}
 pub use Rattle.moo_tables.specs.Petition.{insert_petition_text, keep_petition_text, petition_row, put_petition_text, remove_petition_text, update_petition_text}

@@ -36,4 +36,5 @@ is_conflict _ = false
 -- A call that puts a new row fails: one has its key, and nothing changed; or the call has one of the causes of any change.
 abbrev pub MeetsRowIn : {A : Type 0} → State → State → Result A Error → Type 0
 MeetsRowIn old new r =
-    HasCleanDisk new → (tables : Tables) → Sees old tables → IfErr r (λ e. MatchBool (is_conflict e) (Sees new tables × KeepsUnread old.now new.now) (StopsChange old new e))
+    HasCleanDisk new → (tables : Tables) → Sees old tables →
+    IfErr r (λ e. MatchBool (is_conflict e) (Sees new tables × KeepsUnread old.now new.now) (StopsChange old new e))

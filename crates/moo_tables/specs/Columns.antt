@@ -1,5 +1,6 @@
 -- Tables of the store and their columns, as the schema has them, and the cells of their rows.
-use Rattle.std.specs.Prelude.{◌≡◌, Bool, true, false, if◌then◌else◌, map, take, drop, length, ◌-◌, ◌+◌, ◌++◌, [], ◌∷◌, Option, Some, None, option_map, List, ℕ, pos, Vec}
+use Rattle.std.specs.Prelude.{◌≡◌, Bool, true, false, if◌then◌else◌, ℕ, ◌-◌, ◌+◌, pos, Vec}
+use Rattle.std.specs.Prelude.{Option, Some, None, option_map, List, [], ◌∷◌, ◌++◌, length, map, take, drop}
 use Rattle.std.specs.List.{range_with_len}
 use Rattle.sqlite.specs.Collation.TheVariants.{Binary}
 use Rattle.sqlite.specs.declared.types.Value.{Value}

@@ -10,10 +10,14 @@ use Rattle.moo_tables.specs.Columns.{numbered, number, KeepsCell}
 use Rattle.moo_tables.specs.Texts.{put_text}
 
 abbrev pub head_table : Table
-head_table = numbered (codes "head") 0 (number (codes "id") ∷ number (codes "version") ∷ number (codes "seq") ∷ number (codes "top") ∷ number (codes "next_prop") ∷ number (codes "next_verb") ∷ [])
+head_table = numbered (codes "head") 0
+    (number (codes "id") ∷ number (codes "version") ∷ number (codes "seq") ∷ number (codes "top")
+    ∷ number (codes "next_prop") ∷ number (codes "next_verb") ∷ [])
 
 abbrev pub head_cells : Version → Head → Row
-head_cells version head = Int (pos 1) ∷ Int (version_number version) ∷ Int (pos head.seq) ∷ Int head.top ∷ Int (pos head.next_prop) ∷ Int (pos head.next_verb) ∷ []
+head_cells version head =
+    Int (pos 1) ∷ Int (version_number version) ∷ Int (pos head.seq) ∷ Int head.top
+    ∷ Int (pos head.next_prop) ∷ Int (pos head.next_verb) ∷ []
 
 -- what a change of the row of `head` keeps, column by column
 pub record HeadColumns (a b : Head) (old new : Row) : Type 0 where

@@ -8,8 +8,9 @@ use Rattle.sqlite.specs.Effect.{Database, IsDatabase}
 use Rattle.sqlite.specs.declared.error.Error.{Error}
 use Rattle.sqlite.specs.State.{State, HasCleanDisk, Executes, IsUnchanged, IsRolledBack, KeepsCommit, Survives, Opens}
 use Rattle.moo_tables.specs.declared.version.Version.{Version}
+use Rattle.moo_tables.specs.declared.version.Version.TheVariants.{First}
 use Rattle.moo_tables.specs.Version.{present}
-use Rattle.moo_tables.specs.Tables.{Tables, no_schema, schema_of}
+use Rattle.moo_tables.specs.Tables.{Tables, no_schema, schema_of, slot_tree}
 pub use Rattle.moo_tables.specs.Tables.{AreKeyed, Holds, KeepsUnread}
 
 -- the tables are of the version that is written
@@ -30,6 +31,11 @@ pub record Rests (s : State) (tables : Tables) : Type 0 where
   pub committed : s.now ≡ s.committed
   pub holds : Holds s.now tables
 
+-- The table that only earlier versions read has the rows that it had, in a connection that is open and in whatever a crash leaves.
+pub record SparesUnread (old new : State) : Type 0 where
+  pub kept : IsTrue new.is_open → KeepsUnread old.now new.now
+  pub crash : (trees : Trees) → new.may_leave trees → trees (slot_tree First) ≡ old.now.trees (slot_tree First)
+
 -- Nothing was committed: a crash leaves what it could leave before.
 pub record StaysInside (old new : State) : Type 0 where
   pub kept : HasCleanDisk new → KeepsCommit old new
@@ -37,7 +43,8 @@ pub record StaysInside (old new : State) : Type 0 where
 
 -- the transaction goes on, with its tables changed so, and the table that isn't read stays
 abbrev pub Changes : (Tables → Tables) → State → State → Type 0
-Changes change old new = HasCleanDisk new → (tables : Tables) → Sees old tables → Sees new (change tables) × KeepsUnread old.now new.now
+Changes change old new =
+    HasCleanDisk new → (tables : Tables) → Sees old tables → Sees new (change tables) × KeepsUnread old.now new.now
 
 -- a statement that succeeded ran, in the transaction
 abbrev pub RanStatement : List ℕ → Row → State → State → Result ℕ Error → Type 0
@@ -65,7 +72,16 @@ Leaves trees tables = Holds (record { schema = schema_of tables.version; trees =
 
 -- the tables of a version, without rows
 abbrev pub no_rows : Version → Tables
-no_rows version = record { version = version; head = λ _. None; object = λ _. None; prop = λ _. None; slot = λ _. None; verb = λ _. None; petition = λ _. None; petition_head = λ _. None }
+no_rows version = record {
+  version = version;
+  head = λ _. None;
+  object = λ _. None;
+  prop = λ _. None;
+  slot = λ _. None;
+  verb = λ _. None;
+  petition = λ _. None;
+  petition_head = λ _. None;
+}
 
 -- those that are written, without rows
 abbrev pub no_tables : Tables

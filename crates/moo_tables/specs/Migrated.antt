@@ -3,14 +3,15 @@ use Rattle.std.specs.Prelude.{◌≡◌, IsTrue, ℕ, pos, List, [], ◌∷◌, 
 use Rattle.std.specs.List.{AllByRecursion}
 use Rattle.sqlite.specs.Schema.{Schema}
 use Rattle.sqlite.specs.Effect.{Database, IsDatabase}
-use Rattle.sqlite.specs.State.{State}
+use Rattle.sqlite.specs.State.{State, HasCleanDisk}
 use Rattle.moo_value.specs.declared.value.ObjNo.{ObjNo}
 use Rattle.moo_rows.specs.declared.row.Head.{Head}
 use Rattle.moo_rows.specs.declared.row.PropId.{PropId}
 use Rattle.moo_tables.specs.declared.slot.SlotCells.{SlotCells}
 use Rattle.moo_tables.specs.declared.version.Version.TheVariants.{First}
-use Rattle.moo_tables.specs.Version.{present}
-use Rattle.moo_tables.specs.Tables.{Tables, numbered_with, slot_tree}
+use Rattle.moo_tables.specs.Version.{present, IsEarlier}
+use Rattle.moo_tables.specs.Tables.{Tables, Holds, KeepsUnread, numbered_with, slot_tree}
+use Rattle.moo_tables.specs.Inside.{Sees}
 use Rattle.moo_tables.specs.Cells.{head_cells, petition_head_cells, slots_with}
 
 -- On the way to the present version: the trees of the tables of the base are those that it had, and these have been made since, empty.
@@ -29,11 +30,18 @@ pub record IsUnderWay (s : State) : Type 0 where
 abbrev pub grown : Tables → Tables
 grown tables = record tables { version = present; slot = λ _. None; petition = λ _. None; petition_head = λ _. None }
 
+-- in a transaction, the tables of the first version became those of the present one, and those that it lacks are empty
+abbrev pub GrowsTables : State → State → Type 0
+GrowsTables old new =
+    HasCleanDisk new → (tables : Tables) → Holds old.now tables → tables.version ≡ First →
+    Sees new (grown tables) × KeepsUnread old.now new.now
+
 -- the table `slot` of the first version has no row
 abbrev pub HasNoSlot : Database → Type 0
 HasNoSlot db = db.trees (slot_tree First) ≡ []
 
--- the tables of the present version, with this head and these slots, and with the other rows of these tables: there is no petition yet, and the first has the number 1
+-- the tables of the present version, with this head and these slots, and with the other rows of these tables: there is no petition yet, and
+-- the first has the number 1
 abbrev pub migrated : Head → List ((ObjNo × PropId) × Option SlotCells) → Tables → Tables
 migrated head slots t = record {
   version = present;
@@ -45,6 +53,12 @@ migrated head slots t = record {
   petition = λ _. None;
   petition_head = numbered_with (pos 1) (Some (petition_head_cells 1)) (λ _. None);
 }
+
+-- in a transaction, the tables of an earlier version became those that they are migrated to
+abbrev pub MigratesInside : Head → List ((ObjNo × PropId) × Option SlotCells) → State → State → Type 0
+MigratesInside head slots old new =
+    HasCleanDisk new → (tables : Tables) → Holds old.now tables → IsEarlier tables.version →
+    Sees new (migrated head slots tables) × HasNoSlot new.now
 
 -- from tables of an earlier version to those that they are migrated to: every cell of an object, a property or a verb is as it was
 pub record KeepsUnmigrated (old new : Tables) : Type 0 where

@@ -12,13 +12,16 @@ use Rattle.moo_tables.specs.Texts.{insert_text, keep_text, put_text, remove_text
 
 abbrev pub object_table : Table
 object_table = numbered (codes "object") 1
-    (number (codes "n") ∷ text (codes "name") ∷ number (codes "owner") ∷ number (codes "parent") ∷ number (codes "location") ∷ number (codes "player")
-    ∷ number (codes "programmer") ∷ number (codes "wizard") ∷ number (codes "r") ∷ number (codes "w") ∷ number (codes "f") ∷ text (codes "accept") ∷ [])
+    (number (codes "n") ∷ text (codes "name") ∷ number (codes "owner") ∷ number (codes "parent") ∷ number (codes "location")
+    ∷ number (codes "player") ∷ number (codes "programmer") ∷ number (codes "wizard")
+    ∷ number (codes "r") ∷ number (codes "w") ∷ number (codes "f") ∷ text (codes "accept") ∷ [])
 
 -- a row, with this cell for its accept list
 abbrev pub object_row : ObjNo → ObjRow → Value → Row
 object_row n row accept =
-    Int n.0 ∷ Text row.name ∷ Int row.owner.0 ∷ Int row.parent.0 ∷ Int row.location.0 ∷ flag_cell row.player ∷ flag_cell row.programmer ∷ flag_cell row.wizard ∷ flag_cell row.r ∷ flag_cell row.w ∷ flag_cell row.f ∷ accept ∷ []
+    Int n.0 ∷ Text row.name ∷ Int row.owner.0 ∷ Int row.parent.0 ∷ Int row.location.0
+    ∷ flag_cell row.player ∷ flag_cell row.programmer ∷ flag_cell row.wizard
+    ∷ flag_cell row.r ∷ flag_cell row.w ∷ flag_cell row.f ∷ accept ∷ []
 
 -- a row, with its accept list printed
 abbrev pub object_row_cells : ObjNo → ObjRow → List ℕ → Row

@@ -12,10 +12,12 @@ use Rattle.moo_tables.specs.Columns.{paired, number, text, cells_over, KeepsCell
 use Rattle.moo_tables.specs.Texts.{insert_text, keep_text, put_text, remove_text, update_text}
 
 abbrev pub slot_table : Table
-slot_table = paired (codes "slot") 3 (number (codes "object") ∷ number (codes "prop") ∷ number (codes "owner") ∷ text (codes "bits") ∷ text (codes "value") ∷ [])
+slot_table = paired (codes "slot") 3
+    (number (codes "object") ∷ number (codes "prop") ∷ number (codes "owner") ∷ text (codes "bits") ∷ text (codes "value") ∷ [])
 
 abbrev pub slot2_table : Table
-slot2_table = paired (codes "slot2") 7 (number (codes "object") ∷ number (codes "prop") ∷ number (codes "owner") ∷ number (codes "bits") ∷ text (codes "value") ∷ [])
+slot2_table = paired (codes "slot2") 7
+    (number (codes "object") ∷ number (codes "prop") ∷ number (codes "owner") ∷ number (codes "bits") ∷ text (codes "value") ∷ [])
 
 abbrev pub slot_row : ObjNo × PropId → SlotCells → Value → Row
 slot_row key row value = Int key.0.0 ∷ Int (pos key.1.0) ∷ Int row.owner.0 ∷ Int row.bits ∷ value ∷ []

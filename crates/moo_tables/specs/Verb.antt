@@ -13,11 +13,13 @@ use Rattle.moo_tables.specs.Texts.{insert_text, keep_text, put_text, remove_text
 
 abbrev pub verb_table : Table
 verb_table = paired (codes "verb") 5
-    (number (codes "object") ∷ number (codes "id") ∷ text (codes "names") ∷ number (codes "owner") ∷ text (codes "bits") ∷ text (codes "dobj") ∷ text (codes "prep") ∷ text (codes "iobj") ∷ [])
+    (number (codes "object") ∷ number (codes "id") ∷ text (codes "names") ∷ number (codes "owner") ∷ text (codes "bits")
+    ∷ text (codes "dobj") ∷ text (codes "prep") ∷ text (codes "iobj") ∷ [])
 
 abbrev pub verb_row : ObjNo × VerbId → VerbCells → Value → Row
 verb_row key row bits =
-    Int key.0.0 ∷ Int (pos key.1.0) ∷ Text row.names.items ∷ Int row.owner.0 ∷ bits ∷ Text row.dobj.items ∷ Text row.prep.items ∷ Text row.iobj.items ∷ []
+    Int key.0.0 ∷ Int (pos key.1.0) ∷ Text row.names.items ∷ Int row.owner.0 ∷ bits
+    ∷ Text row.dobj.items ∷ Text row.prep.items ∷ Text row.iobj.items ∷ []
 
 -- a row over the one that is there, if one is
 abbrev pub verb_cells : ObjNo × VerbId → VerbCells → Option Row → Option Row

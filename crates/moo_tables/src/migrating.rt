@@ -1,14 +1,11 @@
 //! The tables of an earlier version made those of the present one.
 
-ghost use Rattle.std.specs.Prelude.{◌≡◌, ◌<◌, ◌^◌, IsTrue, OnOk, OnErr, false};
-ghost use Rattle.sqlite.specs.State.{HasCleanDisk, Survives};
+ghost use Rattle.std.specs.Prelude.{◌≡◌, ◌<◌, ◌^◌, IsTrue, OnOk, false};
+ghost use Rattle.sqlite.specs.State.{HasCleanDisk};
 ghost use Rattle.sqlite.specs.Held.{state};
-ghost use Rattle.moo_tables.specs.Inside.{StaysInside, Holds, Sees, KeepsUnread, Rests, RestsAt, HasTables, Leaves};
-ghost use Rattle.moo_tables.specs.Migrated.{HasNoSlot, grown, migrated};
-ghost use Rattle.moo_tables.specs.Tables.{schema_of};
-ghost use Rattle.moo_tables.specs.Version.{IsEarlier};
-ghost use Rattle.moo_tables.specs.declared.version.Version.{Version};
-ghost use Rattle.moo_tables.specs.declared.version.Version.TheVariants.{First};
+ghost use Rattle.moo_tables.specs.Inside.{StaysInside};
+ghost use Rattle.moo_tables.specs.Migrated.{GrowsTables, MigratesInside};
+ghost use Rattle.moo_tables.specs.Transaction.{MigratesTables};
 
 use crate::counter::{CREATE_PETITION_HEAD, put_counter};
 use crate::head::put_head;
@@ -24,7 +21,7 @@ use sqlite::{Alter, Connection, Error};
 pub(crate) fn create_added_tables<T: Run>(tx: &mut T) -> Result<usize, Error>
     ensures same_reference { T.lender tx.new ≡ T.lender tx.old }
     ensures inside { StaysInside (T.state tx.old) (T.state tx.new) }
-    ensures made { OnOk result (HasCleanDisk (T.state tx.new) → (tables : _) → Holds (T.state tx.old).now tables → tables.version ≡ First → Sees (T.state tx.new) (grown tables) × KeepsUnread (T.state tx.old).now (T.state tx.new).now) }
+    ensures made { OnOk result (GrowsTables (T.state tx.old) (T.state tx.new)) }
 {
     tx.run(CREATE_SLOT2, &[])?;
     tx.run(CREATE_PETITION, &[])?;
@@ -43,7 +40,7 @@ fn write_migrated<T: Run>(
     ensures same_reference { T.lender tx.new ≡ T.lender tx.old }
     ensures inside { StaysInside (T.state tx.old) (T.state tx.new) }
     ensures goes_on { HasCleanDisk (T.state tx.new) → OnOk result (IsTrue (T.state tx.new).in_transaction) }
-    ensures migrated { OnOk result (HasCleanDisk (T.state tx.new) → (tables : _) → Holds (T.state tx.old).now tables → IsEarlier tables.version → Sees (T.state tx.new) (migrated head.now slots.now tables) × HasNoSlot (T.state tx.new).now) }
+    ensures migrated { OnOk result (MigratesInside head.now slots.now (T.state tx.old) (T.state tx.new)) }
 {
     create_added_tables(tx)?;
     put_counter(tx, 1)?;
@@ -67,11 +64,7 @@ pub fn migrate<S: Alter>(
     requires limit { head.now.seq < 2 ^ 63 }
     requires outside { (state S.Store conn.old).in_transaction ≡ false }
     ensures outside { (state S.Store conn.new).in_transaction ≡ false }
-    ensures migrated { HasCleanDisk (state S.Store conn.new) → OnOk result ((tables : _) → Rests (state S.Store conn.old) tables → IsEarlier tables.version → Rests (state S.Store conn.new) (migrated head.now slots.now tables)) }
-    ensures emptied { HasCleanDisk (state S.Store conn.new) → OnOk result ((tables : _) → Rests (state S.Store conn.old) tables → IsEarlier tables.version → HasNoSlot (state S.Store conn.new).now) }
-    ensures restored { HasCleanDisk (state S.Store conn.new) → OnErr result (IsTrue (state S.Store conn.new).is_open → RestsAt (state S.Store conn.new) (state S.Store conn.old).committed) }
-    ensures undone { HasCleanDisk (state S.Store conn.new) → OnErr result (IsTrue (state S.Store conn.new).is_open → (tables : _) → Rests (state S.Store conn.old) tables → Rests (state S.Store conn.new) tables) }
-    ensures crash { (version : Version) → IsEarlier version → (HasCleanDisk (state S.Store conn.old) → HasTables (schema_of version) (state S.Store conn.old)) → Survives (state S.Store conn.old) (state S.Store conn.new) (λ trees. (tables : _) → Rests (state S.Store conn.old) tables → Leaves trees (migrated head.now slots.now tables)) }
+    ensures migrates { MigratesTables head.now slots.now (state S.Store conn.old) (state S.Store conn.new) result }
 {
     let mut tx = conn.transaction();
     write_migrated(&mut tx, head, slots)?;

@@ -5,6 +5,7 @@ ghost use Rattle.sqlite.specs.Held.{state};
 ghost use Rattle.sqlite.specs.State.{HasCleanDisk};
 ghost use Rattle.moo_tables.specs.Inside.{Rests, ReadsTables, FailsToRead};
 ghost use Rattle.moo_tables.specs.Listing.{ListsNumbers, ListsPairs, ListsTables};
+ghost use Rattle.moo_tables.specs.Reading.{Lists};
 ghost use Rattle.moo_tables.specs.Tables.{schema_of};
 
 use crate::counter::READ_PETITION_HEAD;
@@ -42,8 +43,10 @@ fn both_petition_cells_of<S: Alter>(
     version: Version,
 ) -> Result<(Vec<Row>, Vec<Row>), Error>
     ensures outside { (state S.Store conn.old).in_transaction ≡ false → (state S.Store conn.new).in_transaction ≡ false }
-    ensures read { OnOk result ((conn.new ≡ conn.old) ⊎ ReadsTables (schema_of version) (state S.Store conn.old) (state S.Store conn.new)) }
-    ensures listed { HasCleanDisk (state S.Store conn.new) → IfOk result (λ lists. (tables : _) → Rests (state S.Store conn.old) tables → tables.version ≡ version → ListsNumbers lists.0.items tables.petition × ListsNumbers lists.1.items tables.petition_head) }
+    ensures read { OnOk result ((conn.new ≡ conn.old)
+        ⊎ ReadsTables (schema_of version) (state S.Store conn.old) (state S.Store conn.new)) }
+    ensures listed { Lists version (state S.Store conn.old) (state S.Store conn.new) result
+        (λ lists tables. ListsNumbers lists.0.items tables.petition × ListsNumbers lists.1.items tables.petition_head) }
     ensures failed { OnErr result (FailsToRead (schema_of version) (state S.Store conn.old) (state S.Store conn.new)) }
 {
     if !version.has_petitions() {
@@ -65,9 +68,9 @@ pub fn small_cells_of<S: Alter>(
 ) -> Result<(Vec<Row>, Vec<Row>, Vec<Row>), Error>
     ensures outside { (state S.Store conn.old).in_transaction ≡ false → (state S.Store conn.new).in_transaction ≡ false }
     ensures read { OnOk result (ReadsTables (schema_of version) (state S.Store conn.old) (state S.Store conn.new)) }
-    ensures listed { HasCleanDisk (state S.Store conn.new) → IfOk result (λ lists. (tables : _) → Rests (state S.Store conn.old) tables →
-        tables.version ≡ version → ListsNumbers lists.0.items tables.head × ListsNumbers lists.1.items tables.petition ×
-        ListsNumbers lists.2.items tables.petition_head) }
+    ensures listed { Lists version (state S.Store conn.old) (state S.Store conn.new) result
+        (λ lists tables. ListsNumbers lists.0.items tables.head × ListsNumbers lists.1.items tables.petition
+        × ListsNumbers lists.2.items tables.petition_head) }
     ensures failed { OnErr result (FailsToRead (schema_of version) (state S.Store conn.old) (state S.Store conn.new)) }
 {
     let head = all_rows(alloc, conn, READ_HEAD)?;
@@ -83,8 +86,8 @@ pub fn prop_cells_of<S: Alter>(
 ) -> Result<Vec<Row>, Error>
     ensures outside { (state S.Store conn.old).in_transaction ≡ false → (state S.Store conn.new).in_transaction ≡ false }
     ensures read { OnOk result (ReadsTables (schema_of version) (state S.Store conn.old) (state S.Store conn.new)) }
-    ensures listed { HasCleanDisk (state S.Store conn.new) → IfOk result (λ rows. (tables : _) → Rests (state S.Store conn.old) tables →
-        tables.version ≡ version → ListsNumbers rows.items tables.prop) }
+    ensures listed { Lists version (state S.Store conn.old) (state S.Store conn.new) result
+        (λ rows tables. ListsNumbers rows.items tables.prop) }
     ensures failed { OnErr result (FailsToRead (schema_of version) (state S.Store conn.old) (state S.Store conn.new)) }
 {
     all_rows(alloc, conn, READ_PROP)
@@ -98,8 +101,8 @@ pub fn verb_cells_of<S: Alter>(
 ) -> Result<Vec<Row>, Error>
     ensures outside { (state S.Store conn.old).in_transaction ≡ false → (state S.Store conn.new).in_transaction ≡ false }
     ensures read { OnOk result (ReadsTables (schema_of version) (state S.Store conn.old) (state S.Store conn.new)) }
-    ensures listed { HasCleanDisk (state S.Store conn.new) → IfOk result (λ rows. (tables : _) → Rests (state S.Store conn.old) tables →
-        tables.version ≡ version → ListsPairs rows.items tables.verb) }
+    ensures listed { Lists version (state S.Store conn.old) (state S.Store conn.new) result
+        (λ rows tables. ListsPairs rows.items tables.verb) }
     ensures failed { OnErr result (FailsToRead (schema_of version) (state S.Store conn.old) (state S.Store conn.new)) }
 {
     all_rows(alloc, conn, READ_VERB)
@@ -117,7 +120,8 @@ pub fn read_tables<S: Alter>(
     ensures outside { (state S.Store conn.old).in_transaction ≡ false → (state S.Store conn.new).in_transaction ≡ false }
     ensures read { OnOk result (ReadsTables (schema_of version) (state S.Store conn.old) (state S.Store conn.new)) }
     ensures version { IfOk result (λ lists. lists.version ≡ version) }
-    ensures listed { HasCleanDisk (state S.Store conn.new) → IfOk result (λ lists. (tables : _) → tables.version ≡ version → Rests (state S.Store conn.old) tables → ListsTables lists tables) }
+    ensures listed { HasCleanDisk (state S.Store conn.new) → IfOk result (λ lists. (tables : _) → tables.version ≡ version →
+        Rests (state S.Store conn.old) tables → ListsTables lists tables) }
     ensures failed { OnErr result (FailsToRead (schema_of version) (state S.Store conn.old) (state S.Store conn.new)) }
 {
     let head = all_rows(alloc, conn, READ_HEAD)?;

@@ -8,11 +8,13 @@ ghost use Rattle.sqlite.specs.Tree.{has_rowid};
 ghost use Rattle.moo_tables.specs.Inside.{AreKeyed};
 ghost use Rattle.moo_cells.specs.Reading.{ReadsObject, IsRead};
 ghost use Rattle.moo_cells.specs.Apart.{HaveNumbers};
+ghost use Rattle.moo_cells.specs.Filled.{FillsObjects};
 ghost use Rattle.moo_cells.specs.Holding.{object_number, object_key, IsLess, HoldsTable, SaysUnread, TakesRow};
 ghost use Rattle.moo_cells.specs.declared.fault.RowFault.TheVariants.{Unreadable};
 
 use crate::cell::int_in;
 use crate::fault::{CellFault, RowFault};
+use crate::filled::FillRow;
 use crate::object::read_object;
 use crate::spent::Spent;
 use crate::table_row::ReadRow;
@@ -63,6 +65,14 @@ fn take_object(
     let (key, row) = read_object(alloc, version, cells)?;
     rows.put_object(key, row)?;
     Ok(())
+}
+
+impl FillRow for ObjRow {
+    ghost fills = { FillsObjects };
+
+    fn put(alloc: Global, version: Version, cells: &Row, rows: &mut Flat) -> Result<(), RowFault> {
+        take_object(alloc, version, cells, rows)
+    }
 }
 
 /// Puts what each row of the table shows, in rows that have none of the table yet. The cells of the rows are let

@@ -8,11 +8,13 @@ ghost use Rattle.sqlite.specs.Tree.{has_rowid};
 ghost use Rattle.moo_tables.specs.Inside.{AreKeyed};
 ghost use Rattle.moo_cells.specs.Reading.{ReadsProp, IsRead};
 ghost use Rattle.moo_cells.specs.Apart.{HaveNumbers};
+ghost use Rattle.moo_cells.specs.Filled.{FillsProps};
 ghost use Rattle.moo_cells.specs.Holding.{prop_number, prop_key, IsLess, HoldsTable, SaysUnread, TakesRow};
 ghost use Rattle.moo_cells.specs.declared.fault.RowFault.TheVariants.{Unreadable};
 
 use crate::cell::int_in;
 use crate::fault::{CellFault, RowFault};
+use crate::filled::FillRow;
 use crate::prop::read_prop;
 use crate::spent::Spent;
 use crate::table_row::ReadRow;
@@ -57,6 +59,14 @@ fn take_prop(alloc: Global, version: Version, cells: &Row, rows: &mut Flat) -> R
     let (key, row) = read_prop(alloc, version, cells)?;
     rows.put_prop(key, row)?;
     Ok(())
+}
+
+impl FillRow for PropRow {
+    ghost fills = { FillsProps };
+
+    fn put(alloc: Global, version: Version, cells: &Row, rows: &mut Flat) -> Result<(), RowFault> {
+        take_prop(alloc, version, cells, rows)
+    }
 }
 
 /// Puts what each row of the table shows, in rows that have none of the table yet. The cells of the rows are let

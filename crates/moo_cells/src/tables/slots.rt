@@ -7,11 +7,13 @@ ghost use Rattle.moo_rows.specs.Walk.{slots_left};
 ghost use Rattle.moo_tables.specs.Listing.{has_key_pair, ArePaired};
 ghost use Rattle.moo_cells.specs.Reading.{ReadsSlot, IsRead};
 ghost use Rattle.moo_cells.specs.Apart.{HavePairs};
+ghost use Rattle.moo_cells.specs.Filled.{FillsSlots};
 ghost use Rattle.moo_cells.specs.Holding.{slot_number, slot_key, IsPairLess, HoldsTable, SaysUnread, TakesRow};
 ghost use Rattle.moo_cells.specs.declared.fault.RowFault.TheVariants.{Unreadable};
 
 use crate::cell::int_in;
 use crate::fault::{CellFault, RowFault};
+use crate::filled::FillRow;
 use crate::slot::read_slot;
 use crate::spent::Spent;
 use crate::table_row::ReadRow;
@@ -61,6 +63,14 @@ fn take_slot(alloc: Global, version: Version, cells: &Row, rows: &mut Flat) -> R
     let (key, row) = read_slot(alloc, version, cells)?;
     rows.put_slot(key, row)?;
     Ok(())
+}
+
+impl FillRow for SlotRow {
+    ghost fills = { FillsSlots };
+
+    fn put(alloc: Global, version: Version, cells: &Row, rows: &mut Flat) -> Result<(), RowFault> {
+        take_slot(alloc, version, cells, rows)
+    }
 }
 
 /// Puts what each row of the table shows, in rows that have none of the table yet. The cells of the rows are let

@@ -7,11 +7,13 @@ ghost use Rattle.moo_rows.specs.Walk.{verbs_left};
 ghost use Rattle.moo_tables.specs.Listing.{has_key_pair, ArePaired};
 ghost use Rattle.moo_cells.specs.Reading.{ReadsVerb, IsRead};
 ghost use Rattle.moo_cells.specs.Apart.{HavePairs};
+ghost use Rattle.moo_cells.specs.Filled.{FillsVerbs};
 ghost use Rattle.moo_cells.specs.Holding.{verb_number, verb_key, IsPairLess, HoldsTable, SaysUnread, TakesRow};
 ghost use Rattle.moo_cells.specs.declared.fault.RowFault.TheVariants.{Unreadable};
 
 use crate::cell::int_in;
 use crate::fault::{CellFault, RowFault};
+use crate::filled::FillRow;
 use crate::spent::Spent;
 use crate::table_row::ReadRow;
 use crate::verb::read_verb;
@@ -61,6 +63,14 @@ fn take_verb(alloc: Global, version: Version, cells: &Row, rows: &mut Flat) -> R
     let (key, row) = read_verb(alloc, version, cells)?;
     rows.put_verb(key, row)?;
     Ok(())
+}
+
+impl FillRow for VerbRow {
+    ghost fills = { FillsVerbs };
+
+    fn put(alloc: Global, version: Version, cells: &Row, rows: &mut Flat) -> Result<(), RowFault> {
+        take_verb(alloc, version, cells, rows)
+    }
 }
 
 /// Puts what each row of the table shows, in rows that have none of the table yet. The cells of the rows are let

@@ -1,24 +1,25 @@
-use Rattle.moo_cells.{proofs.Words.{rules, has_key_pair, verb_number, ReadsVerb}, proofs.Apart.{alike_pairs, holds_again, paired, paired_again}, specs.Apart.{is_same_pair}}
+use Rattle.moo_cells.{proofs.Words.{◌≡◌, [], refl, sym, subst}, proofs.Apart.{alike_pairs}, proofs.FillLemmas.{pairs_keyed, fills_none, fills_again}, proofs.Keys.{verbs_bear}, specs.Filled.{FillsVerbs}}
+use Rattle.std.proofs.lemmas.List.Sorted.{IsPermutation-refl}
+use Rattle.moo_rows.specs.Maps.{Held}
 use Rattle.moo_tables.proofs.InsideLemmas.{always}
-use Rattle.moo_tables.specs.Listing.{ArePaired}
 use Rattle.moo_cells.proofs.in_turn.take_verbs.Goals as goal
 
-pub returns-in_err-cells-clause-failed : goal.returns-in_err-cells-clause-failed
-returns-in_err-cells-clause-failed g c = always c.from_residual.result c.in_err-cells.ensures.failed
+pub returns-in_err-whole-clause-failed : goal.returns-in_err-whole-clause-failed
+returns-in_err-whole-clause-failed g c = always c.from_residual.result c.in_err-whole.ensures.failed
 
-pub read_verbs-requires-clause-numbered : goal.read_verbs-requires-clause-numbered
-read_verbs-requires-clause-numbered g c =
-    let cells = c.in_ok-cells.cells.items in
-    let listed : ArePaired cells = search rules in
-    paired_again cells c.in_filling_order.result.items c.in_filling_order.ensures (paired cells listed)
-
-pub returns-in-Ok-clause-taken : goal.returns-in-Ok-clause-taken
-returns-in-Ok-clause-taken g c =
-    let cells = c.in_ok-cells.cells.items in
-    let listed : ArePaired cells = search rules in
+pub returns-clause-taken : goal.returns-clause-taken
+returns-clause-taken g c =
+    let first = c.new-filling.result in
+    let last = c.feed_verbs.new.taker in
+    let none : FillsVerbs first.version first.rows.maps [] first.rows.maps = record { fills = λ none. fills_none (verbs_bear first.version) pairs_keyed alike_pairs first.rows.maps.verbs none; kept = refl } in
+    let it = c.in_ok-whole.ensures.taken (refl, ([], IsPermutation-refl [], none)) c.if-not-whole.false in
+    let put = it.1.1.0 in
+    let at_version : FillsVerbs c.args.version first.rows.maps put last.rows.maps = subst (λ w. FillsVerbs w first.rows.maps put last.rows.maps) c.new-filling.ensures.version it.1.1.2 in
+    let at_first : FillsVerbs c.args.version c.args.rows.maps put last.rows.maps = subst (λ (h : Held). FillsVerbs c.args.version h.maps put last.rows.maps) c.new-filling.ensures.rows at_version in
+    let filled : FillsVerbs c.args.version c.args.rows.maps put c.into_rows.result.maps = subst (λ (h : Held). FillsVerbs c.args.version c.args.rows.maps put h.maps) (sym c.into_rows.ensures) at_first in
     record {
-      cells = c.in_ok-cells.cells;
-      listed = c.in_ok-cells.ensures.listed;
-      holds = holds_again has_key_pair verb_number (ReadsVerb c.args.version) is_same_pair alike_pairs cells c.in_filling_order.result.items c.in_filling_order.ensures (paired cells listed).apart c.in-Ok.ensures.holds;
-      kept = c.in-Ok.ensures.kept;
+      cells = it.0;
+      listed = it.2;
+      fills = fills_again (verbs_bear c.args.version) pairs_keyed alike_pairs it.0 put it.1.1.1 (filled.fills c.requires);
+      kept = filled.kept;
     }

@@ -1,4 +1,4 @@
-use Rattle.moo_cells.{proofs.Words.{refl, subst₂, entries, ShowEach, ReadsObject, object_total, object_exact}, proofs.Beside.{left_all, each_held}, proofs.Keys.{objects_bear}}
+use Rattle.moo_cells.{proofs.Words.{refl, subst₂, entries, ShowEach, ReadsObject, object_total, object_exact}, proofs.Beside.{left_all, each_held}, proofs.FillLemmas.{held_fills}, proofs.Keys.{objects_bear}}
 use Rattle.moo_rows.specs.Maps.{object_cmp}
 use Rattle.moo_tables.proofs.InsideLemmas.{always}
 use Rattle.moo_cells.proofs.showing_in_turn.show_objects.Goals as goal
@@ -11,8 +11,8 @@ returns-clause-shown g c is =
     let m = c.args.rows.now.maps in
     let each = subst₂ (ShowEach (ReadsObject c.args.version)) c.deref.ensures.value (left_all object_cmp (entries m.objects)) (c.are_shown.ensures is) in
     record {
-      cells = c.in_ok-cells.cells;
+      cells = c.in_ok-cells.cells.items;
       listed = c.in_ok-cells.ensures.listed;
-      holds = each_held (objects_bear c.args.version) object_total object_exact c.in_ok-cells.cells.items m.objects each;
+      fills = held_fills (each_held (objects_bear c.args.version) object_total object_exact c.in_ok-cells.cells.items m.objects each);
       kept = refl;
     }

@@ -1,4 +1,4 @@
-use Rattle.moo_cells.{proofs.Words.{refl, subst₂, entries, ShowEach, ReadsProp, prop_total, prop_exact}, proofs.Beside.{left_all, each_held}, proofs.Keys.{props_bear}}
+use Rattle.moo_cells.{proofs.Words.{refl, subst₂, entries, ShowEach, ReadsProp, prop_total, prop_exact}, proofs.Beside.{left_all, each_held}, proofs.FillLemmas.{held_fills}, proofs.Keys.{props_bear}}
 use Rattle.moo_rows.specs.Maps.{prop_cmp}
 use Rattle.moo_tables.proofs.InsideLemmas.{always}
 use Rattle.moo_cells.proofs.showing_in_turn.show_props.Goals as goal
@@ -11,8 +11,8 @@ returns-clause-shown g c is =
     let m = c.args.rows.now.maps in
     let each = subst₂ (ShowEach (ReadsProp c.args.version)) c.deref.ensures.value (left_all prop_cmp (entries m.props)) (c.are_shown.ensures is) in
     record {
-      cells = c.in_ok-cells.cells;
+      cells = c.in_ok-cells.cells.items;
       listed = c.in_ok-cells.ensures.listed;
-      holds = each_held (props_bear c.args.version) prop_total prop_exact c.in_ok-cells.cells.items m.props each;
+      fills = held_fills (each_held (props_bear c.args.version) prop_total prop_exact c.in_ok-cells.cells.items m.props each);
       kept = refl;
     }

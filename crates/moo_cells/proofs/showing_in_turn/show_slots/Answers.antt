@@ -1,4 +1,4 @@
-use Rattle.moo_cells.{proofs.Words.{refl, subst₂, entries, ShowEach, ReadsSlot, slot_total, slot_exact}, proofs.Beside.{left_all, each_held}, proofs.Keys.{slots_bear}}
+use Rattle.moo_cells.{proofs.Words.{refl, subst₂, entries, ShowEach, ReadsSlot, slot_total, slot_exact}, proofs.Beside.{left_all, each_held}, proofs.FillLemmas.{held_fills}, proofs.Keys.{slots_bear}}
 use Rattle.moo_rows.specs.Maps.{slot_cmp}
 use Rattle.moo_tables.proofs.InsideLemmas.{always}
 use Rattle.moo_cells.proofs.showing_in_turn.show_slots.Goals as goal
@@ -11,8 +11,8 @@ returns-clause-shown g c is =
     let m = c.args.rows.now.maps in
     let each = subst₂ (ShowEach (ReadsSlot c.args.version)) c.deref.ensures.value (left_all slot_cmp (entries m.slots)) (c.are_shown.ensures is) in
     record {
-      cells = c.in_ok-cells.cells;
+      cells = c.in_ok-cells.cells.items;
       listed = c.in_ok-cells.ensures.listed;
-      holds = each_held (slots_bear c.args.version) slot_total slot_exact c.in_ok-cells.cells.items m.slots each;
+      fills = held_fills (each_held (slots_bear c.args.version) slot_total slot_exact c.in_ok-cells.cells.items m.slots each);
       kept = refl;
     }

@@ -1,4 +1,4 @@
-use Rattle.moo_cells.{proofs.Words.{refl, subst₂, entries, ShowEach, ReadsVerb, verb_total, verb_exact}, proofs.Beside.{left_all, each_held}, proofs.Keys.{verbs_bear}}
+use Rattle.moo_cells.{proofs.Words.{refl, subst₂, entries, ShowEach, ReadsVerb, verb_total, verb_exact}, proofs.Beside.{left_all, each_held}, proofs.FillLemmas.{held_fills}, proofs.Keys.{verbs_bear}}
 use Rattle.moo_rows.specs.Maps.{verb_cmp}
 use Rattle.moo_tables.proofs.InsideLemmas.{always}
 use Rattle.moo_cells.proofs.showing_in_turn.show_verbs.Goals as goal
@@ -11,8 +11,8 @@ returns-clause-shown g c is =
     let m = c.args.rows.now.maps in
     let each = subst₂ (ShowEach (ReadsVerb c.args.version)) c.deref.ensures.value (left_all verb_cmp (entries m.verbs)) (c.are_shown.ensures is) in
     record {
-      cells = c.in_ok-cells.cells;
+      cells = c.in_ok-cells.cells.items;
       listed = c.in_ok-cells.ensures.listed;
-      holds = each_held (verbs_bear c.args.version) verb_total verb_exact c.in_ok-cells.cells.items m.verbs each;
+      fills = held_fills (each_held (verbs_bear c.args.version) verb_total verb_exact c.in_ok-cells.cells.items m.verbs each);
       kept = refl;
     }

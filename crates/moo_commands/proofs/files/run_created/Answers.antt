@@ -1,4 +1,4 @@
-use Rattle.moo_commands.{proofs.Words.{inl, true, refl, sym, subst, over_files, image_at, opening_maps, state_of, StandsFor, LeavesState, Run, given_to, BeginsWith}, proofs.Beginning.{begins_opening, numbered_opening}, proofs.Connections.{surely}, proofs.Refusals.{tells_fault}, proofs.Making.{made_over, unmade_over}}
+use Rattle.moo_commands.{proofs.Words.{inl, true, refl, sym, subst, file_state, over_files, image_at, opening_maps, state_of, StandsFor, LeavesState, Run, given_to, BeginsWith}, proofs.Beginning.{begins_opening, numbered_opening}, proofs.Connections.{surely_led}, proofs.Refusals.{tells_fault}, proofs.Making.{made_over, unmade_over}}
 use Rattle.moo_commands.proofs.files.run_created.Goals as goal
 use Rattle.moo_files.{specs.Making.{Empty, HalfMade}, proofs.MakingLemmas.{taken_never, occupied_never, trees_or_made, table_kept, state_kept}}
 
@@ -17,7 +17,7 @@ returns-in-Ok-clause-runs g c =
       world = subst (BeginsWith c.args.task.action given) (sym same) (begins_opening c.args.task.action given c.requires.load);
       numbers = numbered_opening c.args.task.action world.rows.maps c.requires.load made.same;
     })
-    (surely _ _ _ _ _ _ _ (ran.runs true here (subst (StandsFor over_files true world) (sym same) made.stands)))
+    (surely_led _ _ _ _ _ _ (file_state c.run_in_files.result) _ _ (ran.runs true here (subst (StandsFor over_files true world) (sym same) made.stands)))
     (ran.clean true (state_of opening_maps) made.stands) (taken_never opening_maps (image_at g.S.File.Start) world made) (occupied_never opening_maps (image_at g.S.File.Start) world made) made.room
 
 pub returns-in-Err-clause-runs : goal.returns-in-Err-clause-runs

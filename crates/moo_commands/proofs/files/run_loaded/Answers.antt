@@ -1,4 +1,4 @@
-use Rattle.moo_commands.{proofs.Words.{inl, inr, refl, true, sym, subst, ◌∙◌, over_files, image_at, state_of, Run, given_to, StandsFor, LeavesState, BeginsWith}, proofs.Beginning.{begins_dumped, numbered_dumped, held_rows, refuses_dump, reads_dump, keeps_input, of_other_texts, load_begins, never_other}, proofs.Connections.{surely}, proofs.Refusals.{tells_fault}, proofs.Making.{made_over, unmade_over}}
+use Rattle.moo_commands.{proofs.Words.{inl, inr, refl, true, sym, subst, ◌∙◌, file_state, over_files, image_at, state_of, Run, given_to, StandsFor, LeavesState, BeginsWith}, proofs.Beginning.{begins_dumped, numbered_dumped, held_rows, refuses_dump, reads_dump, keeps_input, of_other_texts, load_begins, never_other}, proofs.Connections.{surely_led}, proofs.Refusals.{tells_fault}, proofs.Making.{made_over, unmade_over}}
 use Rattle.moo_commands.proofs.files.run_loaded.Goals as goal
 use Rattle.moo_files.{specs.Making.{Empty, HalfMade}, proofs.MakingLemmas.{taken_never, occupied_never, trees_or_made, table_kept, state_kept}}
 use Rattle.moo_load.specs.RowsOf.{AreRowsOf}
@@ -38,7 +38,7 @@ returns-in-Ok-load_from-clause-runs g c =
       world = subst (BeginsWith c.args.task.action given) (sym same) (begins_dumped c.args.task.action given c.args.dump.now s c.requires.load c.requires.word c.in-Ok.ensures.dumped (held_rows c.in-Ok.rows.maps c.in-Ok.ensures.good c.in-Ok.ensures.limit));
       numbers = numbered_dumped c.args.task.action world.rows.maps c.requires.load (subst (λ rows. AreRowsOf (state_of rows) rows) (sym made.same) c.in-Ok.ensures.numbered);
     })
-    (of_other_texts c.args.task c.requires.load (state_of world.rows.maps) _ given _ _ _ _ (surely _ _ _ _ _ _ _ (ran.runs true (state_of world.rows.maps) (subst (StandsFor over_files true world) (sym same) made.stands))) (λ rests. rests))
+    (of_other_texts c.args.task c.requires.load (state_of world.rows.maps) _ given _ _ _ _ (surely_led _ _ _ _ _ _ (file_state c.run_in_files.result) _ _ (ran.runs true (state_of world.rows.maps) (subst (StandsFor over_files true world) (sym same) made.stands))) (λ rests. rests))
     (ran.clean true s made.stands) (taken_never c.in-Ok.rows.maps (image_at g.S.File.Start) world made) (occupied_never c.in-Ok.rows.maps (image_at g.S.File.Start) world made) made.room
 
 pub returns-in-Err-load_from-clause-runs : goal.returns-in-Err-load_from-clause-runs

@@ -1,23 +1,8 @@
-use Rattle.moo_damage.{proofs.Words.{rules, ap, ◌∙◌, object_exact, objects_left, object_total, is_object_past}, proofs.Found.{all_left, found, passed, none_found}}
+use Rattle.moo_damage.{proofs.Words.{rules, entries, object_exact, object_total, objects_left, is_object_past}, proofs.Found.{least_found, walks}}
 use Rattle.moo_damage.proofs.checks.first_object_past.Goals as goal
-
-pub loop-key-init : goal.loop-key-init
-loop-key-init g c =
-    let m = (g.R.Rows.held c.args.rows.now).maps in
-    let from = c.into_iter-key-iterator.result in
-    all_left (λ k _. is_object_past m.head k) m.objects (objects_left from.last (g.R.Rows.held from.rows.now).maps) (search rules)
-
-pub returns-then-is_object_past : goal.returns-then-is_object_past
-returns-then-is_object_past g c =
-    let m = (g.R.Rows.held c.args.rows.now).maps in
-    found (λ k _. is_object_past m.head k) m.objects object_total object_exact _ _ _ (c.in-Some.key, c.in-Some._row.now) c.in-Some.ensures.steps c.loop-key.invariant (c.is_object_past.ensures ∙ ap (λ h. is_object_past h c.in-Some.key) c.head.ensures) c.if-is_object_past.true
-
-pub loop-key-preserved : goal.loop-key-preserved
-loop-key-preserved g c =
-    let m = (g.R.Rows.held c.args.rows.now).maps in
-    passed (λ k _. is_object_past m.head k) m.objects _ _ _ (c.in-Some.key, c.in-Some._row.now) c.in-Some.ensures.steps c.loop-key.invariant (c.is_object_past.ensures ∙ ap (λ h. is_object_past h c.in-Some.key) c.head.ensures) c.if-is_object_past.false
 
 pub returns : goal.returns
 returns g c =
     let m = (g.R.Rows.held c.args.rows.now).maps in
-    none_found (λ k _. is_object_past m.head k) m.objects object_total object_exact _ c.in-None.ensures.steps.0 c.loop-key.invariant
+    least_found _ _ (λ k _. is_object_past m.head k) (λ b k r says. search rules) object_total object_exact m.objects _
+    (c.first_bad.ensures _ (walks (λ p. (p.0, p.1.now)) (λ w. objects_left w.last (g.R.Rows.held w.rows.now).maps) c.each_object.result (entries m.objects) c.each_object.ensures))

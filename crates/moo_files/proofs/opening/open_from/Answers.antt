@@ -1,5 +1,5 @@
-use Rattle.moo_files.{proofs.Words.{inl, inr, ◌≡◌, refl, sym, subst, over_files, file_state, image_at, Adopts, store_of}, specs.Contents.{HoldsState}, specs.Opened.{Contents, Nothing, Database, Unfit}, proofs.ContentsLemmas.{was_clean, rests_held, shows_held, left_held, left_none, empty_other, foreign_other, unsound_other, reads_ours, reads_something, own_tables, kept_or_migrated}, proofs.RefusalLemmas.{unfit_sound, unfit_of_store, says_nothing, refuses_unconnected}}
-use Rattle.moo_store.proofs.AdoptLemmas.{left_still}
+use Rattle.moo_files.{proofs.Words.{inl, inr, ◌≡◌, refl, sym, subst, over_files, file_state, image_at, Adopts, store_of}, specs.Contents.{HoldsState}, specs.Opened.{Contents, Nothing, Database, Unfit}, proofs.ContentsLemmas.{was_clean, rests_held, shows_held, shows_trees, left_held, left_none, empty_other, foreign_other, unsound_other, reads_ours, reads_something, own_tables, kept_or_migrated}, proofs.RefusalLemmas.{unfit_sound, unfit_of_store, says_nothing, refuses_unconnected}}
+use Rattle.moo_store.{specs.Current.{RestsCurrent}, proofs.AdoptLemmas.{left_still}}
 use Rattle.moo_files.proofs.opening.open_from.Goals as goal
 
 -- ---- a World was opened
@@ -37,7 +37,7 @@ returns-in-Ok-adopt_files-clause-opens g c (Database trees) holds clean =
           (c.in-Ok-adopt_files.ensures.adopts.state s shows clean, left_still (file_state conn) store s c.in-Ok-adopt_files.ensures.adopts.crash shows (left_held image (file_state conn) s opened.0 found c.in-Ok.ensures.connects.left held) clean);
       tables = λ tables leaves.
           let rests = rests_held image (file_state conn) tables opened.0 opened.1 found (record { trees = trees; holds = holds; such = leaves }) in
-          (c.in-Ok-adopt_files.ensures.adopts.shown tables rests clean, c.in-Ok-adopt_files.ensures.adopts.rests tables rests clean);
+          (c.in-Ok-adopt_files.ensures.adopts.shown tables rests clean, subst (λ trees. RestsCurrent store trees tables c.in-Ok-adopt_files.world.rows.maps) (shows_trees image (file_state conn) trees opened.0 found holds) (c.in-Ok-adopt_files.ensures.adopts.rests tables rests clean));
       kept = kept_or_migrated image (file_state conn) store trees opened.0 opened.1 found c.in-Ok.ensures.connects.left holds clean c.in-Ok-adopt_files.ensures.adopts.crash;
     }
 returns-in-Ok-adopt_files-clause-opens g c Unfit none clean = none ((returns-in-Ok-adopt_files-clause-opened g c).sound clean)

@@ -11,11 +11,12 @@ pub returns-clause-serves : goal.returns-clause-serves
 returns-clause-serves g c known stand at =
     let rest = c.settle_rest.ensures in
     let each = c.serve_each-served in
-    ends_as g.S.Store known each.new.world
-    (λ end. Attended g.A.Arrivals.hands_out g.A.Arrivals.takes_back g.A.Arrivals.loses g.A.Reader.Read.remaining g.A.Writer.Write.contents each.result.answered each.result.failed c.args.arrivals.now stand each.new.arrivals end)
-    (λ end. Attended g.A.Arrivals.hands_out g.A.Arrivals.takes_back g.A.Arrivals.loses g.A.Reader.Read.remaining g.A.Writer.Write.contents c.settle_rest.new.served.answered c.settle_rest.new.served.failed c.args.arrivals.now stand c.settle_rest.new.arrivals end)
-    (λ end it. attended_all g.A.Arrivals.hands_out g.A.Arrivals.takes_back g.A.Arrivals.loses g.A.Reader.Read.remaining g.A.Writer.Write.contents rest.0 c.args.arrivals.now stand each.new.arrivals c.settle_rest.new.arrivals end each.result.answered each.result.failed
-    c.settle_rest.new.served.answered c.settle_rest.new.served.failed it rest.1)
+    let now = c.settle_rest.new in
+    ends_as g.S.Store known c.args.world.now each.new.world
+    (λ ledger end. Attended g.A.Arrivals g.A.Reader.Read g.A.Writer.Write each.result.answered each.result.failed ledger c.args.arrivals.now stand each.new.arrivals end)
+    (λ ledger end. Attended g.A.Arrivals g.A.Reader.Read g.A.Writer.Write now.served.answered now.served.failed ledger c.args.arrivals.now stand now.arrivals end)
+    (λ ledger end it. attended_all g.A.Arrivals g.A.Reader.Read g.A.Writer.Write rest.0 c.args.arrivals.now stand each.new.arrivals now.arrivals end ledger each.result.answered each.result.failed
+    now.served.answered now.served.failed it rest.1)
     (each.ensures.serves known stand at)
 
 pub returns-clause-moved : goal.returns-clause-moved

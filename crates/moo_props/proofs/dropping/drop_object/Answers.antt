@@ -53,22 +53,26 @@ relinked_is g c = c.from_vec.ensures ∙ c.in_ok-relinked.ensures
 
 pub returns : goal.returns
 returns g c = record {
-  removed = removed_is g c;
-  props = own_is g c;
-  verbs = c.in_ok-verbs.ensures;
-  relinked = relinked_is g c;
-  removed_order = subst (AreAscending slot_cmp) (sym (removed_is g c)) (dropped_ascend (before g c).maps c.requires.good c.args.x c.in-Some.row.now (here g c));
-  props_order = subst (AreAscending prop_cmp) (sym (own_is g c)) (ascend prop_cmp (props_of (c.args.x ∷ []) (before g c).maps.props) (props_rise (before g c).maps (c.args.x ∷ [])));
-  verbs_order = subst (AreAscending verb_cmp) (sym c.in_ok-verbs.ensures) (verbs_ascend (before g c).maps c.args.x);
-  relinked_order = subst (AreAscending object_cmp) (sym (relinked_is g c)) (linked_ascend (before g c).maps c.args.x);
-  had = dropped_had (before g c).maps c.requires.good c.args.x c.in-Some.row.now (here g c);
-  gone = subst (λ (h : Held). AreAbsent h.maps.slots (dropped_keys (before g c).maps c.args.x)) (sym (ends g c)) (dropped_gone (before g c).maps c.requires.good c.args.x c.in-Some.row.now (here g c) (before g c) refl);
-  stay = subst (λ (h : Held). ArePresent h.maps.objects (linked_among c.args.x (entries (before g c).maps.objects))) (sym (ends g c)) (relinked_there (before g c).maps c.requires.good c.args.x c.in-Some.row.now (here g c) (before g c) refl);
-  slots_left = λ key. ap (λ (h : Held). get h.maps.slots key) (ends g c) ∙ slots_left (before g c).maps c.requires.good c.args.x c.in-Some.row.now (here g c) (before g c) refl key;
-  props_left = λ id. ap (λ (h : Held). get h.maps.props id) (ends g c) ∙ props_left (before g c).maps c.requires.good c.args.x c.in-Some.row.now (here g c) (before g c) refl id;
-  verbs_left = λ key. ap (λ (h : Held). get h.maps.verbs key) (ends g c) ∙ verbs_left (before g c).maps c.requires.good c.args.x c.in-Some.row.now (here g c) (before g c) refl key;
-  objects_left = λ y. ap (λ (h : Held). get h.maps.objects y) (ends g c) ∙ objects_left (before g c).maps c.requires.good c.args.x c.in-Some.row.now (here g c) (before g c) refl y;
-  head = head_is g c;
+  lists = record {
+    removed = removed_is g c;
+    props = own_is g c;
+    verbs = c.in_ok-verbs.ensures;
+    relinked = relinked_is g c;
+    removed_order = subst (AreAscending slot_cmp) (sym (removed_is g c)) (dropped_ascend (before g c).maps c.requires.good c.args.x c.in-Some.row.now (here g c));
+    props_order = subst (AreAscending prop_cmp) (sym (own_is g c)) (ascend prop_cmp (props_of (c.args.x ∷ []) (before g c).maps.props) (props_rise (before g c).maps (c.args.x ∷ [])));
+    verbs_order = subst (AreAscending verb_cmp) (sym c.in_ok-verbs.ensures) (verbs_ascend (before g c).maps c.args.x);
+    relinked_order = subst (AreAscending object_cmp) (sym (relinked_is g c)) (linked_ascend (before g c).maps c.args.x);
+    had = dropped_had (before g c).maps c.requires.good c.args.x c.in-Some.row.now (here g c);
+  };
+  leaves = record {
+    gone = subst (λ (h : Held). AreAbsent h.maps.slots (dropped_keys (before g c).maps c.args.x)) (sym (ends g c)) (dropped_gone (before g c).maps c.requires.good c.args.x c.in-Some.row.now (here g c) (before g c) refl);
+    stay = subst (λ (h : Held). ArePresent h.maps.objects (linked_among c.args.x (entries (before g c).maps.objects))) (sym (ends g c)) (relinked_there (before g c).maps c.requires.good c.args.x c.in-Some.row.now (here g c) (before g c) refl);
+    slots_left = λ key. ap (λ (h : Held). get h.maps.slots key) (ends g c) ∙ slots_left (before g c).maps c.requires.good c.args.x c.in-Some.row.now (here g c) (before g c) refl key;
+    props_left = λ id. ap (λ (h : Held). get h.maps.props id) (ends g c) ∙ props_left (before g c).maps c.requires.good c.args.x c.in-Some.row.now (here g c) (before g c) refl id;
+    verbs_left = λ key. ap (λ (h : Held). get h.maps.verbs key) (ends g c) ∙ verbs_left (before g c).maps c.requires.good c.args.x c.in-Some.row.now (here g c) (before g c) refl key;
+    objects_left = λ y. ap (λ (h : Held). get h.maps.objects y) (ends g c) ∙ objects_left (before g c).maps c.requires.good c.args.x c.in-Some.row.now (here g c) (before g c) refl y;
+    head = head_is g c;
+  };
   world = world g c;
   kept = record {
     good = good_by (before g c).maps (g.R.Rows.held c.drop_rows.new.rows).maps c.requires.good (less_object (look_ups (before g c).maps) c.args.x c.in-Some.row.now.parent) (shown g c) (sound_less (look_ups (before g c).maps) c.requires.good.sound c.requires.good.formed c.args.x c.in-Some.row.now (here g c)) (recycled (world_of (before g c).maps) c.args.x) (world g c) (formed_less (look_ups (before g c).maps) c.requires.good.sound c.requires.good.formed c.args.x c.in-Some.row.now (here g c)) (beside g c);
@@ -96,24 +100,24 @@ returns g c = record {
 pub returns-in_err-own : goal.returns-in_err-own
 returns-in_err-own g c =
     let none : (P : Dropped → Type 0) → IfOk c.from_residual.result P = λ P. IfOk-from_err c.from_residual.result P c.from_residual.ensures.0 in
-    record { removed = none _; props = none _; verbs = none _; relinked = none _; removed_order = none _; props_order = none _; verbs_order = none _; relinked_order = none _; had = none _; gone = none _; stay = none _; slots_left = none _; props_left = none _; verbs_left = none _; objects_left = none _; head = none _; world = none _; kept = none _; writes = none _ }
+    record { lists = none _; leaves = none _; world = none _; kept = none _; writes = none _ }
 
 pub returns-in_err-verbs : goal.returns-in_err-verbs
 returns-in_err-verbs g c =
     let none : (P : Dropped → Type 0) → IfOk c.from_residual-in_err-verbs.result P = λ P. IfOk-from_err c.from_residual-in_err-verbs.result P c.from_residual-in_err-verbs.ensures.0 in
-    record { removed = none _; props = none _; verbs = none _; relinked = none _; removed_order = none _; props_order = none _; verbs_order = none _; relinked_order = none _; had = none _; gone = none _; stay = none _; slots_left = none _; props_left = none _; verbs_left = none _; objects_left = none _; head = none _; world = none _; kept = none _; writes = none _ }
+    record { lists = none _; leaves = none _; world = none _; kept = none _; writes = none _ }
 
 pub returns-in_err-relinked : goal.returns-in_err-relinked
 returns-in_err-relinked g c =
     let none : (P : Dropped → Type 0) → IfOk c.from_residual-in_err-relinked.result P = λ P. IfOk-from_err c.from_residual-in_err-relinked.result P c.from_residual-in_err-relinked.ensures.0 in
-    record { removed = none _; props = none _; verbs = none _; relinked = none _; removed_order = none _; props_order = none _; verbs_order = none _; relinked_order = none _; had = none _; gone = none _; stay = none _; slots_left = none _; props_left = none _; verbs_left = none _; objects_left = none _; head = none _; world = none _; kept = none _; writes = none _ }
+    record { lists = none _; leaves = none _; world = none _; kept = none _; writes = none _ }
 
 pub returns-in_err-removed : goal.returns-in_err-removed
 returns-in_err-removed g c =
     let none : (P : Dropped → Type 0) → IfOk c.from_residual-in_err-removed.result P = λ P. IfOk-from_err c.from_residual-in_err-removed.result P c.from_residual-in_err-removed.ensures.0 in
-    record { removed = none _; props = none _; verbs = none _; relinked = none _; removed_order = none _; props_order = none _; verbs_order = none _; relinked_order = none _; had = none _; gone = none _; stay = none _; slots_left = none _; props_left = none _; verbs_left = none _; objects_left = none _; head = none _; world = none _; kept = none _; writes = none _ }
+    record { lists = none _; leaves = none _; world = none _; kept = none _; writes = none _ }
 
 pub returns-in_err-drop_rows : goal.returns-in_err-drop_rows
 returns-in_err-drop_rows g c =
     let none : (P : Dropped → Type 0) → IfOk c.from_residual-in_err-drop_rows.result P = λ P. IfOk-from_err c.from_residual-in_err-drop_rows.result P c.from_residual-in_err-drop_rows.ensures.0 in
-    record { removed = none _; props = none _; verbs = none _; relinked = none _; removed_order = none _; props_order = none _; verbs_order = none _; relinked_order = none _; had = none _; gone = none _; stay = none _; slots_left = none _; props_left = none _; verbs_left = none _; objects_left = none _; head = none _; world = none _; kept = none _; writes = none _ }
+    record { lists = none _; leaves = none _; world = none _; kept = none _; writes = none _ }

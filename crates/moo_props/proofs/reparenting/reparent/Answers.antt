@@ -71,20 +71,24 @@ turnover-requires-clause-above g c d h =
 
 pub returns : goal.returns
 returns g c = record {
-  removed = removed_is g c;
-  added = added_is g c;
-  relinked =
-      c.in_ok-relinked.ensures.list
-      ∙ ap (λ o. unwrap_or (option_map (λ row. relinked_list c.args.x row c.args.new) o) []) (sym (here g c));
-  removed_order = subst (AreAscending slot_cmp) (sym (removed_is g c)) (removed_ascend (before g c).maps c.args.x c.args.new);
-  added_order = subst (AreAscending slot_cmp) (sym (added_is g c)) (added_ascend (before g c).maps c.args.x c.args.new);
-  had = removed_had (before g c).maps c.requires.good.sound c.args.x c.args.new c.requires.may;
-  gone = removed_gone (before g c).maps c.requires.good.sound c.args.x c.args.new c.requires.may (g.R.Rows.held c.relink.new.rows).maps.slots (slots_are (before g c) c.requires.good c.args.x c.args.new c.requires.may c.in_ok-row-in-Some.row (here g c) (g.R.Rows.held c.relink.new.rows) (ends g c));
-  lacked = added_had (before g c).maps c.requires.good.sound c.args.x c.args.new c.requires.may;
-  came = added_there (before g c).maps c.requires.good.sound c.args.x c.args.new c.requires.may (g.R.Rows.held c.relink.new.rows).maps.slots (slots_are (before g c) c.requires.good c.args.x c.args.new c.requires.may c.in_ok-row-in-Some.row (here g c) (g.R.Rows.held c.relink.new.rows) (ends g c));
-  slots = slots_are (before g c) c.requires.good c.args.x c.args.new c.requires.may c.in_ok-row-in-Some.row (here g c) (g.R.Rows.held c.relink.new.rows) (ends g c);
-  objects = λ y. ap (λ (h : Held). get h.maps.objects y) (ends g c) ∙ objects2 (before g c).maps c.requires.good.sound c.args.x c.args.new c.requires.may c.in_ok-row-in-Some.row (here g c) (before g c) (λ i. (before g c).maps) y;
-  rest = rest_is (before g c) c.requires.good c.args.x c.args.new c.requires.may c.in_ok-row-in-Some.row (here g c) (g.R.Rows.held c.relink.new.rows) (ends g c);
+  lists = record {
+    removed = removed_is g c;
+    added = added_is g c;
+    relinked =
+        c.in_ok-relinked.ensures.list
+        ∙ ap (λ o. unwrap_or (option_map (λ row. relinked_list c.args.x row c.args.new) o) []) (sym (here g c));
+    removed_order = subst (AreAscending slot_cmp) (sym (removed_is g c)) (removed_ascend (before g c).maps c.args.x c.args.new);
+    added_order = subst (AreAscending slot_cmp) (sym (added_is g c)) (added_ascend (before g c).maps c.args.x c.args.new);
+    had = removed_had (before g c).maps c.requires.good.sound c.args.x c.args.new c.requires.may;
+    lacked = added_had (before g c).maps c.requires.good.sound c.args.x c.args.new c.requires.may;
+  };
+  leaves = record {
+    gone = removed_gone (before g c).maps c.requires.good.sound c.args.x c.args.new c.requires.may (g.R.Rows.held c.relink.new.rows).maps.slots (slots_are (before g c) c.requires.good c.args.x c.args.new c.requires.may c.in_ok-row-in-Some.row (here g c) (g.R.Rows.held c.relink.new.rows) (ends g c));
+    came = added_there (before g c).maps c.requires.good.sound c.args.x c.args.new c.requires.may (g.R.Rows.held c.relink.new.rows).maps.slots (slots_are (before g c) c.requires.good c.args.x c.args.new c.requires.may c.in_ok-row-in-Some.row (here g c) (g.R.Rows.held c.relink.new.rows) (ends g c));
+    slots = slots_are (before g c) c.requires.good c.args.x c.args.new c.requires.may c.in_ok-row-in-Some.row (here g c) (g.R.Rows.held c.relink.new.rows) (ends g c);
+    objects = λ y. ap (λ (h : Held). get h.maps.objects y) (ends g c) ∙ objects2 (before g c).maps c.requires.good.sound c.args.x c.args.new c.requires.may c.in_ok-row-in-Some.row (here g c) (before g c) (λ i. (before g c).maps) y;
+    rest = rest_is (before g c) c.requires.good c.args.x c.args.new c.requires.may c.in_ok-row-in-Some.row (here g c) (g.R.Rows.held c.relink.new.rows) (ends g c);
+  };
   world = world_is (before g c) c.requires.good c.args.x c.args.new c.requires.may c.in_ok-row-in-Some.row (here g c) (g.R.Rows.held c.relink.new.rows) (ends g c);
   kept = kept (before g c) c.requires.good c.args.x c.args.new c.requires.may c.in_ok-row-in-Some.row (here g c) (g.R.Rows.held c.relink.new.rows) (ends g c);
   writes =
@@ -96,19 +100,19 @@ returns g c = record {
 pub returns-in_err-row-in-Some : goal.returns-in_err-row-in-Some
 returns-in_err-row-in-Some g c =
     let none : (P : Touched → Type 0) → IfOk c.from_residual.result P = λ P. IfOk-from_err c.from_residual.result P c.from_residual.ensures.0 in
-    record { removed = none _; added = none _; relinked = none _; removed_order = none _; added_order = none _; had = none _; gone = none _; lacked = none _; came = none _; slots = none _; objects = none _; rest = none _; world = none _; kept = none _; writes = none _ }
+    record { lists = none _; leaves = none _; world = none _; kept = none _; writes = none _ }
 
 pub returns-in_err-lost : goal.returns-in_err-lost
 returns-in_err-lost g c =
     let none : (P : Touched → Type 0) → IfOk c.from_residual-in_err-lost.result P = λ P. IfOk-from_err c.from_residual-in_err-lost.result P c.from_residual-in_err-lost.ensures.0 in
-    record { removed = none _; added = none _; relinked = none _; removed_order = none _; added_order = none _; had = none _; gone = none _; lacked = none _; came = none _; slots = none _; objects = none _; rest = none _; world = none _; kept = none _; writes = none _ }
+    record { lists = none _; leaves = none _; world = none _; kept = none _; writes = none _ }
 
 pub returns-in_err-removed : goal.returns-in_err-removed
 returns-in_err-removed g c =
     let none : (P : Touched → Type 0) → IfOk c.from_residual-in_err-removed.result P = λ P. IfOk-from_err c.from_residual-in_err-removed.result P c.from_residual-in_err-removed.ensures.0 in
-    record { removed = none _; added = none _; relinked = none _; removed_order = none _; added_order = none _; had = none _; gone = none _; lacked = none _; came = none _; slots = none _; objects = none _; rest = none _; world = none _; kept = none _; writes = none _ }
+    record { lists = none _; leaves = none _; world = none _; kept = none _; writes = none _ }
 
 pub returns-in_err-relinked : goal.returns-in_err-relinked
 returns-in_err-relinked g c =
     let none : (P : Touched → Type 0) → IfOk c.from_residual-in_err-relinked.result P = λ P. IfOk-from_err c.from_residual-in_err-relinked.result P c.from_residual-in_err-relinked.ensures.0 in
-    record { removed = none _; added = none _; relinked = none _; removed_order = none _; added_order = none _; had = none _; gone = none _; lacked = none _; came = none _; slots = none _; objects = none _; rest = none _; world = none _; kept = none _; writes = none _ }
+    record { lists = none _; leaves = none _; world = none _; kept = none _; writes = none _ }

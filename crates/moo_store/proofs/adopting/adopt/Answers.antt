@@ -19,7 +19,7 @@ returns-in-Ok g c =
         state = stands g.S.Store old new world rows is.connection is.rows is.works brought.good (λ clean tables m rests shows good. brought.one tables m rests shows good clean)
             (λ clean tables rests. let it = brought.rests tables rests clean in record { tables = it.tables; rests = it.rests; current = it.became.current; shows = it.shows });
         shown = λ tables rests clean. subst (ShowsRows tables) (sym is.rows) (brought.shown tables rests (late clean));
-        rests = λ tables rests clean. subst₂ (λ h m. RestsCurrent (state g.S.Store h) tables m) (sym is.connection) (sym is.rows) (brought.rests tables rests (late clean));
+        rests = λ tables rests clean. subst₂ (λ h m. RestsCurrent (state g.S.Store h) (state g.S.Store old).now.trees tables m) (sym is.connection) (sym is.rows) (brought.rests tables rests (late clean));
         crash = survives_at g.S.Store old new world rows is.connection is.rows is.works brought.crash;
       };
     }

@@ -1,4 +1,5 @@
-use Rattle.moo_store.{proofs.Words.{inr, state, clean_before}, proofs.AdoptLemmas.{undone, refused_survives, has_still, rests_still, version_of_old, crash, undone_late, says_of_store}}
+use Rattle.sqlite.specs.Effect.{Database as Content}
+use Rattle.moo_store.{proofs.Words.{inr, subst, state, clean_before}, specs.Current.{RestsCurrent}, proofs.AdoptLemmas.{undone, refused_survives, has_still, rests_still, version_of_old, crash, undone_late, says_of_store}}
 use Rattle.moo_store.proofs.adopting.open_rows.Goals as goal
 
 -- the tables were not read
@@ -31,8 +32,9 @@ returns-in-Ok-make_current-clause-brings g c =
       one = λ tables m rests shows good clean. read.found.one tables m (early clean, rests) shows good;
       shown = λ tables rests clean. read.found.shown tables (early clean, rests);
       rests = λ tables rests clean.
-          c.in-Ok-make_current.ensures.rests clean tables (rests_still g.S.Store old mid version rows read.has read.read (early clean) tables rests)
-          (version_of_old g.S.Store old mid version rows read.has read.read tables rests) (read.found.shown tables (early clean, rests));
+          subst (λ (db : Content). RestsCurrent (state g.S.Store c.make_current.new.conn) db.trees tables rows) (read.read.same (early clean) read.has).0.now_is
+          (c.in-Ok-make_current.ensures.rests clean tables (rests_still g.S.Store old mid version rows read.has read.read (early clean) tables rests)
+          (version_of_old g.S.Store old mid version rows read.has read.read tables rests) (read.found.shown tables (early clean, rests)));
       crash = crash g.S.Store old mid version rows read.has read.read c.make_current.new.conn took read.found.good (λ clean tables rests. read.found.shown tables (clean, rests)) (λ clean tables m rests. read.found.one tables m (clean, rests));
     }
 

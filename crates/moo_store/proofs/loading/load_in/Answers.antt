@@ -1,6 +1,9 @@
 use Rattle.moo_store.{proofs.Words.{IsTrue, true, inl, inr, rules, refl, sym, subst, HasCleanDisk, Survives, state, state_of, KeepsRows, LeavesState, ShowsItsRows}, proofs.Opened.{has_no_tables, keeps_all, survives_all}}
 use Rattle.moo_store.proofs.loading.load_in.Goals as goal
 
+pub over-requires-clause-outside : goal.over-requires-clause-outside
+over-requires-clause-outside g c = c.in-Ok-create_tables.ensures.made.outside
+
 pub returns-in-Ok-create_tables : goal.returns-in-Ok-create_tables
 returns-in-Ok-create_tables g c =
     let new : IsTrue c.is_new.result = c.if-not-is_new.false in
@@ -8,7 +11,7 @@ returns-in-Ok-create_tables g c =
     let rows = c.args.rows.maps in
     let none = has_no_tables (state g.S.Store c.args.conn).now (c.is_new.ensures.0 new) in
     let keeps : HasCleanDisk (state g.S.Store conn) → KeepsRows (state g.S.Store conn) rows = λ clean.
-    keeps_all (state g.S.Store conn) c.in-Ok.cells rows c.in-Ok.ensures (c.in-Ok-create_tables.ensures.made clean none) in
+    keeps_all (state g.S.Store conn) c.in-Ok.cells rows c.in-Ok.ensures (c.in-Ok-create_tables.ensures.made.made clean none) in
     let shown : ShowsItsRows g.S.Store c.over.result = λ clean.
     subst (KeepsRows (state g.S.Store c.over.result.connection)) (sym c.over.ensures.rows)
     (subst (λ conn. HasCleanDisk (state g.S.Store conn) → KeepsRows (state g.S.Store conn) rows) (sym c.over.ensures.connection) keeps clean) in
@@ -18,7 +21,7 @@ returns-in-Ok-create_tables g c =
         stands = c.over.ensures.stands true (λ _. shown);
         same = c.over.ensures.rows;
         crash = subst (λ conn. Survives (state g.S.Store c.args.conn) (state g.S.Store conn) (λ trees. LeavesState trees (state_of rows))) (sym c.over.ensures.connection)
-            (survives_all (state g.S.Store c.args.conn) (state g.S.Store conn) c.in-Ok.cells rows c.in-Ok.ensures c.requires.good (c.in-Ok-create_tables.ensures.crash (λ clean. none)));
+            (survives_all (state g.S.Store c.args.conn) (state g.S.Store conn) c.in-Ok.cells rows c.in-Ok.ensures c.requires.good (c.in-Ok-create_tables.ensures.made.crash (λ clean. none)));
       };
     }
 
@@ -26,13 +29,13 @@ pub returns-in-Err : goal.returns-in-Err
 returns-in-Err g c =
     let new : IsTrue c.is_new.result = c.if-not-is_new.false in
     let none = has_no_tables (state g.S.Store c.args.conn).now (c.is_new.ensures.0 new) in
-    let crash = c.in-Err.ensures.crash_refused (λ clean. none) in
+    let crash = c.in-Err.ensures.refused.crash (λ clean. none) in
     record {
       loads = record {
         taken = λ taken. absurd (taken (c.is_new.ensures.0 new));
         kind = inr (c.in-Err.error, refl);
-        outside = c.in-Err.ensures.outside_refused;
-        undone = inr (λ clean opened. c.in-Err.ensures.undone clean none opened);
+        outside = c.in-Err.ensures.refused.outside;
+        undone = inr (λ clean opened. c.in-Err.ensures.refused.undone clean none opened);
         crash = inr (survives_all (state g.S.Store c.args.conn) (state g.S.Store c.in-Err.conn) c.in-Ok.cells c.args.rows.maps c.in-Ok.ensures c.requires.good crash);
       };
     }

@@ -1,11 +1,15 @@
-use Rattle.moo_tables.{proofs.Words.{rules, ◌≡◌, Result, Ok, Err, Error, OnErr, IfErr, IsTrue, state, State, HasCleanDisk, KeepsCommit, survives_then, Sees, HasNoTables, no_tables, tables_with}, specs.Inside.{RestsAt}, proofs.InsideLemmas.{stays_begun, on_ok, clean_before, commits, leaves, restored}, proofs.creating.create_all.Given.{Over}}
+use Rattle.moo_tables.{proofs.Words.{rules, ◌≡◌, Result, Ok, Err, Error, OnOk, OnErr, IfErr, IsTrue, false, state, State, HasCleanDisk, KeepsCommit, Survives, survives_then, Rests, Sees, Leaves, HasNoTables, no_tables, tables_with}, specs.Inside.{RestsAt}, specs.Transaction.{HasMade, HasNotMade}, proofs.InsideLemmas.{always, no_ok, stays_begun, on_ok, clean_before, commits, leaves, restores, restored}, proofs.creating.create_all.Given.{Over}}
 use Rattle.moo_tables.proofs.creating.create_all.Goals as goal
 use Rattle.sqlite.specs.Steps.{FailsToCommit}
+use Rattle.moo_tables.specs.declared.cells.CellChanges.{CellChanges}
 
 -- the connection that is handed back is the one that the transaction had
 
 committed : (g : Over) (c : goal.After-conn-2-1 g) → c.conn-2-1.given.0 ≡ c.commit.new.self.0
 committed g c = search rules
+
+dropped : (g : Over) (c : goal.After-conn-1 g) → c.conn-1.given.0 ≡ c.drop-tx.new.self.0
+dropped g c = search rules
 
 -- before the transaction, before its commit and after it
 
@@ -18,27 +22,58 @@ last g c = state g.S.Store c.create_and_write.new.tx.conn.now
 abbrev end : (g : Over) → goal.After-conn-2-1 g → State
 end g c = state g.S.Store c.commit.new.self.0
 
-early : (g : Over) (c : goal.After-conn-2-1 g) → HasCleanDisk (state g.S.Store c.conn-2-1.given.0) → HasCleanDisk (last g c)
-early g c clean = clean_before (last g c) (end g c) _ c.commit.ensures.survives (rw (committed g c) at clean)
+early : (g : Over) (c : goal.After-conn-2-1 g) → HasCleanDisk (end g c) → HasCleanDisk (last g c)
+early g c clean = clean_before (last g c) (end g c) _ c.commit.ensures.survives clean
 
 made : (g : Over) (c : goal.After-conn-2-1 g) → HasCleanDisk (last g c) → HasNoTables (old g c).now → Sees (last g c) (tables_with c.args.changes.now no_tables)
 made g c clean none = c.in_ok-create_and_write.ensures.made clean (rw c.transaction-tx.ensures.begun none)
 
-pub returns-clause-made : goal.returns-clause-made
-returns-clause-made g c clean =
-    rw (committed g c) (on_ok c.commit.result (c.commit.ensures.ok (rw (committed g c) at clean)) (λ ok none. commits (last g c) (end g c) (tables_with c.args.changes.now no_tables) ok.1 (made g c (early g c clean) none)))
+-- a clause under the premise that the disk is clean is one of the case that it is about
+
+abbrev Crashes : CellChanges → State → State → Type 0
+Crashes changes old end = (HasCleanDisk old → HasNoTables old.now) → Survives old end (λ trees. Leaves trees (tables_with changes no_tables))
+
+has_made : (changes : CellChanges) (old end : State) (r : Result (Unit {0}) Error) → end.in_transaction ≡ false → (HasCleanDisk end → OnOk r (HasNoTables old.now → Rests end (tables_with changes no_tables))) → Crashes changes old end → OnOk r (HasMade changes old end)
+has_made changes old end (Ok _) outside made crash = record { outside = outside; made = made; crash = crash }
+has_made changes old end (Err e) outside made crash = tt
+
+has_not_made : (changes : CellChanges) (old end : State) (r : Result (Unit {0}) Error) → end.in_transaction ≡ false → (HasCleanDisk end → OnErr r (HasNoTables old.now → IsTrue end.is_open → RestsAt end old.committed)) → Crashes changes old end → OnErr r (HasNotMade changes old end)
+has_not_made changes old end (Ok _) outside undone crash = tt
+has_not_made changes old end (Err e) outside undone crash = record { outside = outside; undone = undone; crash = crash }
 
 undone : (old last end : State) (r : Result (Unit {0}) Error) → KeepsCommit old last → IfErr r (FailsToCommit last end) → (HasNoTables old.now → IsTrue last.in_transaction) → OnErr r (HasNoTables old.now → IsTrue end.is_open → RestsAt end old.committed)
 undone old last end (Ok _) kept err inside = tt
 undone old last end (Err e) kept err inside = λ none. restored old last end (Err e) kept err (inside none)
 
-pub returns-clause-undone : goal.returns-clause-undone
-returns-clause-undone g c clean =
-    let first = stays_begun g.S.Store c.transaction-tx.ensures.begun c.create_and_write.ensures.inside in
-    rw (committed g c) (undone (old g c) (last g c) (end g c) c.commit.result (first.1 (early g c clean)) (c.commit.ensures.err (rw (committed g c) at clean)) (λ none. (made g c (early g c clean) none).inside))
-
-pub returns-clause-crash : goal.returns-clause-crash
-returns-clause-crash g c held =
-    let first = (stays_begun g.S.Store c.transaction-tx.ensures.begun c.create_and_write.ensures.inside).0 in
+crashes : (g : Over) (c : goal.After-conn-2-1 g) → Crashes c.args.changes.now (old g c) (end g c)
+crashes g c held =
+    let first = (stays_begun g.S.Store {h = c.args.conn.now} c.transaction-tx.ensures.begun c.create_and_write.ensures.inside).0 in
     let seen = λ (clean : HasCleanDisk (last g c)). made g c clean (held (clean_before (old g c) (last g c) _ first clean)) in
-    rw (committed g c) (survives_then (old g c) (last g c) (end g c) _ _ _ (λ _ db none. absurd none) (λ clean db is. leaves (last g c) (tables_with c.args.changes.now no_tables) db (seen (clean_before (last g c) (end g c) _ c.commit.ensures.survives clean)) is) first c.commit.ensures.survives)
+    survives_then (old g c) (last g c) (end g c) _ _ _ (λ _ db none. absurd none) (λ clean db is. leaves (last g c) (tables_with c.args.changes.now no_tables) db (seen (early g c clean)) is) first c.commit.ensures.survives
+
+pub returns-clause-made : goal.returns-clause-made
+returns-clause-made g c =
+    rw (committed g c) (has_made c.args.changes.now (old g c) (end g c) c.commit.result c.commit.ensures.ended (λ clean. on_ok c.commit.result (c.commit.ensures.ok clean) (λ ok none. commits (last g c) (end g c) (tables_with c.args.changes.now no_tables) ok.1 (made g c (early g c clean) none))) (crashes g c))
+
+pub returns-clause-refused : goal.returns-clause-refused
+returns-clause-refused g c =
+    let first = stays_begun g.S.Store {h = c.args.conn.now} c.transaction-tx.ensures.begun c.create_and_write.ensures.inside in
+    rw (committed g c) (has_not_made c.args.changes.now (old g c) (end g c) c.commit.result c.commit.ensures.ended (λ clean. undone (old g c) (last g c) (end g c) c.commit.result (first.1 (early g c clean)) (c.commit.ensures.err clean) (λ none. (made g c (early g c clean) none).inside)) (crashes g c))
+
+-- of a transaction that is undone, since a statement failed
+
+pub returns-in_err-create_and_write-clause-made : goal.returns-in_err-create_and_write-clause-made
+returns-in_err-create_and_write-clause-made g c = no_ok _ _ c.from_residual.result c.from_residual.ensures.1
+
+pub returns-in_err-create_and_write-clause-refused : goal.returns-in_err-create_and_write-clause-refused
+returns-in_err-create_and_write-clause-refused g c =
+    let old = state g.S.Store c.args.conn.now in
+    let last = state g.S.Store c.create_and_write.new.tx.conn.now in
+    let end = state g.S.Store c.drop-tx.new.self.0 in
+    let survives = c.drop-tx.ensures.survives in
+    let first = stays_begun g.S.Store {h = c.args.conn.now} c.transaction-tx.ensures.begun c.create_and_write.ensures.inside in
+    rw (dropped g c) (always c.from_residual.result (record {
+      outside = c.drop-tx.ensures.ended;
+      undone = λ clean none. restores old last end (first.1 (clean_before last end _ survives clean)) (c.drop-tx.ensures.undone clean);
+      crash = λ held. survives_then old last end _ _ _ (λ _ db none. absurd none) (λ _ db none. absurd none) first.0 survives;
+    }))

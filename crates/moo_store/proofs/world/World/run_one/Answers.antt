@@ -77,6 +77,7 @@ returns-in-Ok-clause-cells g c =
     (at_changed c.commit.result (λ rows. rows next exact) says.rows)
     (at_changed c.commit.result (λ cells tables clean rests current shown. cells next tables exact clean rests current shown) says.cells) says.undone c.commit.ensures.clean says.fault says.failed
     (g.met.S.Store.settled c.commit.new.self.connection.store) (at_error c.commit.result (λ crash shown clean trees left. crash next shown exact clean trees left) says.crash)
+    (at_error c.commit.result (λ left tables clean rests current shown. left next tables exact clean rests current shown) says.left) says.spared
 
 pub returns-then-self-clause-cells : goal.returns-then-self-clause-cells
 returns-then-self-clause-cells g c = nothing_written g.S.Store c.args.self.now c.args.batch.now _ (g.met.S.Store.settled c.args.self.now.connection.store) (subst (λ (w : World _). w.failed ≡ false → IsGood w.rows.maps) c.self.view_is c.self.invariant.1) refl

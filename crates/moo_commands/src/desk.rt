@@ -1,0 +1,17 @@
+//! What passes between a peer and the service through a desk.
+
+ghost use Rattle.moo_commands.specs.Desk.{DeskAnswers, DeskFronts, DeskFaults};
+
+use moo_desk::{Gathered, Outgoing};
+use moo_http::exchanges_pass_through;
+use std::io::{Read, Write};
+
+/// What the service exchanges with a connection that a `Desk` hands out is what the peer sees, if the desk only gathered before that and sent
+/// after it: all of the answer once nothing is left to be sent, else a front of it.
+pub fn exchanges_pass_the_desk<R: Read, W: Write>()
+    ensures sent { DeskAnswers R.Read ⟦<Gathered<R> as Read>⟧ W.Write ⟦<Outgoing<W> as Write>⟧ }
+    ensures lost { DeskFronts R.Read ⟦<Gathered<R> as Read>⟧ W.Write ⟦<Outgoing<W> as Write>⟧ }
+    ensures failed { DeskFaults R.Read ⟦<Gathered<R> as Read>⟧ W.Write ⟦<Outgoing<W> as Write>⟧ }
+{
+    exchanges_pass_through();
+}

@@ -1,7 +1,0 @@
-use Rattle.moo_damage.{proofs.Words.{verbs_left, is_verb_past}, proofs.Found.{FoundLeft}}
-use Rattle.moo_damage.proofs.checks.first_verb_past.Given as goal
-
-abbrev pub invariant-loop-key : goal.invariant-loop-key
-invariant-loop-key g l =
-    let m = (g.R.Rows.held l.rows).maps in
-    FoundLeft (λ k _. is_verb_past m.head k) m.verbs (verbs_left l.key-iterator.last (g.R.Rows.held l.key-iterator.rows.now).maps)

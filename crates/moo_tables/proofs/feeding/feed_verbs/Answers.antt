@@ -1,0 +1,13 @@
+use Rattle.moo_tables.{proofs.Words.{◌≡◌, refl, state, verb_table, select_text, ListsPairs}, proofs.SelectLemmas.{select_verb}, proofs.ReadLemmas.{plain_of, verb_lists}, proofs.FeedLemmas.{feeds, stops, fed_lists}}
+use Rattle.moo_tables.proofs.feeding.feed_verbs.Goals as goal
+
+pub returns-clause-read : goal.returns-clause-read
+returns-clause-read g c = feeds (select_verb c.args.version) c.feed_rows.ensures.survives c.feed_rows.result c.feed_rows.ensures.same
+
+pub returns-clause-taken : goal.returns-clause-taken
+returns-clause-taken g c =
+    fed_lists g.T.TakeRows.took c.args.taker.now c.feed_rows.new.taker (select_text verb_table) (state g.S.Store c.args.conn.now) (state g.S.Store c.feed_rows.new.conn) c.feed_rows.result
+    (λ rows tables. tables.version ≡ c.args.version → ListsPairs rows tables.verb) (λ rows tables holds shown at. verb_lists _ _ rows tables holds (shown (plain_of (select_text verb_table) _ tables tables.version holds refl (select_verb tables.version).plain))) c.feed_rows.ensures.taken
+
+pub returns-clause-failed : goal.returns-clause-failed
+returns-clause-failed g c = stops (select_verb c.args.version) c.feed_rows.ensures.survives c.feed_rows.result c.feed_rows.ensures.kept

@@ -1,0 +1,26 @@
+-- What a query of the tables answers, and what is so of the tables that it was asked of.
+use Rattle.std.specs.Prelude.{◌≡◌, ◌⊎◌, ℕ, List, [], Vec, Result, IfOk, OnErr}
+use Rattle.std.specs.declared.alloc.Global.{Global}
+use Rattle.sqlite.specs.Given.{IsPlain}
+use Rattle.sqlite.specs.Listing.{understood}
+use Rattle.sqlite.specs.Order.{Row}
+use Rattle.sqlite.specs.State.{State, HasCleanDisk, Shown, IsUnchanged, IsRolledBack}
+use Rattle.sqlite.specs.declared.error.Error.{Error}
+use Rattle.moo_tables.specs.declared.version.Version.{Version}
+use Rattle.moo_tables.specs.Inside.{Rests}
+use Rattle.moo_tables.specs.Tables.{Tables}
+
+-- the rows are all that a query without parameters answers, in its order
+abbrev pub ShowsAll : List ℕ → State → State → Result (Vec Row Global) Error → Type 0
+ShowsAll sql old new r =
+    HasCleanDisk new → IsPlain (understood old.now.schema sql) → IfOk r (λ rows. Shown sql [] old new rows.items)
+
+-- if it fails nothing changed, or the transaction was rolled back
+abbrev pub KeepsIfNotShown : {A : Type 0} → List ℕ → State → State → Result A Error → Type 0
+KeepsIfNotShown sql old new r =
+    HasCleanDisk new → IsPlain (understood old.now.schema sql) → OnErr r (IsUnchanged old new ⊎ IsRolledBack old new)
+
+-- what was read lists the tables of this version so
+abbrev pub Lists : {A : Type 0} → Version → State → State → Result A Error → (A → Tables → Type 0) → Type 0
+Lists version old new r Listed =
+    HasCleanDisk new → IfOk r (λ rows. (tables : Tables) → Rests old tables → tables.version ≡ version → Listed rows tables)

@@ -1,0 +1,159 @@
+//! The rows of the large tables, handed on while they are read: no list of the rows of a whole table is held.
+
+ghost use Rattle.std.specs.Prelude.{◌≡◌, ◌⊎◌, List, [], ◌∷◌, ◌++◌, IfOk, OnOk, OnErr, true, false};
+ghost use Rattle.sqlite.specs.Held.{state};
+ghost use Rattle.sqlite.specs.Given.{IsPlain};
+ghost use Rattle.sqlite.specs.Listing.{understood};
+ghost use Rattle.sqlite.specs.Order.{Row as Cells};
+ghost use Rattle.sqlite.specs.State.{HasCleanDisk, Shown, Survives, CommitsShowing, IsUnchanged, IsRolledBack};
+ghost use Rattle.moo_tables.specs.Feeding.{AreTaken, AreFed};
+ghost use Rattle.moo_tables.specs.Inside.{Rests, ReadsTables, FailsToRead};
+ghost use Rattle.moo_tables.specs.Listing.{ListsNumbers, ListsPairs};
+ghost use Rattle.moo_tables.specs.Tables.{Tables, schema_of};
+
+use crate::object::READ_OBJECT;
+use crate::prop::READ_PROP;
+use crate::slot::{READ_SLOT, READ_SLOT2};
+use crate::verb::READ_VERB;
+use crate::version::Version;
+use sqlite::{Alter, Connection, Error, ErrorCode, Row};
+use std::alloc::{AllocError, Global};
+use std::mem;
+
+/// At most so many rows are held before they are handed on.
+pub const BLOCK: usize = 1024;
+
+/// What takes the rows of a table, a block after another.
+pub trait TakeRows {
+    /// Its state after it took these rows, from its state before.
+    ghost took: { Self → List Cells → Self → Type 0 };
+
+    /// Takes the rows that come next, at most `BLOCK`. False if it can't: then no more are handed to it.
+    fn take(&mut self, block: Vec<Row>) -> bool
+        ensures { (first : Self) (rows : List Cells) → took first rows self.old → result ≡ true →
+            took first (rows ++ block.items) self.new };
+}
+
+/// Adds a row to the block, and hands the block on if it is full. False if it can't be taken.
+fn add_row<T: TakeRows>(
+    alloc: Global,
+    taker: &mut T,
+    block: &mut Vec<Row>,
+    row: Row,
+) -> Result<bool, AllocError>
+    ensures { (first : T) (read : List Cells) → AreFed T.took first taker.old block.old.items read →
+        IfOk result (λ taken. taken ≡ true → AreFed T.took first taker.new block.new.items (read ++ row ∷ [])) }
+{
+    block.push(row)?;
+    if block.len() < BLOCK {
+        return Ok(true);
+    }
+    let full = mem::replace(block, Vec::new(alloc));
+    Ok(taker.take(full))
+}
+
+/// Hands on all rows that a query without parameters answers, in its order. False if they can't be taken.
+pub(crate) fn feed_rows<S: Alter, T: TakeRows>(
+    alloc: Global,
+    conn: &mut Connection<S>,
+    sql: &str,
+    taker: &mut T,
+) -> Result<bool, Error>
+    ensures outside { (state S.Store conn.old).in_transaction ≡ false → (state S.Store conn.new).in_transaction ≡ false }
+    ensures taken { T.took taker.old [] taker.old → IfOk result (λ whole. whole ≡ true → AreTaken T.took taker.old taker.new (λ rows.
+        HasCleanDisk (state S.Store conn.new) → IsPlain (understood (state S.Store conn.old).now.schema sql.now) →
+        Shown sql.now [] (state S.Store conn.old) (state S.Store conn.new) rows)) }
+    ensures same { HasCleanDisk (state S.Store conn.new) → IsPlain (understood (state S.Store conn.old).now.schema sql.now) →
+        OnOk result (IsUnchanged (state S.Store conn.old) (state S.Store conn.new)) }
+    ensures kept { HasCleanDisk (state S.Store conn.new) → IsPlain (understood (state S.Store conn.old).now.schema sql.now) →
+        OnErr result (IsUnchanged (state S.Store conn.old) (state S.Store conn.new) ⊎
+        IsRolledBack (state S.Store conn.old) (state S.Store conn.new)) }
+    ensures survives { Survives (state S.Store conn.old) (state S.Store conn.new) (CommitsShowing sql.now [] (state S.Store conn.old)) }
+{
+    let mut block = Vec::new(alloc);
+    let mut rows = conn.query(sql, &[])?;
+    'rows: for _ in 0..u64::MAX {
+        let Some(row) = rows.next()? else {
+            return Ok(taker.take(block));
+        };
+        let taken = add_row(alloc, taker, &mut block, row.copy()?)?;
+        if !taken {
+            return Ok(false);
+        }
+    }
+    // No table has so many rows.
+    Err(Error::SqliteFailure(ErrorCode::TooBig))
+}
+
+/// Hands on the rows of `object`, in the order of their numbers. False if they can't be taken.
+///
+/// As of each of these calls, nothing is written, and after a fault the tables are as they were, unless the fault shut the connection.
+pub fn feed_objects<S: Alter, T: TakeRows>(
+    alloc: Global,
+    conn: &mut Connection<S>,
+    version: Version,
+    taker: &mut T,
+) -> Result<bool, Error>
+    ensures outside { (state S.Store conn.old).in_transaction ≡ false → (state S.Store conn.new).in_transaction ≡ false }
+    ensures read { OnOk result (ReadsTables (schema_of version) (state S.Store conn.old) (state S.Store conn.new)) }
+    ensures taken { T.took taker.old [] taker.old → IfOk result (λ whole. whole ≡ true → AreTaken T.took taker.old taker.new (λ rows.
+        HasCleanDisk (state S.Store conn.new) → (tables : Tables) → Rests (state S.Store conn.old) tables →
+        tables.version ≡ version → ListsNumbers rows tables.object)) }
+    ensures failed { OnErr result (FailsToRead (schema_of version) (state S.Store conn.old) (state S.Store conn.new)) }
+{
+    feed_rows(alloc, conn, READ_OBJECT, taker)
+}
+
+/// Hands on the rows of `prop`, in the order of their numbers. False if they can't be taken.
+pub fn feed_props<S: Alter, T: TakeRows>(
+    alloc: Global,
+    conn: &mut Connection<S>,
+    version: Version,
+    taker: &mut T,
+) -> Result<bool, Error>
+    ensures outside { (state S.Store conn.old).in_transaction ≡ false → (state S.Store conn.new).in_transaction ≡ false }
+    ensures read { OnOk result (ReadsTables (schema_of version) (state S.Store conn.old) (state S.Store conn.new)) }
+    ensures taken { T.took taker.old [] taker.old → IfOk result (λ whole. whole ≡ true → AreTaken T.took taker.old taker.new (λ rows.
+        HasCleanDisk (state S.Store conn.new) → (tables : Tables) → Rests (state S.Store conn.old) tables →
+        tables.version ≡ version → ListsNumbers rows tables.prop)) }
+    ensures failed { OnErr result (FailsToRead (schema_of version) (state S.Store conn.old) (state S.Store conn.new)) }
+{
+    feed_rows(alloc, conn, READ_PROP, taker)
+}
+
+/// Hands on the rows of the slots, in the order of their objects, then of their properties. False if they can't be taken.
+pub fn feed_slots<S: Alter, T: TakeRows>(
+    alloc: Global,
+    conn: &mut Connection<S>,
+    version: Version,
+    taker: &mut T,
+) -> Result<bool, Error>
+    ensures outside { (state S.Store conn.old).in_transaction ≡ false → (state S.Store conn.new).in_transaction ≡ false }
+    ensures read { OnOk result (ReadsTables (schema_of version) (state S.Store conn.old) (state S.Store conn.new)) }
+    ensures taken { T.took taker.old [] taker.old → IfOk result (λ whole. whole ≡ true → AreTaken T.took taker.old taker.new (λ rows.
+        HasCleanDisk (state S.Store conn.new) → (tables : Tables) → Rests (state S.Store conn.old) tables →
+        tables.version ≡ version → ListsPairs rows tables.slot)) }
+    ensures failed { OnErr result (FailsToRead (schema_of version) (state S.Store conn.old) (state S.Store conn.new)) }
+{
+    if version.has_lettered_bits() {
+        return feed_rows(alloc, conn, READ_SLOT, taker);
+    }
+    feed_rows(alloc, conn, READ_SLOT2, taker)
+}
+
+/// Hands on the rows of `verb`, in the order of their objects, then of their numbers. False if they can't be taken.
+pub fn feed_verbs<S: Alter, T: TakeRows>(
+    alloc: Global,
+    conn: &mut Connection<S>,
+    version: Version,
+    taker: &mut T,
+) -> Result<bool, Error>
+    ensures outside { (state S.Store conn.old).in_transaction ≡ false → (state S.Store conn.new).in_transaction ≡ false }
+    ensures read { OnOk result (ReadsTables (schema_of version) (state S.Store conn.old) (state S.Store conn.new)) }
+    ensures taken { T.took taker.old [] taker.old → IfOk result (λ whole. whole ≡ true → AreTaken T.took taker.old taker.new (λ rows.
+        HasCleanDisk (state S.Store conn.new) → (tables : Tables) → Rests (state S.Store conn.old) tables →
+        tables.version ≡ version → ListsPairs rows tables.verb)) }
+    ensures failed { OnErr result (FailsToRead (schema_of version) (state S.Store conn.old) (state S.Store conn.new)) }
+{
+    feed_rows(alloc, conn, READ_VERB, taker)
+}
