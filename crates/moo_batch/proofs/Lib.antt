@@ -5,3 +5,4 @@ pub mod HeldCalls
 pub mod InTurn
 pub mod TrueInTurn
 pub mod Chosen
+pub mod AtCheck

@@ -2,8 +2,8 @@
 use Rattle.std.{proofs.Common.{◌≡◌, ℕ, Err, ◌<◌, ◌≤◌, true, false, refl, sym, ap, ◌∙◌, subst}, specs.Prelude.{if◌then◌else◌, nat_lt}, proofs.lemmas.Bool.{lt-ltb, le-ltb}}
 use Rattle.moo_rows.specs.Maps.{Maps}
 use Rattle.moo_world.{specs.declared.call.Batch.{Batch}, specs.World.{IsWellFormed}, specs.Rows.{world_of, world_shown, IsGood}, specs.Judge.{State, Ran, NoRoom, Stale, is_due, last_seq, run_calls, state_of, verdict_of, judge}}
-use Rattle.moo_value.specs.declared.code.Code.{Code}
-use Rattle.moo_batch.{specs.declared.judging.Stop.{Stop}, specs.declared.judging.Stop.TheVariants.{Refused as refused_at, Full as full_at, OutOfMemory as no_memory}, specs.declared.judging.Verdict.{Verdict}, specs.declared.judging.Verdict.TheVariants.{Refused, Full, OutOfMemory}, specs.Judge.{ComeTo, IsVerdict}}
+use Rattle.moo_call_parts.specs.Reasons.{error_of}
+use Rattle.moo_batch.{specs.declared.witness.Refusal.{Refusal}, specs.declared.judging.Stop.{Stop}, specs.declared.judging.Stop.TheVariants.{Refused as refused_at, Full as full_at, OutOfMemory as no_memory}, specs.declared.judging.Verdict.{Verdict}, specs.declared.judging.Verdict.TheVariants.{Refused, Full, OutOfMemory}, specs.Judge.{ComeTo, IsVerdict}}
 
 pub judge-stale : (s : State) (b : Batch) → is_due b.at s.seq ≡ false → judge s b ≡ Stale s.seq
 unfolding judge
@@ -38,8 +38,8 @@ good-with_seq n t h = record {
 
 -- the verdict on a batch whose calls stopped
 module _ (base : Maps) (b : Batch) (after : State) (ran : Ran) (verdict : Verdict) (judged : judge (state_of base) b ≡ verdict_of base.head.seq ran) (none : IsVerdict base b OutOfMemory) where
-  pub stopped-so : (stop : Stop) → ((call : ℕ) (code : Code) → stop ≡ refused_at call code → verdict ≡ Refused call code) → ((call : ℕ) → stop ≡ full_at call → verdict ≡ Full call)
+  pub stopped-so : (stop : Stop) → ((refusal : Refusal) → stop ≡ refused_at refusal → verdict ≡ Refused refusal.call (error_of refusal.reason)) → ((call : ℕ) → stop ≡ full_at call → verdict ≡ Full call)
       → (stop ≡ no_memory → verdict ≡ OutOfMemory) → ComeTo ran after (Err stop) → IsVerdict base b verdict
-  stopped-so (refused_at call code) refused full memory comes = subst (IsVerdict base b) (sym (refused call code refl)) (judged ∙ ap (verdict_of base.head.seq) comes)
+  stopped-so (refused_at refusal) refused full memory comes = subst (IsVerdict base b) (sym (refused refusal refl)) (judged ∙ ap (verdict_of base.head.seq) comes)
   stopped-so (full_at call) refused full memory comes = subst (IsVerdict base b) (sym (full call refl)) (judged ∙ ap (verdict_of base.head.seq) comes)
   stopped-so no_memory refused full memory comes = subst (IsVerdict base b) (sym (memory refl)) none

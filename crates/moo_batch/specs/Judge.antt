@@ -1,5 +1,5 @@
 -- What the calls of a batch and a batch come to on rows.
-use Rattle.std.specs.Prelude.{◌≡◌, ◌≢◌, ◌<◌, true, List, [], Result, Ok, Err, ⊤}
+use Rattle.std.specs.Prelude.{◌≡◌, ◌≢◌, ◌<◌, true, List, [], None, Result, Ok, Err, ⊤}
 use Rattle.moo_value.specs.declared.value.Value.{Value}
 use Rattle.moo_value.specs.declared.value.ObjNo.{ObjNo}
 use Rattle.moo_rows.specs.Maps.{Maps, Held}
@@ -9,6 +9,7 @@ use Rattle.moo_world.specs.Between.{CallsLead, BatchLeads}
 use Rattle.moo_world.specs.Rows.{IsGood}
 use Rattle.moo_world.specs.Judge as model
 use Rattle.moo_world.specs.Judge.{State, state_of}
+use Rattle.moo_call_parts.specs.Reasons.{error_of}
 use Rattle.moo_batch.specs.declared.judging.Stop.{Stop}
 use Rattle.moo_batch.specs.declared.judging.Stop.TheVariants.{Refused as refused_at, Full as full_at, OutOfMemory as no_memory}
 use Rattle.moo_batch.specs.declared.judging.Verdict.{Verdict}
@@ -18,9 +19,15 @@ use Rattle.moo_memory.specs.Changes.{AreChanges}
 -- what is answered if calls come to this: their answers, with the state that they leave, or the first call that isn't done
 abbrev pub ComeTo : model.Ran → State → Result (List Value) Stop → Type 0
 ComeTo ran after (Ok answers) = ran ≡ model.Through answers after
-ComeTo ran after (Err (refused_at call code)) = ran ≡ model.FailedAt call code
+ComeTo ran after (Err (refused_at refusal)) = ran ≡ model.FailedAt refusal.call (error_of refusal.reason)
 ComeTo ran after (Err (full_at call)) = ran ≡ model.FullAt call
 ComeTo ran after (Err no_memory) = ⊤
+
+-- at a check that fails the rows are good ones, unless it is one of a call that a granted petition holds
+abbrev pub IsGoodAt : Maps → Stop → Type 0
+IsGoodAt maps (refused_at refusal) = refusal.held ≡ None → IsGood maps
+IsGoodAt maps (full_at call) = ⊤
+IsGoodAt maps no_memory = ⊤
 
 -- what done calls keep: the rows are good ones, no batch is counted yet, and each call kept numbers
 pub record HaveKept (p : ObjNo) (calls : List Call) (old new : Held) : Type 0 where

@@ -34,7 +34,14 @@ Stays old new (Err (of_held place reason)) = new ≡ old
 Stays old new (Err Full) = new ≡ old
 Stays old new (Err OutOfMemory) = ⊤
 
--- the same of calls on the world that are made one after another, of which some may have been done before one wasn't
+-- if a check of the call itself fails, the rows are as they were
+abbrev pub StaysAtCheck : Held → Held → Fault → Type 0
+StaysAtCheck old new (Moo reason) = new ≡ old
+StaysAtCheck old new (of_held place reason) = ⊤
+StaysAtCheck old new Full = ⊤
+StaysAtCheck old new OutOfMemory = ⊤
+
+-- what calls on the world come to that are made one after another, of which some may have been done before one wasn't
 abbrev pub ComesInTurn : Outcome World → Held → Result Value Fault → Type 0
 ComesInTurn outcome new (Ok v) = outcome ≡ Done v (world_in new)
 ComesInTurn outcome new (Err (Moo reason)) = ⊥

@@ -9,7 +9,7 @@ ghost use Rattle.moo_world.specs.Outcomes.{given};
 ghost use Rattle.moo_world.specs.Requests.{grant, held_step, held_steps, one_integer};
 ghost use Rattle.moo_world.specs.Rows.{IsGood};
 ghost use Rattle.moo_call_parts.specs.Outcomes.{world_in, ComesTo};
-ghost use Rattle.moo_batch.specs.Outcomes.{state_in, ComesInTurn, KeepInTurn, KeepsGoodRows, Reaches, held_at};
+ghost use Rattle.moo_batch.specs.Outcomes.{state_in, ComesInTurn, KeepInTurn, KeepsGoodRows, Reaches, StaysAtCheck, held_at};
 ghost use Rattle.moo_batch.specs.Telling.{IsFaultInTurn, IsTrueFault, about_held, about_number};
 ghost use Rattle.moo_call_parts.specs.About.{about_given};
 ghost use Rattle.moo_call_parts.specs.Told.{IsTold};
@@ -91,6 +91,7 @@ pub(crate) fn grant<R: Rows>(
 ) -> Result<Value, Fault>
     requires good { IsGood (R.held rows.old).maps }
     ensures reaches { Reaches (given (one_integer args.now) (grant (state_in (R.held rows.old)) programmer)) (R.held rows.new) result }
+    ensures check { IfErr result (StaysAtCheck (R.held rows.old) (R.held rows.new)) }
     ensures kept { OnOk result (KeepsGoodRows (GrantLeads programmer args.now) (R.held rows.old) (R.held rows.new)) }
     ensures told { IfErr result (IsTrueFault (R.held rows.old).maps programmer (about_given (one_integer args.now) about_number) args.now) }
 {

@@ -1,15 +1,17 @@
 //! What a batch comes to.
 
-ghost use Rattle.std.specs.Prelude.{◌≡◌, ◌+◌, ◌<◌, ◌≤◌, ℕ, length, OnOk};
-ghost use Rattle.moo_value.specs.declared.code.Code.{Code};
+ghost use Rattle.std.specs.Prelude.{◌≡◌, ◌+◌, ◌<◌, ◌≤◌, ℕ, length, OnOk, IfErr};
+ghost use Rattle.moo_batch.specs.declared.witness.Refusal.{Refusal};
+ghost use Rattle.moo_call_parts.specs.Reasons.{error_of};
 ghost use Rattle.moo_rows.specs.Maps.{Maps};
 ghost use Rattle.moo_memory.specs.Changes.{AreChanges};
 ghost use Rattle.moo_world.specs.Rows.{IsGood};
 ghost use Rattle.moo_world.specs.Judge.{is_due, run_calls};
 ghost use Rattle.moo_batch.specs.Outcomes.{state_in};
-ghost use Rattle.moo_batch.specs.Judge.{ComeTo, HaveKept, IsVerdict};
+ghost use Rattle.moo_batch.specs.Judge.{ComeTo, HaveKept, IsGoodAt, IsVerdict};
 
 use crate::stepping::step;
+use crate::witness::{Refusal, Witness};
 use moo_call_parts::Fault;
 use moo_memory::{ChangeList, Changes, Draft};
 use moo_rows::{Head, Rows};
@@ -23,7 +25,7 @@ pub const LAST_SEQ: u64 = 9223372036854775807;
 /// The call at which a batch stopped, from 1, and why.
 #[derive(Clone, Copy)]
 enum Stop {
-    Refused { call: u32, code: Code },
+    Refused(Refusal),
     Full { call: u32 },
     OutOfMemory,
 }
@@ -43,7 +45,8 @@ pub enum Verdict {
     OutOfMemory,
 }
 
-/// Does calls, one after another, up to the first that isn't done. The rows are then half changed, and the caller drops them.
+/// Does calls, one after another, up to the first that isn't done. The rows are then those after the calls before it, or half changed by
+/// that call, and the caller drops them.
 fn run_calls<R: Rows>(
     rows: &mut R,
     alloc: Global,
@@ -54,6 +57,7 @@ fn run_calls<R: Rows>(
     requires few { length calls.now ≤ 1000 }
     ensures comes { ComeTo (run_calls (state_in (R.held rows.old)) programmer calls.now) (state_in (R.held rows.new)) result }
     ensures kept { OnOk result (HaveKept programmer calls.now (R.held rows.old) (R.held rows.new)) }
+    ensures good { IfErr result (IsGoodAt (R.held rows.new).maps) }
 {
     let mut answers = Vec::new(alloc);
     for call in calls {
@@ -65,16 +69,18 @@ fn run_calls<R: Rows>(
                 }
             }
             Err(Fault::Moo(reason)) => {
-                return Err(Stop::Refused {
+                return Err(Stop::Refused(Refusal {
                     call: number,
-                    code: reason.code(),
-                });
+                    held: None,
+                    reason,
+                }));
             }
-            Err(Fault::Held { place: _, reason }) => {
-                return Err(Stop::Refused {
+            Err(Fault::Held { place, reason }) => {
+                return Err(Stop::Refused(Refusal {
                     call: number,
-                    code: reason.code(),
-                });
+                    held: Some(place),
+                    reason,
+                }));
             }
             Err(Fault::Full) => return Err(Stop::Full { call: number }),
             Err(Fault::OutOfMemory) => return Err(Stop::OutOfMemory),
@@ -110,14 +116,27 @@ fn counted(alloc: Global, head: Head) -> Changes
     }
 }
 
-/// The verdict on a batch whose calls stopped.
-fn stopped(stop: Stop) -> Verdict
-    ensures refused { (call : ℕ) (code : Code) → stop ≡ Stop.Refused call code → result ≡ Verdict.Refused call code }
+/// The verdict on a batch whose calls stopped, which left these rows over those that it was judged on. The witness sees a refusal.
+fn stopped<B: Rows, R: Rows, W: Witness>(
+    base: &B,
+    rows: &R,
+    batch: &Batch,
+    stop: Stop,
+    witness: &mut W,
+) -> Verdict
+    requires { IsGoodAt (R.held rows.now).maps stop }
+    ensures refused { (refusal : Refusal) → stop ≡ Stop.Refused refusal → result ≡ Verdict.Refused refusal.call (error_of refusal.reason) }
     ensures full { (call : ℕ) → stop ≡ Stop.Full call → result ≡ Verdict.Full call }
     ensures memory { stop ≡ Stop.OutOfMemory → result ≡ Verdict.OutOfMemory }
 {
     match stop {
-        Stop::Refused { call, code } => Verdict::Refused { call, code },
+        Stop::Refused(refusal) => {
+            witness.see(base, rows, batch, refusal);
+            Verdict::Refused {
+                call: refusal.call,
+                code: refusal.reason.code(),
+            }
+        }
         Stop::Full { call } => Verdict::Full { call },
         Stop::OutOfMemory => Verdict::OutOfMemory,
     }
@@ -126,8 +145,13 @@ fn stopped(stop: Stop) -> Verdict
 /// The verdict on a batch on these rows, which stay as they are: stale if it names another number than the present
 /// one, else full if [`LAST_SEQ`] batches were accepted, else refused or full at the first call that isn't done, else
 /// accepted. A lack of memory comes only if a call is run. If it is accepted, what stays keeps its number, and what is new
-/// has one that was never given.
-pub fn judge<R: Rows>(alloc: Global, rows: &R, batch: &Batch) -> Verdict
+/// has one that was never given. If it is refused, the witness sees why.
+pub fn judge<R: Rows, W: Witness>(
+    alloc: Global,
+    rows: &R,
+    batch: &Batch,
+    witness: &mut W,
+) -> Verdict
     requires good { IsGood (R.held rows.now).maps }
     ensures { IsVerdict (R.held rows.now).maps batch.now result }
 {
@@ -148,7 +172,7 @@ pub fn judge<R: Rows>(alloc: Global, rows: &R, batch: &Batch) -> Verdict
     let mut draft = Draft::new(alloc, rows);
     let answers = match run_calls(&mut draft, alloc, batch.programmer, calls) {
         Ok(answers) => answers,
-        Err(stop) => return stopped(stop),
+        Err(stop) => return stopped(rows, &draft, batch, stop, witness),
     };
     let mut next = draft.head();
     next.seq = head.seq + 1;

@@ -10,7 +10,9 @@ mod judging;
 mod listing;
 mod looking;
 mod stepping;
+mod witness;
 
 pub use held::held_call;
 pub use judging::{LAST_SEQ, Verdict, judge};
 pub use stepping::step;
+pub use witness::{Refusal, Witness};

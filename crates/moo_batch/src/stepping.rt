@@ -9,7 +9,7 @@ ghost use Rattle.moo_world.specs.Requests.{petition_call_by, batch_call};
 ghost use Rattle.moo_world.specs.Rows.{IsGood};
 ghost use Rattle.moo_world.specs.World.{is_object};
 ghost use Rattle.moo_call_parts.specs.Outcomes.{world_in};
-ghost use Rattle.moo_batch.specs.Outcomes.{state_in, KeepsGoodRows, Reaches, Stays};
+ghost use Rattle.moo_batch.specs.Outcomes.{state_in, KeepsGoodRows, Reaches, Stays, StaysAtCheck};
 ghost use Rattle.moo_batch.specs.Telling.{IsTrueFault, about_petitions, about_request};
 
 use crate::asking::petition;
@@ -36,6 +36,7 @@ fn petition_call<R: Rows>(
     requires fit { list_all fits args.now ≡ true }
     ensures reaches { Reaches (petition_call_by (state_in (R.held rows.old)) programmer call args.now) (R.held rows.new) result }
     ensures stays { grants call ≡ false → Stays (R.held rows.old) (R.held rows.new) result }
+    ensures check { IfErr result (StaysAtCheck (R.held rows.old) (R.held rows.new)) }
     ensures kept { OnOk result (KeepsGoodRows (CallKeepsNumbers (grants call) programmer args.now) (R.held rows.old) (R.held rows.new)) }
     ensures told { IfErr result (IsTrueFault (R.held rows.old).maps programmer (about_petitions call args.now) args.now) }
 {
@@ -60,6 +61,7 @@ pub fn step<R: Rows>(
     requires good { IsGood (R.held rows.old).maps }
     ensures reaches { Reaches (batch_call (state_in (R.held rows.old)) programmer call.now) (R.held rows.new) result }
     ensures stays { is_grant call.now.name ≡ false → Stays (R.held rows.old) (R.held rows.new) result }
+    ensures check { IfErr result (StaysAtCheck (R.held rows.old) (R.held rows.new)) }
     ensures kept { OnOk result (KeepsGoodRows (CallKeepsNumbers (is_grant call.now.name) programmer call.now.args) (R.held rows.old)
         (R.held rows.new)) }
     ensures told { IfErr result (IsTrueFault (R.held rows.old).maps programmer (about_request programmer call.now) call.now.args) }

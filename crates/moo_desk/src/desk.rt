@@ -151,10 +151,12 @@ impl<'a, G: Gate + Drop, C: Clock> Desk<'a, G, C> {
         }
     }
 
-    /// Takes the next connection, if one came and so many are still to come. If there is no room, it is taken in place of another.
+    /// Takes the next connection, if one came and so many are still to come. If there is no room, it is taken in place of another. While a
+    /// request that is whole is to be judged none is taken, so that whoever came first is judged first.
     fn take_next(&mut self, left: usize, now: Duration) -> Took {
         let is_full = self.is_full();
-        if !self.has_news || self.slots.len() >= left || (is_full && !self.has_spare(now)) {
+        let has_room = self.slots.len() < left && (!is_full || self.has_spare(now));
+        if !self.has_news || !has_room || self.has_whole() {
             return Took::Nobody;
         }
         let took = self.take_one(now);
@@ -185,6 +187,11 @@ impl<'a, G: Gate + Drop, C: Clock> Desk<'a, G, C> {
         if let Some(loss) = over.loss() {
             self.losses.add(loss);
         }
+    }
+
+    /// Whether one is to be handed out.
+    fn has_whole(&self) -> bool {
+        held(&self.leaving) < BUDGET && self.slots.iter().any(|slot| slot.rests)
     }
 
     /// The longest connected one whose request is whole, or of which nothing more comes. None while too much of answers is held.

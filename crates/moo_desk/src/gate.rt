@@ -26,7 +26,7 @@ pub trait Gate {
 
     type Writer: Write + OpenStream + Drop;
 
-    /// Takes the next connection, if one is there.
+    /// Takes the next connection, if one is there. If it takes none and one is there, the next wait tells `NEWS`.
     fn take(&mut self) -> Taken<Self::Reader, Self::Writer>;
 
     /// From now on a wait also ends when bytes may have come to this reader, and tells this mark then; whether it does.

@@ -28,6 +28,8 @@ pub struct SocketGate {
     poll: Poll,
     events: Events,
     listener: TcpListener,
+    /// A connection was taken since the last wait.
+    has_taken: bool,
 }
 
 /// Has a change of this source end a wait, which then tells this mark.
@@ -75,6 +77,7 @@ impl SocketGate {
             poll,
             events,
             listener,
+            has_taken: false,
         })
     }
 }
@@ -84,13 +87,20 @@ impl Gate for SocketGate {
 
     type Writer = Half;
 
+    // Whether another is there, a wait tells. The system is not asked for one in vain: it makes a socket before it looks.
     fn take(&mut self) -> Taken<Half, Half> {
+        if self.has_taken
+            && register_anew(&self.poll, &self.listener, NEWS, Interest::READABLE).is_ok()
+        {
+            return Taken::Nobody;
+        }
         let socket = match self.listener.accept() {
             Ok((socket, _)) => socket,
             Err(error) if error.kind() == ErrorKind::WouldBlock => return Taken::Nobody,
             Err(error) if is_no_file(&error) => return Taken::NoRoom,
             Err(_) => return Taken::Failed,
         };
+        self.has_taken = true;
         let is_limited = socket.set_nonblocking(true).is_ok();
         match Half::both(self.alloc, socket) {
             Some((reader, writer)) => Taken::Came(reader, writer, is_limited),
@@ -109,6 +119,7 @@ impl Gate for SocketGate {
 
     fn wait(&mut self, most: Duration, told: &mut Vec<usize>) {
         told.clear();
+        self.has_taken = false;
         let _waited = self.poll.poll(&mut self.events, Some(most));
         for event in self.events.iter() {
             let _kept = told.push(event.token().0);

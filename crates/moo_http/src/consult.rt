@@ -9,6 +9,7 @@ ghost use Rattle.moo_store.specs.World.{store_of, StandsAt, StandsFor};
 ghost use Rattle.moo_http.specs.Answers.{MayAnswer, IsAnswered, Consulted, IsMovedAs};
 ghost use Rattle.moo_http.specs.Settled.{lost_by, came_of};
 
+use moo_reasons::Whys;
 use moo_request::{Asked, Each, Mode, Question};
 use moo_responses::{Outcome, Replies, tell};
 use moo_rows::Rows;
@@ -41,19 +42,19 @@ fn came(reply: Result<Reply, StoreFault>) -> Outcome
     }
 }
 
-fn run_batch<S: Alter + Drop>(world: &mut World<S>, batch: &Batch) -> Outcome
+fn run_batch<S: Alter + Drop>(world: &mut World<S>, batch: &Batch, whys: &mut Whys) -> Outcome
     ensures clean { HasCleanDisk (store_of S.Store world.new) → HasCleanDisk (store_of S.Store world.old) }
     ensures comes { IsAnswered S.Store world.old world.new (Asked.Calls Mode.Run batch.now) result }
     ensures moved { IsMovedAs S.Store world.old world.new (Asked.Calls Mode.Run batch.now) result }
 {
-    came(world.run_one(batch))
+    came(world.run_one(batch, whys))
 }
 
-fn ask_batch<S: Alter + Drop>(world: &World<S>, batch: &Batch) -> Outcome
+fn ask_batch<S: Alter + Drop>(world: &World<S>, batch: &Batch, whys: &mut Whys) -> Outcome
     ensures { (known : Bool) (stand : Stand) → StandsAt S.Store known world.now stand →
         MayAnswer stand (Asked.Calls Mode.Ask batch.now) result stand }
 {
-    came(world.ask(batch))
+    came(world.ask(batch, whys))
 }
 
 /// Whether the number that calls are meant for, if they name one, is the present one.
@@ -67,26 +68,26 @@ fn is_due(at: Option<u64>, seq: u64) -> bool
 }
 
 /// What comes of calls that are asked each alone, at this present number.
-fn ask_each_at<S: Alter + Drop>(world: &World<S>, each: &Each, seq: u64) -> Outcome
+fn ask_each_at<S: Alter + Drop>(world: &World<S>, each: &Each, seq: u64, whys: &mut Whys) -> Outcome
     ensures { (known : Bool) (s : State) → StandsFor S.Store known world.now s → s.seq ≡ seq →
         MayAnswer (Works s) (Asked.Each each.now) result (Works s) }
 {
     if !is_due(each.at, seq) {
         return Outcome::Replied(Reply::Stale { seq });
     }
-    match world.ask_each(each.batches.items()) {
+    match world.ask_each(each.batches.items(), whys) {
         Ok(replies) => Outcome::Each(Replies::from_vec(replies), seq),
         Err(fault) => lost(fault),
     }
 }
 
 /// What comes of calls that are asked each alone.
-fn ask_each<S: Alter + Drop>(world: &World<S>, each: &Each) -> Outcome
+fn ask_each<S: Alter + Drop>(world: &World<S>, each: &Each, whys: &mut Whys) -> Outcome
     ensures { (known : Bool) (stand : Stand) → StandsAt S.Store known world.now stand →
         MayAnswer stand (Asked.Each each.now) result stand }
 {
     match world.seq() {
-        Ok(seq) => ask_each_at(world, each, seq),
+        Ok(seq) => ask_each_at(world, each, seq, whys),
         Err(fault) => lost(fault),
     }
 }
@@ -114,35 +115,46 @@ fn ask_question<S: Alter + Drop>(alloc: Global, world: &World<S>, question: Ques
 }
 
 /// Runs or asks one batch.
-fn take_batch<S: Alter + Drop>(world: &mut World<S>, mode: Mode, batch: &Batch) -> Outcome
+fn take_batch<S: Alter + Drop>(
+    world: &mut World<S>,
+    mode: Mode,
+    batch: &Batch,
+    whys: &mut Whys,
+) -> Outcome
     ensures clean { HasCleanDisk (store_of S.Store world.new) → HasCleanDisk (store_of S.Store world.old) }
     ensures comes { IsAnswered S.Store world.old world.new (Asked.Calls mode batch.now) result }
     ensures moved { IsMovedAs S.Store world.old world.new (Asked.Calls mode batch.now) result }
 {
     match mode {
-        Mode::Run => run_batch(world, batch),
-        Mode::Ask => ask_batch(world, batch),
+        Mode::Run => run_batch(world, batch, whys),
+        Mode::Ask => ask_batch(world, batch, whys),
     }
 }
 
-fn answer<S: Alter + Drop>(alloc: Global, world: &mut World<S>, asked: &Asked) -> Outcome
+fn answer<S: Alter + Drop>(
+    alloc: Global,
+    world: &mut World<S>,
+    asked: &Asked,
+    whys: &mut Whys,
+) -> Outcome
     ensures clean { HasCleanDisk (store_of S.Store world.new) → HasCleanDisk (store_of S.Store world.old) }
     ensures comes { IsAnswered S.Store world.old world.new asked.now result }
     ensures moved { IsMovedAs S.Store world.old world.new asked.now result }
 {
     match asked {
         Asked::Refused(refusal) => Outcome::Refused(*refusal),
-        Asked::Calls(mode, batch) => take_batch(world, *mode, batch),
-        Asked::Each(each) => ask_each(world, each),
+        Asked::Calls(mode, batch) => take_batch(world, *mode, batch, whys),
+        Asked::Each(each) => ask_each(world, each, whys),
         Asked::Question(question) => ask_question(alloc, world, *question),
     }
 }
 
-/// Does what is asked.
+/// Does what is asked. Why a batch is refused, or each call that is asked alone, is kept if it is wanted.
 pub(crate) fn consult<S: Alter + Drop>(
     alloc: Global,
     world: &mut World<S>,
     asked: &Asked,
+    whys: &mut Whys,
 ) -> Outcome
     ensures clean { HasCleanDisk (store_of S.Store world.new) → HasCleanDisk (store_of S.Store world.old) }
     ensures comes { (known : Bool) (stand : Stand) → StandsAt S.Store known world.old stand →
@@ -150,7 +162,7 @@ pub(crate) fn consult<S: Alter + Drop>(
     // Only a batch that is run changes rows and tables: it keeps the cells of the rows that it leaves as they are, and all numbers.
     ensures moved { IsMovedAs S.Store world.old world.new asked.now result }
 {
-    let outcome = answer(alloc, world, asked);
+    let outcome = answer(alloc, world, asked, whys);
     world.leaves();
     outcome
 }

@@ -14,6 +14,7 @@ use crate::fault::ServeFault;
 use crate::note::Note;
 use crate::why::told_answer;
 use crate::write::write_out;
+use moo_reasons::Whys;
 use moo_request::{Asked, BodyFault, Received, Routes, read_request};
 use moo_store::World;
 use sqlite::Alter;
@@ -56,9 +57,10 @@ fn serve_asked<S: Alter + Drop, W: Write>(
     ensures clean { HasCleanDisk (store_of S.Store world.new) → HasCleanDisk (store_of S.Store world.old) }
 {
     note.asks(&inquiry.asked);
-    let outcome = consult(alloc, world, &inquiry.asked);
+    let mut whys = Whys::new(alloc, inquiry.asks_why);
+    let outcome = consult(alloc, world, &inquiry.asked, &mut whys);
     note.comes_to(&outcome);
-    let bytes = told_answer(alloc, world, inquiry, outcome)?;
+    let bytes = told_answer(alloc, &mut whys, inquiry, outcome)?;
     write_out(writer, &bytes)
 }
 

@@ -5,13 +5,10 @@ ghost use Rattle.moo_responses.specs.Responses.{response_with, response_text};
 ghost use Rattle.moo_http.specs.Serves.{IsWhyOf};
 
 use crate::serve::Inquiry;
-use moo_reasons::{call_why, reply_why};
-use moo_request::{Asked, BodyFault, Each};
+use moo_reasons::{Whys, call_why};
+use moo_request::BodyFault;
 use moo_responses::{Outcome, Replies, answer_text};
-use moo_store::World;
 use moo_text::Reply;
-use moo_world::Batch;
-use sqlite::Alter;
 use std::alloc::{AllocError, Global};
 
 /// Why a text isn't a call, if it isn't one.
@@ -38,48 +35,32 @@ fn body_why(alloc: Global, wrong: Option<&BodyFault>) -> Result<Vec<Option<Strin
     }
 }
 
-/// Why a batch got this reply, if it is refused or full. It changed nothing, so the rows are those that it found.
-fn batch_why<S: Alter + Drop>(
-    alloc: Global,
-    world: &World<S>,
-    batch: &Batch,
-    reply: &Reply,
-) -> Result<Option<String>, AllocError> {
-    match world.good_rows() {
-        Some(rows) => reply_why(alloc, rows, batch, reply),
-        None => Ok(None),
-    }
-}
-
 /// Why a call that was asked alone got this reply, or why its text isn't one.
-fn alone_why<S: Alter + Drop>(
+fn alone_why(
     alloc: Global,
-    world: &World<S>,
-    batch: Option<&Option<Batch>>,
+    seen: &mut Whys,
     reply: &Option<Reply>,
     text: Option<&Option<String>>,
 ) -> Result<Option<String>, AllocError> {
-    match (batch, reply, text) {
-        (Some(Some(batch)), Some(reply), _) => batch_why(alloc, world, batch, reply),
-        (_, _, Some(text)) => text_why(alloc, text),
+    match (reply, text) {
+        (Some(reply), _) => seen.next(reply),
+        (None, Some(text)) => text_why(alloc, text),
         _ => Ok(None),
     }
 }
 
 /// Why each of the calls that were asked alone is refused, if it is.
-fn each_whys<S: Alter + Drop>(
+fn each_whys(
     alloc: Global,
-    world: &World<S>,
-    each: &Each,
+    seen: &mut Whys,
     replies: &Replies,
     texts: &[Option<String>],
 ) -> Result<Vec<Option<String>>, AllocError> {
-    let batches = each.batches.items();
-    let mut whys = Vec::new(alloc);
+    let mut each = Vec::new(alloc);
     for (i, reply) in replies.items().iter().enumerate() {
-        whys.push(alone_why(alloc, world, batches.get(i), reply, texts.get(i))?)?;
+        each.push(alone_why(alloc, seen, reply, texts.get(i))?)?;
     }
-    Ok(whys)
+    Ok(each)
 }
 
 /// The texts that aren't calls, of calls that were asked alone.
@@ -91,30 +72,25 @@ fn bad_texts(wrong: Option<&BodyFault>) -> &[Option<String>] {
 }
 
 /// Why what was asked is refused, if its body, its batch or one of its calls alone is.
-fn find_whys<S: Alter + Drop>(
+fn find_whys(
     alloc: Global,
-    world: &World<S>,
-    asked: &Asked,
+    seen: &mut Whys,
     outcome: &Outcome,
     wrong: Option<&BodyFault>,
 ) -> Result<Vec<Option<String>>, AllocError> {
-    match (outcome, asked) {
-        (Outcome::Refused(_), _) => body_why(alloc, wrong),
-        (Outcome::Replied(reply), Asked::Calls(_, batch)) => {
-            one_of(alloc, batch_why(alloc, world, batch, reply)?)
-        }
-        (Outcome::Each(replies, _), Asked::Each(each)) => {
-            each_whys(alloc, world, each, replies, bad_texts(wrong))
-        }
+    match outcome {
+        Outcome::Refused(_) => body_why(alloc, wrong),
+        Outcome::Replied(reply) => one_of(alloc, seen.next(reply)?),
+        Outcome::Each(replies, _) => each_whys(alloc, seen, replies, bad_texts(wrong)),
         _ => Ok(Vec::new(alloc)),
     }
 }
 
 /// The bytes of the answer to what was asked, which say why it is refused if that was asked too. Nothing is said of it if memory runs out.
 /// AllocError: memory for the answer was refused.
-pub(crate) fn told_answer<S: Alter + Drop>(
+pub(crate) fn told_answer(
     alloc: Global,
-    world: &World<S>,
+    seen: &mut Whys,
     inquiry: &Inquiry,
     outcome: Outcome,
 ) -> Result<Vec<u8>, AllocError>
@@ -126,13 +102,7 @@ pub(crate) fn told_answer<S: Alter + Drop>(
     if !asks_why {
         return answer_text(alloc, outcome, &[], is_head);
     }
-    let whys = match find_whys(
-        alloc,
-        world,
-        &inquiry.asked,
-        &outcome,
-        inquiry.wrong.as_ref(),
-    ) {
+    let whys = match find_whys(alloc, seen, &outcome, inquiry.wrong.as_ref()) {
         Ok(whys) => whys,
         Err(_) => Vec::new(alloc),
     };

@@ -1,45 +1,67 @@
 //! Which call of a petition is refused when it is granted.
 
-use crate::given::{FIRST, Given, value_at};
+use crate::given::{FIRST, Given, given_by, list_at, value_at};
 use crate::shown::Said;
 use crate::telling::{put_some, tell};
 use moo_batch::held_call;
 use moo_call_parts::Reason;
-use moo_rows::{PetitionId, PetitionRow, Rows};
+use moo_rows::{PetitionId, Rows};
 use moo_value::{Value, ValueList};
-use moo_world::CallName;
+use moo_world::{Batch, CallName};
 use std::alloc::AllocError;
 
-/// The petition that a call grants, if it is a grant and the petition is there.
-fn petition_granted<'a, R: Rows>(rows: &'a R, given: Given<'_>) -> Option<&'a PetitionRow> {
-    match (given.name, value_at(given, FIRST)) {
-        (CallName::Grant, Some(Value::Int(number))) => {
-            rows.petition(PetitionId(u32::try_from(*number).ok()?))
+/// The calls of the petition that calls of a batch make on rows whose next petition has this number, if it gets that one.
+fn calls_asked<'a>(batch: &'a Batch, next: u32, number: u32) -> Option<&'a ValueList> {
+    let mut left = number.checked_sub(next)?;
+    for call in batch.calls.items() {
+        if !matches!(call.name, CallName::Petition) {
+            continue;
         }
-        _ => None,
+        if left == 0 {
+            return list_at(given_by(batch.programmer, call), FIRST);
+        }
+        left -= 1;
+    }
+    None
+}
+
+/// The calls of the petition that a call of a batch grants. It is among these rows, on which the batch was judged, or the batch makes it.
+fn calls_granted<'a, B: Rows>(
+    base: &'a B,
+    batch: &'a Batch,
+    grant: Given<'_>,
+) -> Option<&'a ValueList> {
+    let Some(Value::Int(number)) = value_at(grant, FIRST) else {
+        return None;
+    };
+    let number = u32::try_from(*number).ok()?;
+    match base.petition(PetitionId(number)) {
+        Some(petition) => Some(&petition.calls),
+        None => calls_asked(batch, base.head().next_petition, number),
     }
 }
 
-/// The calls of the petition that a call grants. The grant itself takes them away.
-pub(crate) fn calls_granted<R: Rows>(
-    rows: &R,
-    given: Given<'_>,
-) -> Result<Option<ValueList>, AllocError> {
-    match petition_granted(rows, given) {
-        Some(petition) => Ok(Some(petition.calls.clone()?)),
-        None => Ok(None),
-    }
+/// The call at a place of the petition that a call of a batch grants, as the petition holds it.
+pub(crate) fn held_value<'a, B: Rows>(
+    base: &'a B,
+    batch: &'a Batch,
+    grant: Given<'_>,
+    place: u32,
+) -> Option<&'a Value> {
+    calls_granted(base, batch, grant)?
+        .items()
+        .get(place as usize)
 }
 
-/// The call at a place of a petition, if it names one.
-fn call_at(calls: &ValueList, place: u32) -> Option<(CallName, &[Value])> {
-    held_call(calls.items().get(place as usize)?)
+/// The call that a value is, as a petition holds one.
+fn call_of<'a>(held: Option<&'a Value>) -> Option<(CallName, &'a [Value])> {
+    held_call(held?)
 }
 
 /// Says of which petition a call is.
-fn put_petition(said: &mut Said, given: Given<'_>) -> Result<(), AllocError> {
+fn put_petition(said: &mut Said, grant: Given<'_>) -> Result<(), AllocError> {
     said.put(b" of petition ")?;
-    put_some(said, value_at(given, FIRST))
+    put_some(said, value_at(grant, FIRST))
 }
 
 /// Says after a comma which of the calls that a petition holds fails, and why, in the world of these rows.
@@ -47,14 +69,10 @@ pub(crate) fn tell_held<R: Rows>(
     said: &mut Said,
     rows: &R,
     grant: Given<'_>,
-    granted: Option<ValueList>,
-    place: u32,
+    held: Option<&Value>,
     reason: Reason,
 ) -> Result<(), AllocError> {
-    let Some(calls) = granted else {
-        return Ok(());
-    };
-    let Some((name, values)) = call_at(&calls, place) else {
+    let Some((name, values)) = call_of(held) else {
         said.put(b", a call")?;
         put_petition(said, grant)?;
         return said.put(b" names no call on the world");

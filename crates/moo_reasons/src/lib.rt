@@ -1,6 +1,6 @@
 //! Why a line of a batch can't be read, why a call is refused, and what is told of each batch that isn't accepted, in words for people.
 //!
-//! Why a call is refused is the reason that the call itself answers when the batch is done again up to it. Nothing that is proved rests on
+//! Why a call is refused is the reason that the call itself answers, told in the world in which it failed. Nothing that is proved rests on
 //! these words: what a batch is answered is judged elsewhere.
 #![tactic(auto, unfolding(moo_world::specs::Rows::world_shown, moo_world::specs::Objects::same_object))]
 
@@ -21,4 +21,4 @@ mod values;
 mod why;
 
 pub use notes::StandardNotes;
-pub use why::{call_why, reply_why};
+pub use why::{Whys, call_why};

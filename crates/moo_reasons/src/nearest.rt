@@ -62,7 +62,7 @@ fn levels(name: CallName) -> usize {
 
 /// The name that is nearest to the one that a call gives, among the first that its programmer may list. None if none is near, or if the
 /// object has a property of the name that is given.
-pub(crate) fn nearest_property<R: Rows>(
+fn nearest_property<R: Rows>(
     alloc: Global,
     rows: &R,
     given: Given<'_>,
@@ -89,20 +89,22 @@ pub(crate) fn nearest_property<R: Rows>(
     Ok(nearest.name)
 }
 
-/// Says which property a call may have meant, if it fails since there is none of the name that it gives.
-pub(crate) fn tell_nearest(
+/// Says which property a call may have meant in the world of these rows, if it fails since there is none of the name that it gives.
+pub(crate) fn tell_nearest<R: Rows>(
     said: &mut Said,
+    rows: &R,
+    given: Given<'_>,
     reason: Reason,
-    nearest: Option<MooStr>,
-) -> Result<(), AllocError> {
-    match (reason, nearest) {
-        (Reason::NoProperty(_), Some(name))
-        | (Reason::NotDefined(_), Some(name))
-        | (Reason::NotRenamed(_), Some(name)) => {
-            said.put(b" (did you mean ")?;
-            said.put_text(&name)?;
-            said.put(b"?)")
-        }
-        _ => Ok(()),
+) -> Result<(), AllocError>
+    requires { IsGood (R.held rows.now).maps }
+{
+    let (Reason::NoProperty(_) | Reason::NotDefined(_) | Reason::NotRenamed(_)) = reason else {
+        return Ok(());
+    };
+    if let Some(name) = nearest_property(said.alloc, rows, given)? {
+        said.put(b" (did you mean ")?;
+        said.put_text(&name)?;
+        said.put(b"?)")?;
     }
+    Ok(())
 }

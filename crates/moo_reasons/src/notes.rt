@@ -1,15 +1,14 @@
 //! What is told of the replies of a text.
 
-ghost use Rattle.std.specs.Prelude.{IfSome};
-ghost use Rattle.moo_world.specs.Rows.{IsGood};
-
 use crate::calls::put_call_reason;
-use crate::finding::refusal;
+use crate::finding::refusal_text;
 use crate::headers::put_header_reason;
 use crate::shown::Said;
 use crate::why::room_reason;
+use moo_batch::{Refusal, Witness};
 use moo_rows::Rows;
-use moo_text::{Answer, Marks, Next, Notes, Reply};
+use moo_text::{Answer, Marks, Notes, Reply};
+use moo_world::Batch;
 use std::alloc::{AllocError, Global};
 use std::io::Eprint;
 
@@ -25,6 +24,8 @@ pub struct StandardNotes<'a, C> {
     path: Option<&'a str>,
     told: u32,
     untold: u64,
+    /// Why the batch in hand is refused, if that was seen.
+    refusal: Option<String>,
 }
 
 /// Says where a line is: its number, and its file if the text isn't standard input.
@@ -69,27 +70,6 @@ fn put_truncated(said: &mut Said, marks: &Marks) -> Result<(), AllocError> {
     said.put_count(line)?;
     said.put(b" is malformed: ")?;
     put_bad_line(said, marks.header() == Some(line), marks)
-}
-
-/// Why a batch is refused, if it is and the rows are at hand. AllocError: memory ran out.
-fn told_refusal<R: Rows>(
-    alloc: Global,
-    rows: Option<&R>,
-    item: &Next,
-    answer: &Answer,
-) -> Result<Option<String>, AllocError>
-    requires { IfSome rows (λ rows. IsGood (R.held rows.now).maps) }
-{
-    let Some(rows) = rows else {
-        return Ok(None);
-    };
-    let Next::Batch(batch) = item else {
-        return Ok(None);
-    };
-    let Answer::Replied(Reply::Refused { call, code }) = answer else {
-        return Ok(None);
-    };
-    Ok(Some(refusal(alloc, rows, batch, *call, *code)?.text()))
 }
 
 /// The line of the text that an answer is about.
@@ -164,6 +144,7 @@ impl<'a, C: Eprint> StandardNotes<'a, C> {
             path,
             told: 0,
             untold: 0,
+            refusal: None,
         }
     }
 
@@ -177,8 +158,19 @@ impl<'a, C: Eprint> StandardNotes<'a, C> {
     }
 }
 
+impl<'a, C: Eprint> Witness for StandardNotes<'a, C> {
+    fn see<B: Rows, R: Rows>(&mut self, base: &B, rows: &R, batch: &Batch, refusal: Refusal) {
+        if self.told < MOST_TOLD {
+            self.refusal = match refusal_text(self.alloc, base, rows, batch, refusal) {
+                Ok(said) => Some(said.text()),
+                Err(_) => None,
+            };
+        }
+    }
+}
+
 impl<'a, C: Eprint> Notes for StandardNotes<'a, C> {
-    fn note<R: Rows>(&mut self, rows: Option<&R>, item: &Next, marks: &Marks, answer: &Answer) {
+    fn note(&mut self, marks: &Marks, answer: &Answer) {
         if let Answer::Replied(Reply::Accepted { seq: _, answers: _ }) = answer {
             return;
         }
@@ -187,7 +179,7 @@ impl<'a, C: Eprint> Notes for StandardNotes<'a, C> {
             return;
         }
         self.told = self.told.saturating_add(1);
-        let told = told_refusal(self.alloc, rows, item, answer).unwrap_or(None);
+        let told = self.refusal.take();
         if let Ok(text) = line_text(self.alloc, self.path, marks, answer, told.as_deref()) {
             let _said = eprint!(self.rt; "{text}");
         }

@@ -2,7 +2,6 @@
 
 ghost use Rattle.std.specs.Prelude.{◌≡◌, ◌≢◌, ◌⊎◌, ℕ, true, false, take, IfOk, IfErr, IfSome, IfNone};
 ghost use Rattle.std.specs.Io.KnownBytes.{Appends};
-ghost use Rattle.moo_world.specs.Rows.{IsGood};
 ghost use Rattle.moo_world.specs.declared.call.Batch.{Batch};
 ghost use Rattle.moo_text.specs.declared.reply.Answer.{Answer};
 ghost use Rattle.moo_text.specs.Replies.{answer_text};
@@ -14,7 +13,7 @@ use crate::course::{Course, stops_after};
 use crate::fault::StoreFault;
 use crate::output::put_answer;
 use crate::tally::Tally;
-use moo_memory::Flat;
+use moo_batch::Witness;
 use moo_text::{Answer, Feed, Marks, Next, Notes, Reply, TextFault};
 use moo_world::Batch;
 use std::alloc::Global;
@@ -28,13 +27,9 @@ pub(crate) trait Answering {
     /// What its text and its answers are kept by.
     fn allocator(&self) -> Global;
 
-    /// Answers one batch.
-    fn answer(&mut self, batch: &Batch) -> Answer
+    /// Answers one batch. If it is refused, the witness sees why.
+    fn answer<N: Witness>(&mut self, batch: &Batch, witness: &mut N) -> Answer
         ensures { answered self.old batch.now result self.new };
-
-    /// The rows by which it answers, if it isn't past answering.
-    fn rows(&self) -> Option<&Flat>
-        ensures { IfSome result (λ rows. IsGood rows.now.maps) };
 }
 
 /// The answer to a batch that a World ran or was asked.
@@ -50,12 +45,16 @@ pub(crate) fn answered_by(reply: Result<Reply, StoreFault>) -> Answer
 }
 
 /// Answers one item of a text; its end has no answer.
-fn answer_item<A: Answering>(answering: &mut A, item: &Next) -> Option<Answer>
+fn answer_item<A: Answering, N: Witness>(
+    answering: &mut A,
+    item: &Next,
+    witness: &mut N,
+) -> Option<Answer>
     ensures some { IfSome result (λ answer. Turn A.answered answering.old item.now answer answering.new) }
     ensures none { IfNone result ((item.now ≡ Next.End) × (answering.new ≡ answering.old)) }
 {
     match item {
-        Next::Batch(batch) => Some(answering.answer(batch)),
+        Next::Batch(batch) => Some(answering.answer(batch, witness)),
         Next::Malformed(number) => Some(Answer::Malformed(*number)),
         Next::Truncated => Some(Answer::Truncated),
         Next::End => None,
@@ -63,7 +62,7 @@ fn answer_item<A: Answering>(answering: &mut A, item: &Next) -> Option<Answer>
 }
 
 /// Answers one item of a text, writes the answer, and tells the notes of it. The end of a text has no answer.
-fn answer_and_note<W: Write, A: Answering, N: Notes>(
+fn answer_and_note<W: Write, A: Answering, N: Notes + Witness>(
     item: &Next,
     marks: &Marks,
     writer: &mut W,
@@ -77,12 +76,12 @@ fn answer_and_note<W: Write, A: Answering, N: Notes>(
         × Appends (W.contents writer.old) (W.contents writer.new) (take count (answer_text answer))
         × ((fault ≡ TextFault.Write) ⊎ (fault ≡ TextFault.OutOfMemory)) × (fault ≢ TextFault.Write → count ≡ 0)) }
 {
-    let Some(answer) = answer_item(answering, item) else {
+    let Some(answer) = answer_item(answering, item, notes) else {
         return Ok(None);
     };
     match put_answer(answering.allocator(), writer, &answer) {
         Ok(()) => {
-            notes.note(answering.rows(), item, marks, &answer);
+            notes.note(marks, &answer);
             Ok(Some(answer))
         }
         Err(fault) => Err(fault),
@@ -91,7 +90,7 @@ fn answer_and_note<W: Write, A: Answering, N: Notes>(
 
 /// Answers each item of a text, and writes its answer before the next item is read. Then the notes are told of it. If it is to stop, it
 /// ends after the first answer that isn't `accepted`.
-pub(crate) fn answer_until<R: Read + Drop, W: Write, A: Answering, N: Notes>(
+pub(crate) fn answer_until<R: Read + Drop, W: Write, A: Answering, N: Notes + Witness>(
     reader: R,
     writer: &mut W,
     answering: &mut A,
@@ -135,7 +134,7 @@ pub(crate) fn answer_until<R: Read + Drop, W: Write, A: Answering, N: Notes>(
 }
 
 /// Answers each item of a text to its end, and writes its answer before the next item is read. Then the notes are told of it.
-pub(crate) fn answer_all<R: Read + Drop, W: Write, A: Answering, N: Notes>(
+pub(crate) fn answer_all<R: Read + Drop, W: Write, A: Answering, N: Notes + Witness>(
     reader: R,
     writer: &mut W,
     answering: &mut A,

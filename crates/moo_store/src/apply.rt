@@ -10,7 +10,7 @@ use crate::answering::{Answering, answer_all, answer_until, answered_by};
 use crate::course::Course;
 use crate::tally::Tally;
 use crate::world::World;
-use moo_memory::Flat;
+use moo_batch::Witness;
 use moo_text::{Answer, Notes, TextFault};
 use moo_world::Batch;
 use sqlite::Alter;
@@ -24,23 +24,19 @@ impl<S: Alter + Drop> Answering for World<S> {
         self.alloc
     }
 
-    fn answer(&mut self, batch: &Batch) -> Answer {
-        answered_by(self.run_one(batch))
-    }
-
-    fn rows(&self) -> Option<&Flat> {
-        self.good_rows()
+    fn answer<N: Witness>(&mut self, batch: &Batch, witness: &mut N) -> Answer {
+        answered_by(self.run_one(batch, witness))
     }
 }
 
 /// Runs the batches of a text in turn, and writes each answer before the next batch is read. Answers how many batches the text had
 /// and how many met a fault; after a `fault` the text is read on, and its batches are answered `closed`.
 ///
-/// The notes are told of each item once its answer is written.
+/// The notes are told of each item once its answer is written. If a batch is refused, they see why before that.
 ///
 /// The faults: Read if the reader fails, and the unfinished batch is dropped; Write if the writer fails or takes no bytes, and
 /// OutOfMemory, both of which may come after a commit, which stays; Long if the text goes on after 1,073,741,824 bytes.
-pub fn apply_text<R: Read + Drop, W: Write, S: Alter + Drop, N: Notes>(
+pub fn apply_text<R: Read + Drop, W: Write, S: Alter + Drop, N: Notes + Witness>(
     reader: R,
     writer: &mut W,
     world: &mut World<S>,
@@ -63,7 +59,7 @@ pub fn apply_text<R: Read + Drop, W: Write, S: Alter + Drop, N: Notes>(
 /// written: the World is then that of the batches up to it, and what follows it in the text isn't run.
 ///
 /// The faults are those of `apply_text`.
-pub fn apply_until<R: Read + Drop, W: Write, S: Alter + Drop, N: Notes>(
+pub fn apply_until<R: Read + Drop, W: Write, S: Alter + Drop, N: Notes + Witness>(
     reader: R,
     writer: &mut W,
     world: &mut World<S>,

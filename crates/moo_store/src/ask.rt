@@ -8,7 +8,7 @@ ghost use Rattle.moo_store.specs.World.{StandsAt};
 use crate::answering::{Answering, answer_all, answered_by};
 use crate::tally::Tally;
 use crate::world::World;
-use moo_memory::Flat;
+use moo_batch::Witness;
 use moo_text::{Answer, Notes, TextFault};
 use moo_world::Batch;
 use sqlite::Alter;
@@ -29,18 +29,14 @@ impl<'a, S: Alter + Drop> Answering for Questions<'a, S> {
         self.world.allocator()
     }
 
-    fn answer(&mut self, batch: &Batch) -> Answer {
-        answered_by(self.world.ask(batch))
-    }
-
-    fn rows(&self) -> Option<&Flat> {
-        self.world.good_rows()
+    fn answer<N: Witness>(&mut self, batch: &Batch, witness: &mut N) -> Answer {
+        answered_by(self.world.ask(batch, witness))
     }
 }
 
 /// Answers each batch of a text by what it would come to at present, with the present number, and changes nothing: no batch
 /// sees another. What is written before the next batch is read, and the faults, are those of `apply_text`.
-pub fn ask_text<R: Read + Drop, W: Write, S: Alter + Drop, N: Notes>(
+pub fn ask_text<R: Read + Drop, W: Write, S: Alter + Drop, N: Notes + Witness>(
     reader: R,
     writer: &mut W,
     world: &World<S>,

@@ -7,6 +7,7 @@ ghost use Rattle.moo_store.specs.World.{StandsFor};
 
 use crate::fault::StoreFault;
 use crate::world::World;
+use moo_batch::Witness;
 use moo_text::Reply;
 use moo_world::Batch;
 use sqlite::Alter;
@@ -23,51 +24,61 @@ fn kept(reply: Reply) -> Result<Reply, AllocError>
 }
 
 /// What a batch would come to at present.
-fn ask_kept<S: Alter + Drop>(world: &World<S>, batch: &Batch) -> Result<Reply, AllocError>
+fn ask_kept<S: Alter + Drop, N: Witness>(
+    world: &World<S>,
+    batch: &Batch,
+    witness: &mut N,
+) -> Result<Reply, AllocError>
     ensures { (known : Bool) (s : _) → StandsFor S.Store known world.now s →
         IfOk result (λ reply. reply ≡ answer_of s (judge s batch.now)) }
 {
-    match world.ask(batch) {
+    match world.ask(batch, witness) {
         Ok(reply) => kept(reply),
         Err(_) => Err(AllocError),
     }
 }
 
 /// What a batch would come to at present, if there is one.
-fn ask_alone<S: Alter + Drop>(
+fn ask_alone<S: Alter + Drop, N: Witness>(
     world: &World<S>,
     batch: &Option<Batch>,
+    witness: &mut N,
 ) -> Result<Option<Reply>, AllocError>
     ensures { (known : Bool) (s : _) → StandsFor S.Store known world.now s →
         IfOk result (λ reply. reply ≡ option_map (λ batch. answer_of s (judge s batch)) batch.now) }
 {
     match batch {
-        Some(batch) => Ok(Some(ask_kept(world, batch)?)),
+        Some(batch) => Ok(Some(ask_kept(world, batch, witness)?)),
         None => Ok(None),
     }
 }
 
 /// What each of these batches would come to at present.
-fn ask_all<S: Alter + Drop>(
+fn ask_all<S: Alter + Drop, N: Witness>(
     world: &World<S>,
     batches: &[Option<Batch>],
+    witness: &mut N,
 ) -> Result<Vec<Option<Reply>>, AllocError>
     ensures { (known : Bool) (s : _) → StandsFor S.Store known world.now s →
         IfOk result (λ replies. replies.items ≡ answers_alone s batches.now) }
 {
     let mut replies = Vec::new(world.alloc);
     for batch in batches {
-        replies.push(ask_alone(world, batch)?)?;
+        replies.push(ask_alone(world, batch, witness)?)?;
     }
     Ok(replies)
 }
 
 impl<S: Alter + Drop> World<S> {
     /// What each of these batches would come to at present, as if it alone were asked: none sees another. If there is none in a place,
-    /// there is no reply in it. Nothing changes.
+    /// there is no reply in it. Nothing changes. The witness sees why each is refused that would be.
     ///
     /// OutOfMemory if memory runs out. Closed if the World had failed.
-    pub fn ask_each(&self, batches: &[Option<Batch>]) -> Result<Vec<Option<Reply>>, StoreFault>
+    pub fn ask_each<N: Witness>(
+        &self,
+        batches: &[Option<Batch>],
+        witness: &mut N,
+    ) -> Result<Vec<Option<Reply>>, StoreFault>
         ensures replies { (known : Bool) (s : _) → StandsFor S.Store known self.now s →
             IfOk result (λ replies. replies.items ≡ answers_alone s batches.now) }
         ensures fault { self.now.failed ≡ false → IfErr result (λ fault. fault ≡ StoreFault.OutOfMemory) }
@@ -76,7 +87,7 @@ impl<S: Alter + Drop> World<S> {
         if self.failed {
             return Err(StoreFault::Closed);
         }
-        match ask_all(self, batches) {
+        match ask_all(self, batches, witness) {
             Ok(replies) => Ok(replies),
             Err(_) => Err(StoreFault::OutOfMemory),
         }

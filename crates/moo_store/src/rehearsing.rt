@@ -10,7 +10,7 @@ ghost use Rattle.moo_store.specs.World.{StandsFor, StandsAt};
 use crate::answering::{Answering, answer_until};
 use crate::course::Course;
 use crate::world::World;
-use moo_batch::{Verdict, judge};
+use moo_batch::{Verdict, Witness, judge};
 use moo_memory::{Changes, Flat, apply_changes};
 use moo_text::{Answer, Notes, Reply, TextFault};
 use moo_world::{Answers, Batch};
@@ -83,14 +83,14 @@ impl Rehearsal {
     }
 
     /// Answers a batch as if it was run.
-    fn rehearse(&mut self, batch: &Batch) -> Answer
+    fn rehearse<N: Witness>(&mut self, batch: &Batch, witness: &mut N) -> Answer
         ensures { (stand : Stand) → RehearsesAt self.old stand → (next : Stand) × RehearsesAt self.new next
             × RehearsesBatch stand batch.now result next }
     {
         if self.failed {
             return Answer::Closed;
         }
-        match judge(self.alloc, &self.rows, batch) {
+        match judge(self.alloc, &self.rows, batch, witness) {
             Verdict::Accepted { answers, changes } => self.accept(answers, changes),
             Verdict::Refused { call, code } => Answer::Replied(Reply::Refused { call, code }),
             Verdict::Full { call } => Answer::Replied(Reply::Full { call }),
@@ -108,12 +108,8 @@ impl Answering for Rehearsal {
         self.alloc
     }
 
-    fn answer(&mut self, batch: &Batch) -> Answer {
-        self.rehearse(batch)
-    }
-
-    fn rows(&self) -> Option<&Flat> {
-        if self.failed { None } else { Some(&self.rows) }
+    fn answer<N: Witness>(&mut self, batch: &Batch, witness: &mut N) -> Answer {
+        self.rehearse(batch, witness)
     }
 }
 
@@ -122,7 +118,7 @@ impl Answering for Rehearsal {
 /// those of `apply_text`.
 ///
 /// The World has failed then: its rows were used up. What is in its store is as it was.
-pub fn rehearse_text<R: Read + Drop, W: Write, S: Alter + Drop, N: Notes>(
+pub fn rehearse_text<R: Read + Drop, W: Write, S: Alter + Drop, N: Notes + Witness>(
     reader: R,
     writer: &mut W,
     world: &mut World<S>,

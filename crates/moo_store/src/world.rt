@@ -4,7 +4,8 @@ use crate::checking::object_count;
 use crate::committing::commit_cells;
 use crate::fault::StoreFault;
 use crate::printing::print_changes;
-use moo_batch::{Verdict, judge};
+use crate::quiet::NoNotes;
+use moo_batch::{Verdict, Witness, judge};
 use moo_memory::{Changes, Flat, apply_changes};
 use moo_rows::Rows;
 use moo_tables::CellChanges;
@@ -106,8 +107,13 @@ impl<S: Alter + Drop> World<S> {
         Ok(Reply::Accepted { seq, answers })
     }
 
-    /// Runs one batch, and commits it if it is accepted. The faults: Store if the store failed; Closed if the World had failed.
-    pub fn run_one(&mut self, batch: &Batch) -> Result<Reply, StoreFault>
+    /// Runs one batch, and commits it if it is accepted. If it is refused, the witness sees why. The faults: Store if the store failed;
+    /// Closed if the World had failed.
+    pub fn run_one<N: Witness>(
+        &mut self,
+        batch: &Batch,
+        witness: &mut N,
+    ) -> Result<Reply, StoreFault>
         ensures stands { StandsBehind S.Store self.old batch.now (answer_to result) self.new }
         ensures cells { WritesOne S.Store self.old self.new batch.now result }
         ensures same { taken_of batch.now result ≡ [] → MatchStore result (self.new ≡ self.old) ⊤ }
@@ -121,7 +127,7 @@ impl<S: Alter + Drop> World<S> {
         if self.failed {
             return Err(StoreFault::Closed);
         }
-        match judge(self.alloc, &self.rows, batch) {
+        match judge(self.alloc, &self.rows, batch, witness) {
             Verdict::Accepted { answers, changes } => {
                 match print_changes(self.alloc, &self.rows, &changes) {
                     Ok(cells) => self.commit(answers, changes, &cells),
@@ -152,7 +158,7 @@ impl<S: Alter + Drop> World<S> {
             return Err(StoreFault::OutOfMemory);
         }
         for batch in batches {
-            match self.run_one(batch) {
+            match self.run_one(batch, &mut NoNotes) {
                 Ok(reply) => replies.push(reply).unwrap(),
                 Err(fault) => return Err(fault),
             }
@@ -160,8 +166,9 @@ impl<S: Alter + Drop> World<S> {
         Ok(())
     }
 
-    /// What a batch would come to at present, with the present number. Nothing changes. The only fault is Closed.
-    pub fn ask(&self, batch: &Batch) -> Result<Reply, StoreFault>
+    /// What a batch would come to at present, with the present number. Nothing changes. If it would be refused, the witness sees why. The
+    /// only fault is Closed.
+    pub fn ask<N: Witness>(&self, batch: &Batch, witness: &mut N) -> Result<Reply, StoreFault>
         ensures verdict { (known : Bool) (s : _) → StandsFor S.Store known self.now s →
             IsOkAnd result (λ reply. (reply ≡ Reply.NoMemory) ⊎ (reply ≡ answer_of s (verdict s batch.now))) }
         ensures memory { (known : Bool) (s : _) → StandsFor S.Store known self.now s →
@@ -171,7 +178,7 @@ impl<S: Alter + Drop> World<S> {
         if self.failed {
             return Err(StoreFault::Closed);
         }
-        Ok(match judge(self.alloc, &self.rows, batch) {
+        Ok(match judge(self.alloc, &self.rows, batch, witness) {
             Verdict::Accepted {
                 answers,
                 changes: _changes,

@@ -22,5 +22,5 @@ pub use header::{Header, object_of, read_header};
 pub use line::{is_end_line, is_short, next_word, skip_blanks, split_word};
 pub use marks::Marks;
 pub use next::Next;
-pub use notes::{NoNotes, Notes};
+pub use notes::Notes;
 pub use reply::{Answer, Reply, print_answer, print_reply};

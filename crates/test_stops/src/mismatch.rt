@@ -8,9 +8,8 @@ ghost use Rattle.moo_world.specs.Rows.{IsGood};
 
 use moo_cells::read_cells;
 use moo_memory::Flat;
-use moo_store::{World, apply_text, create_in};
+use moo_store::{NoNotes, World, apply_text, create_in};
 use moo_tables::{Version, are_listed, read_tables};
-use moo_text::NoNotes;
 use sqlite::{Alter, Connection};
 use std::alloc::Global;
 use std::test::Fail;

@@ -1,7 +1,6 @@
 //! A task on the world of two files.
 
-use moo_store::{World, adopt, apply_text, create_in};
-use moo_text::NoNotes;
+use moo_store::{NoNotes, World, adopt, apply_text, create_in};
 use sqlite::{Alter, Connection, FileStore, Files, Options};
 use sqlite_disk::{Disk, Fuse, Memory};
 use std::alloc::Global;

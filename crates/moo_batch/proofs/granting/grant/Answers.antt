@@ -10,7 +10,11 @@ use Rattle.moo_call_parts.specs.About.{about_given}
 use Rattle.moo_batch.{specs.Telling.{IsFaultInTurn, about_number}, proofs.TrueInTurn.{granted-told, if_told}}
 use Rattle.std.proofs.Common.{None}
 use Rattle.moo_call_parts.specs.Told.{IfAbout}
+use Rattle.moo_batch.proofs.AtCheck.{held-stays}
 use Rattle.moo_batch.proofs.granting.grant.Goals as goal
+
+pub returns-clause-check : goal.returns-clause-check
+returns-clause-check g c = held-stays (g.R.Rows.held c.args.rows.now) (g.R.Rows.held c.held_steps.new.rows) _ c.held_steps.result c.held_steps.ensures.comes
 
 pub held_steps-requires-clause-good : goal.held_steps-requires-clause-good
 held_steps-requires-clause-good g c = (removed-keeps (g.R.Rows.held c.args.rows.now) (g.R.Rows.held c.remove_petition.new.self) c.in-Some.id c.in_ok-remove_petition.ensures.ok c.requires.good).good

@@ -1,6 +1,7 @@
 use Rattle.std.{proofs.Common.{◌≡◌, ◌+◌, [], ◌∷◌, ◌++◌, length, drop, sym, ap, ◌∙◌, subst, rules, arith}, proofs.lemmas.Grind.{common_steps}}
-use Rattle.moo_world.specs.Judge.{FailedAt, FullAt}
+use Rattle.moo_world.specs.Judge.{FailedAt, FullAt, run_calls}
 use Rattle.moo_call_parts.specs.Reasons.{error_of}
+use Rattle.moo_batch.specs.Outcomes.{state_in}
 use Rattle.moo_batch.proofs.Running.{HaveRunSoFar, run-started, run-one_more, run-ended, run-kept, run-failed, run-full}
 use Rattle.moo_batch.proofs.judging.run_calls.Goals as goal
 
@@ -20,8 +21,8 @@ returns-in-Err-Moo-clause-comes g c =
     let so_far = subst (HaveRunSoFar (g.R.Rows.held c.args.rows.now) c.args.programmer calls c.loop-call.answers.items (g.R.Rows.held c.loop-call.rows)) next c.loop-call.invariant.0 in
     let comes = rw c.in-Err-Moo.field-0-is at c.in-Err-Moo.ensures.reaches in
     let failed = run-failed c.call-item.result left (error_of c.in-Err-Moo.reason) so_far comes in
-    let code : c.code.result ≡ error_of c.in-Err-Moo.reason = rw c.in-Err-Moo.field-0-is at c.code.ensures in
-    failed ∙ ap (λ n. FailedAt n (error_of c.in-Err-Moo.reason)) (omega arith) ∙ ap (FailedAt (c.len.result + 1)) (sym code)
+    let numbered : run_calls (state_in (g.R.Rows.held c.args.rows.now)) c.args.programmer calls ≡ FailedAt (c.len.result + 1) (error_of c.in-Err-Moo.reason) = failed ∙ ap (λ n. FailedAt n (error_of c.in-Err-Moo.reason)) (omega arith) in
+    rw c.in-Err-Moo.field-0-is numbered
 
 pub returns-in-Err-Held-clause-comes : goal.returns-in-Err-Held-clause-comes
 returns-in-Err-Held-clause-comes g c =
@@ -31,8 +32,8 @@ returns-in-Err-Held-clause-comes g c =
     let so_far = subst (HaveRunSoFar (g.R.Rows.held c.args.rows.now) c.args.programmer calls c.loop-call.answers.items (g.R.Rows.held c.loop-call.rows)) next c.loop-call.invariant.0 in
     let comes = rw c.in-Err-Held.field-0-is at c.in-Err-Held.ensures.reaches in
     let failed = run-failed c.call-item.result left (error_of c.in-Err-Held.reason) so_far comes in
-    let code : c.code-in-Err-Held.result ≡ error_of c.in-Err-Held.reason = rw c.in-Err-Held.field-0-is at c.code-in-Err-Held.ensures in
-    failed ∙ ap (λ n. FailedAt n (error_of c.in-Err-Held.reason)) (omega arith) ∙ ap (FailedAt (c.len.result + 1)) (sym code)
+    let numbered : run_calls (state_in (g.R.Rows.held c.args.rows.now)) c.args.programmer calls ≡ FailedAt (c.len.result + 1) (error_of c.in-Err-Held.reason) = failed ∙ ap (λ n. FailedAt n (error_of c.in-Err-Held.reason)) (omega arith) in
+    rw c.in-Err-Held.field-0-is numbered
 
 pub returns-in-Err-Full-clause-comes : goal.returns-in-Err-Full-clause-comes
 returns-in-Err-Full-clause-comes g c =

@@ -5,7 +5,11 @@ use Rattle.std.proofs.Common.{Err}
 use Rattle.moo_call_parts.specs.Outcomes.{world_in, ComesTo}
 use Rattle.moo_world.specs.Calls.{world_call}
 use Rattle.moo_batch.proofs.TrueInTurn.{if_told, stepped-told}
+use Rattle.moo_batch.proofs.AtCheck.{comes-stays}
 use Rattle.moo_batch.proofs.stepping.step.Goals as goal
+
+pub returns-in_default-clause-check : goal.returns-in_default-clause-check
+returns-in_default-clause-check g c = comes-stays (g.R.Rows.held c.args.rows.now) (g.R.Rows.held c.step.new.rows) _ c.step.result c.step.ensures.comes
 
 pub returns-in_default-clause-reaches : goal.returns-in_default-clause-reaches
 returns-in_default-clause-reaches g c =

@@ -8,8 +8,8 @@ returns-in-Ok g c = record {
   opened = tt;
 }
 
-pub returns-in-Err : goal.returns-in-Err
-returns-in-Err g c = record {
+pub returns : goal.returns
+returns g c = record {
   asks = λ known s stands. inl (c.in-Err.fault, c.from.ensures, c.in-Err.ensures.stops known (Works s) stands);
   opened = text_opened c.in-Err.fault c.from.result c.from.ensures;
 }

@@ -7,8 +7,8 @@ returns-in-Ok-clause-rehearses g c known s stands =
     (done_rehearsal c.args.stop s (g.R.Read.remaining c.args.text) (g.W.Write.contents c.args.output.now) (g.W.Write.contents c.rehearse_text-done.new.writer) c.in-Ok.course
     (λ whole. c.in-Ok.ensures.rehearses whole known s stands) (λ stopped. let early = c.in-Ok.ensures.early stopped in (early.0, early.1 known s stands)))
 
-pub returns-in-Err-clause-rehearses : goal.returns-in-Err-clause-rehearses
-returns-in-Err-clause-rehearses g c known s stands = stops_rehearsal c.args.stop s (g.R.Read.remaining c.args.text) (g.W.Write.contents c.args.output.now) (g.W.Write.contents c.rehearse_text-done.new.writer) c.in-Err.fault c.from.result c.from.ensures (c.in-Err.ensures.stops known s stands)
+pub returns-clause-rehearses : goal.returns-clause-rehearses
+returns-clause-rehearses g c known s stands = stops_rehearsal c.args.stop s (g.R.Read.remaining c.args.text) (g.W.Write.contents c.args.output.now) (g.W.Write.contents c.rehearse_text-done.new.writer) c.in-Err.fault c.from.result c.from.ensures (c.in-Err.ensures.stops known s stands)
 
-pub returns-in-Err-clause-opened : goal.returns-in-Err-clause-opened
-returns-in-Err-clause-opened g c = text_opened c.in-Err.fault c.from.result c.from.ensures
+pub returns-clause-opened : goal.returns-clause-opened
+returns-clause-opened g c = text_opened c.in-Err.fault c.from.result c.from.ensures

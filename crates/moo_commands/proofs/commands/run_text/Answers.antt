@@ -10,8 +10,8 @@ returns-in-Ok g c = record {
   opened = tt;
 }
 
-pub returns-in-Err : goal.returns-in-Err
-returns-in-Err g c = record {
+pub returns : goal.returns
+returns g c = record {
   ran = λ known s stands.
       stops_text g.B.Store known c.args.world.now c.apply_until-done.new.world c.args.stop s (g.R.Read.remaining c.args.text) (g.W.Write.contents c.args.output.now) (g.W.Write.contents c.apply_until-done.new.writer)
       c.in-Err.fault c.from.result stands.works c.from.ensures (c.in-Err.ensures.stops known (Works s) stands);

@@ -1,0 +1,18 @@
+//! Telling nobody.
+
+use moo_batch::{Refusal, Witness};
+use moo_rows::Rows;
+use moo_text::{Answer, Marks, Notes};
+use moo_world::Batch;
+
+/// Nobody is told how batches are answered, or why they are refused.
+#[derive(Clone, Copy)]
+pub struct NoNotes;
+
+impl Witness for NoNotes {
+    fn see<B: Rows, R: Rows>(&mut self, _base: &B, _rows: &R, _batch: &Batch, _refusal: Refusal) {}
+}
+
+impl Notes for NoNotes {
+    fn note(&mut self, _marks: &Marks, _answer: &Answer) {}
+}
