@@ -3,10 +3,10 @@
     python3 bench/latency.py PROGRAM.. [--rounds N] [--seconds S] [--threads T] [--ahead]
 
 In each round every PROGRAM serves a new world in memory to `wrk` (which has to be installed): GET /seq and POST /batch of one `set` of a
-name, by one client and by 16 at once, for S seconds each (1 if it isn't said). The order of the programs turns round with each round, so
-that each is before and after the others alike. `wrk` and the service are started with `nice -n -10`, or with --ahead with `chrt -f 5`,
-so that they don't wait for other work at all; both take a privileged user. Each request is a connection of its own, and its wait is that
-from its first byte sent to its last byte heard.
+name, by one client and by 16 at once, for S seconds each (1 if it isn't said). Each round begins with another program, so that each is
+before and after the others alike. `wrk` and the service are started with `nice -n -10`, or with --ahead with `chrt -f 5`, so that they
+don't wait for other work at all; both take a privileged user. Each request is a connection of its own, and its wait is that from its
+first byte sent to its last byte heard.
 
 After a run `wrk` adds waits that nobody had: a request that waited for five times the usual gap between two of its client counts as three
 or four more, each a gap shorter, as if others had been sent meanwhile. So a pause of the machine of a hundredth of the run is its slowest
@@ -14,7 +14,8 @@ of 100, however few requests met it. Here these are taken away again, and the fi
 
 Prints the medians of N rounds (9), with the least and the greatest: requests a second, and waits in milliseconds: the middle one, those of
 the slowest of 100 and of 1,000, and the slowest of 100 as `wrk` tells it. The second and later programs also have their change from the
-first, in percent.
+first, in percent: the median of the changes within a round. What a machine does for others changes from round to round, and the medians
+of two programs may be of different rounds. Give a copy of the first program as the last one: its change is what the machine makes of none.
 """
 from __future__ import annotations
 
@@ -153,16 +154,22 @@ def measured(programs: list[str], rounds: int, means: Means) -> dict[tuple[str, 
     came: dict[tuple[str, Case], list[tuple[float, ...]]] = {(program, case): [] for program in programs for case in CASES}
     for count in range(rounds):
         for case in CASES:
-            for program in programs if count % 2 == 0 else reversed(programs):
+            first = count % len(programs)
+            for program in programs[first:] + programs[:first]:
                 came[program, case].append(measure(program, case, means))
     return came
 
 
+def change_from(values: list[float], first: list[float]) -> float:
+    """By how many percent the values of a program differ from those of the first: the median over the rounds."""
+    return 100 * (statistics.median(value / base for value, base in zip(values, first)) - 1)
+
+
 def shown(values: list[float], first: list[float]) -> str:
-    """The median with the least and the greatest, and the change from the first program's median."""
-    middle, base = statistics.median(values), statistics.median(first)
-    change = "" if values is first else f", {100 * (middle / base - 1):+.0f}%"
-    digits = 0 if base > 1000 else 3
+    """The median with the least and the greatest, and the change from the first program."""
+    middle = statistics.median(values)
+    change = "" if values is first else f", {change_from(values, first):+.0f}%"
+    digits = 0 if middle > 1000 else 3
     return f"{middle:,.{digits}f} ({min(values):,.{digits}f} to {max(values):,.{digits}f}){change}"
 
 

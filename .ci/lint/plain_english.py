@@ -35,7 +35,7 @@ ALLOWED = {
         "moo_store/specs/World.antt",
         "moo_store/src/world.rt",
     )),
-    ("crates/moo_commands/specs/Run.antt", "a world that stands"),
+    ("crates/moo_run/specs/Run.antt", "a world that stands"),
 }
 
 PLACES = r"(?:in|at|on|beside|there|here|below|above|under|over|between|round|inside|within)"

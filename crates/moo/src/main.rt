@@ -1,7 +1,7 @@
 //! The program `moo`: an object database server with the behaviour of LambdaMOO 1.8.
 #![tactic(auto)]
 
-use moo_commands::run_command;
+use moo_run_system::run_command;
 use std::process::ExitCode;
 
 fn main(rt: HostRuntime) -> ExitCode {

@@ -2,8 +2,8 @@
 
 use crate::cause::{Cause, Loss};
 use crate::route::Route;
-use moo_request::Routes;
-use std::io::{Read, Write};
+use moo_http_request::{Incoming, Routes};
+use std::io::Write;
 
 /// A connection: where its request is read, and where its answer is written.
 #[derive(Drop)]
@@ -36,7 +36,7 @@ pub trait Arrivals {
     ghost use Rattle.moo_arrivals.specs.declared.arrivals.Connection.{Connection};
     ghost use Rattle.moo_arrivals.specs.declared.cause.Loss.{Loss};
 
-    type Reader: Read + Drop;
+    type Reader: Incoming + Drop;
 
     type Writer: Write + Drop;
 

@@ -1,6 +1,6 @@
 //! The routes that requests ask for.
 
-use moo_request::Question;
+use moo_http_request::Question;
 use std::fmt::{self, Display, Formatter};
 
 /// The route that a request asked for.

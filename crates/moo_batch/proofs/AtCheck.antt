@@ -3,7 +3,7 @@ use Rattle.std.{proofs.Common.{Result, Ok, Err, refl}, specs.Prelude.{IfErr}}
 use Rattle.moo_value.specs.declared.value.Value.{Value}
 use Rattle.moo_rows.specs.Maps.{Held}
 use Rattle.moo_world.{specs.Outcomes.{Outcome}, specs.World.{World}}
-use Rattle.moo_call_parts.{specs.declared.fault.Fault.{Fault}, specs.declared.fault.Fault.TheVariants.{Moo, Held as of_held, Full, OutOfMemory}, specs.Outcomes.{ComesTo}}
+use Rattle.moo_calls_shared.{specs.declared.fault.Fault.{Fault}, specs.declared.fault.Fault.TheVariants.{Moo, Held as of_held, Full, OutOfMemory}, specs.Outcomes.{ComesTo}}
 use Rattle.moo_batch.specs.Outcomes.{ComesInTurn, Stays, StaysAtCheck}
 
 module _ (old new : Held) where

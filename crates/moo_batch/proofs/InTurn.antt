@@ -3,7 +3,7 @@ use Rattle.std.{proofs.Common.{◌≡◌, ℕ, ℤ, Bool, true, false, OnOk, Som
 use Rattle.moo_value.{specs.declared.value.ObjNo.{ObjNo}, specs.declared.value.Value.{Value}, specs.Value.{spread}}
 use Rattle.moo_rows.{specs.declared.row.PetitionId.{PetitionId}, specs.declared.row.PetitionRow.{PetitionRow}, specs.Maps.{Maps, Held, without_petition}}
 use Rattle.moo_world.{specs.declared.call.Call.{Call}, specs.Answers.{zero}, specs.Arguments.{fits}, specs.Between.{HeldCallsLead, GrantLeads, CallKeepsNumbers}, specs.Keeps.{Keeps, beside_world}, specs.Names.{grants, is_grant, petition_call}, specs.Numbers.{KeepsNumbers}, specs.Outcomes.{Outcome, Done, Failed, Full}, specs.Requests.{State, in_world, held_step, held_steps, one_integer, petition_at, batch_call}, specs.Rows.{IsGood}, specs.World.{World}, specs.Calls.{world_call}, proofs.Batches.Requested.{request_steps}}
-use Rattle.moo_call_parts.{specs.declared.fault.Fault.{Fault}, specs.declared.fault.Fault.TheVariants.{Moo, Held as of_held, Full as none_left, OutOfMemory}, specs.Reasons.{error_of}, specs.Outcomes.{world_in, ComesTo}}
+use Rattle.moo_calls_shared.{specs.declared.fault.Fault.{Fault}, specs.declared.fault.Fault.TheVariants.{Moo, Held as of_held, Full as none_left, OutOfMemory}, specs.Reasons.{error_of}, specs.Outcomes.{world_in, ComesTo}}
 use Rattle.moo_batch.specs.Outcomes.{state_in, ComesInTurn, KeepInTurn, KeepsGoodRows, Reaches, held_at}
 
 -- all calls come to what those that are left come to

@@ -3,7 +3,7 @@ use Rattle.std.{proofs.Common.{◌≡◌, ℕ, ℤ, ◌+◌, suc, Option, None, 
 use Rattle.moo_value.{specs.declared.value.ObjNo.{ObjNo}, specs.declared.value.Value.{Value}, specs.Value.{spread}}
 use Rattle.moo_rows.{specs.declared.row.PetitionId.{PetitionId}, specs.declared.row.PetitionRow.{PetitionRow}, specs.Maps.{Maps, Held, without_petition}}
 use Rattle.moo_world.{specs.declared.call.Call.{Call}, specs.declared.name.PetitionCall.{PetitionCall}, specs.Keeps.{Keeps}, specs.Names.{petition_call}, specs.Outcomes.{Outcome, Done}, specs.Requests.{held_step, in_world, one_integer, petition_at}, specs.World.{World}}
-use Rattle.moo_call_parts.{specs.declared.fault.Fault.{Fault}, specs.declared.fault.Fault.TheVariants.{Moo, Held as of_held, Full as none_left, OutOfMemory}, specs.declared.reason.Reason.{Reason}, specs.Outcomes.{world_in, ComesTo}, specs.About.{About, about_call}, specs.Told.{IsTrueOf, IsTrueOfFault}}
+use Rattle.moo_calls_shared.{specs.declared.fault.Fault.{Fault}, specs.declared.fault.Fault.TheVariants.{Moo, Held as of_held, Full as none_left, OutOfMemory}, specs.declared.reason.Reason.{Reason}, specs.Outcomes.{world_in, ComesTo}, specs.About.{About, about_call}, specs.Told.{IsTrueOf, IsTrueOfFault}}
 use Rattle.moo_batch.{specs.Outcomes.{state_in, ComesInTurn, held_at}, specs.Telling.{IsFaultInTurn, IsTrueFault, IsTrueInTurn, about_held, about_petitions, about_request}, proofs.InTurn.{with_world}}
 
 -- what is true of one of the calls that are left is true of it among all

@@ -9,7 +9,7 @@ use Rattle.moo_world.specs.Between.{CallsLead, BatchLeads}
 use Rattle.moo_world.specs.Rows.{IsGood}
 use Rattle.moo_world.specs.Judge as model
 use Rattle.moo_world.specs.Judge.{State, state_of}
-use Rattle.moo_call_parts.specs.Reasons.{error_of}
+use Rattle.moo_calls_shared.specs.Reasons.{error_of}
 use Rattle.moo_batch.specs.declared.judging.Stop.{Stop}
 use Rattle.moo_batch.specs.declared.judging.Stop.TheVariants.{Refused as refused_at, Full as full_at, OutOfMemory as no_memory}
 use Rattle.moo_batch.specs.declared.judging.Verdict.{Verdict}

@@ -9,10 +9,10 @@ use Rattle.moo_world.specs.Outcomes.{Outcome, Done, Failed, Full as none_left}
 use Rattle.moo_world.specs.Requests.{State, state_of}
 use Rattle.moo_world.specs.Rows.{IsGood}
 use Rattle.moo_world.specs.World.{World}
-use Rattle.moo_call_parts.specs.Outcomes.{world_in}
-use Rattle.moo_call_parts.specs.Reasons.{error_of}
-use Rattle.moo_call_parts.specs.declared.fault.Fault.{Fault}
-use Rattle.moo_call_parts.specs.declared.fault.Fault.TheVariants.{Moo, Held as of_held, Full, OutOfMemory}
+use Rattle.moo_calls_shared.specs.Outcomes.{world_in}
+use Rattle.moo_calls_shared.specs.Reasons.{error_of}
+use Rattle.moo_calls_shared.specs.declared.fault.Fault.{Fault}
+use Rattle.moo_calls_shared.specs.declared.fault.Fault.TheVariants.{Moo, Held as of_held, Full, OutOfMemory}
 
 abbrev pub state_in : Held → State
 state_in held = state_of held.maps

@@ -17,11 +17,11 @@ use Rattle.moo_world.specs.Names.{petition_call}
 use Rattle.moo_world.specs.Outcomes.{Done}
 use Rattle.moo_world.specs.Requests.{are_on_world, held_call, held_step, in_world, one_integer, one_list, petition_at, state_of}
 use Rattle.moo_world.specs.Rows.{world_of}
-use Rattle.moo_call_parts.specs.About.{About, about_call, about_given, about_nothing, about_unasked}
-use Rattle.moo_call_parts.specs.Told.{IsTrueOf}
-use Rattle.moo_call_parts.specs.declared.fault.Fault.{Fault}
-use Rattle.moo_call_parts.specs.declared.fault.Fault.TheVariants.{Moo, Held as of_held, Full, OutOfMemory}
-use Rattle.moo_call_parts.specs.declared.reason.Reason.{Reason}
+use Rattle.moo_calls_shared.specs.About.{About, about_call, about_given, about_nothing, about_unasked}
+use Rattle.moo_calls_shared.specs.Told.{IsTrueOf}
+use Rattle.moo_calls_shared.specs.declared.fault.Fault.{Fault}
+use Rattle.moo_calls_shared.specs.declared.fault.Fault.TheVariants.{Moo, Held as of_held, Full, OutOfMemory}
+use Rattle.moo_calls_shared.specs.declared.reason.Reason.{Reason}
 
 -- ---- what a call is about
 

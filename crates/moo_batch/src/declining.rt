@@ -7,17 +7,18 @@ ghost use Rattle.moo_world.specs.Outcomes.{given};
 ghost use Rattle.moo_world.specs.Requests.{decline, one_integer};
 ghost use Rattle.moo_world.specs.Rights.{is_wizard};
 ghost use Rattle.moo_world.specs.Rows.{IsGood};
-ghost use Rattle.moo_call_parts.specs.Outcomes.{world_in};
+ghost use Rattle.moo_calls_shared.specs.Outcomes.{world_in};
 ghost use Rattle.moo_batch.specs.Outcomes.{state_in, KeepsGoodRows, Reaches, Stays};
 ghost use Rattle.moo_batch.specs.Telling.{IsTrueFault, about_number};
-ghost use Rattle.moo_call_parts.specs.About.{about_given};
+ghost use Rattle.moo_calls_shared.specs.About.{about_given};
 
 use crate::args::one_integer;
 use crate::looking::petition_at;
-use moo_call_parts::rights::is_wizard;
-use moo_call_parts::{Fault, Reason, ZERO};
+use moo_calls_shared::rights::is_wizard;
+use moo_calls_shared::{Fault, Reason};
 use moo_rows::Rows;
 use moo_value::{ObjNo, Value};
+use moo_world::ZERO;
 
 /// Whether the programmer is who asks, or a wizard.
 fn may_decline<R: Rows>(rows: &R, programmer: ObjNo, who: ObjNo) -> bool

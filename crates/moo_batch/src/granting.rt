@@ -8,20 +8,21 @@ ghost use Rattle.moo_world.specs.Keeps.{Keeps};
 ghost use Rattle.moo_world.specs.Outcomes.{given};
 ghost use Rattle.moo_world.specs.Requests.{grant, held_step, held_steps, one_integer};
 ghost use Rattle.moo_world.specs.Rows.{IsGood};
-ghost use Rattle.moo_call_parts.specs.Outcomes.{world_in, ComesTo};
+ghost use Rattle.moo_calls_shared.specs.Outcomes.{world_in, ComesTo};
 ghost use Rattle.moo_batch.specs.Outcomes.{state_in, ComesInTurn, KeepInTurn, KeepsGoodRows, Reaches, StaysAtCheck, held_at};
 ghost use Rattle.moo_batch.specs.Telling.{IsFaultInTurn, IsTrueFault, about_held, about_number};
-ghost use Rattle.moo_call_parts.specs.About.{about_given};
-ghost use Rattle.moo_call_parts.specs.Told.{IsTold};
+ghost use Rattle.moo_calls_shared.specs.About.{about_given};
+ghost use Rattle.moo_calls_shared.specs.Told.{IsTold};
 
 use crate::args::one_integer;
 use crate::held::held_call;
 use crate::looking::petition_at;
-use moo_call_parts::rights::is_wizard;
-use moo_call_parts::{Fault, Reason, ZERO};
 use moo_calls::step_named;
+use moo_calls_shared::rights::is_wizard;
+use moo_calls_shared::{Fault, Reason};
 use moo_rows::{Row, Rows};
 use moo_value::{ObjNo, Value};
+use moo_world::ZERO;
 use std::alloc::Global;
 
 /// One call that a petition holds, by the wizard who grants it. E_INVARG if it names no call on the world.

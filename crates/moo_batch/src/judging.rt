@@ -2,7 +2,7 @@
 
 ghost use Rattle.std.specs.Prelude.{◌≡◌, ◌+◌, ◌<◌, ◌≤◌, ℕ, length, OnOk, IfErr};
 ghost use Rattle.moo_batch.specs.declared.witness.Refusal.{Refusal};
-ghost use Rattle.moo_call_parts.specs.Reasons.{error_of};
+ghost use Rattle.moo_calls_shared.specs.Reasons.{error_of};
 ghost use Rattle.moo_rows.specs.Maps.{Maps};
 ghost use Rattle.moo_memory.specs.Changes.{AreChanges};
 ghost use Rattle.moo_world.specs.Rows.{IsGood};
@@ -12,7 +12,7 @@ ghost use Rattle.moo_batch.specs.Judge.{ComeTo, HaveKept, IsGoodAt, IsVerdict};
 
 use crate::stepping::step;
 use crate::witness::{Refusal, Witness};
-use moo_call_parts::Fault;
+use moo_calls_shared::Fault;
 use moo_memory::{ChangeList, Changes, Draft};
 use moo_rows::{Head, Rows};
 use moo_value::{Code, ObjNo, Value};

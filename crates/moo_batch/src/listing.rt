@@ -12,12 +12,13 @@ ghost use Rattle.moo_world.specs.Rights.{is_wizard};
 ghost use Rattle.moo_world.specs.Rows.{IsGood};
 ghost use Rattle.moo_batch.specs.Outcomes.{state_in, KeepsGoodRows, Reaches};
 ghost use Rattle.moo_batch.specs.Telling.{IsTrueFault};
-ghost use Rattle.moo_call_parts.specs.About.{about_given, about_nothing};
+ghost use Rattle.moo_calls_shared.specs.About.{about_given, about_nothing};
 
-use moo_call_parts::rights::is_wizard;
-use moo_call_parts::{Fault, list_of, no_values};
+use moo_calls_shared::rights::is_wizard;
+use moo_calls_shared::{Fault, no_values};
 use moo_rows::{PetitionId, PetitionRow, Rows, each_petition};
 use moo_value::{ObjNo, Value};
+use moo_world::list_of;
 use std::alloc::{AllocError, Global};
 
 /// A petition as it is listed: its number, who asks, and the calls.

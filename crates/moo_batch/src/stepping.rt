@@ -8,7 +8,7 @@ ghost use Rattle.moo_world.specs.Names.{grants, is_grant};
 ghost use Rattle.moo_world.specs.Requests.{petition_call_by, batch_call};
 ghost use Rattle.moo_world.specs.Rows.{IsGood};
 ghost use Rattle.moo_world.specs.World.{is_object};
-ghost use Rattle.moo_call_parts.specs.Outcomes.{world_in};
+ghost use Rattle.moo_calls_shared.specs.Outcomes.{world_in};
 ghost use Rattle.moo_batch.specs.Outcomes.{state_in, KeepsGoodRows, Reaches, Stays, StaysAtCheck};
 ghost use Rattle.moo_batch.specs.Telling.{IsTrueFault, about_petitions, about_request};
 
@@ -16,7 +16,7 @@ use crate::asking::petition;
 use crate::declining::decline;
 use crate::granting::grant;
 use crate::listing::petitions;
-use moo_call_parts::{Fault, Reason};
+use moo_calls_shared::{Fault, Reason};
 use moo_rows::Rows;
 use moo_tree::valid;
 use moo_value::{ObjNo, Value};

@@ -3,7 +3,7 @@
 ghost use Rattle.std.specs.Prelude.{◌≡◌, None};
 ghost use Rattle.moo_world.specs.Rows.{IsGood};
 
-use moo_call_parts::Reason;
+use moo_calls_shared::Reason;
 use moo_rows::Rows;
 use moo_world::Batch;
 

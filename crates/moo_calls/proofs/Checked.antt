@@ -2,7 +2,7 @@
 use Rattle.std.{proofs.Common.{◌≡◌, ℕ, Bool, true, false, ◌||◌, Option, None, Some, List, length, refl}, specs.Prelude.{◌&&◌, nat_le, unwrap_or}, proofs.lemmas.Bool.{false≢true, true≢false}}
 use Rattle.std.specs.Prelude.{[]}
 use Rattle.moo_value.specs.declared.value.ObjNo.{ObjNo}
-use Rattle.moo_call_parts.specs.Told.{IfAbout}
+use Rattle.moo_calls_shared.specs.Told.{IfAbout}
 
 -- ---- a parent that may not be used, which is #-1, an object, or neither
 

@@ -7,17 +7,15 @@ ghost use Rattle.moo_world.specs.Calls.{set_accept, set_player_flag, named_call}
 ghost use Rattle.moo_world.specs.declared.name.CallName.TheVariants.{SetPlayerFlag, SetAccept};
 ghost use Rattle.moo_world.specs.Keeps.{Keeps};
 ghost use Rattle.moo_world.specs.Rows.{IsGood};
-ghost use Rattle.moo_call_parts.specs.Outcomes.{world_in, ComesTo};
-ghost use Rattle.moo_call_parts.specs.About.{about_accept, about_call, about_object};
-ghost use Rattle.moo_call_parts.specs.Told.{IsTold};
+ghost use Rattle.moo_calls_shared.specs.Outcomes.{world_in, ComesTo};
+ghost use Rattle.moo_calls_shared.specs.About.{about_accept, about_call, about_object};
+ghost use Rattle.moo_calls_shared.specs.Told.{IsTold};
 
-use moo_call_parts::{
-    Fault, Reason, ZERO, change_row, object_and_accept, object_and_value, rights,
-};
+use moo_calls_shared::{Fault, Reason, change_row, object_and_accept, object_and_value, rights};
 use moo_rows::{ObjList, Rows};
 use moo_tree::valid;
 use moo_value::{ObjNo, Value};
-use moo_world::Change;
+use moo_world::{Change, ZERO};
 use std::alloc::Global;
 
 /// `set_player_flag(object, value)`: makes a player of an object, or no player, by the truth of the value, and answers 0.

@@ -5,12 +5,12 @@ ghost use Rattle.moo_world.specs.BuiltIns.{field_of};
 ghost use Rattle.moo_world.specs.Outcomes.{Done};
 ghost use Rattle.moo_world.specs.Rows.{IsGood};
 ghost use Rattle.moo_world.specs.World.{is_object};
-ghost use Rattle.moo_call_parts.specs.Outcomes.{world_in, Answers};
+ghost use Rattle.moo_calls_shared.specs.Outcomes.{world_in, Answers};
 
-use moo_call_parts::{Fault, flag, object_list};
+use moo_calls_shared::Fault;
 use moo_rows::Rows;
 use moo_value::{ObjNo, Value};
-use moo_world::BuiltIn;
+use moo_world::{BuiltIn, flag, object_list};
 use std::alloc::Global;
 
 /// What a built-in property of an object reads as: the text, the object or the list of objects, and 1 or 0 for a bit.

@@ -5,15 +5,15 @@ ghost use Rattle.moo_world.specs.Calls.{move, named_call};
 ghost use Rattle.moo_world.specs.declared.name.CallName.TheVariants.{Move};
 ghost use Rattle.moo_world.specs.Keeps.{Keeps};
 ghost use Rattle.moo_world.specs.Rows.{IsGood};
-ghost use Rattle.moo_call_parts.specs.Outcomes.{world_in, ComesTo};
-ghost use Rattle.moo_call_parts.specs.About.{about_call, about_place};
-ghost use Rattle.moo_call_parts.specs.Told.{IsTold};
+ghost use Rattle.moo_calls_shared.specs.Outcomes.{world_in, ComesTo};
+ghost use Rattle.moo_calls_shared.specs.About.{about_call, about_place};
+ghost use Rattle.moo_calls_shared.specs.Told.{IsTold};
 
-use moo_call_parts::{Fault, Reason, ZERO, accepts, change_row, rights, two_objects};
+use moo_calls_shared::{Fault, Reason, accepts, change_row, rights, two_objects};
 use moo_rows::Rows;
 use moo_tree::{inside, valid};
 use moo_value::{ObjNo, Value};
-use moo_world::Change;
+use moo_world::{Change, ZERO};
 use std::alloc::Global;
 
 /// `move(object, destination)`: puts an object into another one, or nowhere if the destination is `#-1`, and answers 0.

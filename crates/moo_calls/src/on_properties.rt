@@ -3,18 +3,18 @@
 
 ghost use Rattle.std.specs.Prelude.{◌≡◌, true, OnOk};
 ghost use Rattle.std.specs.List.{list_all};
-ghost use Rattle.moo_call_parts.specs.Outcomes.{world_in, ComesTo, Answers};
+ghost use Rattle.moo_calls_shared.specs.Outcomes.{world_in, ComesTo, Answers};
 ghost use Rattle.moo_world.specs.Arguments.{fits};
 ghost use Rattle.moo_world.specs.Keeps.{Keeps};
 ghost use Rattle.moo_world.specs.Rows.{IsGood};
 ghost use Rattle.moo_world.specs.Calls.{named_call};
 ghost use Rattle.moo_world.specs.declared.name.CallName.TheVariants.{Get, Properties, PropertyInfo, IsClearProperty, Set};
 ghost use Rattle.moo_world.specs.declared.name.CallName.TheVariants.{AddProperty, DeleteProperty, SetPropertyInfo, ClearProperty};
-ghost use Rattle.moo_call_parts.specs.About.{about_call};
-ghost use Rattle.moo_call_parts.specs.Told.{IsTold};
+ghost use Rattle.moo_calls_shared.specs.About.{about_call};
+ghost use Rattle.moo_calls_shared.specs.Told.{IsTold};
 
 use crate::values;
-use moo_call_parts::{
+use moo_calls_shared::{
     Fault, new_property, new_property_info, object_and_text, object_text_and_value, one_object,
 };
 use moo_rows::Rows;
@@ -47,7 +47,7 @@ pub(crate) fn properties<R: Rows>(
     ensures comes { Answers (named_call (world_in (R.held rows.now)) programmer Properties args.now) (R.held rows.now) result }
     ensures told { IsTold (R.held rows.now).maps programmer (about_call programmer Properties args.now) result }
 {
-    moo_property_calls::properties(rows, alloc, programmer, one_object(args)?)
+    moo_calls_properties::properties(rows, alloc, programmer, one_object(args)?)
 }
 
 /// `property_info`, by what it is given.
@@ -62,7 +62,7 @@ pub(crate) fn property_info<R: Rows>(
     ensures told { IsTold (R.held rows.now).maps programmer (about_call programmer PropertyInfo args.now) result }
 {
     let (x, property) = object_and_text(args)?;
-    moo_property_calls::property_info(rows, alloc, programmer, x, property)
+    moo_calls_properties::property_info(rows, alloc, programmer, x, property)
 }
 
 /// `is_clear_property`, by what it is given.
@@ -76,7 +76,7 @@ pub(crate) fn is_clear_property<R: Rows>(
     ensures told { IsTold (R.held rows.now).maps programmer (about_call programmer IsClearProperty args.now) result }
 {
     let (x, property) = object_and_text(args)?;
-    moo_property_calls::is_clear_property(rows, programmer, x, property)
+    moo_calls_properties::is_clear_property(rows, programmer, x, property)
 }
 
 /// `set`, by what it is given.
@@ -111,7 +111,7 @@ pub(crate) fn add_property<R: Rows>(
     ensures told { IsTold (R.held rows.old).maps programmer (about_call programmer AddProperty args.now) result }
 {
     let new = new_property(args)?;
-    moo_property_calls::add_property(
+    moo_calls_properties::add_property(
         rows, alloc, programmer, new.object, new.name, new.value, new.info,
     )
 }
@@ -130,7 +130,7 @@ pub(crate) fn delete_property<R: Rows>(
     ensures told { IsTold (R.held rows.old).maps programmer (about_call programmer DeleteProperty args.now) result }
 {
     let (x, property) = object_and_text(args)?;
-    moo_property_calls::delete_property(rows, alloc, programmer, x, property)
+    moo_calls_properties::delete_property(rows, alloc, programmer, x, property)
 }
 
 /// `set_property_info`, by what it is given.
@@ -147,7 +147,7 @@ pub(crate) fn set_property_info<R: Rows>(
     ensures told { IsTold (R.held rows.old).maps programmer (about_call programmer SetPropertyInfo args.now) result }
 {
     let new = new_property_info(args)?;
-    moo_property_calls::set_property_info(
+    moo_calls_properties::set_property_info(
         rows,
         alloc,
         programmer,
@@ -171,5 +171,5 @@ pub(crate) fn clear_property<R: Rows>(
     ensures told { IsTold (R.held rows.old).maps programmer (about_call programmer ClearProperty args.now) result }
 {
     let (x, property) = object_and_text(args)?;
-    moo_property_calls::clear_property(rows, programmer, x, property)
+    moo_calls_properties::clear_property(rows, programmer, x, property)
 }

@@ -2,16 +2,18 @@
 //! end early.
 
 ghost use Rattle.std.specs.Prelude.{OnOk};
-ghost use Rattle.moo_call_parts.specs.Outcomes.{world_in, ComesTo, Answers};
+ghost use Rattle.moo_calls_shared.specs.Outcomes.{world_in, ComesTo, Answers};
 ghost use Rattle.moo_world.specs.Keeps.{Keeps};
 ghost use Rattle.moo_world.specs.Rows.{IsGood};
 ghost use Rattle.moo_world.specs.Calls.{named_call};
 ghost use Rattle.moo_world.specs.declared.name.CallName.TheVariants.{Verbs, VerbInfo, VerbArgs, AddVerb};
 ghost use Rattle.moo_world.specs.declared.name.CallName.TheVariants.{DeleteVerb, SetVerbInfo, SetVerbArgs};
-ghost use Rattle.moo_call_parts.specs.About.{about_call};
-ghost use Rattle.moo_call_parts.specs.Told.{IsTold};
+ghost use Rattle.moo_calls_shared.specs.About.{about_call};
+ghost use Rattle.moo_calls_shared.specs.Told.{IsTold};
 
-use moo_call_parts::{Fault, new_verb, new_verb_args, new_verb_info, object_and_desc, one_object};
+use moo_calls_shared::{
+    Fault, new_verb, new_verb_args, new_verb_info, object_and_desc, one_object,
+};
 use moo_rows::Rows;
 use moo_value::{ObjNo, Value};
 use std::alloc::Global;
@@ -27,7 +29,7 @@ pub(crate) fn verbs<R: Rows>(
     ensures comes { Answers (named_call (world_in (R.held rows.now)) programmer Verbs args.now) (R.held rows.now) result }
     ensures told { IsTold (R.held rows.now).maps programmer (about_call programmer Verbs args.now) result }
 {
-    moo_verb_calls::verbs(rows, alloc, programmer, one_object(args)?)
+    moo_calls_verbs::verbs(rows, alloc, programmer, one_object(args)?)
 }
 
 /// `verb_info`, by what it is given.
@@ -42,7 +44,7 @@ pub(crate) fn verb_info<R: Rows>(
     ensures told { IsTold (R.held rows.now).maps programmer (about_call programmer VerbInfo args.now) result }
 {
     let (x, desc) = object_and_desc(alloc, args)?;
-    moo_verb_calls::verb_info(rows, alloc, programmer, x, &desc)
+    moo_calls_verbs::verb_info(rows, alloc, programmer, x, &desc)
 }
 
 /// `verb_args`, by what it is given.
@@ -57,7 +59,7 @@ pub(crate) fn verb_args<R: Rows>(
     ensures told { IsTold (R.held rows.now).maps programmer (about_call programmer VerbArgs args.now) result }
 {
     let (x, desc) = object_and_desc(alloc, args)?;
-    moo_verb_calls::verb_args(rows, alloc, programmer, x, &desc)
+    moo_calls_verbs::verb_args(rows, alloc, programmer, x, &desc)
 }
 
 /// `add_verb`, by what it is given.
@@ -74,7 +76,7 @@ pub(crate) fn add_verb<R: Rows>(
     ensures told { IsTold (R.held rows.old).maps programmer (about_call programmer AddVerb args.now) result }
 {
     let new = new_verb(args)?;
-    moo_verb_calls::add_verb(rows, alloc, programmer, new.object, new.verb, new.args)
+    moo_calls_verbs::add_verb(rows, alloc, programmer, new.object, new.verb, new.args)
 }
 
 /// `delete_verb`, by what it is given.
@@ -91,7 +93,7 @@ pub(crate) fn delete_verb<R: Rows>(
     ensures told { IsTold (R.held rows.old).maps programmer (about_call programmer DeleteVerb args.now) result }
 {
     let (x, desc) = object_and_desc(alloc, args)?;
-    moo_verb_calls::delete_verb(rows, programmer, x, &desc)
+    moo_calls_verbs::delete_verb(rows, programmer, x, &desc)
 }
 
 /// `set_verb_info`, by what it is given.
@@ -108,7 +110,7 @@ pub(crate) fn set_verb_info<R: Rows>(
     ensures told { IsTold (R.held rows.old).maps programmer (about_call programmer SetVerbInfo args.now) result }
 {
     let new = new_verb_info(alloc, args)?;
-    moo_verb_calls::set_verb_info(rows, alloc, programmer, new.object, &new.desc, new.verb)
+    moo_calls_verbs::set_verb_info(rows, alloc, programmer, new.object, &new.desc, new.verb)
 }
 
 /// `set_verb_args`, by what it is given.
@@ -125,5 +127,5 @@ pub(crate) fn set_verb_args<R: Rows>(
     ensures told { IsTold (R.held rows.old).maps programmer (about_call programmer SetVerbArgs args.now) result }
 {
     let new = new_verb_args(alloc, args)?;
-    moo_verb_calls::set_verb_args(rows, alloc, programmer, new.object, &new.desc, new.args)
+    moo_calls_verbs::set_verb_args(rows, alloc, programmer, new.object, &new.desc, new.args)
 }

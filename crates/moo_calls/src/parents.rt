@@ -5,15 +5,16 @@ ghost use Rattle.moo_world.specs.Calls.{chparent, named_call};
 ghost use Rattle.moo_world.specs.declared.name.CallName.TheVariants.{Chparent};
 ghost use Rattle.moo_world.specs.Keeps.{Keeps};
 ghost use Rattle.moo_world.specs.Rows.{IsGood};
-ghost use Rattle.moo_call_parts.specs.Outcomes.{world_in, ComesTo};
-ghost use Rattle.moo_call_parts.specs.About.{about_call, about_place};
-ghost use Rattle.moo_call_parts.specs.Told.{IsTold};
+ghost use Rattle.moo_calls_shared.specs.Outcomes.{world_in, ComesTo};
+ghost use Rattle.moo_calls_shared.specs.About.{about_call, about_place};
+ghost use Rattle.moo_calls_shared.specs.Told.{IsTold};
 
-use moo_call_parts::{Fault, Reason, ZERO, rights, two_objects};
+use moo_calls_shared::{Fault, Reason, rights, two_objects};
 use moo_props::{reparent, shares_property_name};
 use moo_rows::Rows;
 use moo_tree::{is_under, valid};
 use moo_value::{ObjNo, Value};
+use moo_world::ZERO;
 use std::alloc::Global;
 
 /// `chparent(object, new-parent)`: puts an object under another parent, `#-1` for none, and answers 0. The object and its

@@ -3,20 +3,21 @@
 
 ghost use Rattle.moo_value.specs.declared.value.ObjNo.{ObjNo};
 ghost use Rattle.std.specs.Prelude.{◌≡◌, false, Some, IfOk, IfErr};
-ghost use Rattle.moo_call_parts.specs.declared.reason.Reason.TheVariants.{NoObject};
-ghost use Rattle.moo_call_parts.specs.declared.fault.Fault.TheVariants.{Moo};
+ghost use Rattle.moo_calls_shared.specs.declared.reason.Reason.TheVariants.{NoObject};
+ghost use Rattle.moo_calls_shared.specs.declared.fault.Fault.TheVariants.{Moo};
 ghost use Rattle.moo_world.specs.Calls.{valid, parent, children, is_player, players, max_object, accept_list};
 ghost use Rattle.moo_world.specs.Rows.{IsGood};
 ghost use Rattle.moo_world.specs.World.{is_object, row_of};
 ghost use Rattle.moo_world.specs.Arguments.{no_values, one_object};
 ghost use Rattle.moo_world.specs.Outcomes.{given};
-ghost use Rattle.moo_call_parts.specs.Outcomes.{world_in, Answers};
-ghost use Rattle.moo_call_parts.specs.About.{About, about_given, about_nothing, about_object};
-ghost use Rattle.moo_call_parts.specs.Told.{IsTold};
+ghost use Rattle.moo_calls_shared.specs.Outcomes.{world_in, Answers};
+ghost use Rattle.moo_calls_shared.specs.About.{About, about_given, about_nothing, about_object};
+ghost use Rattle.moo_calls_shared.specs.Told.{IsTold};
 
-use moo_call_parts::{Fault, Reason, accept_value, flag, no_values, object_list, one_object};
+use moo_calls_shared::{Fault, Reason, no_values, one_object};
 use moo_rows::{ObjRow, Rows};
 use moo_value::{ObjNo, Value};
+use moo_world::{accept_value, flag, object_list};
 use std::alloc::Global;
 
 /// The row of an object, or E_INVARG.

@@ -5,14 +5,15 @@ ghost use Rattle.moo_world.specs.Calls.{recycle, named_call};
 ghost use Rattle.moo_world.specs.declared.name.CallName.TheVariants.{Recycle};
 ghost use Rattle.moo_world.specs.Keeps.{Keeps};
 ghost use Rattle.moo_world.specs.Rows.{IsGood};
-ghost use Rattle.moo_call_parts.specs.Outcomes.{world_in, ComesTo};
-ghost use Rattle.moo_call_parts.specs.About.{about_call, about_object};
-ghost use Rattle.moo_call_parts.specs.Told.{IsTold};
+ghost use Rattle.moo_calls_shared.specs.Outcomes.{world_in, ComesTo};
+ghost use Rattle.moo_calls_shared.specs.About.{about_call, about_object};
+ghost use Rattle.moo_calls_shared.specs.Told.{IsTold};
 
-use moo_call_parts::{Fault, Reason, ZERO, one_object, rights};
+use moo_calls_shared::{Fault, Reason, one_object, rights};
 use moo_props::{drop_object, return_quota};
 use moo_rows::Rows;
 use moo_value::{ObjNo, Value};
+use moo_world::ZERO;
 use std::alloc::Global;
 
 /// `recycle(object)`: removes an object with its properties and verbs, gives one back to the quota of its former owner, and

@@ -12,16 +12,16 @@ ghost use Rattle.moo_world.specs.PropertyCalls.{change_of, may_set, owner_is_obj
 ghost use Rattle.moo_world.specs.Rights.{may_set_name};
 ghost use Rattle.moo_world.specs.Rows.{IsGood};
 ghost use Rattle.moo_world.specs.World.{is_object};
-ghost use Rattle.moo_call_parts.specs.Reasons.{error_of};
-ghost use Rattle.moo_call_parts.specs.Outcomes.{world_in, ComesTo, GivenOrNot};
-ghost use Rattle.moo_call_parts.specs.About.{About, about_property};
-ghost use Rattle.moo_call_parts.specs.Told.{IsTold, IsTrueOf};
+ghost use Rattle.moo_calls_shared.specs.Reasons.{error_of};
+ghost use Rattle.moo_calls_shared.specs.Outcomes.{world_in, ComesTo, GivenOrNot};
+ghost use Rattle.moo_calls_shared.specs.About.{About, about_property};
+ghost use Rattle.moo_calls_shared.specs.Told.{IsTold, IsTrueOf};
 
-use moo_call_parts::{Fault, Reason, ZERO, change_row, rights};
+use moo_calls_shared::{Fault, Reason, change_row, rights};
 use moo_rows::Rows;
 use moo_tree::valid;
 use moo_value::{ObjNo, Value};
-use moo_world::{BuiltIn, Change};
+use moo_world::{BuiltIn, Change, ZERO};
 use std::alloc::Global;
 
 /// The change that a value is for a built-in property. E_PERM for `location` and `contents`, which `set` doesn't write;

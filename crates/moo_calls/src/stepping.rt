@@ -2,16 +2,16 @@
 
 ghost use Rattle.std.specs.Prelude.{◌≡◌, true, OnOk};
 ghost use Rattle.std.specs.List.{list_all};
-ghost use Rattle.moo_call_parts.specs.Outcomes.{world_in, ComesTo};
+ghost use Rattle.moo_calls_shared.specs.Outcomes.{world_in, ComesTo};
 ghost use Rattle.moo_world.specs.Arguments.{fits};
 ghost use Rattle.moo_world.specs.Keeps.{Keeps};
 ghost use Rattle.moo_world.specs.Rows.{IsGood};
 ghost use Rattle.moo_world.specs.Calls.{world_call, named_call};
-ghost use Rattle.moo_call_parts.specs.About.{about_call};
-ghost use Rattle.moo_call_parts.specs.Told.{IsTold};
+ghost use Rattle.moo_calls_shared.specs.About.{about_call};
+ghost use Rattle.moo_calls_shared.specs.Told.{IsTold};
 
 use crate::{changing, creating, moving, on_properties, on_verbs, parents, reading, recycling};
-use moo_call_parts::{Fault, Reason};
+use moo_calls_shared::{Fault, Reason};
 use moo_rows::Rows;
 use moo_tree::valid;
 use moo_value::{ObjNo, Value};

@@ -1,18 +1,18 @@
 //! Reading and setting properties, built-in ones and others.
 
 ghost use Rattle.std.specs.Prelude.{◌≡◌, true, OnOk};
-ghost use Rattle.moo_call_parts.specs.Outcomes.{world_in, Answers, ComesTo};
+ghost use Rattle.moo_calls_shared.specs.Outcomes.{world_in, Answers, ComesTo};
 ghost use Rattle.moo_world.specs.Arguments.{fits};
 ghost use Rattle.moo_world.specs.Keeps.{Keeps};
 ghost use Rattle.moo_world.specs.PropertyCalls.{get, set};
 ghost use Rattle.moo_world.specs.Rows.{IsGood};
-ghost use Rattle.moo_call_parts.specs.About.{about_property};
-ghost use Rattle.moo_call_parts.specs.Told.{IsTold};
+ghost use Rattle.moo_calls_shared.specs.About.{about_property};
+ghost use Rattle.moo_calls_shared.specs.Told.{IsTold};
 
 use crate::fields::field_of;
 use crate::setting::set_built_in;
-use moo_call_parts::{Fault, Reason};
-use moo_property_calls::{get_property, set_property};
+use moo_calls_properties::{get_property, set_property};
+use moo_calls_shared::{Fault, Reason};
 use moo_rows::Rows;
 use moo_tree::valid;
 use moo_value::{MooStr, ObjNo, Value};

@@ -1,7 +1,6 @@
 -- Rows that show the entries of a map, one for one, hold it.
-use Rattle.moo_cells.{proofs.Words.{◌≡◌, ℕ, ◌<◌, ◌+◌, suc, length, List, [], ◌∷◌, Bool, true, false, cond, find, drop, get_or, add-one, Option, None, Some, IfSome, option_map, get, refl, sym, ap, subst, ◌∙◌, true≢false, AllByRecursion, is_eq, eq_by_cmp, IsTotalOrder, tied_itself, Ordering, FinMap, entries, get-entries, IsAntisymmetric, Row, ShowEach, HoldsTable, IsRead, ShowsOrNone}, proofs.Table.{Bears, tied}}
-use Rattle.std.{specs.FinMap.Entries.{find as entry_at}, proofs.Math.Seq.{drop-cons}, specs.Prelude.{IsSome, IfNone}}
-use Rattle.moo_rows.{specs.Ordered.{IsNext}, specs.Walk.{entries_past}}
+use Rattle.moo_cells.{proofs.Words.{◌≡◌, ℕ, ◌<◌, ◌+◌, suc, length, List, [], ◌∷◌, Bool, true, false, cond, find, drop, get_or, add-one, Option, None, Some, get, refl, sym, ap, subst, ◌∙◌, true≢false, AllByRecursion, is_eq, eq_by_cmp, IsTotalOrder, tied_itself, Ordering, FinMap, entries, get-entries, IsAntisymmetric, Row, ShowEach, HoldsTable, IsRead, ShowsOrNone}, proofs.Table.{Bears, tied}}
+use Rattle.std.{specs.FinMap.Entries.{find as entry_at}, proofs.Math.Seq.{drop-cons}}
 
 -- what is left shows what is left, so that all shows all
 abbrev pub ShowRest : {K X : Type 0} → (K → Row → X → Type 0) → (left all : List Row) (es every : List (K × X)) → Type 0
@@ -44,28 +43,3 @@ module _ {J K X : Type 0} {has : J → Row → Bool} {number : K → J} {reads :
     shown = λ q. subst (ShowsOrNone (reads q) (find (has (number q)) rows)) (sym (get-entries m q)) (each_found total exact rows (entries m) show q);
     read = each_read rows (entries m) show;
   }
-
--- ---- the next row
-
-some_of : {X : Type 0} (o : Option X) → IsSome o → (x : X) × (o ≡ Some x)
-some_of None is = absurd cc
-some_of (Some x) is = (x, refl)
-
-pub next_some : {K X : Type 0} {cmp : K → K → Ordering} (m : FinMap cmp X) (from next : Option K) (left : Option K → List (K × X)) → ((k : K) (row : X) → IsNext m from (Some k) → get m k ≡ Some row → left from ≡ (k, row) ∷ left (Some k))
-    → IsNext m from next → IfSome next (λ k. (row : X) × (get m k ≡ Some row) × (left from ≡ (k, row) ∷ left (Some k)))
-next_some m from None left step is = tt
-next_some m from (Some k) left step is = let held = some_of (get m k) is.0 in (held.0, held.1, step k held.0 is held.1)
-
-pub next_none : {K X : Type 0} {cmp : K → K → Ordering} (m : FinMap cmp X) (from next : Option K) (left : Option K → List (K × X)) → (IsNext m from None → left from ≡ [])
-    → IsNext m from next → IfNone next (left from ≡ [])
-next_none m from None left end is = end is
-next_none m from (Some k) left end is = tt
-
--- a row that is found is the one that is held
-pub found_is : {V X : Type 0} (view : V → X) (v : V) (o : Option X) (row : X) → option_map view (Some v) ≡ o → o ≡ Some row → view v ≡ row
-found_is view v o row found held = let same : Some (view v) ≡ Some row = found ∙ held in cc
-
--- past none nothing is left out
-pub left_all : {K X : Type 0} (cmp : K → K → Ordering) (es : List (K × X)) → entries_past cmp None es ≡ es
-left_all cmp [] = refl
-left_all cmp (e ∷ es) = ap (λ rest. e ∷ rest) (left_all cmp es)

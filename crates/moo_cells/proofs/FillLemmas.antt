@@ -1,5 +1,6 @@
 -- A table that is put into a map row by row, whether or not its keys differ.
-use Rattle.moo_cells.{proofs.Words.{◌≡◌, List, [], ◌∷◌, ◌++◌, Bool, true, false, cond, find, Option, Some, None, refl, sym, ap, subst, ◌∙◌, AllByRecursion, eq_by_cmp, IsTotalOrder, Ordering, FinMap, empty, get, get-empty, get-insert, IsAntisymmetric, Row, IsTrue, column, has_rowid, has_key_pair, HoldsTable, TakesRow}, proofs.OneCells.{one_some}, proofs.RowsLemmas.{read_of}, proofs.Table.{Bears, held_none, held_more, tied}, proofs.Apart.{in_any_order, pairwise, holds_again, alike_numbers, alike_pairs, numbered_again, paired_again}, specs.Apart.{HaveNumbers, HavePairs, is_same_number, is_same_pair}, specs.Holding.{FillsTable}}
+use Rattle.moo_cells.{proofs.Words.{◌≡◌, List, [], ◌∷◌, ◌++◌, Bool, true, false, cond, find, Option, Some, None, refl, sym, ap, subst, ◌∙◌, AllByRecursion, eq_by_cmp, IsTotalOrder, Ordering, FinMap, empty, get, get-empty, get-insert, IsAntisymmetric, Row, IsTrue, column, has_rowid, has_key_pair, HoldsTable, TakesRow}, proofs.RowsLemmas.{read_of}, proofs.Table.{Bears, held_none, held_more, tied}, proofs.Apart.{in_any_order, pairwise, holds_again, alike_numbers, alike_pairs, numbered_again, paired_again}, specs.Apart.{HaveNumbers, HavePairs, is_same_number, is_same_pair}, specs.Holding.{FillsTable}}
+use Rattle.moo_cells_row.proofs.OneCells.{one_some}
 use Rattle.std.{specs.List.{IsDistinct}, specs.List.Sorted.{IsPermutation}}
 use Rattle.sqlite_trees.specs.View.{is_int}
 

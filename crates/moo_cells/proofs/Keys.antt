@@ -1,38 +1,11 @@
 -- How the rows of each table bear their keys.
-use Rattle.moo_cells.{proofs.Words.{◌≡◌, inl, inr, ℕ, ℤ, pos, negsuc, ◌<ℤ◌, true, refl, sym, ap, ◌∙◌, arith, is_eq, int_cmp, ordering_then, int_ranked, tied_itself, alike_right, Ordering, Less, Equal, Greater, and_parts, and_from, ints, Value, Row, column, value_cmp, rowid, has_rowid, Version, has_key_pair, IsRowBelow, ReadsObject, ReadsProp, ReadsSlot, ReadsVerb, ReadsPetition, object_number, prop_number, slot_number, verb_number, petition_number, IsLess, IsPairLess}, proofs.Table.{Bears, tied}}
+use Rattle.moo_cells.{proofs.Words.{◌≡◌, inl, inr, ℕ, ℤ, pos, negsuc, ◌<ℤ◌, true, refl, sym, ap, ◌∙◌, arith, is_eq, int_cmp, ordering_then, int_ranked, tied_itself, alike_right, Ordering, Less, Equal, Greater, and_parts, and_from, ints, Value, Row, column, value_cmp, rowid, has_rowid, Version, has_key_pair, IsRowBelow, ReadsObject, ReadsProp, ReadsSlot, ReadsVerb, ReadsPetition, object_number, prop_number, slot_number, verb_number, petition_number, IsLess, IsPairLess}, proofs.Table.{Bears}}
 use Rattle.sqlite.specs.declared.types.Value.TheVariants.{Int}
 use Rattle.sqlite_value.proofs.OrderLemmas.{value_cmp_total, value_cmp-Int}
-
--- a value that ties with a number orders as it does
-ties : (a b : Value) (m n : ℤ) → value_cmp a (Int m) ≡ Equal → value_cmp b (Int n) ≡ Equal → value_cmp a b ≡ int_cmp m n
-ties a b m n p q = value_cmp_total.congr a (Int m) b p ∙ alike_right value_cmp_total b (Int n) (Int m) q ∙ value_cmp-Int m n
-
--- the number that ties with another is that number
-one_number : (m n : ℤ) → is_eq (value_cmp (Int m) (Int n)) ≡ true → m ≡ n
-one_number m n h = int_ranked m n Equal (sym (sym (value_cmp-Int m n) ∙ tied (value_cmp (Int m) (Int n)) h))
-
-less_of : (m n : ℤ) → int_cmp m n ≡ Less → m <ℤ n
-less_of m n e = int_ranked m n Less (sym e)
-
-irreflexive : (m n : ℤ) → m <ℤ n → m ≡ n → ⊥
-irreflexive m n h e = absurd (omega (arith, ints))
-
-asymmetric : (m n : ℤ) → m <ℤ n → n <ℤ m → ⊥
-asymmetric m n h k = absurd (omega (arith, ints))
-
-abbrev pub rises : Row → Row → Type 0
-rises a b = value_cmp (rowid a) (rowid b) ≡ Less
-
-pub self_tied : (v : Value) (n : ℤ) → v ≡ Int n → is_eq (value_cmp v (Int n)) ≡ true
-self_tied v n is = ap (λ x. is_eq (value_cmp x (Int n))) is ∙ ap is_eq (tied_itself value_cmp_total (Int n))
-
-pub tied_number : (v : Value) (n j : ℤ) → v ≡ Int n → is_eq (value_cmp v (Int j)) ≡ true → j ≡ n
-tied_number v n j is h = sym (one_number n j (ap (λ x. is_eq (value_cmp x (Int j))) (sym is) ∙ h))
+use Rattle.moo_cells_row.proofs.Numbers.{asymmetric, irreflexive, less_of, tied, ties}
+pub use Rattle.moo_cells_row.proofs.Numbers.{number_apart, rises, self_tied, tied_number}
 
 -- ---- one number
-
-pub number_apart : (j : ℤ) (r s : Row) → rises r s → has_rowid j r ≡ true → has_rowid j s ≡ true → ⊥
-number_apart j r s up p q = irreflexive j j (less_of j j (sym (ties (rowid r) (rowid s) j j (tied _ p) (tied _ q)) ∙ up)) refl
 
 number_above : (j k : ℤ) (r s : Row) → rises r s → has_rowid k r ≡ true → has_rowid j s ≡ true → j <ℤ k → ⊥
 number_above j k r s up p q under = asymmetric j k under (less_of k j (sym (ties (rowid r) (rowid s) k j (tied _ p) (tied _ q)) ∙ up))

@@ -3,6 +3,7 @@ use Rattle.moo_cells.{proofs.Words.{◌≡◌, inl, inr, length, List, [], ◌�
 use Rattle.std.proofs.lemmas.List.Folds.{find-append}
 use Rattle.sqlite_rules.{specs.Lists.{Has}, proofs.ListLemmas.{all_has, has_found}}
 use Rattle.sqlite_trees.specs.Tree.{IsAscending}
+pub use Rattle.moo_cells_row.proofs.Numbers.{tied}
 
 -- how rows in ascending order bear the keys of a table
 pub record Bears {J K X : Type 0} (has : J → Row → Bool) (number : K → J) (reads : K → Row → X → Type 0) (up : Row → Row → Type 0) (below : J → J → Type 0) : Type 0 where
@@ -20,11 +21,6 @@ has_between (y ∷ xs) x ys = inr (has_between xs x ys)
 or_none : {X : Type 0} (o : Option X) → option_or o None ≡ o
 or_none None = refl
 or_none (Some x) = refl
-
-pub tied : (o : Ordering) → is_eq o ≡ true → o ≡ Equal
-tied Less h = cc
-tied Equal h = refl
-tied Greater h = cc
 
 -- the rows that were taken and those that are left, at the next one and at the end
 

@@ -9,7 +9,7 @@ use Rattle.moo_tables.specs.declared.version.Version.{Version}
 use Rattle.moo_tables.specs.Listing.{has_key_pair}
 use Rattle.moo_cells.specs.Apart.{HaveNumbers, HavePairs}
 use Rattle.moo_cells.specs.Holding.{FillsTable, object_number, prop_number, slot_number, verb_number}
-use Rattle.moo_cells.specs.Reading.{ReadsObject, ReadsProp, ReadsSlot, ReadsVerb}
+use Rattle.moo_cells_row.specs.Reading.{ReadsObject, ReadsProp, ReadsSlot, ReadsVerb}
 
 -- rows of the table object were put, of which there were none, and the other maps stay
 pub record FillsObjects (version : Version) (before : Maps) (cells : List Row) (after : Maps) : Type 0 where

@@ -1,14 +1,9 @@
-pub mod Object
 pub mod Shows
-pub mod Reading
-pub mod Columns
 pub mod Unread
 pub mod Holding
 pub mod Apart
 pub mod Each
 pub mod Compared
-pub mod Head
-pub mod HeadCells
 pub mod Damage
 pub mod Filled
 pub mod Taken

@@ -10,7 +10,7 @@ use Rattle.moo_tables.specs.Inside.{Rests}
 use Rattle.moo_tables.specs.Listing.{ListsNumbers, ListsPairs, has_key_pair}
 use Rattle.moo_cells.specs.Apart.{HaveNumbers, HavePairs}
 use Rattle.moo_cells.specs.Holding.{FillsTable, object_number, prop_number, slot_number, verb_number}
-use Rattle.moo_cells.specs.Reading.{ReadsObject, ReadsProp, ReadsSlot, ReadsVerb}
+use Rattle.moo_cells_row.specs.Reading.{ReadsObject, ReadsProp, ReadsSlot, ReadsVerb}
 
 -- the rows that list the table object were read, and the other maps stay
 pub record TakesObjects (version : Version) (old new : State) (before after : Maps) : Type 0 where

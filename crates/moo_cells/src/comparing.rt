@@ -6,15 +6,14 @@ ghost use Rattle.moo_world.specs.Rows.{IsGood};
 ghost use Rattle.moo_tables.specs.Inside.{AreKeyed};
 ghost use Rattle.moo_tables.specs.Listing.{AreListed, tables_of};
 ghost use Rattle.moo_tables.specs.Version.{version_number};
-ghost use Rattle.moo_cells.specs.Head.{HeadIs, ReadsHead, ReadsCounter};
+ghost use Rattle.moo_cells_row.specs.Head.{HeadIs, ReadsHead, ReadsCounter};
 ghost use Rattle.moo_cells.specs.Shows.{ShowsRows};
 ghost use Rattle.moo_cells.specs.Damage.{SaysOfCells};
 ghost use Rattle.moo_cells.specs.Compared.{IsMismatch};
 
 use crate::cells::read_cells;
-use crate::fault::CellFault;
-use crate::head::read_head;
 use crate::showing::show_each;
+use moo_cells_row::{CellFault, read_head};
 use moo_damage::{Key, first_difference};
 use moo_memory::Flat;
 use moo_rows::{Head, ObjRow, PetitionRow, PropRow, Rows, SlotRow, VerbRow};

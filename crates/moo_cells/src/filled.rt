@@ -6,8 +6,8 @@ ghost use Rattle.moo_rows.specs.Maps.{Maps};
 ghost use Rattle.moo_tables.specs.declared.version.Version.{Version};
 ghost use Rattle.moo_cells.specs.Filled.{FillsInSomeOrder};
 
-use crate::fault::RowFault;
 use crate::filling::in_filling_order;
+use moo_cells_row::RowFault;
 use moo_memory::Flat;
 use moo_tables::{TakeRows, Version};
 use sqlite::Row;

@@ -10,14 +10,15 @@ ghost use Rattle.moo_rows.specs.Maps.{Maps, no_maps};
 ghost use Rattle.moo_world.specs.Rows.{IsGood};
 ghost use Rattle.moo_tables.specs.Tables.{Tables, schema_of};
 ghost use Rattle.moo_tables.specs.Inside.{AreKeyed, Rests, ReadsTables, FailsToRead};
+ghost use Rattle.moo_tables.specs.ReadCause.{HasCauseOfReading};
 ghost use Rattle.moo_damage.specs.Limits.{AreWithin};
 ghost use Rattle.moo_cells.specs.Shows.{ShowsRows};
 ghost use Rattle.moo_cells.specs.Taken.{TakesObjects, TakesProps, TakesSlots, TakesVerbs, TakesTables};
 
 use crate::filled::Filling;
-use crate::head::read_head;
 use crate::rows::under;
 use crate::tables::read_petitions;
+use moo_cells_row::read_head;
 use moo_damage::damage_of;
 use moo_memory::Flat;
 use moo_rows::{ObjRow, PropRow, SlotRow, VerbRow};
@@ -41,6 +42,7 @@ fn take_objects<S: Alter>(
     ensures taken { IfOk result (λ o. IfSome o (λ after.
         TakesObjects version (state S.Store conn.old) (state S.Store conn.new) rows.maps after.maps)) }
     ensures failed { OnErr result (FailsToRead (schema_of version) (state S.Store conn.old) (state S.Store conn.new)) }
+    ensures cause { HasCauseOfReading (schema_of version) (state S.Store conn.old) (state S.Store conn.new) result }
 {
     let mut filling = Filling::<ObjRow>::new(alloc, version, rows);
     let whole = feed_objects(alloc, conn, version, &mut filling)?;
@@ -64,6 +66,7 @@ fn take_props<S: Alter>(
     ensures taken { IfOk result (λ o. IfSome o (λ after.
         TakesProps version (state S.Store conn.old) (state S.Store conn.new) rows.maps after.maps)) }
     ensures failed { OnErr result (FailsToRead (schema_of version) (state S.Store conn.old) (state S.Store conn.new)) }
+    ensures cause { HasCauseOfReading (schema_of version) (state S.Store conn.old) (state S.Store conn.new) result }
 {
     let mut filling = Filling::<PropRow>::new(alloc, version, rows);
     let whole = feed_props(alloc, conn, version, &mut filling)?;
@@ -87,6 +90,7 @@ fn take_slots<S: Alter>(
     ensures taken { IfOk result (λ o. IfSome o (λ after.
         TakesSlots version (state S.Store conn.old) (state S.Store conn.new) rows.maps after.maps)) }
     ensures failed { OnErr result (FailsToRead (schema_of version) (state S.Store conn.old) (state S.Store conn.new)) }
+    ensures cause { HasCauseOfReading (schema_of version) (state S.Store conn.old) (state S.Store conn.new) result }
 {
     let mut filling = Filling::<SlotRow>::new(alloc, version, rows);
     let whole = feed_slots(alloc, conn, version, &mut filling)?;
@@ -110,6 +114,7 @@ fn take_verbs<S: Alter>(
     ensures taken { IfOk result (λ o. IfSome o (λ after.
         TakesVerbs version (state S.Store conn.old) (state S.Store conn.new) rows.maps after.maps)) }
     ensures failed { OnErr result (FailsToRead (schema_of version) (state S.Store conn.old) (state S.Store conn.new)) }
+    ensures cause { HasCauseOfReading (schema_of version) (state S.Store conn.old) (state S.Store conn.new) result }
 {
     let mut filling = Filling::<VerbRow>::new(alloc, version, rows);
     let whole = feed_verbs(alloc, conn, version, &mut filling)?;
@@ -132,6 +137,7 @@ fn take_tables<S: Alter>(
     ensures taken { IfOk result (λ o. IfSome o (λ after.
         TakesTables version (state S.Store conn.old) (state S.Store conn.new) rows.maps after.maps)) }
     ensures failed { OnErr result (FailsToRead (schema_of version) (state S.Store conn.old) (state S.Store conn.new)) }
+    ensures cause { HasCauseOfReading (schema_of version) (state S.Store conn.old) (state S.Store conn.new) result }
 {
     let objects = take_objects(alloc, conn, version, rows)?;
     let Some(one) = objects else {
@@ -171,6 +177,7 @@ fn take_rows<S: Alter>(
     ensures within { IfOk result (λ o. IfSome o (λ rows. AreWithin rows.maps)) }
     ensures limit { IfOk result (λ o. IfSome o (λ rows. rows.maps.head.seq < 2 ^ 63)) }
     ensures failed { OnErr result (FailsToRead (schema_of version) (state S.Store conn.old) (state S.Store conn.new)) }
+    ensures cause { HasCauseOfReading (schema_of version) (state S.Store conn.old) (state S.Store conn.new) result }
 {
     let (head, petition, petition_head) = small_cells_of(alloc, conn, version)?;
     if !are_each_numbered(&head, &petition, &petition_head) {
@@ -208,6 +215,7 @@ pub fn read_in_turn<S: Alter>(
     ensures one { HasCleanDisk (state S.Store conn.new) → IfOk result (λ o. IfSome o (λ rows. (tables : Tables) (m : Maps) →
         Rests (state S.Store conn.old) tables → tables.version ≡ version → ShowsRows tables m → IsGood m → rows.maps ≡ m)) }
     ensures failed { OnErr result (FailsToRead (schema_of version) (state S.Store conn.old) (state S.Store conn.new)) }
+    ensures cause { HasCauseOfReading (schema_of version) (state S.Store conn.old) (state S.Store conn.new) result }
 {
     let taken = take_rows(alloc, conn, version)?;
     let Some(rows) = taken else {

@@ -7,13 +7,12 @@ ghost use Rattle.moo_tables.specs.Listing.{AreListed, tables_of};
 ghost use Rattle.moo_tables.specs.Version.{version_number};
 ghost use Rattle.moo_damage.specs.Kinds.{NoneBefore};
 ghost use Rattle.moo_damage.specs.Limits.{AreWithin};
-ghost use Rattle.moo_cells.specs.Head.{HeadIs, ReadsHead, ReadsCounter};
+ghost use Rattle.moo_cells_row.specs.Head.{HeadIs, ReadsHead, ReadsCounter};
 ghost use Rattle.moo_cells.specs.Shows.{ShowsRows};
 ghost use Rattle.moo_cells.specs.Damage.{IsMet, IsNewer, SaysOfCells};
 
-use crate::fault::CellFault;
-use crate::head::read_head;
 use crate::tables::{read_objects, read_petitions, read_props, read_slots, read_verbs};
+use moo_cells_row::{CellFault, read_head};
 use moo_memory::Flat;
 use moo_rows::{Head, Rows};
 use moo_tables::CellLists as Cells;

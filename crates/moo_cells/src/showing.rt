@@ -1,10 +1,11 @@
 //! The rows of a table, compared with rows that were known before.
 
 ghost use Rattle.std.specs.Prelude.{◌≡◌, true, None, IfOk};
+ghost use Rattle.std.specs.FinMap.{entries};
 ghost use Rattle.moo_cells.specs.Each.{ShowEach};
 
-use crate::fault::RowFault;
 use crate::table_row::ReadRow;
+use moo_cells_row::RowFault;
 use moo_memory::Flat;
 use moo_rows::Row as _;
 use moo_tables::Version;
@@ -35,20 +36,17 @@ pub(crate) fn show_each<R: ReadRow>(
     cells: &[Row],
     rows: &Flat,
 ) -> Result<bool, AllocError>
-    ensures { IfOk result (λ show. show ≡ true → ShowEach (R.reads version) cells.now (R.left None rows.now.maps)) }
+    ensures { IfOk result (λ show. show ≡ true → ShowEach (R.reads version) cells.now (entries (R.map_of rows.now.maps))) }
 {
     let mut last = None;
     for row in cells {
-        let Some(key) = R::next(rows, last) else {
+        let Some(next) = R::next_row(rows, last) else {
             return Ok(false);
         };
-        let Some(held) = R::find(rows, key) else {
-            return Ok(false);
-        };
-        if !shows(alloc, version, row, key, held)? {
+        if !shows(alloc, version, row, next.0, next.1)? {
             return Ok(false);
         }
-        last = Some(key);
+        last = Some(next.0);
     }
-    Ok(R::next(rows, last).is_none())
+    Ok(R::next_row(rows, last).is_none())
 }

@@ -4,6 +4,7 @@
 //! Where they differ isn't told here. Whoever wants to know it reads them all (`read_tables` of `moo_tables`, `compare_cells`).
 
 ghost use Rattle.std.specs.Prelude.{◌≡◌, None, IfOk, OnOk, OnErr, true, false};
+ghost use Rattle.std.specs.FinMap.{entries};
 ghost use Rattle.sqlite.specs.Held.{state};
 ghost use Rattle.sqlite.specs.State.{HasCleanDisk};
 ghost use Rattle.moo_tables.specs.Tables.{Tables, schema_of};
@@ -26,7 +27,7 @@ use std::alloc::Global;
 
 /// Whether the rows of a table of this version are seen to show all rows of their kind, one for one; false too if memory ran out.
 fn are_shown<R: ReadRow>(alloc: Global, version: Version, cells: &[Row], rows: &Flat) -> bool
-    ensures { result ≡ true → ShowEach (R.reads version) cells.now (R.left None rows.now.maps) }
+    ensures { result ≡ true → ShowEach (R.reads version) cells.now (entries (R.map_of rows.now.maps)) }
 {
     match show_each::<R>(alloc, version, cells, rows) {
         Ok(show) => show,

@@ -1,7 +1,7 @@
 -- What is known of the end of a request stays so as it grows, and tells when it is whole.
 use Rattle.std.proofs.Math.Logic.{∥∥₁_map}
 use Rattle.std.proofs.Common.{◌≡◌, ◌≤◌, ◌<◌, ℕ, List, [], ◌++◌, length, Option, Bool, true, false, true≢false, refl, sym, subst, append_assoc, append-nil}
-use Rattle.moo_request.specs.Whole.{IsWhole, IsCutOff, IsWholeFrom}
+use Rattle.moo_http_request.specs.Whole.{IsWhole, IsCutOff, IsWholeFrom}
 use Rattle.moo_desk.specs.Ripe.{IsKnownFrom}
 
 whole_from_more : (bytes more : List ℕ) (n : ℕ) → IsWholeFrom bytes n → IsWholeFrom (bytes ++ more) n

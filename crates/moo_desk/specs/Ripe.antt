@@ -1,6 +1,6 @@
 -- When a connection may be handed out.
 use Rattle.std.specs.Prelude.{◌≡◌, ◌≢◌, ◌⊎◌, ℕ, Bool, false, List, Option, Some}
-use Rattle.moo_request.specs.Whole.{IsWhole, IsWholeFrom}
+use Rattle.moo_http_request.specs.Whole.{IsWhole, IsWholeFrom}
 use Rattle.moo_desk.specs.declared.gathered.Coming.{Coming}
 use Rattle.moo_desk.specs.declared.gathered.Coming.TheVariants.{More}
 

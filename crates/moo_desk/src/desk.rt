@@ -11,7 +11,7 @@ use crate::outgoing::Outgoing;
 use crate::rounds::{BUDGET, gather_all, held, mark_all, mark_due, step_all, watch_all};
 use crate::slot::Slot;
 use moo_arrivals::{Arrivals, Cause, Closing, Connection, Loss, Route};
-use moo_request::Routes;
+use moo_http_request::Routes;
 use std::alloc::{AllocError, Global};
 use std::time::{Clock, Duration};
 

@@ -1,6 +1,7 @@
 //! Where connections come from.
 
-use std::io::{Read, Write};
+use moo_http_request::Incoming;
+use std::io::Write;
 use std::net::OpenStream;
 use std::time::Duration;
 
@@ -22,7 +23,7 @@ pub enum Taken<R, W> {
 
 /// A gate, through which connections come. None is waited for but by `wait`.
 pub trait Gate {
-    type Reader: Read + OpenStream + Drop;
+    type Reader: Incoming + OpenStream + Drop;
 
     type Writer: Write + OpenStream + Drop;
 

@@ -4,6 +4,7 @@ ghost use Rattle.std.specs.Prelude.{◌≡◌, ◌≤◌, ◌<◌, ◌++◌, ℕ
 ghost use Rattle.std.specs.Io.KnownBytes.{Keeps, prepend_known};
 
 use moo_arrivals::Cause;
+use moo_http_request::Incoming;
 use std::alloc::Global;
 use std::io::{Error, ErrorKind, Read, Result};
 
@@ -85,16 +86,26 @@ impl<R: Read> Gathered<R> {
     }
 }
 
-impl<R: Read> Read for Gathered<R> {
+impl<R: Incoming> Read for Gathered<R> {
     ghost remaining = { λ it. prepend_known (drop it.at it.bytes.items) (R.remaining it.reader) };
 
-    // Past what was gathered the reader itself is asked, which doesn't wait. So no request seems to end that may go on.
     fn read(&mut self, buf: &mut [u8]) -> Result<usize> {
+        self.receive(buf)
+    }
+}
+
+impl<R: Incoming> Incoming for Gathered<R> {
+    ghost use Rattle.moo_desk.specs.Broken.{IsBroken};
+
+    ghost fails = { IsBroken R.fails };
+
+    // Past what was gathered the reader itself is asked, which doesn't wait. So no request seems to end that may go on.
+    fn receive(&mut self, buf: &mut [u8]) -> Result<usize> {
         if self.at == self.bytes.len() {
             if self.coming == Coming::Unread {
                 return Err(Error::from(ErrorKind::TimedOut));
             }
-            return self.reader.read(buf);
+            return self.reader.receive(buf);
         }
         let mut rest: &[u8] = &self.bytes[self.at..];
         let count = rest.read(buf)?;

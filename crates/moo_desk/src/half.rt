@@ -1,5 +1,8 @@
 //! A socket as a reader and as a writer.
 
+ghost use Rattle.std.specs.Prelude.{⊤};
+
+use moo_http_request::Incoming;
 use std::alloc::Global;
 use std::io::{Read, Result, Write};
 use std::net::{OpenStream, Shutdown, TcpStream};
@@ -27,6 +30,15 @@ impl Read for Half {
     fn read(&mut self, buf: &mut [u8]) -> Result<usize> {
         let mut socket = self.socket.as_ref();
         socket.read(buf)
+    }
+}
+
+// A socket tells nothing of when it fails.
+impl Incoming for Half {
+    ghost fails = { λ _ _. ⊤ };
+
+    fn receive(&mut self, buf: &mut [u8]) -> Result<usize> {
+        self.read(buf)
     }
 }
 

@@ -3,7 +3,7 @@
 use crate::gate::Gate;
 use crate::leaving::Leaving;
 use crate::slot::Slot;
-use moo_request::Routes;
+use moo_http_request::Routes;
 use std::io::{Read, Write};
 use std::net::OpenStream;
 use std::time::Duration;

@@ -3,14 +3,14 @@
 ghost use Rattle.std.specs.Prelude.{◌≡◌, true, false, length, drop};
 ghost use Rattle.std.specs.Io.KnownBytes.{Keeps, prepend_known};
 ghost use Rattle.moo_desk.specs.declared.gathered.Coming.TheVariants.{Unread};
-ghost use Rattle.moo_request.specs.Whole.{IsWhole};
+ghost use Rattle.moo_http_request.specs.Whole.{IsWhole};
 ghost use Rattle.moo_desk.specs.Ripe.{IsKnownFrom, IsRipe};
 
 use crate::gate::Gate;
 use crate::gathered::{Coming, Filled, Gathered};
 use crate::outgoing::Outgoing;
 use moo_arrivals::Cause;
-use moo_request::{MAX_HEAD, Routes, Wanted, wants};
+use moo_http_request::{MAX_HEAD, Routes, Wanted, wants};
 use std::alloc::Global;
 use std::io::Read;
 use std::time::Duration;

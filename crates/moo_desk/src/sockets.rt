@@ -11,7 +11,7 @@ use crate::outgoing::Outgoing;
 use mio::unix::SourceFd;
 use mio::{Events, Interest, Poll, Token};
 use moo_arrivals::{Arrivals, Closing, Connection, Loss, Route};
-use moo_request::Routes;
+use moo_http_request::Routes;
 use std::alloc::Global;
 use std::io::{Error, ErrorKind, Result};
 use std::net::{Ipv4Addr, TcpListener};

@@ -6,10 +6,10 @@ ghost use Rattle.moo_dump.specs.Dump.{line, object_line, property_line, slot_lin
 ghost use Rattle.moo_world.specs.Prepositions.{object_spec_text, prep_text};
 ghost use Rattle.moo_world.specs.Rows.{slot_seen};
 
-use moo_call_parts::{accept_value, flag, list_of};
 use moo_rows::{ArgSpec, ObjRow, PetitionId, PetitionRow, PropRow, SlotRow, SlotState, VerbRow};
 use moo_value::{MooStr, ObjNo, Value, print_literal};
 use moo_verbs::{bits_letters, print_object_spec, print_prep};
+use moo_world::{accept_value, flag, list_of};
 use std::alloc::{AllocError, Global};
 
 /// Appends a word and a literal list of these values, as a line.

@@ -1,8 +1,12 @@
 -- What the fault of an open that failed says of the files.
-use Rattle.moo_files.proofs.Words.{◌≡◌, ◌≢◌, ◌⊎◌, inl, inr, ℕ, ◌<◌, arith, ap, sym, subst, ◌∙◌, ∥∥₁_elim, Ghosts, Files, Image, tally_of_files, Trees, store_error, FailsToOpenFiles, HoldsDatabase, faults_left, image_of, tally_left, Error, Leftover, not_ours, IsOfStore, Tables, StoreFault, HoldsTrees, ExcusesMalformed, IsUnopened, TakesForOurs, cannot_open, malformed, Remains, IsKept}
-use Rattle.moo_files.{specs.Causes.{HasCause, IsRefusedByDisk}, specs.Opened.{Contents, Nothing, Database, Unfit, Refuses}, specs.Connected.{Unconnects}, proofs.RemainsLemmas.{keeps_more}}
+use Rattle.moo_files.proofs.Words.{◌≡◌, ◌≢◌, ◌⊎◌, inl, inr, ℕ, ◌<◌, IsTrue, refl, arith, ap, Held, FileStore, file_state, sym, subst, ◌∙◌, ∥∥₁_elim, Ghosts, Files, Image, tally_of_files, Trees, store_error, FailsToOpenFiles, HoldsDatabase, faults_left, image_of, tally_left, Error, Leftover, not_ours, IsOfStore, Tables, StoreFault, HoldsTrees, ExcusesMalformed, IsUnopened, TakesForOurs, cannot_open, malformed, Remains, IsKept}
+use Rattle.moo_files.{specs.Causes.{HasCauseOr, IsRefusedByDisk, StopsOver}, specs.Opened.{Contents, Nothing, Database, Unfit, Refuses}, specs.Connected.{Unconnects}, proofs.RemainsLemmas.{keeps_more}}
 use Rattle.moo_files.specs.declared.remains.Remains.TheVariants as remains
-use Rattle.moo_store.specs.Opening.{Says}
+use Rattle.moo_store.specs.Opening.{Says, HasEarlier, StopsOpening}
+use Rattle.moo_tables.{specs.Cause.{StopsChange}, specs.ReadCause.{StopsQuery}}
+use Rattle.std.specs.Prelude.{None, IsSome}
+use Rattle.std.proofs.lemmas.Bool.{true≢false}
+use Rattle.sqlite.specs.State.{State, HasCause as StoreCause}
 use Rattle.sqlite_disk.specs.Disk.{MoreFaults}
 use Rattle.sqlite_trees.specs.declared.error.StoreError.{StoreError}
 use Rattle.sqlite_trees.specs.declared.error.StoreError.TheVariants as kinds
@@ -102,8 +106,57 @@ module _ {T D : Type 0} {g : Ghosts D} where
   refuses_unconnected image fault r store Unfit it = store
 
 -- files that weren't opened were denied
-pub denied_cause : {T D : Type 0} {g : Ghosts D} (Denied : Type 0) (fault : StoreFault) (r : Remains T D g) → IsUnopened r → Denied → HasCause Denied fault r
-denied_cause Denied fault (remains.Untouched start) unopened denied = denied
-denied_cause Denied fault (remains.NotOpened seal) unopened denied = denied
-denied_cause Denied fault (remains.Leftover left) unopened denied = absurd unopened
-denied_cause Denied fault (remains.Connection conn) unopened denied = absurd unopened
+pub denied_cause : {T D : Type 0} {g : Ghosts D} (Over : Held (FileStore D g) → Type 0) (Denied : Type 0) (fault : StoreFault) (r : Remains T D g) → IsUnopened r → Denied → HasCauseOr Over Denied fault r
+denied_cause Over Denied fault (remains.Untouched start) unopened denied = denied
+denied_cause Over Denied fault (remains.NotOpened seal) unopened denied = denied
+denied_cause Over Denied fault (remains.Leftover left) unopened denied = absurd unopened
+denied_cause Over Denied fault (remains.Connection conn) unopened denied = absurd unopened
+
+-- no connection to them is open
+pub unconnected_cause : {T D : Type 0} {g : Ghosts D} (Over : Held (FileStore D g) → Type 0) (Denied : Type 0) (fault : StoreFault) (r : Remains T D g) → HasCauseOr (λ _. ⊥) Denied fault r → HasCauseOr Over Denied fault r
+unconnected_cause Over Denied fault (remains.Untouched start) cause = cause
+unconnected_cause Over Denied fault (remains.NotOpened seal) cause = cause
+unconnected_cause Over Denied fault (remains.Leftover left) cause = cause
+unconnected_cause Over Denied fault (remains.Connection conn) cause = absurd cause
+
+-- ---- what stops the reading of tables over files
+
+module _ {D : Type 0} {g : Ghosts D} (old : State) (last : Held (FileStore D g)) (is_open : IsTrue old.is_open) (unlimited : old.step_limit ≡ None) (Earlier : Type 0) where
+  abbrev Stops : StoreFault → Type 0
+  Stops fault = StopsOver Earlier fault last
+
+  store_stops : (e : Error) (kind : StoreError) → e ≡ store_error kind → StoreCause old (file_state last) ⊥ kind → Stops (faults.Store e)
+  store_stops e kinds.OutOfMemory is h = inl (inr (ap faults.Store is))
+  store_stops e kinds.Io is h = inr (inl (some_faults _ _ h))
+  store_stops e kinds.Corrupt is h = inr (inl (some_faults _ _ h))
+  store_stops e kinds.Full is h = inr (inl (some_faults _ _ h))
+  store_stops e kinds.Broken is h = absurd (true≢false (sym is_open ∙ h))
+  store_stops e kinds.Unstorable is h = absurd h
+
+  no_limit : IsSome old.step_limit → ⊥
+  no_limit some = true≢false (sym (subst IsSome unlimited some))
+
+  query_stops : (e : Error) → StopsQuery old (file_state last) e → Stops (faults.Store e)
+  query_stops e (inl h) = store_stops e h.0 h.1 h.2
+  query_stops e (inr h) = absurd (no_limit h.1)
+
+  change_stops : (e : Error) → Earlier → StopsChange old (file_state last) e → Stops (faults.Store e)
+  change_stops e earlier (inl (kinds.OutOfMemory, is, h)) = inl (inr (ap faults.Store is))
+  change_stops e earlier (inl (kinds.Io, is, h)) = inr (inl (some_faults _ _ h))
+  change_stops e earlier (inl (kinds.Corrupt, is, h)) = inr (inl (some_faults _ _ h))
+  change_stops e earlier (inl (kinds.Full, is, h)) = inr (inl (some_faults _ _ h))
+  change_stops e earlier (inl (kinds.Broken, is, h)) = absurd (true≢false (sym is_open ∙ h))
+  change_stops e earlier (inl (kinds.Unstorable, is, h)) = inr (inr (earlier, inl (ap faults.Store is)))
+  change_stops e earlier (inr (inl h)) = absurd (no_limit h.1)
+  change_stops e earlier (inr (inr h)) = inr (inr (earlier, inr (ap faults.Store h)))
+
+  opening_stops : (e : Error) → (HasEarlier old → Earlier) → StopsQuery old (file_state last) e ⊎ (HasEarlier old × StopsChange old (file_state last) e) → Stops (faults.Store e)
+  opening_stops e earlier (inl h) = query_stops e h
+  opening_stops e earlier (inr h) = change_stops e (earlier h.0) h.1
+
+  pub stops_over : (fault : StoreFault) → (HasEarlier old → Earlier) → StopsOpening old (file_state last) fault → Stops fault
+  stops_over (faults.Store e) earlier it = opening_stops e earlier it
+  stops_over (faults.Damaged kind key) earlier it = absurd it
+  stops_over faults.NewerVersion earlier it = absurd it
+  stops_over faults.OutOfMemory earlier it = inl (inl refl)
+  stops_over faults.Closed earlier it = absurd it

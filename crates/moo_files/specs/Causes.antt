@@ -7,13 +7,16 @@ use Rattle.std.specs.declared.fs.attrs.Metadata.{Metadata}
 use Rattle.sqlite_disk.specs.declared.Disk.{Ghosts}
 use Rattle.sqlite_wal.specs.Recovery.{Image}
 use Rattle.sqlite.specs.Tree.{Trees}
-use Rattle.sqlite.specs.Files.{faults_left, HoldsDatabase, IsFullLeft, IsNothing}
+use Rattle.sqlite.specs.Files.{faults_left, file_state, HoldsDatabase, IsFullLeft, IsNothing}
+use Rattle.sqlite.specs.Held.{Held}
+use Rattle.sqlite_store.specs.declared.store.FileStore.{FileStore}
 use Rattle.sqlite.specs.declared.error.Error.{Error}
 use Rattle.sqlite.specs.declared.error.Error.TheVariants.{SqliteFailure}
 use Rattle.sqlite.specs.declared.error.ErrorCode.TheVariants as code
 use Rattle.sqlite.specs.declared.file.Leftover.{Leftover}
 use Rattle.moo_store.specs.declared.fault.StoreFault.{StoreFault}
-use Rattle.moo_store.specs.declared.fault.StoreFault.TheVariants.{OutOfMemory}
+use Rattle.moo_store.specs.declared.fault.StoreFault.TheVariants.{Store, OutOfMemory}
+use Rattle.moo_files.specs.Contents.{HoldsEarlier}
 use Rattle.moo_files.specs.declared.remains.Remains.{Remains}
 use Rattle.moo_files.specs.declared.remains.Remains.TheVariants as remains
 
@@ -40,13 +43,33 @@ module _ {D : Type 0} {g : Ghosts D} where
   IsRefused error left = (error ≡ SqliteFailure code.OutOfMemory) ⊎ IsRefusedByDisk left
 
 module _ {T D : Type 0} {g : Ghosts D} where
-  -- Why a sound database is refused: memory ran out, or the files weren't opened and that was denied, or their disk failed or refused.
-  -- Nothing is said once a connection is open.
+  -- Why files are refused: they weren't opened and that was denied, memory ran out, or their disk failed or refused. Or a connection to
+  -- them is open, and this is so of it.
+  abbrev pub HasCauseOr : (Held (FileStore D g) → Type 0) → Type 0 → StoreFault → Remains T D g → Type 0
+  HasCauseOr Over Denied fault (remains.Untouched start) = Denied
+  HasCauseOr Over Denied fault (remains.NotOpened seal) = Denied
+  HasCauseOr Over Denied fault (remains.Leftover left) = (fault ≡ OutOfMemory) ⊎ IsRefusedByDisk left
+  HasCauseOr Over Denied fault (remains.Connection conn) = Over conn
+
+  -- why a sound database is refused; nothing is said once a connection is open
   abbrev pub HasCause : Type 0 → StoreFault → Remains T D g → Type 0
-  HasCause Denied fault (remains.Untouched start) = Denied
-  HasCause Denied fault (remains.NotOpened seal) = Denied
-  HasCause Denied fault (remains.Leftover left) = (fault ≡ OutOfMemory) ⊎ IsRefusedByDisk left
-  HasCause Denied fault (remains.Connection conn) = ⊤
+  HasCause = HasCauseOr (λ _. ⊤)
+
+-- a migration stopped: a row is too big, or no number is left for a new one
+abbrev pub StopsMigration : StoreFault → Type 0
+StopsMigration fault = (fault ≡ Store (SqliteFailure code.TooBig)) ⊎ (fault ≡ Store (SqliteFailure code.NoRowid))
+
+module _ {D : Type 0} {g : Ghosts D} where
+  -- Why the tables of an open connection that show a state give no world: memory ran out, as this program or the store tells it, or a call
+  -- of the disk failed. Those of an earlier version are migrated, which may stop too.
+  abbrev pub StopsOver : Type 0 → StoreFault → Held (FileStore D g) → Type 0
+  StopsOver Earlier fault conn =
+      ((fault ≡ OutOfMemory) ⊎ (fault ≡ Store (SqliteFailure code.OutOfMemory))) ⊎ ((0 < (file_state conn).faults) ⊎ (Earlier × StopsMigration fault))
+
+module _ {T D : Type 0} {g : Ghosts D} where
+  -- why a state that files hold is refused, be a connection open or not
+  abbrev pub HasCauseOfState : Image → Type 0 → StoreFault → Remains T D g → Type 0
+  HasCauseOfState image Denied fault = HasCauseOr (StopsOver (HoldsEarlier image) fault) Denied fault
 
 -- the name isn't a path, or it is denied
 abbrev pub IsDenied : (List ℕ → Type 0) → List ℕ → Type 0

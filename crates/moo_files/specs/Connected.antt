@@ -1,5 +1,5 @@
 -- What a connection to the files of a world shows of them, and what a crash leaves of it.
-use Rattle.std.specs.Prelude.{◌≡◌, ◌≢◌, ◌⊎◌, IsTrue, false, ⊤}
+use Rattle.std.specs.Prelude.{◌≡◌, ◌≢◌, ◌⊎◌, IsTrue, None, false, ⊤}
 use Rattle.sqlite_disk.specs.declared.Disk.{Ghosts}
 use Rattle.sqlite_store.specs.declared.store.FileStore.{FileStore}
 use Rattle.sqlite_wal.specs.Recovery.{Image}
@@ -24,9 +24,10 @@ abbrev pub OnlyLeaves : Database → Type 0
 OnlyLeaves store = IsTrue store.is_open → (trees : Trees) → store.may_leave trees → trees ≡ store.committed.trees
 
 module _ {D : Type 0} {g : Ghosts D} where
-  -- A connection is open, outside a transaction. On a clean disk it works, and shows what it should.
+  -- A connection is open, outside a transaction, with no limit on steps. On a clean disk it works, and shows what it should.
   pub record IsConnected (Shows : Database → Type 0) (conn : Held (FileStore D g)) : Type 0 where
     pub outside : conn.in_transaction ≡ false
+    pub unlimited : conn.step_limit ≡ None
     pub opened : HasCleanDisk (file_state conn) → IsOpened conn
     pub found : HasCleanDisk (file_state conn) → Shows (file_state conn)
     pub left : OnlyLeaves (file_state conn)

@@ -52,6 +52,15 @@ HasNoSums image = (trees : Trees) (held : HoldsDatabase image trees) → is_summ
 abbrev pub HasOtherTables : Trees → Type 0
 HasOtherTables trees = (version : Version) → ¬ IsDatabase (record { schema = schema_of version; trees = trees })
 
+-- tables of an earlier version
+abbrev pub HasEarlierTables : Trees → Type 0
+HasEarlierTables trees =
+    (version : Version) × IsEarlier version × IsDatabase (record { schema = schema_of version; trees = trees })
+
+-- a log and its file hold a database with tables of an earlier version
+abbrev pub HoldsEarlier : Image → Type 0
+HoldsEarlier image = HoldsSuch HasEarlierTables image
+
 -- any table, index or view
 abbrev pub HasAnyTable : Trees → Type 0
 HasAnyTable trees = ¬ IsDatabase (record { schema = no_schema; trees = trees })
@@ -70,7 +79,7 @@ HoldsNoTable image = IsBlank image ⊎ (IsNothing image ⊎ ((trees : Trees) × 
 
 -- Tables of an earlier version have become others that show the same world. If they show none they don't become others.
 pub record IsMigrated (old new : Trees) : Type 0 where
-  pub earlier : (version : Version) × IsEarlier version × IsDatabase (record { schema = schema_of version; trees = old })
+  pub earlier : HasEarlierTables old
   pub state : (s : State) → LeavesState old s → LeavesState new s
   pub sound : (tables : Tables) → Leaves old tables → (rows : Maps) × IsGood rows × ShowsRows tables rows × LeavesRows new rows
 

@@ -6,7 +6,7 @@ ghost use Rattle.sqlite.specs.Tree.{Trees};
 ghost use Rattle.sqlite.specs.WalFiles.{image_at};
 ghost use Rattle.sqlite_std_file.specs.declared.pair.OpenError.{OpenError as Refusal};
 ghost use Rattle.moo_store.specs.Opening.{IsOfStore, not_ours};
-ghost use Rattle.moo_files.specs.Causes.{HasCause, IsDenied, IsOpenable};
+ghost use Rattle.moo_files.specs.Causes.{HasCause, HasCauseOr, IsDenied, IsOpenable};
 ghost use Rattle.moo_files.specs.Connected.{IsConnected, IsNewOrFound, Unconnects};
 ghost use Rattle.moo_files.specs.Contents.{HoldsTrees};
 ghost use Rattle.moo_files.specs.Making.{IsUnmadeIn};
@@ -121,7 +121,7 @@ pub(crate) fn open_connection<T: Start, H: WorldFiles<T>>(
         IfErr result (λ e. IsCleanRemains e.1 → Unconnects held (image_at T.Start) e.0 e.1) }
     // A database is refused only if the host denied it, the disk refused, or memory ran out.
     ensures cause { (trees : Trees) → HoldsTrees (image_at T.Start) trees →
-        IfErr result (λ e. IsCleanRemains e.1 → HasCause (IsDenied (H.denies host.now) path.now) e.0 e.1) }
+        IfErr result (λ e. IsCleanRemains e.1 → HasCauseOr (λ _. ⊥) (IsDenied (H.denies host.now) path.now) e.0 e.1) }
     ensures refusing { IfErr result (λ e. IfNotOpened e.1 ((error : Refusal) × H.refuses host.now path.now error)) }
 {
     let (files, options) = match open_pair(host, path, start) {

@@ -8,11 +8,11 @@ ghost use Rattle.sqlite.specs.Tree.{Trees};
 ghost use Rattle.sqlite.specs.WalFiles.{image_at};
 ghost use Rattle.sqlite_std_file.specs.declared.pair.OpenError.{OpenError as Refusal};
 ghost use Rattle.moo_world.specs.Rows.{IsGood};
-ghost use Rattle.moo_world.specs.Judge.{state_of};
+ghost use Rattle.moo_world.specs.Judge.{State, state_of};
 ghost use Rattle.moo_store.specs.Opening.{Adopting, not_ours};
 ghost use Rattle.moo_store.specs.World.{store_of, StandsFor};
-ghost use Rattle.moo_files.specs.Causes.{HasCause, IsDenied, IsUnfit};
-ghost use Rattle.moo_files.specs.Contents.{HoldsTrees};
+ghost use Rattle.moo_files.specs.Causes.{HasCause, HasCauseOfState, IsDenied, IsUnfit};
+ghost use Rattle.moo_files.specs.Contents.{HoldsTrees, HoldsState};
 ghost use Rattle.moo_files.specs.Opened.{Contents, Hold, IsOpenedOver, Opens, IsRefusedFrom, Refuses};
 ghost use Rattle.moo_files.specs.Remains.{cannot_open, IfNotOpened, IsCleanRemains};
 
@@ -80,6 +80,10 @@ pub fn open_from<T: Start, H: WorldFiles<T>>(
     // Before a connection is open a database is refused only if the host denied it, the disk refused, or memory ran out.
     ensures cause { (trees : Trees) → HoldsTrees (image_at T.Start) trees →
         IfErr result (λ e. IsCleanRemains e.1 → HasCause (IsDenied (H.denies host.now) path.now) e.0 e.1) }
+    // A state is refused for no other cause, and for these alone once a connection is open: the disk failed, or memory ran out. Only one
+    // of an earlier version may be refused because it can't be migrated.
+    ensures stopped { (s : State) → HoldsState (image_at T.Start) s → IfErr result (λ e. IsCleanRemains e.1 →
+        HasCauseOfState (image_at T.Start) (IsDenied (H.denies host.now) path.now) e.0 e.1) }
 {
     if let Some(fault) = unfit(host.metadata(path)) {
         return Err((fault, Remains::Untouched(start)));

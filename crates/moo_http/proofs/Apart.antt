@@ -4,8 +4,8 @@ use Rattle.std.specs.Prelude.{if◌then◌else◌}
 use Rattle.moo_world.specs.Judge.{is_due}
 use Rattle.moo_text.{specs.declared.reply.Reply.{Reply}, specs.declared.reply.Reply.TheVariants.{Stale}}
 use Rattle.moo_store.{specs.Answered.{answers_alone}, specs.declared.fault.StoreFault.{StoreFault}, specs.declared.fault.StoreFault.TheVariants.{OutOfMemory, Closed}}
-use Rattle.moo_request.{specs.declared.asked.Asked.TheVariants.{Each as Asks}, specs.declared.each.Each.{Each}}
-use Rattle.moo_responses.specs.declared.outcome.Outcome.TheVariants as outcome
+use Rattle.moo_http_request.{specs.declared.asked.Asked.TheVariants.{Each as Asks}, specs.declared.each.Each.{Each}}
+use Rattle.moo_http_response.specs.declared.outcome.Outcome.TheVariants as outcome
 
 -- by whether they are meant for the present number
 chosen : Each → State → Bool → Outcome

@@ -5,9 +5,9 @@ use Rattle.moo_rows.specs.Maps.{Maps}
 use Rattle.moo_text.{specs.declared.reply.Reply.{Reply}, specs.declared.reply.Reply.TheVariants.{NoMemory}}
 use Rattle.moo_text.specs.declared.reply.Answer.TheVariants as answered
 use Rattle.moo_store.{specs.Answered.{answer_of, IsRun}, specs.Text.{answer_to, StandsBehind}, specs.Untouched.{WritesOne, taken_of, lost_of}, specs.declared.fault.StoreFault.{StoreFault}, specs.declared.fault.StoreFault.TheVariants.{Store, Damaged, NewerVersion, OutOfMemory, Closed}, proofs.Asking.{asked_one}, proofs.Crashes.{IsSettled}, proofs.Running.{FailsAtStore}, proofs.Untouched.{written_on}}
-use Rattle.moo_request.{specs.declared.asked.Asked.TheVariants.{Question as Asks}, specs.declared.question.Question.{Question}}
-use Rattle.moo_responses.specs.Outcomes.{outcome_of}
-use Rattle.moo_responses.specs.declared.outcome.Outcome.TheVariants as outcome
+use Rattle.moo_http_request.{specs.declared.asked.Asked.TheVariants.{Question as Asks}, specs.declared.question.Question.{Question}}
+use Rattle.moo_http_response.specs.Outcomes.{outcome_of}
+use Rattle.moo_http_response.specs.declared.outcome.Outcome.TheVariants as outcome
 
 -- ---- a run of one batch
 

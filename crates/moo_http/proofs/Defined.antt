@@ -3,9 +3,9 @@ use Rattle.moo_http.proofs.Words.{◌≡◌, ◌≢◌, inl, inr, ap, ◌∙◌,
 use Rattle.moo_world.specs.Judge as model
 use Rattle.moo_text.specs.declared.reply.Answer.{Answer}
 use Rattle.moo_text.specs.declared.reply.Answer.TheVariants as answered
-use Rattle.moo_request.specs.declared.asked.Asked.TheVariants.{Each, Question}
-use Rattle.moo_responses.specs.Outcomes.{outcome_of}
-use Rattle.moo_responses.specs.declared.outcome.Outcome.TheVariants as outcome
+use Rattle.moo_http_request.specs.declared.asked.Asked.TheVariants.{Each, Question}
+use Rattle.moo_http_response.specs.Outcomes.{outcome_of}
+use Rattle.moo_http_response.specs.declared.outcome.Outcome.TheVariants as outcome
 
 leaves : (s : State) (v : model.Verdict) (new : Stand) → VerdictLeaves s v new → state_at new ≡ left_by s v
 leaves s (model.Accepted answers next) new left = elim left [ inl e ↦ ap state_at e | inr e ↦ ap state_at e ]

@@ -4,7 +4,7 @@ use Rattle.std.specs.Io.KnownBytes.{append_known, prepend_known}
 use Rattle.std.proofs.KnownBytes.{Appends-nil}
 use Rattle.std.proofs.lemmas.List.{append_cancel_left}
 use Rattle.std.proofs.Math.Seq.{take-append_seam, take-nil}
-use Rattle.moo_request.specs.declared.request.Received.{Received}
+use Rattle.moo_http_request.specs.declared.request.Received.{Received}
 
 consumes_given : (given left rest : Option (List ℕ)) (bs : List ℕ) → Keeps (prepend_known [] given) left → Consumes left rest bs → Consumes given rest bs
 consumes_given None left rest bs p q = tt

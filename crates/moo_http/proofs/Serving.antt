@@ -1,7 +1,7 @@
 -- What serving a request comes to.
 use Rattle.moo_http.{proofs.Words.{◌≡◌, ◌≢◌, inl, inr, ℕ, Bool, List, [], ◌++◌, Option, Some, None, refl, sym, subst, ap, ◌∙◌, append_assoc, append-nil, Result, Ok, Err, IfErr, IsErrAnd, Appends, Ghosts, Stand, World, IsMovedAs, StandsAt, Takes, Asked, Nothing, Request, ServeFault, Read, Write, OutOfMemory, Outcome, Consulted, response_with, response_text, IsWhyOf, Serves, StandsStill, Written, Served, Traffic, ledger_by, no_batches}, specs.Faults.{fault_of}, specs.Serves.{AnswersTo}}
-use Rattle.moo_request.specs.declared.fault.ReadFault.{ReadFault}
-use Rattle.moo_request.specs.declared.fault.ReadFault.TheVariants as read
+use Rattle.moo_http_request.specs.declared.fault.ReadFault.{ReadFault}
+use Rattle.moo_http_request.specs.declared.fault.ReadFault.TheVariants as read
 
 pub appends_nothing : (before : Option (List ℕ)) → Appends before before []
 appends_nothing None = tt
@@ -22,6 +22,19 @@ unread g known read.OutOfMemory old was bytes unwritten stays = (unwritten, inl 
 pub unread_at : {S : Type 0} (g : Ghosts S) (known : Bool) (r : Result (Unit {0}) ServeFault) (fault : ReadFault) (old : Stand) (was : World S) (bytes : Traffic) → IsErrAnd r (λ e. e ≡ fault_of fault) → bytes.after ≡ bytes.before → StandsStill g known old was was → Served g known r old was was bytes
 unread_at g known (Ok x) fault old was bytes is unwritten stays = absurd is
 unread_at g known (Err e) fault old was bytes is unwritten stays = subst (λ e. Served g known (Err e) old was was bytes) (sym is) (unread g known fault old was bytes unwritten stays)
+
+-- why it wasn't
+pub unread_cause : {Failed : Type 0} (r : Result (Unit {0}) ServeFault) (fault : ReadFault) → IsErrAnd r (λ e. e ≡ fault_of fault) → (fault ≡ read.Read → Failed) → IfErr r (λ e. e ≡ Read → Failed)
+unread_cause (Ok x) fault is cause = tt
+unread_cause (Err e) read.Read is cause = λ same. cause refl
+unread_cause (Err e) read.OutOfMemory is cause = λ same. absurd (apart (sym is ∙ same))
+  where
+    apart : OutOfMemory ≢ Read
+    apart = λ e. cc
+
+pub cause_none : (Failed : Type 0) (r : Result (Unit {0}) ServeFault) → IfErr r (λ e. e ≢ Read) → IfErr r (λ e. e ≡ Read → Failed)
+cause_none Failed (Ok x) other = tt
+cause_none Failed (Err e) other = λ is. absurd (other is)
 
 -- nothing is written if memory is refused
 pub written_nothing : (r : Result (Unit {0}) ServeFault) (before : Option (List ℕ)) (output : List ℕ) → IsErrAnd r (λ e. e ≡ OutOfMemory) → Written r before before output

@@ -1,9 +1,9 @@
 -- The connections that a source hands out, served one after another.
-use Rattle.moo_http.{proofs.Words.{◌≡◌, inl, inr, ℕ, suc, ◌+◌, Bool, true, false, List, [], ◌∷◌, Option, Some, refl, sym, ap, subst, arith, ◌∙◌, ◌≢◌, Result, Ok, Err, is_ok, IfErr, IsTrue, HasCleanDisk, Ghosts, Stand, World, IsMovedBy, store_of, CrashLeaves, StandsAt, Nothing, Request, ServeFault, Read, Write, OutOfMemory, ServiceFault, Moves, AfterConnections, StandsAtEnd, ConveysBy, Serves, StandsStill, Served, Yields, Exchanged, Visited, Visit, AfterTurns, Attended, ServesFrom, attended_between, ServesOn, answered_in, failed_in, lost_in, ledger_in, Happening, visit, settle, Loss, None, zero, TellsLoss, TellsLosses, Traffic, traffic_of, Ledger, IsMovedIn, and_then, no_batches, moved_then, written_none}, specs.Serves.{Gets, Moved}}
+use Rattle.moo_http.{proofs.Words.{◌≡◌, inl, inr, ℕ, suc, ◌+◌, Bool, true, false, List, [], ◌∷◌, Option, Some, refl, sym, ap, subst, arith, ◌∙◌, ◌≢◌, Result, Ok, Err, is_ok, IfErr, ◌⊎◌, IsTrue, HasCleanDisk, Ghosts, Stand, World, IsMovedBy, store_of, CrashLeaves, StandsAt, Nothing, Request, ServeFault, Read, Write, OutOfMemory, ServiceFault, Moves, AfterConnections, StandsAtEnd, ConveysBy, Serves, StandsStill, Served, Yields, Exchanged, Visited, IsLeftUnread, Visit, AfterTurns, Attended, ServesFrom, attended_between, ServesOn, answered_in, failed_in, lost_in, ledger_in, Happening, visit, settle, Loss, None, zero, TellsLoss, TellsLosses, Traffic, traffic_of, Ledger, IsMovedIn, and_then, no_batches, moved_then, written_none}, specs.Serves.{Gets, Moved}}
 use Rattle.std.specs.declared.io.Read as Reading
 use Rattle.std.specs.declared.io.Write as Writing
 use Rattle.moo_arrivals.specs.declared.arrivals.Arrivals as Arrivals
-use Rattle.moo_request.specs.declared.request.Received.{Received}
+use Rattle.moo_http_request.specs.declared.request.Received.{Received}
 use Rattle.moo_store.proofs.Crashes.{IsSettled}
 use Rattle.moo_http.specs.declared.ports.Ports as Ports
 use Rattle.moo_http.specs.declared.service.ServiceFault.TheVariants as service
@@ -51,19 +51,25 @@ module _ {S : Type 0} (g : Ghosts S) (known : Bool) (old : Stand) (was world : W
   exchanged (Err OutOfMemory) at (same, inr (output, serves)) = yields (λ ledger end. Exchanged (Err OutOfMemory) old end bytes ledger) output (λ ledger new it. (same, inr (output, it))) serves
 
 -- by whether it was answered
-visited_by : (r : Result (Unit {0}) ServeFault) (answered : Bool) (old new : Stand) (bytes : Traffic) (ledger : Ledger) → answered ≡ is_ok r → Exchanged r old new bytes ledger → Visited answered old new bytes ledger
-visited_by (Ok done) answered old new bytes ledger is it = subst (λ b. Visited b old new bytes ledger) (sym is) it
-visited_by (Err fault) answered old new bytes ledger is it = subst (λ b. Visited b old new bytes ledger) (sym is) (fault, it)
+visited_by : (Unread : Type 0) (r : Result (Unit {0}) ServeFault) (answered : Bool) (old new : Stand) (bytes : Traffic) (ledger : Ledger) → answered ≡ is_ok r → IfErr r (λ fault. fault ≡ Read → Unread) → Exchanged r old new bytes ledger
+    → Visited Unread answered old new bytes ledger
+visited_by Unread (Ok done) answered old new bytes ledger is cause it = subst (λ b. Visited Unread b old new bytes ledger) (sym is) it
+visited_by Unread (Err fault) answered old new bytes ledger is cause it = subst (λ b. Visited Unread b old new bytes ledger) (sym is) (fault, cause, it)
 
-pub visited : {S : Type 0} (g : Ghosts S) (known : Bool) (old : Stand) (was world : World S) (settled : IsSettled (store_of g was)) (bytes : Traffic) (r : Result (Unit {0}) ServeFault) (answered : Bool) → answered ≡ is_ok r → StandsAt g known was old
-    → Served g known r old was world bytes → EndsBy g known was world (λ ledger end. Visited answered old end bytes ledger)
-visited g known old was world settled bytes r answered is at served =
-    ends_as g known was world (λ ledger end. Exchanged r old end bytes ledger) (λ ledger end. Visited answered old end bytes ledger) (λ ledger end it. visited_by r answered old end bytes ledger is it)
+pub visited : {S : Type 0} (g : Ghosts S) (known : Bool) (old : Stand) (was world : World S) (settled : IsSettled (store_of g was)) (bytes : Traffic) (Unread : Type 0) (r : Result (Unit {0}) ServeFault) (answered : Bool) → answered ≡ is_ok r → StandsAt g known was old
+    → IfErr r (λ fault. fault ≡ Read → Unread) → Served g known r old was world bytes → EndsBy g known was world (λ ledger end. Visited Unread answered old end bytes ledger)
+visited g known old was world settled bytes Unread r answered is at cause served =
+    ends_as g known was world (λ ledger end. Exchanged r old end bytes ledger) (λ ledger end. Visited Unread answered old end bytes ledger) (λ ledger end it. visited_by Unread r answered old end bytes ledger is cause it)
     (exchanged g known old was world settled bytes r at served)
 
+-- a connection that is read, of which a fault has its cause
+pub is_unread : (Failed Unlimited : Type 0) (r : Result (Unit {0}) ServeFault) → IfErr r (λ fault. fault ≡ Read → Failed) → IfErr r (λ fault. fault ≡ Read → Failed ⊎ Unlimited)
+is_unread Failed Unlimited (Ok done) cause = tt
+is_unread Failed Unlimited (Err fault) cause = λ is. inl (cause is)
+
 -- a connection that is neither read nor written
-pub unvisited : (old : Stand) (bytes : Traffic) → bytes.after ≡ bytes.before → Visited false old old bytes no_batches
-unvisited old bytes unwritten = (Read, (refl, refl, unwritten))
+pub unvisited : (Unread : Type 0) (old : Stand) (bytes : Traffic) → Unread → bytes.after ≡ bytes.before → Visited Unread false old old bytes no_batches
+unvisited Unread old bytes cause unwritten = (Read, (λ e. cause), (refl, refl, unwritten))
 
 -- ---- many
 
@@ -117,17 +123,17 @@ exchange_moves (Err Read) old new bytes ledger (same, none, unwritten) = inl sam
 exchange_moves (Err OutOfMemory) old new bytes ledger (unwritten, inl (same, none)) = inl same
 exchange_moves (Err OutOfMemory) old new bytes ledger (unwritten, inr (output, it)) = moved old new bytes output ledger it
 
-visit_moves : (answered : Bool) (old new : Stand) (bytes : Traffic) (ledger : Ledger) → Visited answered old new bytes ledger → Moves old new
-visit_moves true old new bytes ledger it = exchange_moves (Ok tt) old new bytes ledger it
-visit_moves false old new bytes ledger (fault, it) = exchange_moves (Err fault) old new bytes ledger it
+visit_moves : (Unread : Type 0) (answered : Bool) (old new : Stand) (bytes : Traffic) (ledger : Ledger) → Visited Unread answered old new bytes ledger → Moves old new
+visit_moves Unread true old new bytes ledger it = exchange_moves (Ok tt) old new bytes ledger it
+visit_moves Unread false old new bytes ledger (fault, cause, it) = exchange_moves (Err fault) old new bytes ledger it
 
-module _ {A R W : Type 0} (source : Arrivals.Ghosts A R W) (reader : Reading.Ghosts R) (writer : Writing.Ghosts W) where
-  turn_moves : (answered : Bool) (ledger : Ledger) (from : A) (old : Stand) (to : A) (new : Stand) → Visit source reader writer answered ledger from old to new → Moves old new
+module _ {A R W : Type 0} (source : Arrivals.Ghosts A R W) (reader : Reading.Ghosts R) (fails : R → R → Type 0) (writer : Writing.Ghosts W) where
+  turn_moves : (answered : Bool) (ledger : Ledger) (from : A) (old : Stand) (to : A) (new : Stand) → Visit source reader fails writer answered ledger from old to new → Moves old new
   turn_moves answered ledger from old to new (inl (opened, closed, between, handed, seen, back, unlimited)) =
-      visit_moves answered old new (traffic_of reader writer opened closed) ledger seen
+      visit_moves (IsLeftUnread fails opened closed) answered old new (traffic_of reader writer opened closed) ledger seen
   turn_moves answered ledger from old to new (inr (is, none, same, handed)) = inl same
 
-  after_turns : (turns : List Happening) (from : A) (old : Stand) (to : A) (new : Stand) → AfterTurns source reader writer turns from old to new → AfterConnections (answered_in turns + failed_in turns) old new
+  after_turns : (turns : List Happening) (from : A) (old : Stand) (to : A) (new : Stand) → AfterTurns source reader fails writer turns from old to new → AfterConnections (answered_in turns + failed_in turns) old new
   after_turns [] from old to new (same, stays) = stays
   after_turns (visit true ledger ∷ earlier) from old to new (between, stand, before, turn) =
       let one_more : suc (answered_in earlier + failed_in earlier) ≡ suc (answered_in earlier) + failed_in earlier = omega arith in
@@ -138,18 +144,18 @@ module _ {A R W : Type 0} (source : Arrivals.Ghosts A R W) (reader : Reading.Gho
   after_turns (settle told ∷ earlier) from old to new (between, stand, before, turn) =
       subst (λ end. AfterConnections (answered_in earlier + failed_in earlier) old end) (sym turn.1) (after_turns earlier from old between stand before)
 
-  pub attended_moves : (answered failed count : ℕ) (ledger : Ledger) (from : A) (old : Stand) (to : A) (new : Stand) → answered + failed ≡ count → Attended source reader writer answered failed ledger from old to new → AfterConnections count old new
+  pub attended_moves : (answered failed count : ℕ) (ledger : Ledger) (from : A) (old : Stand) (to : A) (new : Stand) → answered + failed ≡ count → Attended source reader fails writer answered failed ledger from old to new → AfterConnections count old new
   attended_moves answered failed count ledger from old to new sum (turns, answered_are, failed_are, ran, it) =
       let all : answered_in turns + failed_in turns ≡ count = omega (arith, answered_are, failed_are, sum) in
       subst (λ n. AfterConnections n old new) all (after_turns turns from old to new it)
 
-  pub attended_none : (from : A) (old : Stand) → Attended source reader writer 0 0 no_batches from old from old
+  pub attended_none : (from : A) (old : Stand) → Attended source reader fails writer 0 0 no_batches from old from old
   attended_none from old = ([], refl, refl, refl, (refl, refl))
 
   -- from the connections of a source that was opened on a port and closed to those of the port
   pub serves_on : {P : Type 0} (ports : Ports.Ghosts P A R W) (first between last : P) (r : Result (Unit {0}) ServiceFault) (port count : ℕ) (ledger : Ledger) (from : A) (old : Stand) (to : A) (new : Stand) (before after : Option (List ℕ))
       → ports.listens first port (Some from) between → ports.closes between to last → IfErr r (λ fault. fault ≢ service.Port)
-      → ServesFrom source reader writer r port count ledger from old to new before after → ServesOn (attended_between source reader writer ports first last) r port count ledger old new before after
+      → ServesFrom source reader fails writer r port count ledger from old to new before after → ServesOn (attended_between source reader fails writer ports first last) r port count ledger old new before after
   serves_on ports first between last (Ok done) port count ledger from old to new before after opened closed other (text, (answered, failed, sum, holds, is), wrote) =
       (text, (answered, failed, sum, (between, from, to, opened, holds, closed), is), wrote)
   serves_on ports first between last (Err service.Port) port count ledger from old to new before after opened closed other it = absurd (other refl)
@@ -164,24 +170,24 @@ module _ {A R W : Type 0} (source : Arrivals.Ghosts A R W) (reader : Reading.Gho
 
 -- ---- answers that were lost
 
-module _ {A R W : Type 0} (source : Arrivals.Ghosts A R W) (reader : Reading.Ghosts R) (writer : Writing.Ghosts W) where
+module _ {A R W : Type 0} (source : Arrivals.Ghosts A R W) (reader : Reading.Ghosts R) (fails : R → R → Type 0) (writer : Writing.Ghosts W) where
   -- Some turns, and then one more, by how many were answered and failed before it and after it.
   abbrev pub GoesOn : A → A → A → Bool → ℕ → ℕ → ℕ → ℕ → Type 0
-  GoesOn from between to result answered failed some more = (first second : Ledger) (old mid new : Stand) → Attended source reader writer answered failed first from old between mid
-      → Visit source reader writer result second between mid to new → Attended source reader writer some more (and_then first second) from old to new
+  GoesOn from between to result answered failed some more = (first second : Ledger) (old mid new : Stand) → Attended source reader fails writer answered failed first from old between mid
+      → Visit source reader fails writer result second between mid to new → Attended source reader fails writer some more (and_then first second) from old to new
 
   pub one_answered : (from between to : A) (result : Bool) (answered failed : ℕ) → result ≡ true → GoesOn from between to result answered failed (answered + 1) failed
   one_answered from between to result answered failed is first second old mid new (turns, a, f, ran, after) turn =
-      (visit true second ∷ turns, omega (arith, a), f, ap (λ ledger. and_then ledger second) ran, (between, mid, after, subst (λ b. Visit source reader writer b second between mid to new) is turn))
+      (visit true second ∷ turns, omega (arith, a), f, ap (λ ledger. and_then ledger second) ran, (between, mid, after, subst (λ b. Visit source reader fails writer b second between mid to new) is turn))
 
   pub one_failed : (from between to : A) (result : Bool) (answered failed : ℕ) → result ≡ false → GoesOn from between to result answered failed answered (failed + 1)
   one_failed from between to result answered failed is first second old mid new (turns, a, f, ran, after) turn =
-      (visit false second ∷ turns, a, omega (arith, f), ap (λ ledger. and_then ledger second) ran, (between, mid, after, subst (λ b. Visit source reader writer b second between mid to new) is turn))
+      (visit false second ∷ turns, a, omega (arith, f), ap (λ ledger. and_then ledger second) ran, (between, mid, after, subst (λ b. Visit source reader fails writer b second between mid to new) is turn))
 
   -- after that the source was asked once for a lost answer
   attended_on : (from : A) (old : Stand) (between to : A) (new : Stand) (ledger : Ledger) (answered failed left lost : ℕ)
-      → Attended source reader writer answered failed ledger from old between new → TellsLoss source.loses between answered failed to left lost
-      → Attended source reader writer left lost ledger from old to new
+      → Attended source reader fails writer answered failed ledger from old between new → TellsLoss source.loses between answered failed to left lost
+      → Attended source reader fails writer left lost ledger from old to new
   attended_on from old between to new ledger answered failed left lost it (inl (same, some, more)) = rw (same, some, more) it
   attended_on from old between to new ledger answered failed left lost (turns, a, f, ran, after) (inr (inl (told, some, more))) =
       rw (some, more) (settle None ∷ turns, a, f, ran, (between, new, after, (told, refl)))
@@ -190,8 +196,8 @@ module _ {A R W : Type 0} (source : Arrivals.Ghosts A R W) (reader : Reading.Gho
 
   -- or so often
   pub attended_all : (asked : ℕ) (from : A) (old : Stand) (between to : A) (new : Stand) (ledger : Ledger) (answered failed left lost : ℕ)
-      → Attended source reader writer answered failed ledger from old between new → TellsLosses source.loses asked between answered failed to left lost
-      → Attended source reader writer left lost ledger from old to new
+      → Attended source reader fails writer answered failed ledger from old between new → TellsLosses source.loses asked between answered failed to left lost
+      → Attended source reader fails writer left lost ledger from old to new
   attended_all zero from old between to new ledger answered failed left lost it (same, some, more) = rw (same, some, more) it
   attended_all (suc n) from old between to new ledger answered failed left lost it (mid, some, more, earlier, last) =
       attended_on from old mid to new ledger some more left lost (attended_all n from old between mid new ledger answered failed some more it earlier) last
@@ -199,7 +205,7 @@ module _ {A R W : Type 0} (source : Arrivals.Ghosts A R W) (reader : Reading.Gho
   -- from a source to another, by how many of so many turns were answered and failed
   pub record Passed {S : Type 0} (g : Ghosts S) (was world : World S) (from to : A) (answered failed count : ℕ) : Type 0 where
     pub sum : answered + failed ≡ count
-    pub leads : Leads g was world (λ ledger old new. Attended source reader writer answered failed ledger from old to new)
+    pub leads : Leads g was world (λ ledger old new. Attended source reader fails writer answered failed ledger from old to new)
 
 -- asking for lost answers changes no sum
 settles_sum : {A : Type 0} (loses : A → Option Loss → A → Type 0) (from to : A) (answered failed left lost : ℕ) → TellsLoss loses from answered failed to left lost → answered + failed ≡ left + lost
@@ -213,10 +219,10 @@ settles_all_sum loses (suc n) from to answered failed left lost (mid, some, more
     settles_all_sum loses n from mid answered failed some more earlier ∙ settles_sum loses mid to some more left lost last
 
 -- after so many turns the source was asked once for a lost answer
-pub passed_on : {A R W : Type 0} (source : Arrivals.Ghosts A R W) (reader : Reading.Ghosts R) (writer : Writing.Ghosts W) {S : Type 0} (g : Ghosts S) (was world : World S) (from between to : A) (answered failed left lost count : ℕ)
-    → Passed source reader writer g was world from between answered failed count → TellsLoss source.loses between answered failed to left lost → Passed source reader writer g was world from to left lost count
-passed_on source reader writer g was world from between to answered failed left lost count it told = record {
+pub passed_on : {A R W : Type 0} (source : Arrivals.Ghosts A R W) (reader : Reading.Ghosts R) (fails : R → R → Type 0) (writer : Writing.Ghosts W) {S : Type 0} (g : Ghosts S) (was world : World S) (from between to : A) (answered failed left lost count : ℕ)
+    → Passed source reader fails writer g was world from between answered failed count → TellsLoss source.loses between answered failed to left lost → Passed source reader fails writer g was world from to left lost count
+passed_on source reader fails writer g was world from between to answered failed left lost count it told = record {
   sum = sym (settles_sum source.loses between to answered failed left lost told) ∙ it.sum;
-  leads = leads_as g was world (λ ledger old new. Attended source reader writer answered failed ledger from old between new) (λ ledger old new. Attended source reader writer left lost ledger from old to new)
-      (λ ledger old new attended. attended_on source reader writer from old between to new ledger answered failed left lost attended told) it.leads;
+  leads = leads_as g was world (λ ledger old new. Attended source reader fails writer answered failed ledger from old between new) (λ ledger old new. Attended source reader fails writer left lost ledger from old to new)
+      (λ ledger old new attended. attended_on source reader fails writer from old between to new ledger answered failed left lost attended told) it.leads;
 }

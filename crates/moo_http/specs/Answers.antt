@@ -11,14 +11,14 @@ use Rattle.moo_store.specs.Stand.{Stand, Works, Failed, StoreFailed, RunsBatch, 
 use Rattle.moo_store.specs.Kept.{World}
 use Rattle.moo_store.specs.World.{store_of, CrashLeaves, StandsAt}
 use Rattle.moo_http.specs.Ledger.{Ledger, IsMovedIn}
-use Rattle.moo_request.specs.declared.asked.Asked.{Asked}
-use Rattle.moo_request.specs.declared.asked.Asked.TheVariants.{Refused, Calls, Each, Question}
-use Rattle.moo_request.specs.declared.each.Each.{Each as Apart}
-use Rattle.moo_request.specs.declared.asked.Mode.TheVariants.{Run, Ask}
-use Rattle.moo_responses.specs.declared.outcome.Outcome.{Outcome}
-use Rattle.moo_responses.specs.declared.outcome.Outcome.TheVariants as outcome
-use Rattle.moo_responses.specs.Outcomes.{outcome_of}
-use Rattle.moo_responses.specs.Told.{told_of, TellingTakesMemory}
+use Rattle.moo_http_request.specs.declared.asked.Asked.{Asked}
+use Rattle.moo_http_request.specs.declared.asked.Asked.TheVariants.{Refused, Calls, Each, Question}
+use Rattle.moo_http_request.specs.declared.each.Each.{Each as Apart}
+use Rattle.moo_http_request.specs.declared.asked.Mode.TheVariants.{Run, Ask}
+use Rattle.moo_http_response.specs.declared.outcome.Outcome.{Outcome}
+use Rattle.moo_http_response.specs.declared.outcome.Outcome.TheVariants as outcome
+use Rattle.moo_http_response.specs.Outcomes.{outcome_of}
+use Rattle.moo_http_response.specs.Told.{told_of, TellingTakesMemory}
 
 -- what comes of calls that are asked each alone: each answer, if the present number is the one that they are meant for
 abbrev pub each_outcome : Apart → State → Outcome

@@ -7,11 +7,12 @@ use Rattle.sqlite.specs.Store.{Ghosts}
 use Rattle.moo_store.specs.Stand.{Stand}
 use Rattle.moo_store.specs.Kept.{World}
 use Rattle.moo_store.specs.World.{store_of, CrashLeaves, StandsAt}
-use Rattle.moo_request.specs.declared.asked.Asked.{Asked}
-use Rattle.moo_responses.specs.declared.outcome.Outcome.{Outcome}
+use Rattle.moo_http_request.specs.declared.asked.Asked.{Asked}
+use Rattle.moo_http_response.specs.declared.outcome.Outcome.{Outcome}
 use Rattle.moo_http.specs.declared.service.ServiceFault.{ServiceFault}
 use Rattle.moo_http.specs.declared.service.ServiceFault.TheVariants.{Port}
 use Rattle.moo_http.specs.declared.fault.ServeFault.{ServeFault}
+use Rattle.moo_http.specs.declared.fault.ServeFault.TheVariants.{Read}
 use Rattle.moo_http.specs.Traffic.{Traffic}
 use Rattle.moo_http.specs.Ledger.{Ledger, IsMovedIn}
 use Rattle.moo_http.specs.Answers.{MayAnswer}
@@ -22,10 +23,12 @@ use Rattle.moo_http.specs.Lines.{listening_line, served_line}
 abbrev pub Moves : Stand → Stand → Type 0
 Moves old new = (new ≡ old) ⊎ ((asked : Asked) × (o : Outcome) × MayAnswer old asked o new)
 
--- What came of a connection, by whether it was answered: its request is served, and the whole answer written; or it met a fault.
-abbrev pub Connected : {S : Type 0} → Ghosts S → Bool → Bool → Stand → World S → World S → Traffic → Type 0
-Connected g known true old was world bytes = Served g known (Ok tt) old was world bytes
-Connected g known false old was world bytes = (fault : ServeFault) × Served g known (Err fault) old was world bytes
+-- What came of a connection, by whether it was answered: its request is served, and the whole answer written; or it met a fault. If its
+-- reader is said to have failed, this holds.
+abbrev pub Connected : {S : Type 0} → Ghosts S → Bool → Type 0 → Bool → Stand → World S → World S → Traffic → Type 0
+Connected g known Failed true old was world bytes = Served g known (Ok tt) old was world bytes
+Connected g known Failed false old was world bytes =
+    (fault : ServeFault) × (fault ≡ Read → Failed) × Served g known (Err fault) old was world bytes
 
 -- so many connections, one after another
 abbrev pub AfterConnections : ℕ → Stand → Stand → Type 0

@@ -1,6 +1,6 @@
 -- The fault of a connection whose request wasn't read.
-use Rattle.moo_request.specs.declared.fault.ReadFault.{ReadFault}
-use Rattle.moo_request.specs.declared.fault.ReadFault.TheVariants as read
+use Rattle.moo_http_request.specs.declared.fault.ReadFault.{ReadFault}
+use Rattle.moo_http_request.specs.declared.fault.ReadFault.TheVariants as read
 use Rattle.moo_http.specs.declared.fault.ServeFault.{ServeFault}
 use Rattle.moo_http.specs.declared.fault.ServeFault.TheVariants.{Read, OutOfMemory}
 

@@ -6,14 +6,14 @@ use Rattle.sqlite.specs.Store.{Ghosts}
 use Rattle.moo_store.specs.Stand.{Stand}
 use Rattle.moo_store.specs.Kept.{World}
 use Rattle.moo_store.specs.World.{store_of, CrashLeaves, StandsAt}
-use Rattle.moo_request.specs.Request.{Takes}
-use Rattle.moo_request.specs.declared.asked.Asked.{Asked}
-use Rattle.moo_request.specs.declared.request.Received.{Received}
-use Rattle.moo_request.specs.declared.request.Received.TheVariants.{Nothing, Request}
+use Rattle.moo_http_request.specs.Request.{Takes}
+use Rattle.moo_http_request.specs.declared.asked.Asked.{Asked}
+use Rattle.moo_http_request.specs.declared.request.Received.{Received}
+use Rattle.moo_http_request.specs.declared.request.Received.TheVariants.{Nothing, Request}
 use Rattle.moo_http.specs.declared.fault.ServeFault.{ServeFault}
 use Rattle.moo_http.specs.declared.fault.ServeFault.TheVariants.{Read, Write, OutOfMemory}
-use Rattle.moo_responses.specs.declared.outcome.Outcome.{Outcome}
-use Rattle.moo_responses.specs.Responses.{response_with, response_text}
+use Rattle.moo_http_response.specs.declared.outcome.Outcome.{Outcome}
+use Rattle.moo_http_response.specs.Responses.{response_with, response_text}
 use Rattle.moo_http.specs.Traffic.{Traffic}
 use Rattle.moo_http.specs.Ledger.{Ledger, no_batches, IsMovedIn}
 use Rattle.moo_http.specs.Answers.{MayAnswer, Consulted, ledger_by, IsMovedAs}

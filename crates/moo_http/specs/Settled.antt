@@ -3,8 +3,8 @@ use Rattle.std.specs.Prelude.{Result, Ok, Err}
 use Rattle.moo_text.specs.declared.reply.Reply.{Reply}
 use Rattle.moo_store.specs.declared.fault.StoreFault.{StoreFault}
 use Rattle.moo_store.specs.declared.fault.StoreFault.TheVariants as fault
-use Rattle.moo_responses.specs.declared.outcome.Outcome.{Outcome}
-use Rattle.moo_responses.specs.declared.outcome.Outcome.TheVariants as outcome
+use Rattle.moo_http_response.specs.declared.outcome.Outcome.{Outcome}
+use Rattle.moo_http_response.specs.declared.outcome.Outcome.TheVariants as outcome
 
 -- by the fault of a call
 abbrev pub lost_by : StoreFault → Outcome

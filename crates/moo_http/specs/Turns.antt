@@ -5,8 +5,9 @@ use Rattle.std.specs.Io.KnownBytes.{Appends}
 use Rattle.std.specs.declared.io.Read as Reading
 use Rattle.std.specs.declared.io.Write as Writing
 use Rattle.moo_store.specs.Stand.{Stand}
-use Rattle.moo_request.specs.Request.{Takes}
-use Rattle.moo_request.specs.declared.request.Received.{Received}
+use Rattle.moo_http_request.specs.Given.{HasFailed}
+use Rattle.moo_http_request.specs.Request.{Takes}
+use Rattle.moo_http_request.specs.declared.request.Received.{Received}
 use Rattle.moo_arrivals.specs.declared.arrivals.Arrivals as Arrivals
 use Rattle.moo_arrivals.specs.declared.arrivals.Connection.{Connection}
 use Rattle.moo_arrivals.specs.declared.cause.Loss.{Loss}
@@ -40,10 +41,14 @@ Exchanged (Err OutOfMemory) old new bytes ledger =
     (bytes.after ≡ bytes.before)
     × (((new ≡ old) × (ledger ≡ no_batches)) ⊎ ((output : List ℕ) × Yields old new bytes output ledger))
 
--- the same, by whether it was answered
-abbrev pub Visited : Bool → Stand → Stand → Traffic → Ledger → Type 0
-Visited true old new bytes ledger = Exchanged (Ok tt) old new bytes ledger
-Visited false old new bytes ledger = (fault : ServeFault) × Exchanged (Err fault) old new bytes ledger
+-- The same, by whether it was answered. If its request is said to be unread, this holds.
+abbrev pub Visited : Type 0 → Bool → Stand → Stand → Traffic → Ledger → Type 0
+Visited Unread true old new bytes ledger = Exchanged (Ok tt) old new bytes ledger
+Visited Unread false old new bytes ledger = (fault : ServeFault) × (fault ≡ Read → Unread) × Exchanged (Err fault) old new bytes ledger
+
+-- Why the request of a connection isn't read: its reader failed, and was left so; or its waits have no limit.
+abbrev pub IsLeftUnread : {R W : Type 0} → (R → R → Type 0) → Connection R W → Connection R W → Type 0
+IsLeftUnread fails opened closed = HasFailed fails closed.reader ⊎ (opened.is_limited ≡ false)
 
 -- ---- ports
 
@@ -89,14 +94,16 @@ ledger_in [] = no_batches
 ledger_in (visit answered ledger ∷ turns) = and_then (ledger_in turns) ledger
 ledger_in (settle told ∷ turns) = ledger_in turns
 
--- a source of connections, by what it is before and after it hands one out and takes one back, and by the bytes that are known of them
-module _ {A R W : Type 0} (source : Arrivals.Ghosts A R W) (reader : Reading.Ghosts R) (writer : Writing.Ghosts W) where
+-- a source of connections, by what it is before and after it hands one out and takes one back, by the bytes that are known of them, and by
+-- when a reader of them fails
+module _ {A R W : Type 0} (source : Arrivals.Ghosts A R W) (reader : Reading.Ghosts R) (fails : R → R → Type 0)
+    (writer : Writing.Ghosts W) where
   -- One turn, by whether a connection was answered, and by what it made run: the source hands one out, which is visited, and takes it
   -- back; or it hands out none. A connection whose waits have no limit isn't read, and nothing is written to it.
   abbrev pub Visit : Bool → Ledger → A → Stand → A → Stand → Type 0
   Visit answered ledger from old to new =
       ((opened closed : Connection R W) × (between : A) × source.hands_out from (Some opened) between
-      × Visited answered old new (traffic_of reader writer opened closed) ledger
+      × Visited (IsLeftUnread fails opened closed) answered old new (traffic_of reader writer opened closed) ledger
       × source.takes_back between closed to
       × (opened.is_limited ≡ false → (answered ≡ false) × (ledger ≡ no_batches) × (new ≡ old) × (closed ≡ opened)))
       ⊎ ((answered ≡ false) × (ledger ≡ no_batches) × (new ≡ old) × source.hands_out from None to)

@@ -9,9 +9,9 @@ ghost use Rattle.moo_store.specs.World.{store_of, StandsAt, StandsFor};
 ghost use Rattle.moo_http.specs.Answers.{MayAnswer, IsAnswered, Consulted, IsMovedAs};
 ghost use Rattle.moo_http.specs.Settled.{lost_by, came_of};
 
+use moo_http_request::{Asked, Each, Mode, Question};
+use moo_http_response::{Outcome, Replies, tell};
 use moo_reasons::Whys;
-use moo_request::{Asked, Each, Mode, Question};
-use moo_responses::{Outcome, Replies, tell};
 use moo_rows::Rows;
 use moo_store::{StoreFault, World};
 use moo_text::Reply;

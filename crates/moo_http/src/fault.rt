@@ -4,7 +4,7 @@ ghost use Rattle.std.specs.Prelude.{◌≡◌};
 ghost use Rattle.moo_http.specs.declared.fault.ServeFault.TheVariants.{OutOfMemory};
 ghost use Rattle.moo_http.specs.Faults.{fault_of};
 
-use moo_request::ReadFault;
+use moo_http_request::ReadFault;
 use std::alloc::AllocError;
 use thiserror::Error;
 

@@ -3,10 +3,10 @@
 ghost use Rattle.std.specs.Prelude.{◌≡◌, ◌≢◌};
 ghost use Rattle.moo_world.specs.Judge.{State};
 ghost use Rattle.moo_store.specs.Stand.{Stand, Works, state_at};
-ghost use Rattle.moo_request.specs.declared.asked.Asked.{Asked};
-ghost use Rattle.moo_responses.specs.declared.outcome.Outcome.{Outcome};
+ghost use Rattle.moo_http_request.specs.declared.asked.Asked.{Asked};
+ghost use Rattle.moo_http_response.specs.declared.outcome.Outcome.{Outcome};
 ghost use Rattle.moo_http.specs.Answers.{MayAnswer, answer};
-ghost use Rattle.moo_responses.specs.Responses.{response_of};
+ghost use Rattle.moo_http_response.specs.Responses.{response_of};
 ghost use Rattle.moo_http.specs.Through.{AnswersPass, FrontsPass, FaultsPass};
 
 /// Whatever a World that works answers but 503, is the defined answer at its state, and leaves the defined next state.

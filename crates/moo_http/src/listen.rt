@@ -6,18 +6,20 @@ ghost use Rattle.moo_store.specs.Untouched.{IsMovedBy};
 ghost use Rattle.sqlite.specs.State.{HasCleanDisk};
 ghost use Rattle.moo_store.specs.Stand.{Stand};
 ghost use Rattle.moo_store.specs.World.{store_of, StandsAt};
+ghost use Rattle.moo_http_request.specs.Given.{HasFailed};
 ghost use Rattle.moo_http.specs.Traffic.{traffic_of};
 ghost use Rattle.moo_http.specs.Connections.{Connected, ConveysBy};
-ghost use Rattle.moo_http.specs.Turns.{Visited, Visit, Attended};
+ghost use Rattle.moo_http.specs.Turns.{Visited, IsLeftUnread, Visit, Attended};
 ghost use Rattle.moo_http.specs.Settling.{TellsLoss, TellsLosses};
 
 use crate::log::Log;
 use crate::note::{Note, Trouble};
 use crate::serve::{Means, serve_one};
 use moo_arrivals::{Arrivals, Connection};
+use moo_http_request::Incoming;
 use moo_store::World;
 use sqlite::Alter;
-use std::io::{Eprint, Read, Write};
+use std::io::{Eprint, Write};
 use std::time::Clock;
 
 /// How many connections were answered, and how many failed.
@@ -28,7 +30,7 @@ pub struct Served {
 }
 
 /// Serves a connection; whether it was answered. If its waits aren't limited, nothing is read and nothing is written.
-pub fn serve_connection<S: Alter + Drop, R: Read, W: Write>(
+pub fn serve_connection<S: Alter + Drop, R: Incoming, W: Write>(
     means: &Means<'_>,
     connection: &mut Connection<R, W>,
     world: &mut World<S>,
@@ -37,12 +39,14 @@ pub fn serve_connection<S: Alter + Drop, R: Read, W: Write>(
     // It is answered, and then all of its answer is written; or it met a fault of `serve_one`, and what was written of the answer is
     // by the fault.
     ensures served { IsTrue connection.old.is_limited → (known : Bool) (stand : Stand) → StandsAt S.Store known world.old stand →
-        Connected S.Store known result stand world.old world.new (traffic_of R.Read W.Write connection.old connection.new) }
+        Connected S.Store known (HasFailed R.fails connection.new.reader) result stand world.old world.new
+        (traffic_of R.Read W.Write connection.old connection.new) }
     ensures unlimited { connection.old.is_limited ≡ false →
         (result ≡ false) × (world.new ≡ world.old) × (connection.new ≡ connection.old) }
     // The same, from where the World stood to where it stands. Just the batch that was asked moved it, if that was run.
     ensures visited { ConveysBy S.Store world.old world.new (λ ledger stand end.
-        Visited result stand end (traffic_of R.Read W.Write connection.old connection.new) ledger) }
+        Visited (IsLeftUnread R.fails connection.old connection.new) result stand end
+        (traffic_of R.Read W.Write connection.old connection.new) ledger) }
     ensures moved { (batches lost : List Batch) × IsMovedBy S.Store world.old world.new batches lost }
     ensures clean { HasCleanDisk (store_of S.Store world.new) → HasCleanDisk (store_of S.Store world.old) }
 {
@@ -72,7 +76,7 @@ pub fn serve_next<S: Alter + Drop, A: Arrivals>(
     note: &mut Note,
 ) -> bool
     ensures turn { ConveysBy S.Store world.old world.new (λ ledger stand end.
-        Visit A.Arrivals A.Reader.Read A.Writer.Write result ledger arrivals.old stand arrivals.new end) }
+        Visit A.Arrivals A.Reader.Read A.Reader.fails A.Writer.Write result ledger arrivals.old stand arrivals.new end) }
     ensures moved { (batches lost : List Batch) × IsMovedBy S.Store world.old world.new batches lost }
     ensures clean { HasCleanDisk (store_of S.Store world.new) → HasCleanDisk (store_of S.Store world.old) }
 {
@@ -137,8 +141,8 @@ fn serve_each<'a, S: Alter + Drop, A: Arrivals, C: Clock + Eprint>(
     count: u32,
 ) -> Served
     ensures count { result.answered + result.failed ≡ count }
-    ensures serves { ConveysBy S.Store world.old world.new (λ ledger stand end. Attended A.Arrivals A.Reader.Read A.Writer.Write
-        result.answered result.failed ledger arrivals.old stand arrivals.new end) }
+    ensures serves { ConveysBy S.Store world.old world.new (λ ledger stand end. Attended A.Arrivals A.Reader.Read A.Reader.fails
+        A.Writer.Write result.answered result.failed ledger arrivals.old stand arrivals.new end) }
     ensures moved { (batches lost : List Batch) × IsMovedBy S.Store world.old world.new batches lost }
     ensures clean { HasCleanDisk (store_of S.Store world.new) → HasCleanDisk (store_of S.Store world.old) }
 {
@@ -173,8 +177,8 @@ pub fn serve_on<'a, S: Alter + Drop, A: Arrivals, C: Clock + Eprint>(
     // The World moved by what the connections asked that the source handed out, in their order, each of which got its answer or failed,
     // and by nothing else. So many of them were answered, and so many failed. Just the batches that they asked and that were run wrote to
     // the tables: each keeps the cells of what stays, and all numbers.
-    ensures serves { ConveysBy S.Store world.old world.new (λ ledger stand end. Attended A.Arrivals A.Reader.Read A.Writer.Write
-        result.answered result.failed ledger arrivals.old stand arrivals.new end) }
+    ensures serves { ConveysBy S.Store world.old world.new (λ ledger stand end. Attended A.Arrivals A.Reader.Read A.Reader.fails
+        A.Writer.Write result.answered result.failed ledger arrivals.old stand arrivals.new end) }
     // It moved by accepted batches, one after another: each wrote only rows that differ, and kept all numbers.
     ensures moved { (batches lost : List Batch) × IsMovedBy S.Store world.old world.new batches lost }
     ensures clean { HasCleanDisk (store_of S.Store world.new) → HasCleanDisk (store_of S.Store world.old) }

@@ -1,12 +1,12 @@
 //! The notes on a connection.
 
 ghost use Rattle.std.specs.Prelude.{◌≡◌, ◌≢◌, IfSome, IfNone, is_ok};
-ghost use Rattle.moo_responses.specs.Responses.{response_of, reply_response};
+ghost use Rattle.moo_http_response.specs.Responses.{response_of, reply_response};
 
 use crate::fault::ServeFault;
 use moo_arrivals::{Cause, Closing, Loss, Route};
-use moo_request::{Asked, Mode};
-use moo_responses::Outcome;
+use moo_http_request::{Asked, Mode};
+use moo_http_response::Outcome;
 use moo_text::Reply;
 use std::fmt::{self, Display, Formatter};
 

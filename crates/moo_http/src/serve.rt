@@ -6,6 +6,7 @@ ghost use Rattle.moo_store.specs.Untouched.{IsMovedBy};
 ghost use Rattle.moo_store.specs.Stand.{Stand};
 ghost use Rattle.sqlite.specs.State.{HasCleanDisk};
 ghost use Rattle.moo_store.specs.World.{store_of, StandsAt};
+ghost use Rattle.moo_http_request.specs.Given.{HasFailed};
 ghost use Rattle.moo_http.specs.Traffic.{traffic};
 ghost use Rattle.moo_http.specs.Serves.{AnswersTo, Served};
 
@@ -14,12 +15,12 @@ use crate::fault::ServeFault;
 use crate::note::Note;
 use crate::why::told_answer;
 use crate::write::write_out;
+use moo_http_request::{Asked, BodyFault, Incoming, Received, Routes, read_request};
 use moo_reasons::Whys;
-use moo_request::{Asked, BodyFault, Received, Routes, read_request};
 use moo_store::World;
 use sqlite::Alter;
 use std::alloc::Global;
-use std::io::{Read, Write};
+use std::io::Write;
 
 /// What requests are served with: memory, and the routes that they may ask for.
 #[derive(Drop)]
@@ -69,7 +70,7 @@ fn serve_asked<S: Alter + Drop, W: Write>(
 ///
 /// The faults: Read if the reader fails, and the World is as it was; Write if the writer fails or takes no bytes, and what was asked is
 /// done; OutOfMemory if memory runs out before the World is asked or after that. An answer 200 to a batch is written after its commit.
-pub fn serve_one<S: Alter + Drop, R: Read, W: Write>(
+pub fn serve_one<S: Alter + Drop, R: Incoming, W: Write>(
     means: &Means<'_>,
     reader: &mut R,
     writer: &mut W,
@@ -82,6 +83,8 @@ pub fn serve_one<S: Alter + Drop, R: Read, W: Write>(
         Served S.Store known result stand world.old world.new (traffic R.Read W.Write reader.old reader.new writer.old writer.new) }
     ensures unwritten { IfErr result (λ fault. fault ≢ ServeFault.Write → writer.new ≡ writer.old) }
     ensures unread { IfErr result (λ fault. fault ≡ ServeFault.Read → world.new ≡ world.old) }
+    // The reader did fail, at the last read.
+    ensures cause { IfErr result (λ fault. fault ≡ ServeFault.Read → HasFailed R.fails reader.new) }
     // Whatever comes of it, the World was moved by accepted batches, and by nothing else: each wrote only rows that differ, and kept all
     // numbers.
     ensures moved { (batches lost : List Batch) × IsMovedBy S.Store world.old world.new batches lost }

@@ -17,7 +17,7 @@ use crate::ports::Ports;
 use crate::serve::Means;
 use moo_arrivals::Arrivals;
 use moo_dump::put_all;
-use moo_request::Routes;
+use moo_http_request::Routes;
 use moo_store::World;
 use sqlite::Alter;
 use std::alloc::{AllocError, Global};
@@ -115,7 +115,7 @@ pub fn serve_from<S: Alter + Drop, A: Arrivals, C: Clock + Eprint, W: Write>(
     output: &mut W,
 ) -> Result<(), ServiceFault>
     ensures serves { ConveysBy S.Store world.old world.new (λ ledger stand end.
-        ServesFrom A.Arrivals A.Reader.Read A.Writer.Write result duty.port duty.count ledger
+        ServesFrom A.Arrivals A.Reader.Read A.Reader.fails A.Writer.Write result duty.port duty.count ledger
         arrivals.old stand arrivals.new end (W.contents output.old) (W.contents output.new)) }
     // The same of the World alone, whatever the source tells.
     ensures moves { Conveys S.Store world.old world.new (λ stand end.
@@ -152,7 +152,7 @@ pub fn serve_port<S: Alter + Drop, P: Ports, C: Clock + Eprint, W: Write>(
     // The World moved by what the connections asked that came to this port, as `serve_from` says it, and by nothing else: just the batches
     // that they asked wrote to the tables. No other port was listened on, and none was taken after the last of them.
     ensures serves { ConveysBy S.Store world.old world.new (λ ledger stand end. ServesOn
-        (attended_between P.Source.Arrivals P.Source.Reader.Read P.Source.Writer.Write P.Ports ports.old ports.new)
+        (attended_between P.Source.Arrivals P.Source.Reader.Read P.Source.Reader.fails P.Source.Writer.Write P.Ports ports.old ports.new)
         result duty.port duty.count ledger stand end (W.contents output.old) (W.contents output.new)) }
     // A disk that returns what was written did so before.
     ensures clean { HasCleanDisk (store_of S.Store world.new) → HasCleanDisk (store_of S.Store world.old) }

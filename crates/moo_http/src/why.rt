@@ -1,13 +1,13 @@
 //! Why what was asked is refused.
 
 ghost use Rattle.std.specs.Prelude.{◌≡◌, ℕ, List, Option, IfOk};
-ghost use Rattle.moo_responses.specs.Responses.{response_with, response_text};
+ghost use Rattle.moo_http_response.specs.Responses.{response_with, response_text};
 ghost use Rattle.moo_http.specs.Serves.{IsWhyOf};
 
 use crate::serve::Inquiry;
+use moo_http_request::BodyFault;
+use moo_http_response::{Outcome, Replies, answer_text};
 use moo_reasons::{Whys, call_why};
-use moo_request::BodyFault;
-use moo_responses::{Outcome, Replies, answer_text};
 use moo_text::Reply;
 use std::alloc::{AllocError, Global};
 

@@ -6,10 +6,12 @@
 mod broken;
 mod damaged;
 mod finding;
+mod lambdamoo;
 mod order;
 mod said;
 mod slots;
 mod telling;
 mod values;
 
+pub use lambdamoo::{WHAT_TO_DO, holds_lambdamoo, is_lambdamoo};
 pub use telling::told;

@@ -11,7 +11,8 @@ use crate::flat::Flat;
 use crate::overlay::Base;
 use moo_rows::ordered::OrderedKey;
 use moo_rows::{
-    Head, ObjRow, PetitionId, PetitionRow, PropId, PropRow, Row, Rows, SlotRow, VerbId, VerbRow,
+    Head, KeyedRow, ObjRow, PetitionId, PetitionRow, PropId, PropRow, Row, Rows, SlotRow, VerbId,
+    VerbRow,
 };
 use moo_value::ObjNo;
 use std::alloc::{AllocError, Global};
@@ -109,76 +110,17 @@ pub(crate) fn changed_rows<'a, K: OrderedKey, V: Row + 'a, B: Base<'a, K, V>>(
     differing_rows(alloc, base, changes)
 }
 
-fn apply_objects<R: Rows>(
+/// Makes the changes of one kind of row.
+fn apply_each<R: Rows, V: KeyedRow>(
     rows: &mut R,
-    changes: ChangeList<ObjNo, ObjRow>,
+    changes: ChangeList<V::Key, V>,
 ) -> Result<(), AllocError>
-    ensures { OnOk result ((R.held rows.new).maps ≡ record ((R.held rows.old).maps) { objects = changed_each (R.held rows.old).maps.objects changes }) }
+    ensures { OnOk result ((R.held rows.new).maps ≡ V.with_map (R.held rows.old).maps (changed_each (V.map_of (R.held rows.old).maps) changes)) }
 {
     for (key, row) in changes.into_vec() {
         match row {
-            Some(row) => rows.put_object(key, row)?,
-            None => rows.remove_object(key)?,
-        }
-    }
-    Ok(())
-}
-
-fn apply_props<R: Rows>(
-    rows: &mut R,
-    changes: ChangeList<PropId, PropRow>,
-) -> Result<(), AllocError>
-    ensures { OnOk result ((R.held rows.new).maps ≡ record ((R.held rows.old).maps) { props = changed_each (R.held rows.old).maps.props changes }) }
-{
-    for (key, row) in changes.into_vec() {
-        match row {
-            Some(row) => rows.put_prop(key, row)?,
-            None => rows.remove_prop(key)?,
-        }
-    }
-    Ok(())
-}
-
-fn apply_slots<R: Rows>(
-    rows: &mut R,
-    changes: ChangeList<(ObjNo, PropId), SlotRow>,
-) -> Result<(), AllocError>
-    ensures { OnOk result ((R.held rows.new).maps ≡ record ((R.held rows.old).maps) { slots = changed_each (R.held rows.old).maps.slots changes }) }
-{
-    for (key, row) in changes.into_vec() {
-        match row {
-            Some(row) => rows.put_slot(key, row)?,
-            None => rows.remove_slot(key)?,
-        }
-    }
-    Ok(())
-}
-
-fn apply_verbs<R: Rows>(
-    rows: &mut R,
-    changes: ChangeList<(ObjNo, VerbId), VerbRow>,
-) -> Result<(), AllocError>
-    ensures { OnOk result ((R.held rows.new).maps ≡ record ((R.held rows.old).maps) { verbs = changed_each (R.held rows.old).maps.verbs changes }) }
-{
-    for (key, row) in changes.into_vec() {
-        match row {
-            Some(row) => rows.put_verb(key, row)?,
-            None => rows.remove_verb(key)?,
-        }
-    }
-    Ok(())
-}
-
-fn apply_petitions<R: Rows>(
-    rows: &mut R,
-    changes: ChangeList<PetitionId, PetitionRow>,
-) -> Result<(), AllocError>
-    ensures { OnOk result ((R.held rows.new).maps ≡ record ((R.held rows.old).maps) { petitions = changed_each (R.held rows.old).maps.petitions changes }) }
-{
-    for (key, row) in changes.into_vec() {
-        match row {
-            Some(row) => rows.put_petition(key, row)?,
-            None => rows.remove_petition(key)?,
+            Some(row) => V::put(rows, key, row)?,
+            None => V::remove(rows, key)?,
         }
     }
     Ok(())
@@ -189,11 +131,11 @@ fn apply_all<R: Rows>(rows: &mut R, changes: Changes) -> Result<(), AllocError>
     ensures { OnOk result ((new : Maps) → AreChanges (R.held rows.old).maps new changes → (R.held rows.new).maps ≡ new) }
 {
     rows.set_head(changes.head);
-    apply_objects(rows, changes.objects)?;
-    apply_props(rows, changes.props)?;
-    apply_slots(rows, changes.slots)?;
-    apply_verbs(rows, changes.verbs)?;
-    apply_petitions(rows, changes.petitions)
+    apply_each(rows, changes.objects)?;
+    apply_each(rows, changes.props)?;
+    apply_each(rows, changes.slots)?;
+    apply_each(rows, changes.verbs)?;
+    apply_each(rows, changes.petitions)
 }
 
 /// Makes the changes in the rows that they are changes of. The only error is that memory runs out, and then some are made

@@ -4,7 +4,7 @@ use crate::given::{FIRST, Given, given_by, list_at, value_at};
 use crate::shown::Said;
 use crate::telling::{put_some, tell};
 use moo_batch::held_call;
-use moo_call_parts::Reason;
+use moo_calls_shared::Reason;
 use moo_rows::{PetitionId, Rows};
 use moo_value::{Value, ValueList};
 use moo_world::{Batch, CallName};

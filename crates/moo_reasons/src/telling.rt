@@ -6,8 +6,8 @@ use crate::given::{
 };
 use crate::plain::{first_unasked, first_unfit};
 use crate::shown::Said;
-use moo_call_parts::Reason;
-use moo_call_parts::rights::may_read_object;
+use moo_calls_shared::Reason;
+use moo_calls_shared::rights::may_read_object;
 use moo_rows::{PropId, Rows};
 use moo_value::{ObjNo, Value};
 use moo_world::{BuiltIn, CallName};

@@ -15,7 +15,7 @@ pub use Rattle.moo_rows.specs.Ordered.{IsNext, IsPast, lesser}
 pub use Rattle.moo_rows.specs.Exact.{object_exact, petition_exact, prop_exact, slot_exact, tie_exact, verb_exact}
 pub use Rattle.moo_rows.specs.Links.{AreCovered, AreOfDefiners, IsFirst, LinkSets, defined_left, has_link, is_candidate, is_definer, is_kept, is_linked, is_to_nothing, linked_left, may_have, row_defined, row_has, tie_cmp, ties_have, ties_of}
 pub use Rattle.moo_rows.specs.Maps.{Maps, object_cmp, petition_cmp, prop_cmp, slot_cmp, verb_cmp}
-pub use Rattle.moo_rows.specs.Walk.{entries_past, is_past, objects_left, petitions_left, props_left, slots_above, slots_left, slots_of, slots_of_left, verbs_above, verbs_left, verbs_of, verbs_of_left}
+pub use Rattle.moo_rows.specs.Walk.{entries_past, is_past, objects_left, petitions_left, props_left, rows_left, slots_above, slots_left, slots_of, slots_of_left, verbs_above, verbs_left, verbs_of, verbs_of_left}
 pub use Rattle.moo_rows.specs.declared.row.ObjRow.{ObjRow}
 pub use Rattle.moo_rows.specs.declared.row.PetitionId.{PetitionId}
 pub use Rattle.moo_rows.specs.declared.row.PropId.{PropId}

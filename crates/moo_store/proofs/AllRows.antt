@@ -1,7 +1,6 @@
 -- The rows of a map, each as a change from none.
 use Rattle.moo_store.{proofs.Words.{◌≡◌, ◌≢◌, cond, T, ◌&&◌, List, [], ◌∷◌, ◌++◌, Option, None, Some, Ordering, refl, sym, ap, ◌∙◌, subst, true, false, eq_by_cmp, is_lt, FinMap, find, get, is_sorted, entries, entries_sorted, get-entries, IsChanges, as_changes, all_of, PrintEach}, proofs.Written.{one_more}}
-use Rattle.std.{specs.Option.{option_map}, specs.Prelude.{IsSome, IfSome, IfNone}, specs.FinMap.Entries.{below_all}}
-use Rattle.moo_rows.{proofs.Words.{IsNext}, specs.Walk.{entries_past}}
+use Rattle.std.{specs.Option.{option_map}, specs.FinMap.Entries.{below_all}}
 
 module _ {K X : Type 0} (cmp : K → K → Ordering) where
   below_changes : (k : K) (es : List (K × X)) → below_all cmp k (as_changes es) ≡ below_all cmp k es
@@ -74,28 +73,3 @@ one_printed prints cells old new all e printed first shows it = record {
 
 pub all_printed : {K C X : Type 0} (prints : K → C → X → Type 0) (cells : List (K × Option C)) (left all : List (K × X)) → left ≡ [] → ArePrinted prints cells left all → PrintEach prints cells (as_changes all)
 all_printed prints cells left all none it = subst (λ es. PrintEach prints cells (as_changes es)) (sym (append-none it.done) ∙ ap (λ rest. it.done ++ rest) (sym none) ∙ it.whole) it.printed
-
--- ---- the next row
-
-some_of : {X : Type 0} (o : Option X) → IsSome o → (x : X) × (o ≡ Some x)
-some_of None is = absurd cc
-some_of (Some x) is = (x, refl)
-
-pub next_some : {K X : Type 0} {cmp : K → K → Ordering} (m : FinMap cmp X) (from next : Option K) (left : Option K → List (K × X)) → ((k : K) (row : X) → IsNext m from (Some k) → get m k ≡ Some row → left from ≡ (k, row) ∷ left (Some k))
-    → IsNext m from next → IfSome next (λ k. (row : X) × (get m k ≡ Some row) × (left from ≡ (k, row) ∷ left (Some k)))
-next_some m from None left step is = tt
-next_some m from (Some k) left step is = let held = some_of (get m k) is.0 in (held.0, held.1, step k held.0 is held.1)
-
-pub next_none : {K X : Type 0} {cmp : K → K → Ordering} (m : FinMap cmp X) (from next : Option K) (left : Option K → List (K × X)) → (IsNext m from None → left from ≡ [])
-    → IsNext m from next → IfNone next (left from ≡ [])
-next_none m from None left end is = end is
-next_none m from (Some k) left end is = tt
-
--- a row that is found is the one that is held
-pub found_is : {V X : Type 0} (view : V → X) (v : V) (o : Option X) (row : X) → option_map view (Some v) ≡ o → o ≡ Some row → view v ≡ row
-found_is view v o row found held = let same : Some (view v) ≡ Some row = found ∙ held in cc
-
--- past none nothing is left out
-pub left_all : {K X : Type 0} (cmp : K → K → Ordering) (es : List (K × X)) → entries_past cmp None es ≡ es
-left_all cmp [] = refl
-left_all cmp (e ∷ es) = ap (λ rest. e ∷ rest) (left_all cmp es)

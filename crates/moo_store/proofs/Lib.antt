@@ -1,6 +1,7 @@
 pub mod Words
 pub mod Versions
 pub mod Found
+pub mod Causes
 pub mod Written
 pub mod Laid
 pub mod Exactly

@@ -1,5 +1,6 @@
 -- What opening a store may answer, and what it may leave.
 use Rattle.std.specs.Prelude.{◌≡◌, ◌≢◌, ◌⊎◌, IsTrue, true, false, Result, Ok, Err, IfOk, IfErr, ⊤}
+use Rattle.sqlite.specs.declared.error.Error.{Error}
 use Rattle.sqlite.specs.declared.error.Error.TheVariants.{SqliteFailure}
 use Rattle.sqlite.specs.declared.error.ErrorCode.TheVariants.{NotADatabase}
 use Rattle.sqlite.specs.State.{State as Database, HasCleanDisk, Survives}
@@ -11,6 +12,8 @@ use Rattle.moo_world.specs.Judge.{State, state_of}
 use Rattle.moo_world.specs.Rows.{IsGood}
 use Rattle.moo_tables.specs.Tables.{Tables, schema_of}
 use Rattle.moo_tables.specs.Inside.{Rests, RestsAt, HasTables}
+use Rattle.moo_tables.specs.Cause.{StopsChange}
+use Rattle.moo_tables.specs.ReadCause.{StopsQuery}
 use Rattle.moo_tables.specs.Version.{IsEarlier}
 use Rattle.moo_tables.specs.declared.version.Version.{Version}
 use Rattle.moo_cells.specs.Shows.{ShowsRows}
@@ -41,6 +44,23 @@ IsOfStore (Damaged kind key) = ⊥
 IsOfStore NewerVersion = ⊥
 IsOfStore OutOfMemory = ⊤
 IsOfStore Closed = ⊥
+
+-- memory ran out, or the store failed with an error of which this is true
+abbrev pub StopsBy : (Error → Type 0) → StoreFault → Type 0
+StopsBy Cause (Store error) = Cause error
+StopsBy Cause (Damaged kind key) = ⊥
+StopsBy Cause NewerVersion = ⊥
+StopsBy Cause OutOfMemory = ⊤
+StopsBy Cause Closed = ⊥
+
+-- the tables are of an earlier version
+abbrev pub HasEarlier : Database → Type 0
+HasEarlier conn = (version : Version) × IsEarlier version × HasTables (schema_of version) conn
+
+-- Why tables that show a state aren't opened: memory ran out, or a query of them stopped; or, if they are of an earlier version, their
+-- migration stopped.
+abbrev pub StopsOpening : Database → Database → StoreFault → Type 0
+StopsOpening conn last = StopsBy (λ error. StopsQuery conn last error ⊎ (HasEarlier conn × StopsChange conn last error))
 
 -- the fault that says that the tables are not ours
 abbrev pub not_ours : StoreFault
@@ -91,13 +111,16 @@ module _ {S : Type 0} (g : Ghosts S) where
         RestsCurrent (store_of g world) conn.now.trees tables world.rows.maps
     pub crash : Survives conn (store_of g world) (Adopts conn)
 
-  -- None was opened, and the connection comes back outside a transaction. A fault of a state is one of the store, and a damage that is
-  -- told is that of the tables; other tables are a fault of the store, and ours are never called others. The database is as it was.
+  -- None was opened, and the connection comes back outside a transaction. A fault of a state is one of the store and has a cause, and a
+  -- damage that is told is that of the tables; other tables are a fault of the store, and ours are never called others. The database is as
+  -- it was.
   pub record IsUnadopted (conn : Held S) (fault : StoreFault) (last : Held S) : Type 0 where
     pub outside : (state g last).in_transaction ≡ false
     pub other : HasOthers (state g conn) → IsOfStore fault × (last ≡ conn)
     pub own : (version : Version) → HasTables (schema_of version) (state g conn) → fault ≢ not_ours
     pub whole : (s : State) → ShowsState (state g conn) s → HasCleanDisk (state g last) → IsOfStore fault
+    pub cause : (s : State) → ShowsState (state g conn) s → HasCleanDisk (state g last) →
+        StopsOpening (state g conn) (state g last) fault
     pub says : (tables : Tables) → Rests (state g conn) tables → HasCleanDisk (state g last) → Says tables fault
     pub undone : (last ≡ conn) ⊎ (HasCleanDisk (state g last) → IsTrue (state g last).is_open → RestsAt (state g last) (state g conn).now)
     pub crash : Survives (state g conn) (state g last) (Adopts (state g conn))

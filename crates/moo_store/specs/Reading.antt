@@ -7,9 +7,10 @@ use Rattle.moo_rows.specs.Maps.{Maps, Held as Rows}
 use Rattle.moo_world.specs.Rows.{IsGood}
 use Rattle.moo_tables.specs.Tables.{Tables, schema_of}
 use Rattle.moo_tables.specs.Inside.{Rests, HasTables, ReadsTables, FailsToRead}
+use Rattle.moo_tables.specs.ReadCause.{StopsQuery}
 use Rattle.moo_tables.specs.declared.version.Version.{Version}
 use Rattle.moo_cells.specs.Shows.{ShowsRows}
-use Rattle.moo_store.specs.Opening.{Says, IsOfStore, HasOthers, not_ours}
+use Rattle.moo_store.specs.Opening.{Says, IsOfStore, StopsBy, HasOthers, not_ours}
 use Rattle.moo_store.specs.declared.fault.StoreFault.{StoreFault}
 
 -- Rows were found in tables, of which this is known. They are good, the tables show them, and they show no other good rows.
@@ -23,6 +24,11 @@ pub record AreFound (Known : Tables → Type 0) (rows : Maps) : Type 0 where
 pub record NoneFound (Known : Tables → Type 0) (fault : StoreFault) : Type 0 where
   pub says : (tables : Tables) → Known tables → Says tables fault
   pub whole : (tables : Tables) (m : Maps) → Known tables → ShowsRows tables m → IsGood m → IsOfStore fault
+
+-- Good rows that the tables show aren't found: memory ran out, or a query stopped.
+abbrev pub StopsFinding : (Tables → Type 0) → Database → Database → StoreFault → Type 0
+StopsFinding Known old new fault =
+    (tables : Tables) (m : Maps) → Known tables → ShowsRows tables m → IsGood m → StopsBy (StopsQuery old new) fault
 
 -- these tables rested in the store that was read, and its disk returns what was written
 abbrev pub Rested : Database → Database → Tables → Type 0
@@ -42,6 +48,7 @@ pub record IsUnreadAs (version : Version) (old new : Database) (fault : StoreFau
   pub failed : FailsToRead (schema_of version) old new
   pub own : fault ≢ not_ours
   pub none : NoneFound (RestedAs version old new) fault
+  pub cause : StopsFinding (RestedAs version old new) old new fault
 
 abbrev pub ReadsRowsAs : Version → Database → Database → Result Rows StoreFault → Type 0
 ReadsRowsAs version old new (Ok rows) = IsReadAs version old new rows.maps
@@ -61,6 +68,7 @@ module _ {S : Type 0} (g : Ghosts S) where
     pub other : HasOthers (state g conn) → IsOfStore fault × (last ≡ conn)
     pub own : (version : Version) → HasTables (schema_of version) (state g conn) → fault ≢ not_ours
     pub none : NoneFound (Rested (state g conn) (state g last)) fault
+    pub cause : StopsFinding (Rested (state g conn) (state g last)) (state g conn) (state g last) fault
 
   abbrev pub ReadsRows : Held S → Held S → Result (Version × Rows) StoreFault → Type 0
   ReadsRows conn last (Ok read) = HasRead conn last read.0 read.1.maps

@@ -4,13 +4,14 @@ ghost use Rattle.std.specs.Prelude.{◌≡◌, ◌≢◌, ◌⊎◌, ◌<◌, �
 ghost use Rattle.sqlite.specs.State.{HasCleanDisk, Survives};
 ghost use Rattle.sqlite.specs.Held.{state};
 ghost use Rattle.moo_tables.specs.Tables.{Tables, schema_of};
+ghost use Rattle.moo_tables.specs.Cause.{StopsChange};
 ghost use Rattle.moo_tables.specs.Inside.{Rests, RestsAt, HasTables};
 ghost use Rattle.moo_tables.specs.Version.{IsEarlier};
 ghost use Rattle.moo_tables.specs.declared.version.Version.{Version};
 ghost use Rattle.moo_cells.specs.Shows.{ShowsRows};
 ghost use Rattle.moo_store.specs.States.{KeepsRows};
 ghost use Rattle.moo_store.specs.Current.{RestsCurrent};
-ghost use Rattle.moo_store.specs.Opening.{IsOfStore, TakesOver, not_ours};
+ghost use Rattle.moo_store.specs.Opening.{IsOfStore, StopsBy, TakesOver, not_ours};
 ghost use Rattle.moo_store.specs.Printed.{PrintEach, PrintsSlot, all_of};
 
 use crate::fault::StoreFault;
@@ -46,6 +47,9 @@ fn migrate_rows<S: Alter>(
     ensures outside { (state S.Store conn.new).in_transaction ≡ false }
     ensures fault { IfErr result IsOfStore }
     ensures own { IfErr result (λ fault. fault ≢ not_ours) }
+    ensures cause { HasCleanDisk (state S.Store conn.new) →
+        IfErr result (λ fault. (tables : Tables) → Rests (state S.Store conn.old) tables → IsEarlier tables.version →
+        StopsBy (StopsChange (state S.Store conn.old) (state S.Store conn.new)) fault) }
     ensures keeps { HasCleanDisk (state S.Store conn.new) →
         OnOk result ((tables : Tables) → Rests (state S.Store conn.old) tables → IsEarlier tables.version → ShowsRows tables rows.now.maps →
         KeepsRows (state S.Store conn.new) rows.now.maps) }
@@ -80,6 +84,10 @@ pub(crate) fn make_current<S: Alter>(
     ensures outside { (state S.Store conn.new).in_transaction ≡ false }
     ensures fault { IfErr result IsOfStore }
     ensures own { IfErr result (λ fault. fault ≢ not_ours) }
+    ensures earlier { OnErr result (IsEarlier version) }
+    ensures cause { HasCleanDisk (state S.Store conn.new) →
+        IfErr result (λ fault. (tables : Tables) → Rests (state S.Store conn.old) tables → tables.version ≡ version →
+        StopsBy (StopsChange (state S.Store conn.old) (state S.Store conn.new)) fault) }
     ensures keeps { HasCleanDisk (state S.Store conn.new) →
         OnOk result ((tables : Tables) → Rests (state S.Store conn.old) tables → tables.version ≡ version → ShowsRows tables rows.now.maps →
         KeepsRows (state S.Store conn.new) rows.now.maps) }

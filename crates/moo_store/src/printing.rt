@@ -1,14 +1,15 @@
 //! Rows that change, printed as the cells of their tables.
 
-ghost use Rattle.std.specs.Prelude.{◌≡◌, List, [], ◌∷◌, Option, Some, None, IfOk, IfSome, IfNone, option_map};
+ghost use Rattle.std.specs.Prelude.{◌≡◌, Option, Some, None, IfOk, option_map};
+ghost use Rattle.std.specs.FinMap.{get};
 ghost use Rattle.moo_cells.specs.Shows.{ShowsOrNone};
-ghost use Rattle.moo_rows.specs.Maps.{Maps, no_maps};
-ghost use Rattle.moo_store.specs.Printed.{PrintEach, Prints, new_number, as_changes, all_changes};
+ghost use Rattle.moo_rows.specs.Maps.{no_maps};
+ghost use Rattle.moo_store.specs.Printed.{PrintEach, Prints, PrintsObject, PrintsProp, PrintsSlot, PrintsVerb, PrintsPetition, new_number, all_of, all_changes};
 
 use crate::columns::{accept_over, bits_over, calls_over, state_over, text_cell};
 use moo_memory::{ChangeList, Changes, Flat};
 use moo_rows::{
-    ObjRow, PetitionId, PetitionRow, PropId, PropRow, Row, Rows, SlotRow, VerbId, VerbRow,
+    KeyedRow, ObjRow, PetitionId, PetitionRow, PropId, PropRow, Row, Rows, SlotRow, VerbId, VerbRow,
 };
 use moo_tables::{CellChanges, ObjectCells, PetitionCells, PropCells, SlotCells, VerbCells};
 use moo_value::ObjNo;
@@ -16,25 +17,9 @@ use moo_verbs::{print_object_spec, print_prep};
 use std::alloc::{AllocError, Global};
 
 /// A row that is printed as cells.
-trait Print<K, C> {
+trait Print<K, C>: KeyedRow<Key = K> {
     /// The cells of a row, to be written over those of the row that is there, if there is one.
     ghost prints: { Option Self → C → Self → Type 0 };
-
-    /// The rows of this kind.
-    ghost held: { Maps → K → Option Self };
-
-    /// Those past a key, with their keys and in the order of these; past none all of them.
-    ghost left: { Option K → Maps → List (K × Self) };
-
-    /// The row with a key.
-    fn find(rows: &Flat, key: K) -> Option<&Self>
-        ensures { option_map (λ row. row.now) result ≡ held rows.now.maps key };
-
-    /// The first key past another, or the first of all.
-    fn next(rows: &Flat, last: Option<K>) -> Option<K>
-        ensures some { IfSome result (λ key. (row : Self) × (held rows.now.maps key ≡ Some row)
-            × (left last rows.now.maps ≡ (key, row) ∷ left (Some key) rows.now.maps)) }
-        ensures none { IfNone result (left last rows.now.maps ≡ []) };
 
     /// A column with several spellings of one value is printed only if its value changes. The only error is out of memory.
     fn cells(&self, alloc: Global, old: Option<&Self>) -> Result<C, AllocError>
@@ -42,28 +27,7 @@ trait Print<K, C> {
 }
 
 impl Print<ObjNo, ObjectCells> for ObjRow {
-    ghost use Rattle.std.specs.FinMap.{get};
-    ghost use Rattle.moo_rows.specs.declared.row.ObjRow.{ObjRow};
-    ghost use Rattle.moo_rows.specs.Walk.{objects_left};
-    ghost use Rattle.moo_store.specs.Printed.{PrintsObject};
-
     ghost prints = { PrintsObject };
-
-    ghost held = { λ rows key. get rows.objects key };
-
-    ghost left = { objects_left };
-
-    fn find(rows: &Flat, key: ObjNo) -> Option<&ObjRow> {
-        rows.object(key)
-    }
-
-    fn next(rows: &Flat, last: Option<ObjNo>) -> Option<ObjNo>
-        ensures some { IfSome result (λ key. (row : ObjRow) × (get rows.now.maps.objects key ≡ Some row)
-            × (objects_left last rows.now.maps ≡ (key, row) ∷ objects_left (Some key) rows.now.maps)) }
-        ensures none { IfNone result (objects_left last rows.now.maps ≡ []) }
-    {
-        rows.next_object(last)
-    }
 
     fn cells(&self, alloc: Global, old: Option<&ObjRow>) -> Result<ObjectCells, AllocError> {
         let accept = accept_over(alloc, old, self)?;
@@ -73,28 +37,7 @@ impl Print<ObjNo, ObjectCells> for ObjRow {
 }
 
 impl Print<PropId, PropCells> for PropRow {
-    ghost use Rattle.std.specs.FinMap.{get};
-    ghost use Rattle.moo_rows.specs.declared.row.PropRow.{PropRow};
-    ghost use Rattle.moo_rows.specs.Walk.{props_left};
-    ghost use Rattle.moo_store.specs.Printed.{PrintsProp};
-
     ghost prints = { PrintsProp };
-
-    ghost held = { λ rows key. get rows.props key };
-
-    ghost left = { props_left };
-
-    fn find(rows: &Flat, key: PropId) -> Option<&PropRow> {
-        rows.prop(key)
-    }
-
-    fn next(rows: &Flat, last: Option<PropId>) -> Option<PropId>
-        ensures some { IfSome result (λ key. (row : PropRow) × (get rows.now.maps.props key ≡ Some row)
-            × (props_left last rows.now.maps ≡ (key, row) ∷ props_left (Some key) rows.now.maps)) }
-        ensures none { IfNone result (props_left last rows.now.maps ≡ []) }
-    {
-        rows.next_prop(last)
-    }
 
     fn cells(&self, alloc: Global, _old: Option<&PropRow>) -> Result<PropCells, AllocError> {
         let name = text_cell(alloc, &self.name)?;
@@ -106,28 +49,7 @@ impl Print<PropId, PropCells> for PropRow {
 }
 
 impl Print<(ObjNo, PropId), SlotCells> for SlotRow {
-    ghost use Rattle.std.specs.FinMap.{get};
-    ghost use Rattle.moo_rows.specs.declared.row.SlotRow.{SlotRow};
-    ghost use Rattle.moo_rows.specs.Walk.{slots_left};
-    ghost use Rattle.moo_store.specs.Printed.{PrintsSlot};
-
     ghost prints = { PrintsSlot };
-
-    ghost held = { λ rows key. get rows.slots key };
-
-    ghost left = { slots_left };
-
-    fn find(rows: &Flat, key: (ObjNo, PropId)) -> Option<&SlotRow> {
-        rows.slot(key)
-    }
-
-    fn next(rows: &Flat, last: Option<(ObjNo, PropId)>) -> Option<(ObjNo, PropId)>
-        ensures some { IfSome result (λ key. (row : SlotRow) × (get rows.now.maps.slots key ≡ Some row)
-            × (slots_left last rows.now.maps ≡ (key, row) ∷ slots_left (Some key) rows.now.maps)) }
-        ensures none { IfNone result (slots_left last rows.now.maps ≡ []) }
-    {
-        rows.next_slot(last)
-    }
 
     fn cells(&self, alloc: Global, old: Option<&SlotRow>) -> Result<SlotCells, AllocError> {
         let value = state_over(alloc, old, self)?;
@@ -140,28 +62,7 @@ impl Print<(ObjNo, PropId), SlotCells> for SlotRow {
 }
 
 impl Print<(ObjNo, VerbId), VerbCells> for VerbRow {
-    ghost use Rattle.std.specs.FinMap.{get};
-    ghost use Rattle.moo_rows.specs.declared.row.VerbRow.{VerbRow};
-    ghost use Rattle.moo_rows.specs.Walk.{verbs_left};
-    ghost use Rattle.moo_store.specs.Printed.{PrintsVerb};
-
     ghost prints = { PrintsVerb };
-
-    ghost held = { λ rows key. get rows.verbs key };
-
-    ghost left = { verbs_left };
-
-    fn find(rows: &Flat, key: (ObjNo, VerbId)) -> Option<&VerbRow> {
-        rows.verb(key)
-    }
-
-    fn next(rows: &Flat, last: Option<(ObjNo, VerbId)>) -> Option<(ObjNo, VerbId)>
-        ensures some { IfSome result (λ key. (row : VerbRow) × (get rows.now.maps.verbs key ≡ Some row)
-            × (verbs_left last rows.now.maps ≡ (key, row) ∷ verbs_left (Some key) rows.now.maps)) }
-        ensures none { IfNone result (verbs_left last rows.now.maps ≡ []) }
-    {
-        rows.next_verb(last)
-    }
 
     fn cells(&self, alloc: Global, old: Option<&VerbRow>) -> Result<VerbCells, AllocError> {
         let names = text_cell(alloc, &self.names)?;
@@ -181,28 +82,7 @@ impl Print<(ObjNo, VerbId), VerbCells> for VerbRow {
 }
 
 impl Print<PetitionId, PetitionCells> for PetitionRow {
-    ghost use Rattle.std.specs.FinMap.{get};
-    ghost use Rattle.moo_rows.specs.declared.row.PetitionRow.{PetitionRow};
-    ghost use Rattle.moo_rows.specs.Walk.{petitions_left};
-    ghost use Rattle.moo_store.specs.Printed.{PrintsPetition};
-
     ghost prints = { PrintsPetition };
-
-    ghost held = { λ rows key. get rows.petitions key };
-
-    ghost left = { petitions_left };
-
-    fn find(rows: &Flat, key: PetitionId) -> Option<&PetitionRow> {
-        rows.petition(key)
-    }
-
-    fn next(rows: &Flat, last: Option<PetitionId>) -> Option<PetitionId>
-        ensures some { IfSome result (λ key. (row : PetitionRow) × (get rows.now.maps.petitions key ≡ Some row)
-            × (petitions_left last rows.now.maps ≡ (key, row) ∷ petitions_left (Some key) rows.now.maps)) }
-        ensures none { IfNone result (petitions_left last rows.now.maps ≡ []) }
-    {
-        rows.next_petition(last)
-    }
 
     fn cells(&self, alloc: Global, old: Option<&PetitionRow>) -> Result<PetitionCells, AllocError> {
         let calls = calls_over(alloc, old, self)?;
@@ -231,7 +111,7 @@ fn print_each<K: Copy + Drop, C: Drop, V: Print<K, C>>(
     rows: &Flat,
     changes: &ChangeList<K, V>,
 ) -> Result<Vec<(K, Option<C>)>, AllocError>
-    ensures { IfOk result (λ cells. PrintEach (λ key. V.prints (V.held rows.now.maps key)) cells.items changes.now) }
+    ensures { IfOk result (λ cells. PrintEach (λ key. V.prints (get (V.map_of rows.now.maps) key)) cells.items changes.now) }
 {
     let mut cells = Vec::new(alloc);
     for (key, row) in changes.items() {
@@ -254,17 +134,14 @@ pub(crate) fn print_left<K: Copy + Drop, C: Drop, V: Print<K, C>>(
     alloc: Global,
     rows: &Flat,
 ) -> Result<Vec<(K, Option<C>)>, AllocError>
-    ensures { IfOk result (λ cells. PrintEach (λ key. V.prints None) cells.items (as_changes (V.left None rows.now.maps))) }
+    ensures { IfOk result (λ cells. PrintEach (λ key. V.prints None) cells.items (all_of (V.map_of rows.now.maps))) }
 {
     let mut cells = Vec::new(alloc);
     let mut last = None;
-    while let Some(key) = V::next(rows, last) {
-        let Some(row) = V::find(rows, key) else {
-            unreachable!();
-        };
-        let printed = new_cells::<K, C, V>(alloc, row)?;
-        cells.push((key, Some(printed)))?;
-        last = Some(key);
+    while let Some(next) = V::next_row(rows, last) {
+        let printed = new_cells::<K, C, V>(alloc, next.1)?;
+        cells.push((next.0, Some(printed)))?;
+        last = Some(next.0);
     }
     Ok(cells)
 }

@@ -7,10 +7,11 @@ ghost use Rattle.moo_rows.specs.Maps.{Maps};
 ghost use Rattle.moo_world.specs.Rows.{IsGood};
 ghost use Rattle.moo_tables.specs.Tables.{Tables, present_schema, schema_of};
 ghost use Rattle.moo_tables.specs.Inside.{Rests, HasTables, ReadsTables, FailsToRead};
-ghost use Rattle.moo_tables.specs.Listing.{tables_of};
+ghost use Rattle.moo_tables.specs.ReadCause.{StopsQuery};
+ghost use Rattle.moo_tables.specs.Listing.{AreListed, tables_of};
 ghost use Rattle.moo_tables.specs.declared.version.Version.{Version};
 ghost use Rattle.moo_cells.specs.Shows.{ShowsRows};
-ghost use Rattle.moo_store.specs.Opening.{Says, IsOfStore, not_ours};
+ghost use Rattle.moo_store.specs.Opening.{Says, IsOfStore, StopsBy, not_ours};
 ghost use Rattle.moo_store.specs.Reading.{ReadsRowsAs, ReadsRows};
 
 use crate::fault::StoreFault;
@@ -28,6 +29,8 @@ fn rows_of(alloc: Global, lists: CellLists) -> Result<Flat, StoreFault>
     ensures one { (m : Maps) → ShowsRows (tables_of lists) m → IsGood m → IfOk result (λ rows. rows.maps ≡ m) }
     ensures fault { IfErr result (Says (tables_of lists)) }
     ensures whole { (m : Maps) → ShowsRows (tables_of lists) m → IsGood m → IfErr result IsOfStore }
+    ensures read { AreListed lists → (m : Maps) → ShowsRows (tables_of lists) m → IsGood m →
+        IfErr result (λ fault. fault ≡ StoreFault.OutOfMemory) }
     ensures own { IfErr result (λ fault. fault ≢ not_ours) }
 {
     if !are_listed(&lists) {
@@ -67,7 +70,11 @@ pub(crate) fn read_lists<S: Alter>(
     ensures listed { HasCleanDisk (state S.Store conn.new) →
         IfOk result (λ lists. (tables : Tables) → tables.version ≡ version → Rests (state S.Store conn.old) tables →
         tables_of lists ≡ tables) }
+    ensures rise { HasCleanDisk (state S.Store conn.new) →
+        IfOk result (λ lists. (tables : Tables) → tables.version ≡ version → Rests (state S.Store conn.old) tables → AreListed lists) }
     ensures failed { OnErr result (FailsToRead (schema_of version) (state S.Store conn.old) (state S.Store conn.new)) }
+    ensures cause { HasCleanDisk (state S.Store conn.new) → HasTables (schema_of version) (state S.Store conn.old) →
+        IfErr result (StopsBy (StopsQuery (state S.Store conn.old) (state S.Store conn.new))) }
     ensures fault { IfErr result (λ fault. (error : _) × (fault ≡ StoreFault.Store error)) }
     ensures own { IfErr result (λ fault. fault ≢ not_ours) }
 {
@@ -84,7 +91,8 @@ pub(crate) fn test_tables<S: Alter>(
 ) -> Result<Version, StoreFault>
     ensures ours { IfOk result (λ version. HasTables (schema_of version) (state S.Store conn.now)) }
     ensures fault { IfErr result IsOfStore }
-    ensures own { IfErr result (λ fault. (version : Version) → HasTables (schema_of version) (state S.Store conn.now) → fault ≢ not_ours) }
+    ensures own { IfErr result (λ fault. (version : Version) → HasTables (schema_of version) (state S.Store conn.now) →
+        fault ≡ StoreFault.OutOfMemory) }
     ensures settled { IsTrue (state S.Store conn.now).is_open → (state S.Store conn.now).in_transaction ≡ false →
         (state S.Store conn.now).now ≡ (state S.Store conn.now).committed }
 {

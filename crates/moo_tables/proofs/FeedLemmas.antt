@@ -1,5 +1,5 @@
 -- A query whose rows are handed on while they are read.
-use Rattle.moo_tables.proofs.{Words.{◌≡◌, ℕ, List, [], Bool, true, Result, Ok, Err, IfOk, OnOk, OnErr, ◌⊎◌, Row, Held, Schema, Program, Tables, Error, State, HasCleanDisk, Shown, Survives, CommitsShowing, IsUnchanged, IsRolledBack, IsPlain, understood, HasTables, Holds, Rests, ReadsTables, FailsToRead}, InsideLemmas.{clean_before}, SelectLemmas.{IsSelect}, StreamLemmas.{IsGiving}, ReadLemmas.{plain_in, quiet, has_failed}}
+use Rattle.moo_tables.proofs.{Words.{◌≡◌, ℕ, List, [], Bool, true, Result, Ok, Err, IfOk, OnOk, OnErr, ◌⊎◌, Row, Held, Schema, Program, Tables, Error, State, HasCleanDisk, Shown, Survives, CommitsShowing, IsUnchanged, IsRolledBack, IsPlain, understood, Holds, Rests, ReadsTables, FailsToRead}, InsideLemmas.{clean_before}, SelectLemmas.{IsSelect}, StreamLemmas.{IsGiving}, ReadLemmas.{plain_in, quiet, has_failed}}
 use Rattle.sqlite_trees.specs.declared.store.Store.{Ghosts}
 use Rattle.moo_tables.specs.Feeding.{AreTaken, AreFed}
 

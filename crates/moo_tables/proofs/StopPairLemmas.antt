@@ -5,7 +5,7 @@ use Rattle.moo_tables.proofs.KeepPairLemmas as kept_of
 use Rattle.sqlite_rules.proofs.PlaceLemmas.{next_is_free}
 
 -- what is left was there
-left_of : (ids : List ℤ) (rows : List Row) (r : Row) → Has (without_all rows ids) r → Has rows r
+pub left_of : (ids : List ℤ) (rows : List Row) (r : Row) → Has (without_all rows ids) r → Has rows r
 left_of [] rows r h = h
 left_of (id ∷ ids) rows r h = (has_filtered (λ r. not (has_rowid id r)) rows r (left_of ids (without_rowid id rows) r h)).0
 

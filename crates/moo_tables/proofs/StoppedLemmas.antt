@@ -1,8 +1,8 @@
 -- Why a statement fails whose text and values are sound.
-use Rattle.moo_tables.proofs.Words.{◌≡◌, inl, inr, ℕ, List, [], append-nil, length, Bool, true, false, true≢false, ◌||◌, Option, Some, None, Err, Result, IsTrue, refl, sym, ap, subst, subst₂, ◌∙◌, ⊤, Error, Row, Schema, Does, Database, is_query, understood, timed, State, HasCleanDisk, Fails, HasCause, IsNotRun, IsNoStatement, IsStatement, IsMisplaced, ExecutesIn, ExecutesInside, EndsScope, RunsCommand, shows_rows, is_pragma, mode_of, text_of, IsPlain, command_of, StopsChange, ◌⊎◌, IsUnchanged}
+use Rattle.moo_tables.proofs.Words.{◌≡◌, inl, inr, ℕ, List, [], append-nil, length, Bool, true, false, true≢false, ◌||◌, Option, Some, None, Err, Result, IsTrue, refl, sym, ap, subst, subst₂, ◌∙◌, ⊤, Error, Row, Schema, Does, Database, is_query, understood, timed, State, HasCleanDisk, Fails, HasCause, IsNotRun, IsNoStatement, IsStatement, IsMisplaced, ExecutesIn, ExecutesInside, EndsScope, RunsCommand, shows_rows, is_pragma, mode_of, text_of, statement_of, IsPlain, command_of, StopsChange, ◌⊎◌, IsUnchanged}
 use Rattle.sqlite.specs.declared.run.Mode.{Mode}
 use Rattle.sqlite_resolve.specs.declared.compiled.Compiled.{Compiled}
-use Rattle.sqlite_schema.{specs.declared.command.Command.{Command}, specs.declared.command.Command.TheVariants.{Insert, InsertOr, Update, Delete, Begin, Commit, Rollback, Release, RollbackTo}}
+use Rattle.sqlite_schema.{specs.declared.command.Command.{Command}, specs.declared.command.Command.TheVariants.{Insert, InsertOr, Update, Delete, CreateTable, Begin, Commit, Rollback, Release, RollbackTo}}
 use Rattle.sqlite_trees.{specs.declared.error.StoreError.{StoreError}, specs.declared.error.StoreError.TheVariants.{OutOfMemory, Io, Corrupt, Full, Broken, Unstorable}}
 pub use Rattle.moo_tables.proofs.TextLemmas.{IsOne}
 use Rattle.moo_tables.proofs.RefusalLemmas.{IsAllowed}
@@ -12,6 +12,7 @@ is_change (Insert at from) = true
 is_change (InsertOr at way from clauses) = true
 is_change (Update at q) = true
 is_change (Delete at q) = true
+is_change CreateTable = true
 is_change _ = false
 
 any_size : (old new : State) (Big : Type 0) (cause : StoreError) → HasCause old new Big cause → HasCause old new ⊤ cause
@@ -60,28 +61,37 @@ module _ (sql : List ℕ) (params : Row) (old new : State) (schema : Schema) (ha
     silent : shows_rows false c ≡ false
     silent = rw (bare.0, same) quiet
 
-  -- the same if SQL may refuse it for this too, and nothing is changed then
-  pub stops_or : {P : Type 0} (e : Error) → ((text : List ℕ) → Does old.step_limit (mode_of old) params old.now text None command (Err (Some e)) → P ⊎ IsAllowed old.step_limit e) → ExecutesInside 0 sql params old new (Err e)
+  -- SQL refuses the statement for this alone, whose text is told, and nothing is changed then
+  stops_told : {P : Type 0} (e : Error) → ((text : List ℕ) → text ≡ statement_of sql (understood schema sql) → Does old.step_limit (mode_of old) params old.now text None command (Err (Some e)) → P ⊎ IsAllowed old.step_limit e) → ExecutesInside 0 sql params old new (Err e)
       → (P × IsUnchanged old new) ⊎ StopsChange old new e
   unfolding ExecutesIn IsNotRun EndsScope
-  stops_or e allowed (inr h) = absurd (elim h.0.2 [
+  stops_told e allowed (inr h) = absurd (elim h.0.2 [
     | inl end ↦ elim end [ inl c ↦ other _ Commit (changing h.0.0 h.0.1) refl c | inr r ↦ other _ Rollback (changing h.0.0 h.0.1) refl r ]
     | inr mark ↦ elim mark.1 [ inl r ↦ other _ (Release mark.0) (changing h.0.0 h.0.1) refl r | inr b ↦ other _ (RollbackTo mark.0) (changing h.0.0 h.0.1) refl b ]
   ])
-  stops_or e allowed (inl (inl (inl not_run), _)) = absurd (no_statement e not_run.0)
-  stops_or e allowed (inl (inl (inr failed), _)) = inr (fails_so old new ⊥ e failed)
-  stops_or e allowed (inl (inr (c, it, ran), _)) =
+  stops_told e allowed (inl (inl (inl not_run), _)) = absurd (no_statement e not_run.0)
+  stops_told e allowed (inl (inl (inr failed), _)) = inr (fails_so old new ⊥ e failed)
+  stops_told e allowed (inl (inr (c, it, ran), _)) =
       let run : RunsCommand old new sql c (timed params c.formats it.now) (Err e) = rw (silent c it) at ran in
       elim run [
         | inl refused ↦ elim refused.0 [
           | inl late ↦ absurd (misplaced old c.command e (changing c it) late)
-          | inr does ↦ elim (allowed (text_of sql c) (subst₂ (λ k r. Does old.step_limit (mode_of old) params old.now (text_of sql c) r k (Err (Some e))) (same c it) (bare c it).0 (rw ((bare c it).1, append-nil params) at does.1))) [
+          | inr does ↦ elim (allowed (text_of sql c) (ap (statement_of sql) (sym (known ∙ it.is))) (subst₂ (λ k r. Does old.step_limit (mode_of old) params old.now (text_of sql c) r k (Err (Some e))) (same c it) (bare c it).0 (rw ((bare c it).1, append-nil params) at does.1))) [
             | inl met ↦ inl (met, refused.1)
             | inr may ↦ inr (inr may)
           ]
         ]
         | inr failed ↦ inr (fails_so old new _ e failed)
       ]
+
+  -- the same if SQL may refuse it for this too, and nothing is changed then
+  pub stops_or : {P : Type 0} (e : Error) → ((text : List ℕ) → Does old.step_limit (mode_of old) params old.now text None command (Err (Some e)) → P ⊎ IsAllowed old.step_limit e) → ExecutesInside 0 sql params old new (Err e)
+      → (P × IsUnchanged old new) ⊎ StopsChange old new e
+  stops_or e allowed h = stops_told e (λ text is. allowed text) h
+
+  -- SQL refuses no such statement
+  pub stops_unrefused : (e : Error) → ((text : List ℕ) → text ≡ statement_of sql (understood schema sql) → ¬ Does old.step_limit (mode_of old) params old.now text None command (Err (Some e))) → ExecutesInside 0 sql params old new (Err e) → StopsChange old new e
+  stops_unrefused e refused h = elim (stops_told {P = ⊥} e (λ text is does. absurd (refused text is does)) h) [ inl none ↦ absurd none.0 | inr stopped ↦ stopped ]
 
   pub stops : (e : Error) → ((text : List ℕ) → Does old.step_limit (mode_of old) params old.now text None command (Err (Some e)) → IsAllowed old.step_limit e) → ExecutesInside 0 sql params old new (Err e) → StopsChange old new e
   stops e allowed h = elim (stops_or {P = ⊥} e (λ text does. inr (allowed text does)) h) [ inl none ↦ absurd none.0 | inr stopped ↦ stopped ]

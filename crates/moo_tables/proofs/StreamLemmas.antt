@@ -1,6 +1,8 @@
 -- A query that is read row by row.
-use Rattle.moo_tables.proofs.Words.{◌≡◌, ◌⊎◌, refl, false, ℕ, List, [], ◌∷◌, ◌++◌, None, Some, Result, Ok, Err, OnErr, inl, inr, sym, subst, ◌∙◌, arith, Row, Schema, timed, understood, reads_listing, IsSourceOf, Held, state, Database, Error, State, HasCleanDisk, Shown, ShowsRows, Survives, CommitsShowing, IsUnchanged, IsRolledBack, Fails, FailsToQuery, FailsToShow, IsNotRun, IsPlain, begun_plain, survives_then, HasTables}
-use Rattle.sqlite.specs.Given.{HasGiven, HasBegun, Advances, IsRefused}
+use Rattle.moo_tables.proofs.Words.{◌≡◌, ◌⊎◌, ◌≤◌, refl, false, ℕ, List, [], ◌∷◌, ◌++◌, None, Some, Result, Ok, Err, OnErr, inl, inr, sym, subst, ◌∙◌, arith, Row, Schema, timed, understood, reads_listing, IsSourceOf, Held, state, Database, Error, State, HasCleanDisk, Shown, ShowsRows, Survives, CommitsShowing, IsUnchanged, IsRolledBack, Fails, FailsToQuery, FailsToShow, IsNotRun, IsNoStatement, IsPlain, begun_plain, survives_then, HasTables}
+use Rattle.moo_tables.proofs.ReadCauseLemmas.{cause_from}
+use Rattle.sqlite.specs.Given.{HasGiven, HasBegun, Advances, FailsToAdvance, IsRefused}
+use Rattle.sqlite.specs.Effect.{RefusesToRead}
 use Rattle.sqlite_trees.specs.declared.store.Store.{Ghosts}
 
 pub unchanged_then : (a b c : State) → IsUnchanged a b → IsUnchanged b c → IsUnchanged a c
@@ -47,6 +49,27 @@ shown_from sql first old new rows plain same h =
       subst (ShowsRows first new sql h.0 full rows) (sym none) (it.0, subst (λ (d : Database). IsSourceOf (reads_listing d.schema sql) d it.0) is it.1, it.2, unchanged_then first old new same it.3),
     )
 
+no_statement_from : (sql : List ℕ) (first old : State) (e : Error) → IsUnchanged first old → IsNoStatement old sql [] e → IsNoStatement first sql [] e
+no_statement_from sql first old e same (inl h) = inl (h.0, subst (λ (d : Database). understood d.schema sql ≡ Err h.0) same.0.now_is h.1, h.2)
+no_statement_from sql first old e same (inr h) = inr (h.0, subst (λ (d : Database). understood d.schema sql ≡ Ok h.0) same.0.now_is h.1, h.2)
+
+-- a query that fails after calls that change nothing fails so before them
+pub failed_from : (sql : List ℕ) (first old new : State) (e : Error) → IsPlain (understood first.now.schema sql) → IsUnchanged first old → first.faults ≤ old.faults → old.step_limit ≡ first.step_limit → FailsToQuery sql [] old new e → FailsToQuery sql [] first new e
+unfolding FailsToQuery IsNotRun
+failed_from sql first old new e plain same up steps (inl (inl refused)) = inl (inl (no_statement_from sql first old e same refused.0, unchanged_then first old new same refused.1))
+failed_from sql first old new e plain same up steps (inl (inr failed)) = inl (inr (failed.0, failed.1, cause_from first old new failed.0 up same.0.is_open failed.2, undone_then first old new same failed.3, failed.4))
+failed_from sql first old new e plain same up steps (inr h) =
+    let is = same.0.now_is in
+    let known = subst (λ (d : Database). IsPlain (understood d.schema sql)) (sym is) plain in
+    let none = (subst IsPlain h.1.is known).0 in
+    let full = timed [] h.0.formats h.1.now in
+    let it = subst (FailsToShow old new sql h.0 full e) none h.2 in
+    inr (
+      h.0,
+      record { is = subst (λ (d : Database). understood d.schema sql ≡ Ok h.0) is h.1.is; whole = h.1.whole; given = h.1.given; now = h.1.now },
+      subst (FailsToShow first new sql h.0 full e) (sym none) (it.0, subst (λ (d : Database). IsSourceOf (reads_listing d.schema sql) d it.0) is it.1, subst (λ limit. RefusesToRead limit h.0.command it.0 full e) steps it.2, unchanged_then first old new same it.3),
+    )
+
 module _ {S : Type 0} (g : Ghosts S) (sql : List ℕ) (old : Held S) where
   -- the rows so far are those of the query
   pub record IsGiving (now : Held S) (rows : List Row) : Type 0 where
@@ -63,6 +86,10 @@ module _ {S : Type 0} (g : Ghosts S) (sql : List ℕ) (old : Held S) where
       let left = subst (λ (r : Result X Error). OnErr r (IsRefused g sql [] old r new)) is it in
       query_failed old.schema sql (state g old) (state g new) e plain (left.err clean) refl
 
+  -- and why it doesn't
+  pub why_refused : {X : Type 0} (r : Result X Error) (e : Error) (new : Held S) → r ≡ Err e → OnErr r (IsRefused g sql [] old r new) → HasCleanDisk (state g new) → FailsToQuery sql [] (state g old) (state g new) e
+  why_refused {X} r e new is it clean = let left = subst (λ (r : Result X Error). OnErr r (IsRefused g sql [] old r new)) is it in left.err clean
+
   module _ (mid new : Held S) (rows : List Row) (it : IsGiving mid rows) (kept : Survives (state g mid) (state g new) (λ _. ⊥)) where
     pub survives_on : Survives (state g old) (state g new) (CommitsShowing sql [] (state g old))
     survives_on = survives_then (state g old) (state g mid) (state g new) _ _ _ (λ _ db may. may) (λ _ db none. absurd none) it.survives kept
@@ -76,6 +103,12 @@ module _ {S : Type 0} (g : Ghosts S) (sql : List ℕ) (old : Held S) where
         go : Fails (state g mid) (state g new) ⊥ e ⊎ IsUnchanged (state g mid) (state g new) → IsUnchanged (state g old) (state g new) ⊎ IsRolledBack (state g old) (state g new)
         go (inl failed) = inr (undone_then (state g old) (state g mid) (state g new) was failed.3)
         go (inr same) = inl (unchanged_then (state g old) (state g mid) (state g new) was same)
+
+    -- why a later row can't be read
+    pub why_failed : (e : Error) → (HasCleanDisk (state g new) → FailsToAdvance g mid new e) → HasCleanDisk (state g new) → IsPlain (understood old.schema sql) → FailsToQuery sql [] (state g old) (state g new) e
+    why_failed e late clean plain =
+        let early = it.given (omega (arith, kept.clean)) plain in
+        failed_from sql (state g old) (state g mid) (state g new) e plain early.1 it.survives.counts it.survives.limit (late clean sql [] rows early.0)
 
     module _ (same : HasCleanDisk (state g new) → IsUnchanged (state g mid) (state g new)) where
       pub unchanged_on : HasCleanDisk (state g new) → IsPlain (understood old.schema sql) → IsUnchanged (state g old) (state g new)

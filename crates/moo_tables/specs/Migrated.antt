@@ -1,14 +1,16 @@
 -- What becomes of the tables of an earlier version.
-use Rattle.std.specs.Prelude.{◌≡◌, IsTrue, ℕ, pos, List, [], ◌∷◌, Option, Some, None}
+use Rattle.std.specs.Prelude.{◌≡◌, IsTrue, ℕ, pos, List, [], ◌∷◌, Option, Some, None, Result, IfErr}
 use Rattle.std.specs.List.{AllByRecursion}
 use Rattle.sqlite.specs.Schema.{Schema}
 use Rattle.sqlite.specs.Effect.{Database, IsDatabase}
 use Rattle.sqlite.specs.State.{State, HasCleanDisk}
+use Rattle.sqlite.specs.declared.error.Error.{Error}
 use Rattle.moo_value.specs.declared.value.ObjNo.{ObjNo}
 use Rattle.moo_rows.specs.declared.row.Head.{Head}
 use Rattle.moo_rows.specs.declared.row.PropId.{PropId}
 use Rattle.moo_tables.specs.declared.slot.SlotCells.{SlotCells}
 use Rattle.moo_tables.specs.declared.version.Version.TheVariants.{First}
+use Rattle.moo_tables.specs.Cause.{StopsChange}
 use Rattle.moo_tables.specs.Version.{present, IsEarlier}
 use Rattle.moo_tables.specs.Tables.{Tables, Holds, KeepsUnread, numbered_with, slot_tree}
 use Rattle.moo_tables.specs.Inside.{Sees}
@@ -59,6 +61,12 @@ abbrev pub MigratesInside : Head → List ((ObjNo × PropId) × Option SlotCells
 MigratesInside head slots old new =
     HasCleanDisk new → (tables : Tables) → Holds old.now tables → IsEarlier tables.version →
     Sees new (migrated head slots tables) × HasNoSlot new.now
+
+-- a call that fails in a transaction on tables of an earlier version has one of the causes of any change
+abbrev pub HasCauseOfMigrating : {A : Type 0} → State → State → Result A Error → Type 0
+HasCauseOfMigrating old new r =
+    HasCleanDisk new → (tables : Tables) → IsTrue old.in_transaction → Holds old.now tables → IsEarlier tables.version →
+    IfErr r (StopsChange old new)
 
 -- from tables of an earlier version to those that they are migrated to: every cell of an object, a property or a verb is as it was
 pub record KeepsUnmigrated (old new : Tables) : Type 0 where

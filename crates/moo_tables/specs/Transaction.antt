@@ -33,12 +33,15 @@ pub record CommitsTables {A : Type 0} (changes : CellChanges) (old new : State) 
       Survives old new (λ trees. Leaves trees (tables_with changes tables))
 
 -- Tables of an earlier version were made those of the present one, with this head and these slots, and the table `slot` was emptied; or the
--- database is as it was. A crash leaves what it could leave before, or the tables of the present version.
+-- database is as it was. SQL refuses no statement for its text or its values: a migration is stopped by what stops any change. A crash
+-- leaves what it could leave before, or the tables of the present version.
 pub record MigratesTables {A : Type 0} (head : Head) (slots : List ((ObjNo × PropId) × Option SlotCells)) (old new : State)
     (r : Result A Error) : Type 0 where
   pub emptied : HasCleanDisk new → OnOk r ((tables : Tables) → Rests old tables → IsEarlier tables.version → HasNoSlot new.now)
   pub restored : HasCleanDisk new → OnErr r (IsTrue new.is_open → RestsAt new old.committed)
   pub undone : HasCleanDisk new → OnErr r (IsTrue new.is_open → (tables : Tables) → Rests old tables → Rests new tables)
+  pub cause : HasCleanDisk new →
+      IfErr r (λ error. (tables : Tables) → Rests old tables → IsEarlier tables.version → StopsChange old new error)
   pub crash : (version : Version) → IsEarlier version → (HasCleanDisk old → HasTables (schema_of version) old) →
       Survives old new (λ trees. (tables : Tables) → Rests old tables → Leaves trees (migrated head slots tables))
   pub migrated : HasCleanDisk new →

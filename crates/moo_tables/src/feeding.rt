@@ -9,6 +9,7 @@ ghost use Rattle.sqlite.specs.State.{HasCleanDisk, Shown, Survives, CommitsShowi
 ghost use Rattle.moo_tables.specs.Feeding.{AreTaken, AreFed};
 ghost use Rattle.moo_tables.specs.Inside.{Rests, ReadsTables, FailsToRead};
 ghost use Rattle.moo_tables.specs.Listing.{ListsNumbers, ListsPairs};
+ghost use Rattle.moo_tables.specs.ReadCause.{HasCauseIfNotShown, HasCauseOfReading};
 ghost use Rattle.moo_tables.specs.Tables.{Tables, schema_of};
 
 use crate::object::READ_OBJECT;
@@ -16,7 +17,7 @@ use crate::prop::READ_PROP;
 use crate::slot::{READ_SLOT, READ_SLOT2};
 use crate::verb::READ_VERB;
 use crate::version::Version;
-use sqlite::{Alter, Connection, Error, ErrorCode, Row};
+use sqlite::{Alter, Connection, Error, Row};
 use std::alloc::{AllocError, Global};
 use std::mem;
 
@@ -68,6 +69,7 @@ pub(crate) fn feed_rows<S: Alter, T: TakeRows>(
     ensures kept { HasCleanDisk (state S.Store conn.new) → IsPlain (understood (state S.Store conn.old).now.schema sql.now) →
         OnErr result (IsUnchanged (state S.Store conn.old) (state S.Store conn.new) ⊎
         IsRolledBack (state S.Store conn.old) (state S.Store conn.new)) }
+    ensures cause { HasCauseIfNotShown sql.now (state S.Store conn.old) (state S.Store conn.new) result }
     ensures survives { Survives (state S.Store conn.old) (state S.Store conn.new) (CommitsShowing sql.now [] (state S.Store conn.old)) }
 {
     let mut block = Vec::new(alloc);
@@ -82,12 +84,13 @@ pub(crate) fn feed_rows<S: Alter, T: TakeRows>(
         }
     }
     // No table has so many rows.
-    Err(Error::SqliteFailure(ErrorCode::TooBig))
+    Ok(false)
 }
 
 /// Hands on the rows of `object`, in the order of their numbers. False if they can't be taken.
 ///
-/// As of each of these calls, nothing is written, and after a fault the tables are as they were, unless the fault shut the connection.
+/// As of each of these calls, nothing is written, and after a fault the tables are as they were, unless the fault shut the connection. If
+/// the tables are of the version, it fails only if the store does, or if it takes more steps than the connection allows.
 pub fn feed_objects<S: Alter, T: TakeRows>(
     alloc: Global,
     conn: &mut Connection<S>,
@@ -100,6 +103,7 @@ pub fn feed_objects<S: Alter, T: TakeRows>(
         HasCleanDisk (state S.Store conn.new) → (tables : Tables) → Rests (state S.Store conn.old) tables →
         tables.version ≡ version → ListsNumbers rows tables.object)) }
     ensures failed { OnErr result (FailsToRead (schema_of version) (state S.Store conn.old) (state S.Store conn.new)) }
+    ensures cause { HasCauseOfReading (schema_of version) (state S.Store conn.old) (state S.Store conn.new) result }
 {
     feed_rows(alloc, conn, READ_OBJECT, taker)
 }
@@ -117,6 +121,7 @@ pub fn feed_props<S: Alter, T: TakeRows>(
         HasCleanDisk (state S.Store conn.new) → (tables : Tables) → Rests (state S.Store conn.old) tables →
         tables.version ≡ version → ListsNumbers rows tables.prop)) }
     ensures failed { OnErr result (FailsToRead (schema_of version) (state S.Store conn.old) (state S.Store conn.new)) }
+    ensures cause { HasCauseOfReading (schema_of version) (state S.Store conn.old) (state S.Store conn.new) result }
 {
     feed_rows(alloc, conn, READ_PROP, taker)
 }
@@ -134,6 +139,7 @@ pub fn feed_slots<S: Alter, T: TakeRows>(
         HasCleanDisk (state S.Store conn.new) → (tables : Tables) → Rests (state S.Store conn.old) tables →
         tables.version ≡ version → ListsPairs rows tables.slot)) }
     ensures failed { OnErr result (FailsToRead (schema_of version) (state S.Store conn.old) (state S.Store conn.new)) }
+    ensures cause { HasCauseOfReading (schema_of version) (state S.Store conn.old) (state S.Store conn.new) result }
 {
     if version.has_lettered_bits() {
         return feed_rows(alloc, conn, READ_SLOT, taker);
@@ -154,6 +160,7 @@ pub fn feed_verbs<S: Alter, T: TakeRows>(
         HasCleanDisk (state S.Store conn.new) → (tables : Tables) → Rests (state S.Store conn.old) tables →
         tables.version ≡ version → ListsPairs rows tables.verb)) }
     ensures failed { OnErr result (FailsToRead (schema_of version) (state S.Store conn.old) (state S.Store conn.new)) }
+    ensures cause { HasCauseOfReading (schema_of version) (state S.Store conn.old) (state S.Store conn.new) result }
 {
     feed_rows(alloc, conn, READ_VERB, taker)
 }

@@ -4,7 +4,7 @@ ghost use Rattle.std.specs.Prelude.{◌≡◌, ◌<◌, ◌^◌, IsTrue, OnOk, f
 ghost use Rattle.sqlite.specs.State.{HasCleanDisk};
 ghost use Rattle.sqlite.specs.Held.{state};
 ghost use Rattle.moo_tables.specs.Inside.{StaysInside};
-ghost use Rattle.moo_tables.specs.Migrated.{GrowsTables, MigratesInside};
+ghost use Rattle.moo_tables.specs.Migrated.{GrowsTables, HasCauseOfMigrating, MigratesInside};
 ghost use Rattle.moo_tables.specs.Transaction.{MigratesTables};
 
 use crate::counter::{CREATE_PETITION_HEAD, put_counter};
@@ -22,6 +22,7 @@ pub(crate) fn create_added_tables<T: Run>(tx: &mut T) -> Result<usize, Error>
     ensures same_reference { T.lender tx.new ≡ T.lender tx.old }
     ensures inside { StaysInside (T.state tx.old) (T.state tx.new) }
     ensures made { OnOk result (GrowsTables (T.state tx.old) (T.state tx.new)) }
+    ensures cause { HasCauseOfMigrating (T.state tx.old) (T.state tx.new) result }
 {
     tx.run(CREATE_SLOT2, &[])?;
     tx.run(CREATE_PETITION, &[])?;
@@ -41,6 +42,7 @@ fn write_migrated<T: Run>(
     ensures inside { StaysInside (T.state tx.old) (T.state tx.new) }
     ensures goes_on { HasCleanDisk (T.state tx.new) → OnOk result (IsTrue (T.state tx.new).in_transaction) }
     ensures migrated { OnOk result (MigratesInside head.now slots.now (T.state tx.old) (T.state tx.new)) }
+    ensures cause { HasCauseOfMigrating (T.state tx.old) (T.state tx.new) result }
 {
     create_added_tables(tx)?;
     put_counter(tx, 1)?;
@@ -54,8 +56,9 @@ fn write_migrated<T: Run>(
 /// The row of `head` is put anew, with the number of the present version. `slots` are the slots that there are from then on: of a
 /// key that comes more than once the last counts. There is no petition, and the first will have the number 1. The table
 /// `slot` is emptied, and the rows of the other tables stay as they are. The number of the last batch, `head.seq`, has to
-/// be below 2^63, and the connection in no transaction. After a fault of the store the database is as it was, unless the
-/// fault shut the connection; what a crash leaves is the tables before or those after, at every exit.
+/// be below 2^63, and the connection in no transaction. It fails only if the store does, if a statement takes more steps than
+/// the connection allows, or if a table has no number left for a new row. After a fault of the store the database is as it
+/// was, unless the fault shut the connection; what a crash leaves is the tables before or those after, at every exit.
 pub fn migrate<S: Alter>(
     conn: &mut Connection<S>,
     head: &Head,

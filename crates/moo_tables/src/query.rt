@@ -3,9 +3,10 @@
 ghost use Rattle.std.specs.Prelude.{◌≡◌, [], false};
 ghost use Rattle.sqlite.specs.Held.{state};
 ghost use Rattle.sqlite.specs.State.{Survives, CommitsShowing};
+ghost use Rattle.moo_tables.specs.ReadCause.{HasCauseIfNotShown};
 ghost use Rattle.moo_tables.specs.Reading.{ShowsAll, KeepsIfNotShown};
 
-use sqlite::{Alter, Connection, Error, ErrorCode, Row};
+use sqlite::{Alter, Connection, Error, Row};
 use std::alloc::Global;
 
 /// All rows that a query without parameters answers, in its order.
@@ -20,6 +21,7 @@ pub(crate) fn all_rows<S: Alter>(
     ensures outside { (state S.Store conn.old).in_transaction ≡ false → (state S.Store conn.new).in_transaction ≡ false }
     ensures shown { ShowsAll sql.now (state S.Store conn.old) (state S.Store conn.new) result }
     ensures kept { KeepsIfNotShown sql.now (state S.Store conn.old) (state S.Store conn.new) result }
+    ensures cause { HasCauseIfNotShown sql.now (state S.Store conn.old) (state S.Store conn.new) result }
     ensures survives { Survives (state S.Store conn.old) (state S.Store conn.new) (CommitsShowing sql.now [] (state S.Store conn.old)) }
 {
     let mut all = Vec::new(alloc);
@@ -30,6 +32,6 @@ pub(crate) fn all_rows<S: Alter>(
         };
         all.push(row.copy()?)?;
     }
-    // No memory has room for so many rows.
-    Err(Error::SqliteFailure(ErrorCode::TooBig))
+    // A list holds fewer rows.
+    unreachable!()
 }

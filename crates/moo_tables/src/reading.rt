@@ -5,6 +5,7 @@ ghost use Rattle.sqlite.specs.Held.{state};
 ghost use Rattle.sqlite.specs.State.{HasCleanDisk};
 ghost use Rattle.moo_tables.specs.Inside.{Rests, ReadsTables, FailsToRead};
 ghost use Rattle.moo_tables.specs.Listing.{ListsNumbers, ListsPairs, ListsTables};
+ghost use Rattle.moo_tables.specs.ReadCause.{HasCauseOfReading};
 ghost use Rattle.moo_tables.specs.Reading.{Lists};
 ghost use Rattle.moo_tables.specs.Tables.{schema_of};
 
@@ -48,6 +49,7 @@ fn both_petition_cells_of<S: Alter>(
     ensures listed { Lists version (state S.Store conn.old) (state S.Store conn.new) result
         (λ lists tables. ListsNumbers lists.0.items tables.petition × ListsNumbers lists.1.items tables.petition_head) }
     ensures failed { OnErr result (FailsToRead (schema_of version) (state S.Store conn.old) (state S.Store conn.new)) }
+    ensures cause { HasCauseOfReading (schema_of version) (state S.Store conn.old) (state S.Store conn.new) result }
 {
     if !version.has_petitions() {
         return Ok((Vec::new(alloc), Vec::new(alloc)));
@@ -60,7 +62,7 @@ fn both_petition_cells_of<S: Alter>(
 /// The rows of `head`, of `petition` and of `petition_head`. If the version has no petitions the last two have none.
 ///
 /// As of each of the readers of one table, nothing is written, and after a fault the tables are as they were, unless the fault shut the
-/// connection.
+/// connection. If the tables are of the version, it fails only if the store does, or if it takes more steps than the connection allows.
 pub fn small_cells_of<S: Alter>(
     alloc: Global,
     conn: &mut Connection<S>,
@@ -72,6 +74,7 @@ pub fn small_cells_of<S: Alter>(
         (λ lists tables. ListsNumbers lists.0.items tables.head × ListsNumbers lists.1.items tables.petition
         × ListsNumbers lists.2.items tables.petition_head) }
     ensures failed { OnErr result (FailsToRead (schema_of version) (state S.Store conn.old) (state S.Store conn.new)) }
+    ensures cause { HasCauseOfReading (schema_of version) (state S.Store conn.old) (state S.Store conn.new) result }
 {
     let head = all_rows(alloc, conn, READ_HEAD)?;
     let (petition, petition_head) = both_petition_cells_of(alloc, conn, version)?;
@@ -89,6 +92,7 @@ pub fn prop_cells_of<S: Alter>(
     ensures listed { Lists version (state S.Store conn.old) (state S.Store conn.new) result
         (λ rows tables. ListsNumbers rows.items tables.prop) }
     ensures failed { OnErr result (FailsToRead (schema_of version) (state S.Store conn.old) (state S.Store conn.new)) }
+    ensures cause { HasCauseOfReading (schema_of version) (state S.Store conn.old) (state S.Store conn.new) result }
 {
     all_rows(alloc, conn, READ_PROP)
 }
@@ -104,14 +108,16 @@ pub fn verb_cells_of<S: Alter>(
     ensures listed { Lists version (state S.Store conn.old) (state S.Store conn.new) result
         (λ rows tables. ListsPairs rows.items tables.verb) }
     ensures failed { OnErr result (FailsToRead (schema_of version) (state S.Store conn.old) (state S.Store conn.new)) }
+    ensures cause { HasCauseOfReading (schema_of version) (state S.Store conn.old) (state S.Store conn.new) result }
 {
     all_rows(alloc, conn, READ_VERB)
 }
 
 /// Reads the rows of each table, from the one that the version has them in; those of petitions if it has any.
 ///
-/// The version has to be that of the database (`version_of`): of another one nothing is said. Nothing is written. After
-/// a fault of the store the tables are as they were, unless the fault shut the connection.
+/// The version has to be that of the database (`version_of`): of another one nothing is said. Nothing is written. It fails
+/// only if the store does, or if it takes more steps than the connection allows. After a fault of the store the tables are as
+/// they were, unless the fault shut the connection.
 pub fn read_tables<S: Alter>(
     alloc: Global,
     conn: &mut Connection<S>,
@@ -123,6 +129,7 @@ pub fn read_tables<S: Alter>(
     ensures listed { HasCleanDisk (state S.Store conn.new) → IfOk result (λ lists. (tables : _) → tables.version ≡ version →
         Rests (state S.Store conn.old) tables → ListsTables lists tables) }
     ensures failed { OnErr result (FailsToRead (schema_of version) (state S.Store conn.old) (state S.Store conn.new)) }
+    ensures cause { HasCauseOfReading (schema_of version) (state S.Store conn.old) (state S.Store conn.new) result }
 {
     let head = all_rows(alloc, conn, READ_HEAD)?;
     let object = object_cells_of(alloc, conn, version)?;

@@ -4,7 +4,7 @@ use Rattle.moo_world.{specs.Answers.{zero}, specs.Objects.{same_object}, specs.O
 use Rattle.moo_batch.{specs.Outcomes.{state_in}, proofs.Beside.{removed-keeps, removed-state}}
 use Rattle.std.proofs.Common.{false, subst}
 use Rattle.moo_rows.{specs.declared.row.PetitionId.{PetitionId}, specs.declared.row.PetitionRow.{PetitionRow}}
-use Rattle.moo_call_parts.{specs.About.{about_given}, specs.Told.{IfAbout}}
+use Rattle.moo_calls_shared.{specs.About.{about_given}, specs.Told.{IfAbout}}
 use Rattle.moo_batch.specs.Telling.{about_number}
 use Rattle.moo_batch.proofs.declining.decline.Goals as goal
 

@@ -2,14 +2,14 @@ use Rattle.std.{proofs.Common.{◌≡◌, true, Ok, Some, List, sym, ap, ◌∙�
 use Rattle.moo_value.{specs.declared.code.Code.TheVariants.{Permission, InvalidArgument}, specs.declared.value.Value.{Value}, specs.Value.{spread}}
 use Rattle.moo_rows.{specs.declared.row.PetitionId.{PetitionId}, specs.declared.row.PetitionRow.{PetitionRow}}
 use Rattle.moo_world.{specs.Arguments.{fits}, specs.Outcomes.{Failed, check, found_or, given as given_to}, specs.Requests.{State, grant, held_steps, in_world, one_integer, petition_at, without}, specs.Rights.{is_wizard}, specs.World.{World}, proofs.Batches.Requested.{found_there}, proofs.Form.Petitions.{held_fit}}
-use Rattle.moo_call_parts.specs.Outcomes.{world_in}
+use Rattle.moo_calls_shared.specs.Outcomes.{world_in}
 use Rattle.moo_batch.{specs.Outcomes.{state_in, ComesInTurn, KeepInTurn, Reaches}, proofs.Beside.{removed-keeps, removed-state}, proofs.InTurn.{granted-reaches, granted-keeps, on_ok}}
 use Rattle.std.{proofs.Common.{◌<◌, ◌≤◌, length, arith}, specs.Prelude.{nat_le, ◌&&◌}, specs.Prelude.{nat_lt}, proofs.lemmas.Bool.{and_parts, leb-true}}
 use Rattle.moo_world.specs.{Petitions.{is_named, are_few, are_shallow}, Arguments.{is_number, all_within_limits}}
-use Rattle.moo_call_parts.specs.About.{about_given}
+use Rattle.moo_calls_shared.specs.About.{about_given}
 use Rattle.moo_batch.{specs.Telling.{IsFaultInTurn, about_number}, proofs.TrueInTurn.{granted-told, if_told}}
 use Rattle.std.proofs.Common.{None}
-use Rattle.moo_call_parts.specs.Told.{IfAbout}
+use Rattle.moo_calls_shared.specs.Told.{IfAbout}
 use Rattle.moo_batch.proofs.AtCheck.{held-stays}
 use Rattle.moo_batch.proofs.granting.grant.Goals as goal
 

@@ -2,7 +2,7 @@ use Rattle.std.proofs.Common.{◌≡◌, None, rules}
 use Rattle.moo_world.specs.Names.{petition_call}
 use Rattle.moo_batch.proofs.InTurn.{on_ok, stepped-keeps, stepped-reaches}
 use Rattle.std.proofs.Common.{Err}
-use Rattle.moo_call_parts.specs.Outcomes.{world_in, ComesTo}
+use Rattle.moo_calls_shared.specs.Outcomes.{world_in, ComesTo}
 use Rattle.moo_world.specs.Calls.{world_call}
 use Rattle.moo_batch.proofs.TrueInTurn.{if_told, stepped-told}
 use Rattle.moo_batch.proofs.AtCheck.{comes-stays}

@@ -1,5 +1,5 @@
 use Rattle.std.proofs.Common.{rules}
-use Rattle.moo_call_parts.specs.About.{about_verb_info}
+use Rattle.moo_calls_shared.specs.About.{about_verb_info}
 use Rattle.moo_calls.proofs.on_verbs.set_verb_info.Goals as goal
 
 pub returns-in_err-new-clause-told : goal.returns-in_err-new-clause-told

@@ -1,7 +1,7 @@
 use Rattle.std.proofs.Common.{rules, ◌≡◌, Err, sym, subst}
 use Rattle.moo_value.specs.declared.value.Value.{Value}
 use Rattle.moo_world.{specs.Codes.{E_TYPE}, specs.PropertyCalls.{change_of}}
-use Rattle.moo_call_parts.specs.Told.{IfAbout}
+use Rattle.moo_calls_shared.specs.Told.{IfAbout}
 use Rattle.moo_calls.proofs.setting.change_of.Goals as goal
 
 pub returns-in-Name-default-clause-told : goal.returns-in-Name-default-clause-told

@@ -1,7 +1,5 @@
-use Rattle.moo_cells.{proofs.Words.{List, find, refl, subst, subst₂, IfOk-weaker, Row, has_rowid, Head, version_number, ShowEach, HeadIs, ReadsHead, ReadsCounter, ReadsObject, ReadsProp, ReadsSlot, ReadsVerb, ReadsPetition}, proofs.Beside.{left_all}, proofs.Compared.{all_shown}}
+use Rattle.moo_cells.{proofs.Words.{List, find, refl, subst, entries, IfOk-weaker, Row, has_rowid, Head, version_number, ShowEach, HeadIs, ReadsHead, ReadsCounter, ReadsObject, ReadsProp, ReadsSlot, ReadsVerb, ReadsPetition}, proofs.Compared.{all_shown}}
 use Rattle.moo_cells.proofs.comparing.show_rows.Goals as goal
-use Rattle.std.specs.FinMap.{entries}
-use Rattle.moo_rows.specs.Maps.{object_cmp, prop_cmp, slot_cmp, verb_cmp, petition_cmp}
 
 pub returns : goal.returns
 returns c =
@@ -11,9 +9,9 @@ returns c =
     let head = subst (λ (rows : List Row). (cells : Row) × HeadIs (λ n. find (has_rowid n) rows) cells × ReadsHead (version_number version) m.head cells) c.deref.ensures.value read in
     let next = subst (λ (h : Head). ReadsCounter version (λ n. find (has_rowid n) c.deref-2.result.now) h.next_petition) c.head.ensures (c.if-not-shows_head.ensures.counter refl) in
     let counter = subst (λ (rows : List Row). ReadsCounter version (λ n. find (has_rowid n) rows) m.head.next_petition) c.deref-2.ensures.value next in
-    let objects = subst₂ (ShowEach (ReadsObject version)) c.deref-3.ensures.value (left_all object_cmp (entries m.objects)) (c.in_ok-show_each.ensures c.if-not-branch.false) in
-    let props = subst₂ (ShowEach (ReadsProp version)) c.deref-4.ensures.value (left_all prop_cmp (entries m.props)) (c.in_ok-show_each-2.ensures c.if-not-branch-2.false) in
-    let slots = subst₂ (ShowEach (ReadsSlot version)) c.deref-5.ensures.value (left_all slot_cmp (entries m.slots)) (c.in_ok-show_each-3.ensures c.if-not-branch-3.false) in
-    let verbs = subst₂ (ShowEach (ReadsVerb version)) c.deref-6.ensures.value (left_all verb_cmp (entries m.verbs)) (c.in_ok-show_each-4.ensures c.if-not-branch-4.false) in
+    let objects = subst (λ (rows : List Row). ShowEach (ReadsObject version) rows (entries m.objects)) c.deref-3.ensures.value (c.in_ok-show_each.ensures c.if-not-branch.false) in
+    let props = subst (λ (rows : List Row). ShowEach (ReadsProp version) rows (entries m.props)) c.deref-4.ensures.value (c.in_ok-show_each-2.ensures c.if-not-branch-2.false) in
+    let slots = subst (λ (rows : List Row). ShowEach (ReadsSlot version) rows (entries m.slots)) c.deref-5.ensures.value (c.in_ok-show_each-3.ensures c.if-not-branch-3.false) in
+    let verbs = subst (λ (rows : List Row). ShowEach (ReadsVerb version) rows (entries m.verbs)) c.deref-6.ensures.value (c.in_ok-show_each-4.ensures c.if-not-branch-4.false) in
     IfOk-weaker c.show_each-5.result _ _ (λ show shows is.
-    all_shown c.args.lists.now m head counter objects props slots verbs (subst₂ (ShowEach (ReadsPetition version)) c.deref-7.ensures.value (left_all petition_cmp (entries m.petitions)) (shows is))) c.show_each-5.ensures
+    all_shown c.args.lists.now m head counter objects props slots verbs (subst (λ (rows : List Row). ShowEach (ReadsPetition version) rows (entries m.petitions)) c.deref-7.ensures.value (shows is))) c.show_each-5.ensures

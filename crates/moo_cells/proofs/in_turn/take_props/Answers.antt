@@ -2,10 +2,14 @@ use Rattle.moo_cells.{proofs.Words.{◌≡◌, [], refl, sym, subst}, proofs.Apa
 use Rattle.std.proofs.lemmas.List.Sorted.{IsPermutation-refl}
 use Rattle.moo_rows.specs.Maps.{Held}
 use Rattle.moo_tables.proofs.InsideLemmas.{always}
+use Rattle.moo_tables.proofs.ReadCauseLemmas.{cause_of_first}
 use Rattle.moo_cells.proofs.in_turn.take_props.Goals as goal
 
 pub returns-in_err-whole-clause-failed : goal.returns-in_err-whole-clause-failed
 returns-in_err-whole-clause-failed g c = always c.from_residual.result c.in_err-whole.ensures.failed
+
+pub returns-in_err-whole-clause-cause : goal.returns-in_err-whole-clause-cause
+returns-in_err-whole-clause-cause g c = cause_of_first c.from_residual.result _ c.in_err-whole.ensures.failed c.from_residual.ensures.1 c.in_err-whole.ensures.cause
 
 pub returns-clause-taken : goal.returns-clause-taken
 returns-clause-taken g c =

@@ -2,6 +2,7 @@ use Rattle.moo_cells.proofs.Words.{◌∙◌, ◌<◌, List, find, sym, ap, subs
 use Rattle.moo_cells.proofs.TakenLemmas.{no_petition, same_head, taken_shown, taken_within}
 use Rattle.moo_rows.specs.Maps.{no_maps}
 use Rattle.moo_tables.proofs.{InsideLemmas.{always}, ReadLemmas.{reads_then, fails_then, rests_read}}
+use Rattle.moo_tables.proofs.ReadCauseLemmas.{cause_of_first, cause_of_later}
 use Rattle.moo_cells.proofs.in_turn.take_rows.Goals as goal
 
 pub take_tables-requires : goal.take_tables-requires
@@ -15,6 +16,12 @@ returns-in_err-all-clause-failed g c = always c.from_residual-in_err-all.result 
 
 pub returns-in_err-head-clause-failed : goal.returns-in_err-head-clause-failed
 returns-in_err-head-clause-failed g c = always c.from_residual.result c.in_err-head.ensures.failed
+
+pub returns-in_err-head-clause-cause : goal.returns-in_err-head-clause-cause
+returns-in_err-head-clause-cause g c = cause_of_first c.from_residual.result _ c.in_err-head.ensures.failed c.from_residual.ensures.1 c.in_err-head.ensures.cause
+
+pub returns-in_err-all-clause-cause : goal.returns-in_err-all-clause-cause
+returns-in_err-all-clause-cause g c = cause_of_later c.from_residual-in_err-all.result _ c.in_ok-head.ensures.read c.in_err-all.ensures.failed c.from_residual-in_err-all.ensures.1 c.in_err-all.ensures.cause
 
 pub returns-in-Ok-read_petitions-clause-read : goal.returns-in-Ok-read_petitions-clause-read
 returns-in-Ok-read_petitions-clause-read g c = reads_then c.in_ok-head.ensures.read c.in_ok-all.ensures.read

@@ -1,4 +1,5 @@
-use Rattle.moo_cells.{proofs.Words.{◌∙◌, sym, ap, subst, err_from_is_err_and, Maps, tables_of, has_rowid, ReadsPetition, HoldsTable, SaysUnread, IsLess, petition_key, petition_number, SaysOfCells}, proofs.Apart.{numbered, paired}, proofs.Exits.{err_then}, proofs.RowsLemmas.{read_all, rows_shown, rows_within, says_object, says_prop, says_slot, says_verb, says_petition, none_met}}
+use Rattle.moo_cells.{proofs.Words.{◌∙◌, sym, ap, subst, err_from_is_err_and, Maps, tables_of, has_rowid, ReadsPetition, HoldsTable, SaysUnread, IsLess, petition_key, petition_number, SaysOfCells}, proofs.Apart.{numbered, paired}, proofs.RowsLemmas.{read_all, rows_shown, rows_within, says_object, says_prop, says_slot, says_verb, says_petition, none_met}}
+use Rattle.moo_cells_row.proofs.Exits.{err_then}
 use Rattle.moo_cells.proofs.rows.read_tables.Goals as goal
 use Rattle.std.proofs.lemmas.Result.{on_ok_weaker}
 use Rattle.sqlite_rules.proofs.ViewLemmas.{on_ok_both}

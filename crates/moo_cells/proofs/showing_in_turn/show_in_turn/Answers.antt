@@ -1,5 +1,4 @@
-use Rattle.moo_cells.{proofs.Words.{List, find, refl, subst, subst₂, entries, petition_total, petition_exact, Row, has_rowid, Head, version_number, ShowEach, HeadIs, ReadsHead, ReadsCounter, ReadsPetition}, proofs.Beside.{left_all, each_held}, proofs.Keys.{petitions_bear}, proofs.TakenLemmas.{taken_shown}}
-use Rattle.moo_rows.specs.Maps.{petition_cmp}
+use Rattle.moo_cells.{proofs.Words.{List, find, refl, subst, entries, petition_total, petition_exact, Row, has_rowid, Head, version_number, ShowEach, HeadIs, ReadsHead, ReadsCounter, ReadsPetition}, proofs.Beside.{each_held}, proofs.Keys.{petitions_bear}, proofs.TakenLemmas.{taken_shown}}
 use Rattle.moo_tables.proofs.{InsideLemmas.{always}, ReadLemmas.{reads_then, fails_then}}
 use Rattle.moo_cells.proofs.showing_in_turn.show_in_turn.Goals as goal
 
@@ -20,7 +19,7 @@ returns-clause-shown g c clean all tables was is =
     let head = subst (λ (rows : List Row). (cells : Row) × HeadIs (λ n. find (has_rowid n) rows) cells × ReadsHead (version_number version) m.head cells) c.deref-4.ensures.value read in
     let counted = subst (λ (h : Head). ReadsCounter version (λ n. find (has_rowid n) c.deref-5.result.now) h.next_petition) c.head.ensures (c.if-not-shows_head.ensures.counter refl) in
     let next = subst (λ (rows : List Row). ReadsCounter version (λ n. find (has_rowid n) rows) m.head.next_petition) c.deref-5.ensures.value counted in
-    let each = subst₂ (ShowEach (ReadsPetition version)) c.deref-6.ensures.value (left_all petition_cmp (entries m.petitions)) (c.if-not-are_shown.ensures refl) in
+    let each = subst (λ (rows : List Row). ShowEach (ReadsPetition version) rows (entries m.petitions)) c.deref-6.ensures.value (c.if-not-are_shown.ensures refl) in
     taken_shown (c.in_ok-all.ensures.shown all) c.in_ok-head.head c.in_ok-head.petition c.in_ok-head.petition_head m head next refl
     (each_held (petitions_bear version) petition_total petition_exact c.in_ok-head.petition.items m.petitions each)
     c.in_ok-head.ensures.read c.in_ok-head.ensures.listed c.in_ok-all.ensures.read clean tables was is

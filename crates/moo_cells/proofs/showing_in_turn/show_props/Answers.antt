@@ -1,5 +1,4 @@
-use Rattle.moo_cells.{proofs.Words.{refl, subst₂, entries, ShowEach, ReadsProp, prop_total, prop_exact}, proofs.Beside.{left_all, each_held}, proofs.FillLemmas.{held_fills}, proofs.Keys.{props_bear}}
-use Rattle.moo_rows.specs.Maps.{prop_cmp}
+use Rattle.moo_cells.{proofs.Words.{List, refl, subst, entries, Row, ShowEach, ReadsProp, prop_total, prop_exact}, proofs.Beside.{each_held}, proofs.FillLemmas.{held_fills}, proofs.Keys.{props_bear}}
 use Rattle.moo_tables.proofs.InsideLemmas.{always}
 use Rattle.moo_cells.proofs.showing_in_turn.show_props.Goals as goal
 
@@ -9,7 +8,7 @@ returns-in_err-cells-clause-failed g c = always c.from_residual.result c.in_err-
 pub returns-clause-shown : goal.returns-clause-shown
 returns-clause-shown g c is =
     let m = c.args.rows.now.maps in
-    let each = subst₂ (ShowEach (ReadsProp c.args.version)) c.deref.ensures.value (left_all prop_cmp (entries m.props)) (c.are_shown.ensures is) in
+    let each = subst (λ (rows : List Row). ShowEach (ReadsProp c.args.version) rows (entries m.props)) c.deref.ensures.value (c.are_shown.ensures is) in
     record {
       cells = c.in_ok-cells.cells.items;
       listed = c.in_ok-cells.ensures.listed;

@@ -1,5 +1,4 @@
-use Rattle.moo_cells.{proofs.Words.{refl, subst₂, entries, ShowEach, ReadsVerb, verb_total, verb_exact}, proofs.Beside.{left_all, each_held}, proofs.FillLemmas.{held_fills}, proofs.Keys.{verbs_bear}}
-use Rattle.moo_rows.specs.Maps.{verb_cmp}
+use Rattle.moo_cells.{proofs.Words.{List, refl, subst, entries, Row, ShowEach, ReadsVerb, verb_total, verb_exact}, proofs.Beside.{each_held}, proofs.FillLemmas.{held_fills}, proofs.Keys.{verbs_bear}}
 use Rattle.moo_tables.proofs.InsideLemmas.{always}
 use Rattle.moo_cells.proofs.showing_in_turn.show_verbs.Goals as goal
 
@@ -9,7 +8,7 @@ returns-in_err-cells-clause-failed g c = always c.from_residual.result c.in_err-
 pub returns-clause-shown : goal.returns-clause-shown
 returns-clause-shown g c is =
     let m = c.args.rows.now.maps in
-    let each = subst₂ (ShowEach (ReadsVerb c.args.version)) c.deref.ensures.value (left_all verb_cmp (entries m.verbs)) (c.are_shown.ensures is) in
+    let each = subst (λ (rows : List Row). ShowEach (ReadsVerb c.args.version) rows (entries m.verbs)) c.deref.ensures.value (c.are_shown.ensures is) in
     record {
       cells = c.in_ok-cells.cells.items;
       listed = c.in_ok-cells.ensures.listed;

@@ -8,6 +8,7 @@ returns-in-Ok-open_files-clause-connects g c =
     let start = c.in-Ok.ensures.start in
     record {
       outside = c.in-Ok-open_files.ensures.fresh.autocommit;
+      unlimited = c.in-Ok-open_files.ensures.fresh.unlimited;
       opened = c.in-Ok-open_files.ensures.opened;
       found = λ clean.
           let found = c.in-Ok-open_files.ensures.found clean in
@@ -68,4 +69,4 @@ returns-in-Err-open_files-clause-cause g c trees holds clean =
     opened_cause c.in-Err-open_files.error c.open_fault.result (told.memory, told.other) c.in-Ok.pair.0 (image_at g.T.Start) c.in-Ok.ensures.start.seen trees holds c.in-Err-open_files.left (c.in-Err-open_files.ensures.cause clean)
 
 pub returns-in-Err-clause-cause : goal.returns-in-Err-clause-cause
-returns-in-Err-clause-cause g c trees holds clean = denied_cause _ c.in-Err.refused.0 c.in-Err.refused.1 c.in-Err.ensures.unopened (c.in-Err.ensures.denied refl)
+returns-in-Err-clause-cause g c trees holds clean = denied_cause _ _ c.in-Err.refused.0 c.in-Err.refused.1 c.in-Err.ensures.unopened (c.in-Err.ensures.denied refl)

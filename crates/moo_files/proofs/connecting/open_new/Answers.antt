@@ -9,6 +9,7 @@ returns-in-Ok-open_or_make-clause-connects g c =
     let start = c.in-Ok.ensures.start in
     record {
       outside = c.in-Ok-open_or_make.ensures.fresh.autocommit;
+      unlimited = c.in-Ok-open_or_make.ensures.fresh.unlimited;
       opened = c.in-Ok-open_or_make.ensures.opened;
       found = λ clean. elim (c.in-Ok-open_or_make.ensures.found clean) [
         | inl made ↦ inl (subst IsBlank start.seen made.0, made.1)
@@ -50,4 +51,4 @@ returns-in-Err-open_or_make-clause-cause g c openable clean =
     ]
 
 pub returns-in-Err-clause-cause : goal.returns-in-Err-clause-cause
-returns-in-Err-clause-cause g c openable clean = denied_cause _ c.in-Err.refused.0 c.in-Err.refused.1 c.in-Err.ensures.unopened (c.in-Err.ensures.denied refl)
+returns-in-Err-clause-cause g c openable clean = denied_cause _ _ c.in-Err.refused.0 c.in-Err.refused.1 c.in-Err.ensures.unopened (c.in-Err.ensures.denied refl)

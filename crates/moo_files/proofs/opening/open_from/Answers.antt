@@ -1,4 +1,4 @@
-use Rattle.moo_files.{proofs.Words.{inl, inr, ◌≡◌, refl, sym, subst, over_files, file_state, image_at, Adopts, store_of}, specs.Contents.{HoldsState}, specs.Opened.{Contents, Nothing, Database, Unfit}, proofs.ContentsLemmas.{was_clean, rests_held, shows_held, shows_trees, left_held, left_none, empty_other, foreign_other, unsound_other, reads_ours, reads_something, own_tables, kept_or_migrated}, proofs.RefusalLemmas.{unfit_sound, unfit_of_store, says_nothing, refuses_unconnected}}
+use Rattle.moo_files.{proofs.Words.{inl, inr, ◌≡◌, refl, sym, subst, over_files, file_state, image_at, Adopts, store_of}, specs.Contents.{HoldsState, HoldsEarlier}, specs.Opened.{Contents, Nothing, Database, Unfit}, proofs.ContentsLemmas.{was_clean, earlier_held, rests_held, shows_held, shows_trees, left_held, left_none, empty_other, foreign_other, unsound_other, reads_ours, reads_something, own_tables, kept_or_migrated}, proofs.RefusalLemmas.{unfit_sound, unfit_of_store, says_nothing, refuses_unconnected, unconnected_cause, stops_over}}
 use Rattle.moo_store.{specs.Current.{RestsCurrent}, proofs.AdoptLemmas.{left_still}}
 use Rattle.moo_files.proofs.opening.open_from.Goals as goal
 
@@ -112,7 +112,26 @@ pub returns-in-Some-clause-cause : goal.returns-in-Some-clause-cause
 returns-in-Some-clause-cause g c trees holds clean = inr (c.metadata.ensures.denied (c.in-Some.ensures.unfit refl))
 
 pub returns-in-Err-clause-cause : goal.returns-in-Err-clause-cause
-returns-in-Err-clause-cause g c trees holds clean = c.in-Err.ensures.cause trees holds clean
+returns-in-Err-clause-cause g c trees holds clean = unconnected_cause _ _ c.in-Err.fault c.in-Err.remains (c.in-Err.ensures.cause trees holds clean)
 
 pub returns-in-Err-adopt_files-clause-cause : goal.returns-in-Err-adopt_files-clause-cause
 returns-in-Err-adopt_files-clause-cause g c trees holds clean = tt
+
+-- ---- what refused a state
+
+pub returns-in-Some-clause-stopped : goal.returns-in-Some-clause-stopped
+returns-in-Some-clause-stopped g c s holds clean = inr (c.metadata.ensures.denied (c.in-Some.ensures.unfit refl))
+
+pub returns-in-Err-clause-stopped : goal.returns-in-Err-clause-stopped
+returns-in-Err-clause-stopped g c s holds clean = unconnected_cause _ _ c.in-Err.fault c.in-Err.remains (c.in-Err.ensures.cause holds.trees holds.holds clean)
+
+pub returns-in-Err-adopt_files-clause-stopped : goal.returns-in-Err-adopt_files-clause-stopped
+returns-in-Err-adopt_files-clause-stopped g c s holds clean =
+    let conn = c.in-Ok.conn in
+    let last = c.in-Err-adopt_files.conn in
+    let image = image_at g.T.Start in
+    let early = was_clean (file_state conn) (file_state last) (Adopts (file_state conn)) c.in-Err-adopt_files.ensures.adopts.crash clean in
+    let opened = c.in-Ok.ensures.connects.opened early in
+    let found = c.in-Ok.ensures.connects.found early in
+    stops_over (file_state conn) last opened.0.is_open c.in-Ok.ensures.connects.unlimited (HoldsEarlier image) c.in-Err-adopt_files.fault (earlier_held image (file_state conn) holds.trees opened.0 opened.1 found holds.holds)
+    (c.in-Err-adopt_files.ensures.adopts.cause s (shows_held image (file_state conn) s opened.0 opened.1 found holds) clean)

@@ -1,5 +1,5 @@
 use Rattle.moo_http.{proofs.Words.{sym, subst, MayAnswer}, proofs.Apart.{each_at, each_closed}}
-use Rattle.moo_request.specs.declared.asked.Asked.TheVariants.{Each}
+use Rattle.moo_http_request.specs.declared.asked.Asked.TheVariants.{Each}
 use Rattle.moo_http.proofs.consult.ask_each.Goals as goal
 
 pub returns-in-Ok : goal.returns-in-Ok

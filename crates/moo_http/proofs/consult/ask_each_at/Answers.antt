@@ -1,7 +1,7 @@
 use Rattle.moo_http.{proofs.Words.{◌≡◌, ap, sym, subst, rules, true, false, ◌∙◌, Works, MayAnswer}, proofs.Apart.{each_stale, each_due, each_lost}}
 use Rattle.moo_world.specs.Judge.{is_due}
 use Rattle.moo_store.specs.Answered.{answers_alone}
-use Rattle.moo_request.specs.declared.asked.Asked.TheVariants.{Each}
+use Rattle.moo_http_request.specs.declared.asked.Asked.TheVariants.{Each}
 use Rattle.moo_http.proofs.consult.ask_each_at.Goals as goal
 
 pub returns-then-not-is_due : goal.returns-then-not-is_due

@@ -7,8 +7,8 @@ loop-turn-init g c =
     record {
       passed = record {
         sum = refl;
-        leads = leads_nowhere g.S.Store c.args.world.now (λ ledger old new. Attended g.A.Arrivals g.A.Reader.Read g.A.Writer.Write 0 0 ledger c.args.arrivals.now old c.args.arrivals.now new)
-            (λ stand. attended_none g.A.Arrivals g.A.Reader.Read g.A.Writer.Write c.args.arrivals.now stand) settled c.leaves.ensures;
+        leads = leads_nowhere g.S.Store c.args.world.now (λ ledger old new. Attended g.A.Arrivals g.A.Reader.Read g.A.Reader.Incoming.fails g.A.Writer.Write 0 0 ledger c.args.arrivals.now old c.args.arrivals.now new)
+            (λ stand. attended_none g.A.Arrivals g.A.Reader.Read g.A.Reader.Incoming.fails g.A.Writer.Write c.args.arrivals.now stand) settled c.leaves.ensures;
       };
       batches = [];
       lost = [];
@@ -30,6 +30,7 @@ pub loop-turn-preserved : goal.loop-turn-preserved
 loop-turn-preserved g c =
     let source = g.A.Arrivals in
     let reader = g.A.Reader.Read in
+    let fails = g.A.Reader.Incoming.fails in
     let writer = g.A.Writer.Write in
     let before = c.loop-turn.invariant in
     let passed = before.passed in
@@ -44,19 +45,19 @@ loop-turn-preserved g c =
       | then-serve_next w ↦ subst (λ (s : Served). s.answered + s.failed ≡ c.loop-turn.turn + 1) (sym w.served-is) (omega (arith, passed.sum))
       | else-serve_next w ↦ subst (λ (s : Served). s.answered + s.failed ≡ c.loop-turn.turn + 1) (sym w.served-is) (omega (arith, passed.sum))
     ] in
-    let goes : GoesOn source reader writer first between next result was.answered was.failed now.answered now.failed = elim c.if-serve_next.branch [
-      | then-serve_next w ↦ subst (λ (s : Served). GoesOn source reader writer first between next result was.answered was.failed s.answered s.failed) (sym w.served-is)
-          (one_answered source reader writer first between next result was.answered was.failed w.if-serve_next.true)
-      | else-serve_next w ↦ subst (λ (s : Served). GoesOn source reader writer first between next result was.answered was.failed s.answered s.failed) (sym w.served-is)
-          (one_failed source reader writer first between next result was.answered was.failed w.if-serve_next.false)
+    let goes : GoesOn source reader fails writer first between next result was.answered was.failed now.answered now.failed = elim c.if-serve_next.branch [
+      | then-serve_next w ↦ subst (λ (s : Served). GoesOn source reader fails writer first between next result was.answered was.failed s.answered s.failed) (sym w.served-is)
+          (one_answered source reader fails writer first between next result was.answered was.failed w.if-serve_next.true)
+      | else-serve_next w ↦ subst (λ (s : Served). GoesOn source reader fails writer first between next result was.answered was.failed s.answered s.failed) (sym w.served-is)
+          (one_failed source reader fails writer first between next result was.answered was.failed w.if-serve_next.false)
     ] in
     let leads = leads_on g.S.Store c.args.world.now c.loop-turn.world c.serve_next.new.world
-    (λ ledger old new. Attended source reader writer was.answered was.failed ledger first old between new)
-    (λ ledger old new. Visit source reader writer result ledger between old next new)
-    (λ ledger old new. Attended source reader writer now.answered now.failed ledger first old next new)
+    (λ ledger old new. Attended source reader fails writer was.answered was.failed ledger first old between new)
+    (λ ledger old new. Visit source reader fails writer result ledger between old next new)
+    (λ ledger old new. Attended source reader fails writer now.answered now.failed ledger first old next new)
     goes passed.leads c.serve_next.ensures.turn c.serve_next.ensures.clean in
     record {
-      passed = passed_on source reader writer g.S.Store c.args.world.now c.serve_next.new.world first next c.settle_one-more.new.arrivals
+      passed = passed_on source reader fails writer g.S.Store c.args.world.now c.serve_next.new.world first next c.settle_one-more.new.arrivals
           now.answered now.failed c.settle_one-more.new.served.answered c.settle_one-more.new.served.failed (c.loop-turn.turn + 1)
           (record { sum = sum; leads = leads }) c.settle_one-more.ensures;
       batches = before.batches ++ one.0;

@@ -13,9 +13,9 @@ returns-clause-serves g c known stand at =
     let each = c.serve_each-served in
     let now = c.settle_rest.new in
     ends_as g.S.Store known c.args.world.now each.new.world
-    (λ ledger end. Attended g.A.Arrivals g.A.Reader.Read g.A.Writer.Write each.result.answered each.result.failed ledger c.args.arrivals.now stand each.new.arrivals end)
-    (λ ledger end. Attended g.A.Arrivals g.A.Reader.Read g.A.Writer.Write now.served.answered now.served.failed ledger c.args.arrivals.now stand now.arrivals end)
-    (λ ledger end it. attended_all g.A.Arrivals g.A.Reader.Read g.A.Writer.Write rest.0 c.args.arrivals.now stand each.new.arrivals now.arrivals end ledger each.result.answered each.result.failed
+    (λ ledger end. Attended g.A.Arrivals g.A.Reader.Read g.A.Reader.Incoming.fails g.A.Writer.Write each.result.answered each.result.failed ledger c.args.arrivals.now stand each.new.arrivals end)
+    (λ ledger end. Attended g.A.Arrivals g.A.Reader.Read g.A.Reader.Incoming.fails g.A.Writer.Write now.served.answered now.served.failed ledger c.args.arrivals.now stand now.arrivals end)
+    (λ ledger end it. attended_all g.A.Arrivals g.A.Reader.Read g.A.Reader.Incoming.fails g.A.Writer.Write rest.0 c.args.arrivals.now stand each.new.arrivals now.arrivals end ledger each.result.answered each.result.failed
     now.served.answered now.served.failed it rest.1)
     (each.ensures.serves known stand at)
 

@@ -1,4 +1,4 @@
-use Rattle.moo_http.{proofs.Words.{[], refl, subst, Takes, traffic, written_none}, proofs.Serving.{unread_at, nothing, served}}
+use Rattle.moo_http.{proofs.Words.{[], refl, subst, Takes, traffic, written_none}, proofs.Serving.{unread_at, unread_cause, cause_none, nothing, served}}
 use Rattle.moo_http.proofs.serve.serve_one.Goals as goal
 
 pub returns-in_err-read_request-clause-served : goal.returns-in_err-read_request-clause-served
@@ -24,3 +24,9 @@ returns-in_err-read_request-clause-moved g c = ([], [], written_none g.S.Store c
 
 pub returns-in-Nothing-clause-moved : goal.returns-in-Nothing-clause-moved
 returns-in-Nothing-clause-moved g c = ([], [], written_none g.S.Store c.args.world.now (g.met.S.Store.settled c.args.world.now.connection.store))
+
+pub returns-in_err-read_request-clause-cause : goal.returns-in_err-read_request-clause-cause
+returns-in_err-read_request-clause-cause g c = unread_cause c.from_residual.result c.in_err-read_request.field-0.0 c.from_residual.ensures.1 c.in_err-read_request.ensures.cause
+
+pub returns-in-Request-clause-cause : goal.returns-in-Request-clause-cause
+returns-in-Request-clause-cause g c = cause_none _ c.serve_asked.result c.serve_asked.ensures.fault

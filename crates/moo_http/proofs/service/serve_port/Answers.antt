@@ -10,6 +10,7 @@ pub returns-clause-serves : goal.returns-clause-serves
 returns-clause-serves g c known stand at =
     let source = g.P.Source.Arrivals in
     let reader = g.P.Source.Reader.Read in
+    let fails = g.P.Source.Reader.Incoming.fails in
     let writer = g.P.Source.Writer.Write in
     let first = c.args.ports.now in
     let last = c.close.new.self in
@@ -20,9 +21,9 @@ returns-clause-serves g c known stand at =
     let before = g.W.Write.contents c.args.output.now in
     let after = g.W.Write.contents c.serve_from-done.new.output in
     ends_as g.S.Store known c.args.world.now c.serve_from-done.new.world
-    (λ ledger end. ServesFrom source reader writer result duty.port duty.count ledger from stand to end before after)
-    (λ ledger end. ServesOn (attended_between source reader writer g.P.Ports first last) result duty.port duty.count ledger stand end before after)
-    (λ ledger end it. serves_on source reader writer g.P.Ports first c.listen.new.self last result duty.port duty.count ledger from stand to end before after c.in-Some.ensures c.close.ensures c.serve_from-done.ensures.fault it)
+    (λ ledger end. ServesFrom source reader fails writer result duty.port duty.count ledger from stand to end before after)
+    (λ ledger end. ServesOn (attended_between source reader fails writer g.P.Ports first last) result duty.port duty.count ledger stand end before after)
+    (λ ledger end it. serves_on source reader fails writer g.P.Ports first c.listen.new.self last result duty.port duty.count ledger from stand to end before after c.in-Some.ensures c.close.ensures c.serve_from-done.ensures.fault it)
     (c.serve_from-done.ensures.serves known stand at)
 
 pub returns-in_default-clause-moved : goal.returns-in_default-clause-moved

@@ -1,5 +1,6 @@
 use Rattle.sqlite.specs.Effect.{Database as Content}
-use Rattle.moo_store.{proofs.Words.{inr, subst, state, clean_before}, specs.Current.{RestsCurrent}, proofs.AdoptLemmas.{undone, refused_survives, has_still, rests_still, version_of_old, crash, undone_late, says_of_store}}
+use Rattle.moo_store.{proofs.Words.{◌⊎◌, inl, inr, subst, state, clean_before}, specs.Current.{RestsCurrent}, specs.Opening.{HasEarlier}, proofs.Causes.{stops_more}, proofs.AdoptLemmas.{undone, refused_survives, has_still, rests_still, version_of_old, crash, undone_late, says_of_store}}
+use Rattle.moo_tables.{specs.Cause.{StopsChange}, specs.ReadCause.{StopsQuery}, proofs.CauseLemmas.{stops_since}}
 use Rattle.moo_store.proofs.adopting.open_rows.Goals as goal
 
 -- the tables were not read
@@ -11,6 +12,10 @@ returns-in-Err-clause-brings g c =
       other = no.other;
       own = no.own;
       whole = λ s it clean. no.none.whole it.tables it.rows (clean, it.rests) it.shows it.good;
+      cause = λ s it clean.
+          let old = state g.S.Store c.args.conn.now in
+          let new = state g.S.Store c.read_rows.new.conn in
+          stops_more (StopsQuery old new) (λ error. StopsQuery old new error ⊎ (HasEarlier old × StopsChange old new error)) c.in-Err.fault (λ error h. inl h) (no.cause it.tables it.rows (clean, it.rests) it.shows it.good);
       says = λ tables rests clean. no.none.says tables (clean, rests);
       undone = undone g.S.Store c.args.conn.now c.read_rows.new.conn no.failed c.read_rows.ensures.settled c.read_rows.ensures.outside;
       crash = refused_survives g.S.Store c.args.conn.now c.read_rows.new.conn no.failed;
@@ -52,6 +57,16 @@ returns-in-Err-make_current-clause-brings g c =
       other = λ none. absurd (none version read.has);
       own = λ version has. c.in-Err-make_current.ensures.own;
       whole = λ s it clean. c.in-Err-make_current.ensures.fault;
+      cause = λ s it clean.
+          let first = state g.S.Store old in
+          let then = state g.S.Store mid in
+          let last = state g.S.Store c.make_current.new.conn in
+          let early = clean_before then last _ took clean in
+          let same = read.read.same early read.has in
+          let was = read.read.crash (λ _. read.has) in
+          stops_more (StopsChange then last) (λ error. StopsQuery first last error ⊎ (HasEarlier first × StopsChange first last error)) c.in-Err-make_current.fault
+          (λ error h. inr ((version, c.in-Err-make_current.ensures.earlier, read.has), stops_since first then last error was.counts was.limit same.0.is_open h))
+          (c.in-Err-make_current.ensures.cause clean it.tables (rests_still g.S.Store old mid version rows read.has read.read early it.tables it.rests) (version_of_old g.S.Store old mid version rows read.has read.read it.tables it.rests));
       says = λ tables rests clean. says_of_store tables c.in-Err-make_current.fault c.in-Err-make_current.ensures.fault;
       undone = inr (undone_late g.S.Store old mid version rows read.has read.read c.make_current.new.conn c.read_rows.ensures.settled took c.make_current.ensures.outside c.in-Err-make_current.ensures.undone);
       crash = crash g.S.Store old mid version rows read.has read.read c.make_current.new.conn took read.found.good (λ clean tables rests. read.found.shown tables (clean, rests)) (λ clean tables m rests. read.found.one tables m (clean, rests));

@@ -1,4 +1,5 @@
-use Rattle.moo_store.{proofs.Words.{◌∙◌, sym, subst, state, IsEarlier, TakesOver}, proofs.AdoptLemmas.{survives_more}, proofs.Current.{rests_already}}
+use Rattle.moo_store.{proofs.Words.{◌∙◌, sym, subst, state, IsEarlier, TakesOver}, proofs.AdoptLemmas.{survives_more, on_each_err}, proofs.Current.{rests_already}}
+use Rattle.moo_tables.proofs.InsideLemmas.{always}
 use Rattle.moo_store.proofs.migrating.make_current.Goals as goal
 use Rattle.std.{proofs.lemmas.Bool.{true≢false}, proofs.lemmas.Result.{on_ok_weaker}}
 
@@ -24,3 +25,14 @@ returns-clause-crash g c has =
     let old = state g.S.Store c.args.conn.now in
     let takes = TakesOver c.args.rows.now.maps old in
     survives_more old (state g.S.Store c.migrate_rows.new.conn) takes (λ trees. IsEarlier c.args.version × takes trees) (λ clean trees it. (earlier, it)) (c.migrate_rows.ensures.crash c.args.version earlier has)
+
+-- tables of the present version stay
+pub returns-clause-earlier : goal.returns-clause-earlier
+returns-clause-earlier g c =
+    let earlier : IsEarlier c.args.version = λ is. true≢false (sym (c.is_present.ensures.1 is) ∙ c.if-is_present.false) in
+    always c.migrate_rows.result earlier
+
+pub returns-clause-cause : goal.returns-clause-cause
+returns-clause-cause g c clean =
+    let earlier : IsEarlier c.args.version = λ is. true≢false (sym (c.is_present.ensures.1 is) ∙ c.if-is_present.false) in
+    on_each_err _ _ c.migrate_rows.result (λ fault stops tables rests is. stops tables rests (subst IsEarlier (sym is) earlier)) (c.migrate_rows.ensures.cause clean)

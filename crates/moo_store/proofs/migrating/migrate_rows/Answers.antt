@@ -1,4 +1,6 @@
 use Rattle.moo_store.{proofs.Words.{None, inr, sym, subst, state, PrintEach, PrintsSlot, all_of}, proofs.Migrated.{keeps_migrated, survives_migrated}, proofs.Current.{rests_migrated}}
+use Rattle.moo_tables.specs.Cause.{StopsChange}
+use Rattle.moo_store.proofs.Causes.{told_so, no_change_otherwise}
 use Rattle.moo_store.proofs.migrating.migrate_rows.Goals as goal
 
 pub returns-in-Ok-migrate-clause-keeps : goal.returns-in-Ok-migrate-clause-keeps
@@ -23,3 +25,9 @@ returns-in-Ok-migrate-clause-rests g c clean tables rests earlier shown =
 
 pub returns-clause-undone : goal.returns-clause-undone
 returns-clause-undone g c = inr c.in-Err.ensures.migrates.restored
+
+pub returns-clause-cause : goal.returns-clause-cause
+returns-clause-cause g c clean tables rests earlier =
+    let old = state g.S.Store c.args.conn.now in
+    let new = state g.S.Store c.migrate.new.conn in
+    told_so (StopsChange old new) c.in-Err.error c.failure_of.result (no_change_otherwise old new) c.failure_of.ensures.same (c.in-Err.ensures.migrates.cause clean tables rests earlier)

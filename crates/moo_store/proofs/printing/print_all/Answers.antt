@@ -1,4 +1,4 @@
-use Rattle.moo_store.{proofs.Words.{Some, None, List, Option, ap, sym, subst, FinMap, empty, get, get-empty, Head, object_cmp, prop_cmp, slot_cmp, verb_cmp, petition_cmp, entries, PrintEach, PrintsObject, PrintsProp, PrintsSlot, PrintsVerb, PrintsPetition, as_changes}, proofs.AllRows.{left_all}}
+use Rattle.moo_store.{proofs.Words.{Some, None, List, Option, ap, sym, subst, FinMap, empty, get, get-empty, Head, object_cmp, prop_cmp, slot_cmp, verb_cmp, petition_cmp, PrintEach, PrintsObject, PrintsProp, PrintsSlot, PrintsVerb, PrintsPetition}}
 use Rattle.moo_store.proofs.printing.print_all.Goals as goal
 use Rattle.std.specs.declared.cmp.Ordering.{Ordering}
 
@@ -10,9 +10,9 @@ pub returns : goal.returns
 returns c = record {
   head = c.head-head.ensures;
   next_petition = ap (λ (h : Head). Some h.next_petition) c.head-head.ensures;
-  objects = from_empty object_cmp PrintsObject _ _ (subst (λ rows. PrintEach (λ key. PrintsObject None) c.in_ok-objects.objects.items (as_changes rows)) (left_all object_cmp (entries c.args.rows.now.maps.objects)) c.in_ok-objects.ensures);
-  props = from_empty prop_cmp PrintsProp _ _ (subst (λ rows. PrintEach (λ key. PrintsProp None) c.in_ok-props.props.items (as_changes rows)) (left_all prop_cmp (entries c.args.rows.now.maps.props)) c.in_ok-props.ensures);
-  slots = from_empty slot_cmp PrintsSlot _ _ (subst (λ rows. PrintEach (λ key. PrintsSlot None) c.in_ok-slots.slots.items (as_changes rows)) (left_all slot_cmp (entries c.args.rows.now.maps.slots)) c.in_ok-slots.ensures);
-  verbs = from_empty verb_cmp PrintsVerb _ _ (subst (λ rows. PrintEach (λ key. PrintsVerb None) c.in_ok-verbs.verbs.items (as_changes rows)) (left_all verb_cmp (entries c.args.rows.now.maps.verbs)) c.in_ok-verbs.ensures);
-  petitions = from_empty petition_cmp PrintsPetition _ _ (subst (λ rows. PrintEach (λ key. PrintsPetition None) c.in_ok-petitions.petitions.items (as_changes rows)) (left_all petition_cmp (entries c.args.rows.now.maps.petitions)) c.in_ok-petitions.ensures);
+  objects = from_empty object_cmp PrintsObject _ _ c.in_ok-objects.ensures;
+  props = from_empty prop_cmp PrintsProp _ _ c.in_ok-props.ensures;
+  slots = from_empty slot_cmp PrintsSlot _ _ c.in_ok-slots.ensures;
+  verbs = from_empty verb_cmp PrintsVerb _ _ c.in_ok-verbs.ensures;
+  petitions = from_empty petition_cmp PrintsPetition _ _ c.in_ok-petitions.ensures;
 }

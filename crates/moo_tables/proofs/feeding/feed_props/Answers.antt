@@ -1,4 +1,4 @@
-use Rattle.moo_tables.{proofs.Words.{◌≡◌, refl, state, prop_table, select_text, ListsNumbers}, proofs.SelectLemmas.{select_prop}, proofs.ReadLemmas.{plain_of, prop_lists}, proofs.FeedLemmas.{feeds, stops, fed_lists}}
+use Rattle.moo_tables.{proofs.Words.{◌≡◌, refl, state, prop_table, select_text, ListsNumbers}, proofs.SelectLemmas.{select_prop}, proofs.QueryCauseLemmas.{has_cause}, proofs.ReadLemmas.{plain_of, prop_lists}, proofs.FeedLemmas.{feeds, stops, fed_lists}}
 use Rattle.moo_tables.proofs.feeding.feed_props.Goals as goal
 
 pub returns-clause-read : goal.returns-clause-read
@@ -11,3 +11,6 @@ returns-clause-taken g c =
 
 pub returns-clause-failed : goal.returns-clause-failed
 returns-clause-failed g c = stops (select_prop c.args.version) c.feed_rows.ensures.survives c.feed_rows.result c.feed_rows.ensures.kept
+
+pub returns-clause-cause : goal.returns-clause-cause
+returns-clause-cause g c = has_cause (select_prop c.args.version) c.feed_rows.ensures.survives c.feed_rows.result c.feed_rows.ensures.cause

@@ -1,4 +1,4 @@
-use Rattle.moo_tables.{proofs.Words.{◌≡◌, sym, ◌∙◌, state, slot_table, slot2_table, select_text, ListsPairs}, proofs.FeedLemmas.{feeds, stops, fed_lists}, proofs.SlotReadLemmas.{select_at, lists_at, table_is}}
+use Rattle.moo_tables.{proofs.Words.{◌≡◌, sym, ◌∙◌, state, slot_table, slot2_table, select_text, ListsPairs}, proofs.FeedLemmas.{feeds, stops, fed_lists}, proofs.SlotReadLemmas.{select_at, lists_at, table_is}, proofs.QueryCauseLemmas.{has_cause}}
 use Rattle.moo_tables.proofs.feeding.feed_slots.Goals as goal
 
 pub returns-then-has_lettered_bits-clause-read : goal.returns-then-has_lettered_bits-clause-read
@@ -28,3 +28,11 @@ returns-clause-taken g c =
 pub returns-clause-failed : goal.returns-clause-failed
 returns-clause-failed g c =
     stops (select_at c.args.version slot2_table (table_is c.args.version _ (sym c.has_lettered_bits.ensures ∙ c.if-has_lettered_bits.false))) c.feed_rows-2.ensures.survives c.feed_rows-2.result c.feed_rows-2.ensures.kept
+
+pub returns-then-has_lettered_bits-clause-cause : goal.returns-then-has_lettered_bits-clause-cause
+returns-then-has_lettered_bits-clause-cause g c =
+    has_cause (select_at c.args.version slot_table (table_is c.args.version _ (sym c.has_lettered_bits.ensures ∙ c.if-has_lettered_bits.true))) c.feed_rows.ensures.survives c.feed_rows.result c.feed_rows.ensures.cause
+
+pub returns-clause-cause : goal.returns-clause-cause
+returns-clause-cause g c =
+    has_cause (select_at c.args.version slot2_table (table_is c.args.version _ (sym c.has_lettered_bits.ensures ∙ c.if-has_lettered_bits.false))) c.feed_rows-2.ensures.survives c.feed_rows-2.result c.feed_rows-2.ensures.cause

@@ -1,4 +1,4 @@
-use Rattle.moo_tables.{proofs.GrowLemmas.{makes_slot2, makes_petition, makes_petition_head, three_made}, proofs.InsideLemmas.{stays_then}}
+use Rattle.moo_tables.{proofs.GrowLemmas.{makes_slot2, makes_petition, makes_petition_head, three_made}, proofs.StopMigrateLemmas.{first_fails, second_fails, third_fails}, proofs.InsideLemmas.{stays_then}}
 use Rattle.moo_tables.proofs.migrating.create_added_tables.Goals as goal
 
 pub returns-clause-made : goal.returns-clause-made
@@ -12,3 +12,16 @@ returns-in_err-run-2-clause-inside g c = stays_then c.run.ensures.inside c.run-2
 
 pub returns-clause-inside : goal.returns-clause-inside
 returns-clause-inside g c = stays_then (stays_then c.run.ensures.inside c.run-2.ensures.inside) c.run-3.ensures.inside
+
+-- why one fails
+
+pub returns-in_err-run-clause-cause : goal.returns-in_err-run-clause-cause
+returns-in_err-run-clause-cause g c = first_fails (g.T.Run.state c.args.tx.now) (g.T.Run.state c.run.new.self) c.from_residual.result _ c.from_residual.ensures.1 c.in_err-run.ensures.executes
+
+pub returns-in_err-run-2-clause-cause : goal.returns-in_err-run-2-clause-cause
+returns-in_err-run-2-clause-cause g c =
+    second_fails c.run.ensures.inside c.run-2.ensures.inside c.in_ok-run.field-0 c.in_ok-run.ensures.ran c.from_residual-in_err-run-2.result _ c.from_residual-in_err-run-2.ensures.1 c.in_err-run-2.ensures.executes
+
+pub returns-clause-cause : goal.returns-clause-cause
+returns-clause-cause g c =
+    third_fails c.run.ensures.inside c.run-2.ensures.inside c.in_ok-run.field-0 c.in_ok-run.ensures.ran c.run-3.ensures.inside c.in_ok-run-2.field-0 c.in_ok-run-2.ensures.ran c.run-3.result c.run-3.ensures.executes

@@ -1,5 +1,6 @@
-use Rattle.moo_tables.{proofs.Words.{rules, ◌≡◌, ◌∙◌, sym, subst, state, State, HasCleanDisk, survives_then, migrated, HasNoSlot, Tables, Holds, Rests, Sees, IsEarlier}, proofs.InsideLemmas.{always, no_ok, stays_begun, on_ok, clean_before, commits, earlier_too, leaves, restores, restored, rest_again}, proofs.migrating.migrate.Given.{Over}}
+use Rattle.moo_tables.{proofs.Words.{rules, ◌≡◌, ◌≤◌, ◌∙◌, inl, inr, refl, sym, subst, true, false, IfErr, Result, Ok, Err, Error, StopsChange, state, State, HasCleanDisk, survives_then, migrated, HasNoSlot, Tables, Holds, Rests, Sees, IsEarlier}, proofs.InsideLemmas.{always, no_ok, stays_begun, on_ok, clean_before, commits, earlier_too, leaves, restores, restored, rest_again}, proofs.StoppedLemmas.{fails_so}, proofs.CauseLemmas.{err_again, stops_since, stops_to}, proofs.migrating.migrate.Given.{Over}}
 use Rattle.moo_tables.proofs.migrating.migrate.Goals as goal
+use Rattle.sqlite.specs.Steps.{FailsToCommit}
 
 -- the connection that is handed back is the one that the transaction had
 
@@ -26,6 +27,14 @@ early g c clean = clean_before (last g c) (end g c) _ c.commit.ensures.survives 
 wrote : (g : Over) (c : goal.After-conn-2-1 g) → HasCleanDisk (last g c) → (tables : Tables) → Holds (old g c).now tables → IsEarlier tables.version → Sees (last g c) (migrated c.args.head.now c.args.slots.now tables) × HasNoSlot (last g c).now
 wrote g c clean tables was earlier = c.in_ok-write_migrated.ensures.migrated clean tables (rw c.transaction-tx.ensures.begun was) earlier
 
+-- why the commit failed
+
+stops : (old last end : State) (next : Tables → Tables) (r : Result (Unit {0}) Error) → old.faults ≤ last.faults → last.step_limit ≡ old.step_limit → IfErr r (FailsToCommit last end) → ((tables : Tables) → Rests old tables → IsEarlier tables.version → Sees last (next tables))
+    → IfErr r (λ error. (tables : Tables) → Rests old tables → IsEarlier tables.version → StopsChange old end error)
+stops old last end next (Ok _) up steps err seen = tt
+stops old last end next (Err e) up steps (inl failed) seen = λ tables was earlier. stops_since old last end e up steps (seen tables was earlier).is_open (fails_so last end ⊥ e failed)
+stops old last end next (Err e) up steps (inr late) seen = λ tables was earlier. absurd (let both : true ≡ false = sym (seen tables was earlier).inside ∙ late.1 in cc)
+
 pub returns-clause-migrates : goal.returns-clause-migrates
 returns-clause-migrates g c =
     let r = c.commit.result in
@@ -36,6 +45,7 @@ returns-clause-migrates g c =
       emptied = λ clean. on_ok r (c.commit.ensures.ok clean) (λ ok tables was earlier. subst (λ db. HasNoSlot db) (sym ok.1.now_is) (wrote g c (early g c clean) tables was.holds earlier).1);
       restored = back;
       undone = λ clean. rest_again (old g c) (end g c) r (back clean);
+      cause = λ clean. stops (old g c) (last g c) (end g c) after r first.0.counts first.0.limit (c.commit.ensures.err clean) (λ tables was earlier. (wrote g c (early g c clean) tables was.holds earlier).0);
       crash = λ version earlier known.
           let seen = λ (clean : HasCleanDisk (last g c)) (tables : Tables) (was : Rests (old g c) tables). (wrote g c clean tables was.holds (earlier_too version tables.version (sym (known (clean_before (old g c) (last g c) _ first.0 clean)) ∙ was.holds.schema) earlier)).0 in
           survives_then (old g c) (last g c) (end g c) _ _ _ (λ _ db none. absurd none) (λ clean db is tables was. leaves (last g c) (after tables) db (seen (early g c clean) tables was) is) first.0 c.commit.ensures.survives;
@@ -50,6 +60,7 @@ returns-in_err-write_migrated-clause-migrates g c =
     let last = state g.S.Store c.write_migrated.new.tx.conn.now in
     let end = state g.S.Store c.drop-tx.new.self.0 in
     let r = c.from_residual.result in
+    let e = c.in_err-write_migrated.field-0.0 in
     let survives = c.drop-tx.ensures.survives in
     let first = stays_begun g.S.Store {h = c.args.conn.now} c.transaction-tx.ensures.begun c.write_migrated.ensures.inside in
     let back = λ (clean : HasCleanDisk end). always r (restores old last end (first.1 (clean_before last end _ survives clean)) (c.drop-tx.ensures.undone clean)) in
@@ -57,6 +68,9 @@ returns-in_err-write_migrated-clause-migrates g c =
       emptied = λ clean. no_ok _ _ r c.from_residual.ensures.1;
       restored = back;
       undone = λ clean. rest_again old end r (back clean);
+      cause = λ clean. err_again {A = Unit {0}} (Err e) r e (λ error. (tables : Tables) → Rests old tables → IsEarlier tables.version → StopsChange old end error) refl c.from_residual.ensures.1 (λ tables was earlier.
+          let inside = c.in_err-write_migrated.ensures.cause (clean_before last end _ survives clean) tables (rw c.transaction-tx.ensures.begun refl) (rw c.transaction-tx.ensures.begun was.holds) earlier in
+          stops_to old last end e _ survives (subst (λ h. StopsChange (state g.S.Store h) last e) c.transaction-tx.ensures.begun inside));
       crash = λ version earlier known. survives_then old last end _ _ _ (λ _ db none. absurd none) (λ _ db none. absurd none) first.0 survives;
       migrated = λ clean. no_ok _ _ r c.from_residual.ensures.1;
     })

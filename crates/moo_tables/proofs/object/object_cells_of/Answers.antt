@@ -1,4 +1,4 @@
-use Rattle.moo_tables.{proofs.Words.{◌≡◌, refl, state, object_table, select_text, ListsNumbers}, proofs.SelectLemmas.{select_object}, proofs.ReadLemmas.{reads, fails, lists, plain_of, object_lists}}
+use Rattle.moo_tables.{proofs.Words.{◌≡◌, refl, state, object_table, select_text, ListsNumbers}, proofs.SelectLemmas.{select_object}, proofs.QueryCauseLemmas.{has_cause}, proofs.ReadLemmas.{reads, fails, lists, plain_of, object_lists}}
 use Rattle.moo_tables.proofs.object.object_cells_of.Goals as goal
 
 pub returns-clause-read : goal.returns-clause-read
@@ -13,3 +13,6 @@ returns-clause-listed g c =
 pub returns-clause-failed : goal.returns-clause-failed
 returns-clause-failed g c =
     fails (select_object c.args.version) c.all_rows.ensures.survives c.all_rows.result c.all_rows.ensures.kept
+
+pub returns-clause-cause : goal.returns-clause-cause
+returns-clause-cause g c = has_cause (select_object c.args.version) c.all_rows.ensures.survives c.all_rows.result c.all_rows.ensures.cause

@@ -1,4 +1,4 @@
-use Rattle.moo_tables.{proofs.Words.{rules, ◌≡◌, refl, inl, ◌∙◌}, proofs.InsideLemmas.{always}, proofs.StreamLemmas.{IsGiving, begins, refused, survives_on, failed_on, unchanged_on, gives_on, shown_on}, proofs.query.all_rows.Given.{Over}}
+use Rattle.moo_tables.{proofs.Words.{rules, ◌+◌, ◌≡◌, refl, inl, ◌∙◌}, proofs.InsideLemmas.{always}, proofs.ReadCauseLemmas.{handed_on}, proofs.StreamLemmas.{IsGiving, begins, refused, survives_on, failed_on, why_failed, unchanged_on, gives_on, shown_on}, proofs.query.all_rows.Given.{Over}}
 use Rattle.moo_tables.proofs.query.all_rows.Goals as goal
 
 -- the connection that is handed back is the one that the query had
@@ -15,9 +15,6 @@ copy_end g c = search rules
 push_end : (g : Over) (c : goal.After-drop-all-in_err-push g) → c.conn-in_err-push-1.given.0 ≡ c.next.follows.lender-at-none.conn.now
 push_end g c = search rules
 
-last_end : (g : Over) (c : goal.After-drop-all-2 g) → c.conn-2-1.given.0 ≡ c.rows.rows.conn.now
-last_end g c = search rules
-
 pub returns-in_err-rows-clause-kept : goal.returns-in_err-rows-clause-kept
 returns-in_err-rows-clause-kept g c clean plain =
     always c.from_residual.result (refused g.S.Store c.args.sql.now c.args.conn.now c.query.result c.in_err-rows.field-0.0 c.query.follows.lender-at-none c.in_err-rows.was c.query.follows.holds-at-none clean plain)
@@ -25,7 +22,7 @@ returns-in_err-rows-clause-kept g c clean plain =
 pub rows-init : goal.rows-init
 rows-init g c =
     let made = c.in_ok-rows.ensures in
-    (refl, rw c.new-all.ensures.items (begins g.S.Store c.args.sql.now c.args.conn.now c.in_ok-rows.rows.conn.now made.mode made.survives made.begun))
+    (refl, rw c.new-all.ensures.items (begins g.S.Store c.args.sql.now c.args.conn.now c.in_ok-rows.rows.conn.now made.mode made.survives made.begun), c.new-all.ensures.len)
 
 pub returns-in_err-row-clause-outside : goal.returns-in_err-row-clause-outside
 returns-in_err-row-clause-outside g c h = rw (row_end g c) (c.next.follows.holds-at-none.mode (c.rows.invariant.1.outside h))
@@ -73,13 +70,9 @@ rows-preserved g c =
     let moved = c.next.follows.holds-at-none in
     let it = gives_on g.S.Store c.args.sql.now c.args.conn.now c.rows.rows.conn.now now c.rows.all.items c.rows.invariant.1 moved.survives (λ late. rw c.in_ok-row.was at (moved.same late)) c.in-Some.row.now moved.mode (λ late. rw (c.in_ok-row.was, c.in-Some.is) at (moved.ok late)) in
     let same : IsGiving g.S.Store c.args.sql.now c.args.conn.now now c.push.new.self.items = search rules in
-    (moved.same_reference ∙ c.rows.invariant.0, same)
+    let count : c.push.new.self.len ≡ c.rows.counter + 1 = search rules in
+    (moved.same_reference ∙ c.rows.invariant.0, same, count)
 
-pub returns-clause-outside : goal.returns-clause-outside
-returns-clause-outside g c h = rw (last_end g c) (c.rows.invariant.1.outside h)
-
-pub returns-clause-kept : goal.returns-clause-kept
-returns-clause-kept g c clean plain = rw (last_end g c) (inl (c.rows.invariant.1.given (rw (last_end g c) at clean) plain).1)
-
-pub returns-clause-survives : goal.returns-clause-survives
-returns-clause-survives g c = rw (last_end g c) c.rows.invariant.1.survives
+pub returns-in_err-row-clause-cause : goal.returns-in_err-row-clause-cause
+returns-in_err-row-clause-cause g c clean plain =
+    rw (row_end g c) (handed_on _ c.from_residual-in_err-row.result c.in_err-row.field-0.0 c.from_residual-in_err-row.ensures.1 (inl (why_failed g.S.Store _ _ _ c.next.follows.lender-at-none.conn.now _ c.rows.invariant.1 c.next.follows.holds-at-none.survives c.in_err-row.field-0.0 (λ late. rw c.in_err-row.was at (c.next.follows.holds-at-none.err late)) (rw (row_end g c) at clean) plain)))

@@ -1,4 +1,4 @@
-use Rattle.moo_tables.{proofs.Words.{refl, state, select_text, head_table}, proofs.InsideLemmas.{always}, proofs.SelectLemmas.{select_head}, proofs.ReadLemmas.{rests_read, has_read, has_failed, fails_then, reads_or, clean_or, plain_of, head_lists}}
+use Rattle.moo_tables.{proofs.Words.{refl, state, select_text, head_table}, proofs.InsideLemmas.{always}, proofs.SelectLemmas.{select_head}, proofs.ReadCauseLemmas.{cause_of_first, cause_of_later}, proofs.QueryCauseLemmas.{list_stops}, proofs.ReadLemmas.{rests_read, has_read, has_failed, fails_then, reads_or, clean_or, plain_of, head_lists}}
 use Rattle.moo_tables.proofs.reading.small_cells_of.Goals as goal
 
 pub returns-in_err-head-clause-failed : goal.returns-in_err-head-clause-failed
@@ -30,3 +30,12 @@ returns-clause-listed g c late tables was is =
       beside.0,
       beside.1,
     )
+
+pub returns-in_err-head-clause-cause : goal.returns-in_err-head-clause-cause
+returns-in_err-head-clause-cause g c =
+    cause_of_first c.from_residual.result _ (has_failed (select_head c.args.version) c.in_err-head.ensures.survives c.in_err-head.ensures.kept) c.from_residual.ensures.1 (list_stops (select_head c.args.version) c.in_err-head.ensures.survives c.in_err-head.ensures.cause)
+
+pub returns-in_err-petition-clause-cause : goal.returns-in_err-petition-clause-cause
+returns-in_err-petition-clause-cause g c =
+    let one = has_read (select_head c.args.version) c.in_ok-head.ensures.survives c.in_ok-head.head c.in_ok-head.ensures.shown in
+    cause_of_later c.from_residual-in_err-petition.result _ one c.in_err-petition.ensures.failed c.from_residual-in_err-petition.ensures.1 c.in_err-petition.ensures.cause

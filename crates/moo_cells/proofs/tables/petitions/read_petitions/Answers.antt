@@ -18,7 +18,7 @@ loop-row-preserved c =
       whole = takes_on at.yielded at.invariant.whole steps;
       left = omega arith;
       holds = held_more (petitions_bear c.args.version) at.yielded at.invariant.whole steps c.requires.listed.0 petition_total petition_exact at.invariant.holds c.in-Ok.ensures.ok;
-      kept = c.in-Ok.ensures.kept ∙ ap (λ (m : Maps). record m { petitions = c.take_petition.new.rows.maps.petitions }) at.invariant.kept;
+      kept = c.in-Ok.ensures.kept ∙ ap (λ (m : Maps). record m { petitions = c.take_row.new.rows.maps.petitions }) at.invariant.kept;
     }
 
 pub returns : goal.returns

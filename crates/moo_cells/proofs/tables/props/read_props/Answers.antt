@@ -18,7 +18,7 @@ loop-row-preserved c =
       whole = takes_on at.yielded at.invariant.whole steps;
       left = omega arith;
       holds = held_more (in_any_order (props_bear c.args.version) is_same_number alike_numbers) at.yielded at.invariant.whole steps (pairwise is_same_number c.args.cells.items c.requires.numbered.apart) prop_total prop_exact at.invariant.holds c.in-Ok.ensures.ok;
-      kept = c.in-Ok.ensures.kept ∙ ap (λ (m : Maps). record m { props = c.take_prop.new.rows.maps.props }) at.invariant.kept;
+      kept = c.in-Ok.ensures.kept ∙ ap (λ (m : Maps). record m { props = c.take_row.new.rows.maps.props }) at.invariant.kept;
     }
 
 pub returns : goal.returns

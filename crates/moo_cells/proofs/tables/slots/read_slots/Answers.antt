@@ -18,7 +18,7 @@ loop-row-preserved c =
       whole = takes_on at.yielded at.invariant.whole steps;
       left = omega arith;
       holds = held_more (in_any_order (slots_bear c.args.version) is_same_pair alike_pairs) at.yielded at.invariant.whole steps (pairwise is_same_pair c.args.cells.items c.requires.numbered.apart) slot_total slot_exact at.invariant.holds c.in-Ok.ensures.ok;
-      kept = c.in-Ok.ensures.kept ∙ ap (λ (m : Maps). record m { slots = c.take_slot.new.rows.maps.slots }) at.invariant.kept;
+      kept = c.in-Ok.ensures.kept ∙ ap (λ (m : Maps). record m { slots = c.take_row.new.rows.maps.slots }) at.invariant.kept;
     }
 
 pub returns : goal.returns

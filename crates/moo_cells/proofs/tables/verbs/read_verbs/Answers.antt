@@ -18,7 +18,7 @@ loop-row-preserved c =
       whole = takes_on at.yielded at.invariant.whole steps;
       left = omega arith;
       holds = held_more (in_any_order (verbs_bear c.args.version) is_same_pair alike_pairs) at.yielded at.invariant.whole steps (pairwise is_same_pair c.args.cells.items c.requires.numbered.apart) verb_total verb_exact at.invariant.holds c.in-Ok.ensures.ok;
-      kept = c.in-Ok.ensures.kept ∙ ap (λ (m : Maps). record m { verbs = c.take_verb.new.rows.maps.verbs }) at.invariant.kept;
+      kept = c.in-Ok.ensures.kept ∙ ap (λ (m : Maps). record m { verbs = c.take_row.new.rows.maps.verbs }) at.invariant.kept;
     }
 
 pub returns : goal.returns

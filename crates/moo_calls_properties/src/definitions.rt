@@ -1,0 +1,177 @@
+//! Defining properties.
+
+ghost use Rattle.std.specs.Prelude.{◌≡◌, true, is_some, nat_lt, Some, Err, IfSome, IfOk, IfErr, OnOk, OnErr, false};
+ghost use Rattle.moo_rows.specs.Bits.{bits_of};
+ghost use Rattle.moo_rows.specs.declared.row.Bits.{Bits};
+ghost use Rattle.moo_rows.specs.declared.row.SlotState.TheVariants.{Set};
+ghost use Rattle.moo_value.specs.declared.value.Value.{Value};
+ghost use Rattle.moo_world.specs.Arguments.{fits};
+ghost use Rattle.moo_world.specs.Keeps.{Keeps};
+ghost use Rattle.moo_world.specs.PropertyCalls.{add_property, defines_name, may_define};
+ghost use Rattle.moo_world.specs.Rows.{IsGood};
+ghost use Rattle.moo_world.specs.Objects.{folded};
+ghost use Rattle.moo_world.specs.Answers.{zero};
+ghost use Rattle.moo_world.specs.Codes.{E_INVARG};
+ghost use Rattle.moo_world.specs.Outcomes.{Outcome, Done, Failed};
+ghost use Rattle.moo_world.specs.Changes.{property_added};
+ghost use Rattle.moo_world.specs.World.{World, is_object, is_property_name};
+ghost use Rattle.moo_props.specs.Names.{defines as defines_property, name_of};
+ghost use Rattle.moo_calls_shared.specs.Reasons.{error_of};
+ghost use Rattle.moo_calls_shared.specs.Outcomes.{world_in, ComesTo, Answers};
+ghost use Rattle.moo_calls_properties.specs.Checks.{IsTrueOfLetters, IsTrueOfName, taking_property_info};
+ghost use Rattle.moo_calls_shared.specs.About.{about_new_property};
+ghost use Rattle.moo_calls_shared.specs.Told.{IsTold};
+
+use moo_calls_shared::{Fault, Info, Reason, rights};
+use moo_props::{clashes, define, slot_of};
+use moo_rows::{Bits, PropId, Rows};
+use moo_tree::valid;
+use moo_value::{MooStr, ObjNo, Value};
+use moo_world::{BuiltIn, ZERO};
+use std::alloc::Global;
+
+/// The most bytes in the name of a property.
+const MAX_NAME: usize = 255;
+
+/// Whether a property may have the name: 1 to 255 bytes, and not built in.
+fn is_property_name(name: &MooStr) -> bool
+    ensures { result ≡ is_property_name name.now }
+{
+    let length = name.bytes().len();
+    0 < length && length <= MAX_NAME && BuiltIn::of_name(name).is_none()
+}
+
+/// Nothing if a new property of x may have the name, or E_INVARG: if no property may have it, then if x, an ancestor or a
+/// descendant defines one of that name.
+pub(crate) fn may_define<R: Rows>(rows: &R, x: ObjNo, name: &MooStr) -> Result<(), Reason>
+    requires { IsGood (R.held rows.now).maps }
+    ensures ok { OnOk result (may_define (world_in (R.held rows.now)) x name.now ≡ true) }
+    ensures err { OnErr result (may_define (world_in (R.held rows.now)) x name.now ≡ false) }
+    ensures code { IfErr result (λ reason. error_of reason ≡ E_INVARG) }
+    ensures told { IfErr result (IsTrueOfName (R.held rows.now).maps x name.now) }
+{
+    if !is_property_name(name) {
+        return Err(Reason::NoPropertyName);
+    }
+    match clashes(rows, x, name) {
+        Some(definer) => Err(Reason::NameTaken { definer }),
+        None => Ok(()),
+    }
+}
+
+/// The property of a name that x itself defines.
+pub(crate) fn own_property<R: Rows>(rows: &R, x: ObjNo, name: &MooStr) -> Option<PropId>
+    requires { IsGood (R.held rows.now).maps }
+    ensures exact { is_some result ≡ defines_name (world_in (R.held rows.now)) x name.now }
+    ensures own { IfSome result (λ id. defines_property (R.held rows.now).maps x id ≡ true) }
+    ensures named { IfSome result (λ id. name_of (R.held rows.now).maps id ≡ folded name.now) }
+{
+    let Some(found) = slot_of(rows, x, name) else {
+        return None;
+    };
+    if found.definer == x {
+        Some(found.id)
+    } else {
+        None
+    }
+}
+
+/// Whether x itself defines a property of the name.
+pub(crate) fn defines<R: Rows>(rows: &R, x: ObjNo, name: &MooStr) -> bool
+    requires { IsGood (R.held rows.now).maps }
+    ensures { result ≡ defines_name (world_in (R.held rows.now)) x name.now }
+{
+    own_property(rows, x, name).is_some()
+}
+
+/// The rights that a property takes with an owner, or E_INVARG: if the owner isn't an object, then if the rights have a
+/// letter other than `r`, `w` and `c`.
+pub(crate) fn bits_taken<R: Rows>(rows: &R, info: Info<'_>) -> Result<Bits, Reason>
+    ensures owner { OnOk result (is_object (world_in (R.held rows.now)) info.entry.owner ≡ true) }
+    ensures bits { IfOk result (λ bits. bits_of info.entry.perms.now ≡ Some bits) }
+    ensures err { IfErr result (λ reason. (then : Bits → Outcome World) →
+        taking_property_info (world_in (R.held rows.now)) (info.entry.owner, info.entry.perms.now) then ≡ Failed (error_of reason)) }
+    ensures told { IfErr result (IsTrueOfLetters (R.held rows.now).maps info.entry.perms.now) }
+{
+    if !valid(rows, info.owner) {
+        return Err(Reason::NoObject(info.owner));
+    }
+    let Some(bits) = Bits::read(info.perms) else {
+        return Err(Reason::PropertyPerms);
+    };
+    Ok(bits)
+}
+
+/// Whether a number is left for one more property.
+fn has_number_left<R: Rows>(rows: &R) -> bool
+    ensures { result ≡ nat_lt (world_in (R.held rows.now)).next_prop 4294967295 }
+{
+    rows.head().next_prop < u32::MAX
+}
+
+/// The rights of the property that the programmer may define on x, or the first error of `add_property`.
+fn bits_to_define<R: Rows>(
+    rows: &R,
+    programmer: ObjNo,
+    x: ObjNo,
+    name: &MooStr,
+    info: Info<'_>,
+) -> Result<Bits, Fault>
+    requires { IsGood (R.held rows.now).maps }
+    ensures ok { IfOk result (λ bits. (v : Value) →
+        add_property (world_in (R.held rows.now)) programmer x name.now v (info.entry.owner, info.entry.perms.now)
+        ≡ Done zero (property_added (world_in (R.held rows.now)) x name.now
+        (record { definer = x; owner = info.entry.owner; bits = bits; state = Set v }))) }
+    ensures err { IfErr result (λ fault. (v : Value) →
+        Answers (add_property (world_in (R.held rows.now)) programmer x name.now v (info.entry.owner, info.entry.perms.now))
+        (R.held rows.now) (Err fault)) }
+    ensures there { OnOk result (is_object (world_in (R.held rows.now)) x ≡ true) }
+    ensures free { OnOk result (may_define (world_in (R.held rows.now)) x name.now ≡ true) }
+    ensures left { OnOk result (nat_lt (world_in (R.held rows.now)).next_prop 4294967295 ≡ true) }
+    ensures told { IsTold (R.held rows.now).maps programmer (about_new_property x name.now info.entry.perms.now) result }
+{
+    if !valid(rows, x) {
+        return Err(Fault::Moo(Reason::NoObject(x)));
+    }
+    let bits = bits_taken(rows, info)?;
+    if !rights::may_write_object(rows, programmer, x) {
+        return Err(Fault::Moo(Reason::NoObjectW(x)));
+    }
+    if !rights::may_make_owner(rows, programmer, info.owner) {
+        return Err(Fault::Moo(Reason::NoOwner(info.owner)));
+    }
+    may_define(rows, x, name)?;
+    if !has_number_left(rows) {
+        return Err(Fault::Full);
+    }
+    Ok(bits)
+}
+
+/// `add_property(object, name, value, {owner, perms})`: defines a property on the object, with the value; each descendant
+/// gets it clear. The answer is 0. E_INVARG if there is no such object, then if the owner isn't an object, then if perms has
+/// a letter other than `r`, `w` and `c`; E_PERM if the programmer may not write the object, then if it is neither the owner
+/// nor a wizard; E_INVARG if the name is empty, longer than 255 bytes or built in, or if the object, an ancestor or a
+/// descendant defines a property of that name. Full if every number of a property has been given.
+/// LambdaMOO Programmer's Manual, 'Operations on Properties'.
+pub fn add_property<R: Rows>(
+    rows: &mut R,
+    alloc: Global,
+    programmer: ObjNo,
+    x: ObjNo,
+    name: &MooStr,
+    value: &Value,
+    info: Info<'_>,
+) -> Result<Value, Fault>
+    requires good { IsGood (R.held rows.old).maps }
+    requires fit { fits value.now ≡ true }
+    ensures comes { ComesTo (add_property (world_in (R.held rows.old)) programmer x name.now value.now
+        (info.entry.owner, info.entry.perms.now)) (R.held rows.old) (R.held rows.new) result }
+    ensures kept { OnOk result (Keeps (R.held rows.old) (R.held rows.new)) }
+    ensures told { IsTold (R.held rows.old).maps programmer (about_new_property x name.now info.entry.perms.now) result }
+{
+    let bits = bits_to_define(rows, programmer, x, name, info)?;
+    let name = name.copy(alloc)?;
+    let value = value.copy(alloc)?;
+    define(alloc, rows, x, name, value, info.owner, bits)?;
+    Ok(ZERO)
+}

@@ -1,0 +1,48 @@
+//! The end of a property.
+
+ghost use Rattle.std.specs.Prelude.{OnOk};
+ghost use Rattle.moo_world.specs.Keeps.{Keeps};
+ghost use Rattle.moo_world.specs.PropertyCalls.{delete_property};
+ghost use Rattle.moo_world.specs.Rows.{IsGood};
+ghost use Rattle.moo_calls_shared.specs.Outcomes.{world_in, ComesTo};
+ghost use Rattle.moo_calls_shared.specs.About.{about_property};
+ghost use Rattle.moo_calls_shared.specs.Told.{IsTold};
+
+use crate::definitions::own_property;
+use moo_calls_shared::{Fault, Reason, rights};
+use moo_props::undefine;
+use moo_rows::Rows;
+use moo_tree::valid;
+use moo_value::{MooStr, ObjNo, Value};
+use moo_world::ZERO;
+use std::alloc::Global;
+
+/// `delete_property(object, name)`: takes a property that the object itself defines from it and from all its descendants.
+/// The answer is 0. E_INVARG if there is no such object; E_PERM if the programmer may not write the object; E_PROPNF if
+/// the object defines no property of the name.
+/// LambdaMOO Programmer's Manual, 'Operations on Properties'.
+pub fn delete_property<R: Rows>(
+    rows: &mut R,
+    alloc: Global,
+    programmer: ObjNo,
+    x: ObjNo,
+    name: &MooStr,
+) -> Result<Value, Fault>
+    requires { IsGood (R.held rows.old).maps }
+    ensures comes { ComesTo (delete_property (world_in (R.held rows.old)) programmer x name.now) (R.held rows.old)
+        (R.held rows.new) result }
+    ensures kept { OnOk result (Keeps (R.held rows.old) (R.held rows.new)) }
+    ensures told { IsTold (R.held rows.old).maps programmer (about_property x name.now) result }
+{
+    if !valid(rows, x) {
+        return Err(Fault::Moo(Reason::NoObject(x)));
+    }
+    if !rights::may_write_object(rows, programmer, x) {
+        return Err(Fault::Moo(Reason::NoObjectW(x)));
+    }
+    let Some(id) = own_property(rows, x, name) else {
+        return Err(Fault::Moo(Reason::NotDefined(x)));
+    };
+    undefine(alloc, rows, x, id)?;
+    Ok(ZERO)
+}

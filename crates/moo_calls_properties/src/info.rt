@@ -1,0 +1,164 @@
+//! Changing the owner, the rights and the name of a property.
+
+ghost use Rattle.std.specs.Prelude.{◌≡◌, ◌||◌, true, is_some, option_map, Err, IfOk, IfErr, OnOk, OnErr, false};
+ghost use Rattle.std.specs.FinMap.{get};
+ghost use Rattle.moo_world.specs.Answers.{zero};
+ghost use Rattle.moo_world.specs.Codes.{E_INVARG};
+ghost use Rattle.moo_world.specs.Changes.{info_set};
+ghost use Rattle.moo_world.specs.Keeps.{Keeps};
+ghost use Rattle.moo_value.specs.declared.value.ObjNo.{ObjNo};
+ghost use Rattle.moo_world.specs.Objects.{Name, folded, same_object};
+ghost use Rattle.moo_world.specs.Outcomes.{Done};
+ghost use Rattle.moo_world.specs.PropertyCalls.{may_rename, renamed_to, set_property_info};
+ghost use Rattle.moo_world.specs.Rights.{is_wizard};
+ghost use Rattle.moo_world.specs.Rows.{world_of, IsGood};
+ghost use Rattle.moo_props.specs.Names.{name_of, spelling_of};
+ghost use Rattle.moo_calls_shared.specs.Reasons.{error_of};
+ghost use Rattle.moo_calls_shared.specs.Outcomes.{world_in, ComesTo, Answers};
+ghost use Rattle.moo_calls_shared.specs.About.{about_info};
+ghost use Rattle.moo_calls_shared.specs.Told.{IsTold, IsTrueOf};
+
+use crate::definitions::{bits_taken, defines, may_define};
+use crate::slots::may_write;
+use moo_calls_shared::{Fault, Info, Reason, rights};
+use moo_props::{rename, set_info, slot_of};
+use moo_rows::{Bits, PropId, Rows};
+use moo_tree::valid;
+use moo_value::{MooStr, ObjNo, Value};
+use moo_world::ZERO;
+use std::alloc::{AllocError, Global};
+
+/// Whether the owner is the one that there is, or the programmer may give another one.
+fn may_give<R: Rows>(rows: &R, programmer: ObjNo, owner: ObjNo, present: ObjNo) -> bool
+    ensures { result ≡ (same_object owner present || is_wizard (world_in (R.held rows.now)) programmer) }
+{
+    owner == present || rights::is_wizard(rows, programmer)
+}
+
+/// Nothing if a property of x may have the new name, or there is none; else E_INVARG: if x itself doesn't define it, then if no new
+/// property of x may have the name.
+fn may_rename<R: Rows>(
+    rows: &R,
+    x: ObjNo,
+    name: &MooStr,
+    new: Option<&MooStr>,
+) -> Result<(), Reason>
+    requires { IsGood (R.held rows.now).maps }
+    ensures ok { OnOk result (may_rename (world_in (R.held rows.now)) x name.now (option_map (λ n. n.now) new.entry) ≡ true) }
+    ensures err { OnErr result (may_rename (world_in (R.held rows.now)) x name.now (option_map (λ n. n.now) new.entry) ≡ false) }
+    ensures code { IfErr result (λ reason. error_of reason ≡ E_INVARG) }
+    ensures told { IfErr result (λ reason. (programmer : ObjNo) (letters : Name) →
+        IsTrueOf (R.held rows.now).maps programmer (about_info x name.now letters (option_map (λ n. n.now) new.entry)) reason) }
+{
+    let Some(new) = new else {
+        return Ok(());
+    };
+    if !defines(rows, x, name) {
+        return Err(Reason::NotRenamed(x));
+    }
+    may_define(rows, x, new)
+}
+
+/// A copy of a name, if there is one. The only error is out of memory.
+fn copy_of(alloc: Global, name: Option<&MooStr>) -> Result<Option<MooStr>, AllocError>
+    ensures { IfOk result (λ copy. copy ≡ option_map (λ n. n.now) name.entry) }
+{
+    match name {
+        None => Ok(None),
+        Some(name) => Ok(Some(name.copy(alloc)?)),
+    }
+}
+
+/// Gives a property that x has an owner and rights on x, and another name, if there is one. The only error is out of
+/// memory, after which the rows may be half changed.
+fn change_info<R: Rows>(
+    rows: &mut R,
+    alloc: Global,
+    x: ObjNo,
+    id: PropId,
+    owner: ObjNo,
+    bits: Bits,
+    new: Option<MooStr>,
+) -> Result<(), AllocError>
+    requires good { IsGood (R.held rows.old).maps }
+    requires has { is_some (get (R.held rows.old).maps.slots (x, id)) ≡ true }
+    requires may { may_rename (world_of (R.held rows.old).maps) x (spelling_of (R.held rows.old).maps id) new ≡ true }
+    ensures world { OnOk result (let name = spelling_of (R.held rows.old).maps id in
+        world_of (R.held rows.new).maps ≡ renamed_to (info_set (world_of (R.held rows.old).maps) x name owner bits) x name new) }
+    ensures kept { OnOk result (Keeps (R.held rows.old) (R.held rows.new)) }
+{
+    set_info(alloc, rows, x, id, owner, bits)?;
+    if let Some(new) = new {
+        rename(rows, x, id, new)?;
+    }
+    Ok(())
+}
+
+/// The property of a name on x and the rights that the programmer may give it, or the first error of `set_property_info`.
+fn property_to_change<R: Rows>(
+    rows: &R,
+    programmer: ObjNo,
+    x: ObjNo,
+    name: &MooStr,
+    info: Info<'_>,
+    new_name: Option<&MooStr>,
+) -> Result<(PropId, Bits), Fault>
+    requires { IsGood (R.held rows.now).maps }
+    ensures ok { IfOk result (λ found. let w = world_in (R.held rows.now) in let new = option_map (λ n. n.now) new_name.entry in
+        set_property_info w programmer x name.now (info.entry.owner, info.entry.perms.now) new
+        ≡ Done zero (renamed_to (info_set w x name.now info.entry.owner found.1) x name.now new)) }
+    ensures err { IfErr result (λ fault. let new = option_map (λ n. n.now) new_name.entry in
+        Answers (set_property_info (world_in (R.held rows.now)) programmer x name.now (info.entry.owner, info.entry.perms.now) new)
+        (R.held rows.now) (Err fault)) }
+    ensures held { IfOk result (λ found. is_some (get (R.held rows.now).maps.slots (x, found.0)) ≡ true) }
+    ensures named { IfOk result (λ found. name_of (R.held rows.now).maps found.0 ≡ folded name.now) }
+    ensures may { OnOk result (may_rename (world_in (R.held rows.now)) x name.now (option_map (λ n. n.now) new_name.entry) ≡ true) }
+    ensures told { let new = option_map (λ n. n.now) new_name.entry in
+        IsTold (R.held rows.now).maps programmer (about_info x name.now info.entry.perms.now new) result }
+{
+    if !valid(rows, x) {
+        return Err(Fault::Moo(Reason::NoObject(x)));
+    }
+    let Some(found) = slot_of(rows, x, name) else {
+        return Err(Fault::Moo(Reason::NoProperty(x)));
+    };
+    let bits = bits_taken(rows, info)?;
+    if !may_write(rows, programmer, found) {
+        return Err(Fault::Moo(Reason::NoPropertyW(x)));
+    }
+    if !may_give(rows, programmer, info.owner, found.slot.owner) {
+        return Err(Fault::Moo(Reason::NotGiven(info.owner)));
+    }
+    may_rename(rows, x, name, new_name)?;
+    Ok((found.id, bits))
+}
+
+/// `set_property_info(object, name, {owner, perms})` and `(object, name, {owner, perms, new-name})`: sets the owner and the
+/// rights of the property on that object alone, and gives the property the new name everywhere. The answer is 0. E_INVARG
+/// if there is no such object; E_PROPNF if it has no property of the name; E_INVARG if the owner isn't an object, then if
+/// perms has a letter other than `r`, `w` and `c`; E_PERM if the programmer may not write the object's own slot of it, then
+/// if the owner is another one than before and the programmer isn't a wizard; E_INVARG if there is a new name and the object
+/// itself doesn't define the property, or no new property of the object may have that name. So it is if the new name
+/// differs from the old one in case alone.
+/// LambdaMOO Programmer's Manual, 'Operations on Properties'.
+pub fn set_property_info<R: Rows>(
+    rows: &mut R,
+    alloc: Global,
+    programmer: ObjNo,
+    x: ObjNo,
+    name: &MooStr,
+    info: Info<'_>,
+    new_name: Option<&MooStr>,
+) -> Result<Value, Fault>
+    requires { IsGood (R.held rows.old).maps }
+    ensures comes { ComesTo (set_property_info (world_in (R.held rows.old)) programmer x name.now (info.entry.owner, info.entry.perms.now)
+        (option_map (λ n. n.now) new_name.entry)) (R.held rows.old) (R.held rows.new) result }
+    ensures kept { OnOk result (Keeps (R.held rows.old) (R.held rows.new)) }
+    ensures told { let new = option_map (λ n. n.now) new_name.entry in
+        IsTold (R.held rows.old).maps programmer (about_info x name.now info.entry.perms.now new) result }
+{
+    let (id, bits) = property_to_change(rows, programmer, x, name, info, new_name)?;
+    let new = copy_of(alloc, new_name)?;
+    change_info(rows, alloc, x, id, info.owner, bits, new)?;
+    Ok(ZERO)
+}

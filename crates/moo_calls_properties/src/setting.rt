@@ -1,0 +1,44 @@
+//! Setting properties.
+
+ghost use Rattle.std.specs.Prelude.{◌≡◌, true, OnOk};
+ghost use Rattle.moo_world.specs.Arguments.{fits};
+ghost use Rattle.moo_world.specs.Keeps.{Keeps};
+ghost use Rattle.moo_world.specs.PropertyCalls.{set_property};
+ghost use Rattle.moo_world.specs.Rows.{IsGood};
+ghost use Rattle.moo_calls_shared.specs.Outcomes.{world_in, ComesTo};
+ghost use Rattle.moo_calls_shared.specs.About.{about_property};
+ghost use Rattle.moo_calls_shared.specs.Told.{IsTold};
+
+use crate::slots::writable_slot;
+use moo_calls_shared::Fault;
+use moo_props::set_value;
+use moo_rows::Rows;
+use moo_value::{MooStr, ObjNo, Value};
+use moo_world::ZERO;
+use std::alloc::Global;
+
+/// `set(object, name, value)` of a name that isn't built in: the object's own slot of the property has the value from now
+/// on, and the answer is 0. E_PROPNF if the object has no property of the name; E_PERM if the programmer may not write
+/// the object's own slot of it. Its owner and rights stay.
+/// LambdaMOO Programmer's Manual, 'Operations on Properties'.
+pub fn set_property<R: Rows>(
+    rows: &mut R,
+    alloc: Global,
+    programmer: ObjNo,
+    x: ObjNo,
+    name: &MooStr,
+    value: &Value,
+) -> Result<Value, Fault>
+    requires good { IsGood (R.held rows.old).maps }
+    requires fit { fits value.now ≡ true }
+    ensures comes { ComesTo (set_property (world_in (R.held rows.old)) programmer x name.now value.now) (R.held rows.old)
+        (R.held rows.new) result }
+    ensures kept { OnOk result (Keeps (R.held rows.old) (R.held rows.new)) }
+    ensures told { IsTold (R.held rows.old).maps programmer (about_property x name.now) result }
+{
+    let found = writable_slot(rows, programmer, x, name)?;
+    let id = found.id;
+    let value = value.copy(alloc)?;
+    set_value(rows, x, id, value)?;
+    Ok(ZERO)
+}

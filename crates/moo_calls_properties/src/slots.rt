@@ -1,0 +1,88 @@
+//! Rights on the slots that are found by a property's name.
+
+ghost use Rattle.std.specs.Prelude.{◌≡◌, true, is_some, Some, IfOk, IfErr};
+ghost use Rattle.std.specs.FinMap.{get};
+ghost use Rattle.moo_world.specs.Objects.{folded};
+ghost use Rattle.moo_world.specs.Outcomes.{Outcome, Failed};
+ghost use Rattle.moo_world.specs.Rights.{may_read_slot, may_write_slot};
+ghost use Rattle.moo_world.specs.Rows.{slot_seen, IsGood};
+ghost use Rattle.moo_world.specs.World.{World, Slot, slot_of};
+ghost use Rattle.moo_props.specs.Names.{name_of};
+ghost use Rattle.moo_calls_shared.specs.Reasons.{error_of};
+ghost use Rattle.moo_calls_shared.specs.Outcomes.{world_in};
+ghost use Rattle.moo_calls_properties.specs.Checks.{reading_slot, writing_slot};
+ghost use Rattle.moo_calls_shared.specs.About.{about_property};
+ghost use Rattle.moo_calls_shared.specs.Told.{IsTrueOf};
+
+use moo_calls_shared::{Reason, rights};
+use moo_props::{FoundSlot, slot_of};
+use moo_rows::Rows;
+use moo_value::{MooStr, ObjNo};
+
+/// Whether the programmer may read the property by this slot of it.
+fn may_read<R: Rows>(rows: &R, programmer: ObjNo, found: FoundSlot<'_>) -> bool
+    ensures { result ≡ may_read_slot (world_in (R.held rows.now)) programmer (slot_seen found.entry.definer found.entry.slot.now) }
+{
+    rights::may_read_slot(rows, programmer, found.slot)
+}
+
+/// Whether the programmer may write the property by this slot of it.
+pub(crate) fn may_write<R: Rows>(rows: &R, programmer: ObjNo, found: FoundSlot<'_>) -> bool
+    ensures { result ≡ may_write_slot (world_in (R.held rows.now)) programmer (slot_seen found.entry.definer found.entry.slot.now) }
+{
+    rights::may_write_slot(rows, programmer, found.slot)
+}
+
+/// The slot on x by which a call reads a property, or the error: E_PROPNF if x has no property of the name, then E_PERM
+/// if the programmer may not read x's own slot of it.
+pub(crate) fn readable_slot<'a, R: Rows>(
+    rows: &'a R,
+    programmer: ObjNo,
+    x: ObjNo,
+    name: &MooStr,
+) -> Result<FoundSlot<'a>, Reason>
+    requires { IsGood (R.held rows.now).maps }
+    ensures ok { IfOk result (λ found. (then : Slot → Outcome World) →
+        reading_slot (world_in (R.held rows.now)) programmer x name.now then ≡ then (slot_seen found.definer found.slot.now)) }
+    ensures err { IfErr result (λ reason. (then : Slot → Outcome World) →
+        reading_slot (world_in (R.held rows.now)) programmer x name.now then ≡ Failed (error_of reason)) }
+    ensures held { IfOk result (λ found. is_some (get (R.held rows.now).maps.slots (x, found.id)) ≡ true) }
+    ensures named { IfOk result (λ found. name_of (R.held rows.now).maps found.id ≡ folded name.now) }
+    ensures told { IfErr result (IsTrueOf (R.held rows.now).maps programmer (about_property x name.now)) }
+{
+    let Some(found) = slot_of(rows, x, name) else {
+        return Err(Reason::NoProperty(x));
+    };
+    if !may_read(rows, programmer, found) {
+        return Err(Reason::NoPropertyR(x));
+    }
+    Ok(found)
+}
+
+/// The slot on x by which a call writes a property, or the error: E_PROPNF if x has no property of the name, then E_PERM
+/// if the programmer may not write x's own slot of it.
+pub(crate) fn writable_slot<'a, R: Rows>(
+    rows: &'a R,
+    programmer: ObjNo,
+    x: ObjNo,
+    name: &MooStr,
+) -> Result<FoundSlot<'a>, Reason>
+    requires { IsGood (R.held rows.now).maps }
+    ensures slot { IfOk result (λ found.
+        slot_of (world_in (R.held rows.now)) x (folded name.now) ≡ Some (slot_seen found.definer found.slot.now)) }
+    ensures may { IfOk result (λ found.
+        may_write_slot (world_in (R.held rows.now)) programmer (slot_seen found.definer found.slot.now) ≡ true) }
+    ensures err { IfErr result (λ reason. (then : Slot → Outcome World) →
+        writing_slot (world_in (R.held rows.now)) programmer x name.now then ≡ Failed (error_of reason)) }
+    ensures held { IfOk result (λ found. is_some (get (R.held rows.now).maps.slots (x, found.id)) ≡ true) }
+    ensures named { IfOk result (λ found. name_of (R.held rows.now).maps found.id ≡ folded name.now) }
+    ensures told { IfErr result (IsTrueOf (R.held rows.now).maps programmer (about_property x name.now)) }
+{
+    let Some(found) = slot_of(rows, x, name) else {
+        return Err(Reason::NoProperty(x));
+    };
+    if !may_write(rows, programmer, found) {
+        return Err(Reason::NoPropertyW(x));
+    }
+    Ok(found)
+}

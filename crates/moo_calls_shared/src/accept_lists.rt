@@ -1,0 +1,53 @@
+//! Accept lists, as calls are given them.
+
+ghost use Rattle.std.specs.Prelude.{◌≡◌, IfOk, List, Option};
+ghost use Rattle.moo_value.specs.declared.value.ObjNo.{ObjNo};
+ghost use Rattle.moo_rows.specs.Maps.{Maps};
+ghost use Rattle.moo_world.specs.Arguments.{objects_among, object_and_accept};
+ghost use Rattle.moo_calls_shared.specs.Outcomes.{GivenOrNot};
+ghost use Rattle.moo_calls_shared.specs.About.{About, about_given};
+ghost use Rattle.moo_calls_shared.specs.Told.{IsTold};
+
+use crate::fault::Fault;
+use crate::reason::Reason;
+use moo_rows::ObjList;
+use moo_value::{Code, ObjNo, Value};
+use std::alloc::{AllocError, Global};
+
+/// The objects of a list that has only objects. The only error is out of memory.
+fn objects_among(alloc: Global, values: &[Value]) -> Result<Option<ObjList>, AllocError>
+    ensures { IfOk result (λ found. found ≡ objects_among values.now) }
+{
+    let mut found = Vec::new(alloc);
+    for value in values {
+        match value {
+            Value::Obj(x) => found.push(*x)?,
+            _ => return Ok(None),
+        }
+    }
+    Ok(Some(ObjList::from_vec(found)))
+}
+
+/// What `set_accept` takes: an object, and a list of objects, or 0 for no list. E_ARGS for another number of arguments, and
+/// then E_TYPE for anything else. OutOfMemory means out of memory and nothing else.
+pub fn object_and_accept(alloc: Global, args: &[Value]) -> Result<(ObjNo, Option<ObjList>), Fault>
+    ensures given { GivenOrNot (object_and_accept args.now) result }
+    ensures told { (maps : Maps) (programmer : ObjNo) (about : ObjNo × Option (List ObjNo) → About) →
+        IsTold maps programmer (about_given (object_and_accept args.now) about) result }
+{
+    match args {
+        [Value::Obj(x), Value::List(list)] => match objects_among(alloc, list.items())? {
+            Some(objects) => Ok((*x, Some(objects))),
+            None => Err(Fault::Moo(Reason::Given(Code::Type))),
+        },
+        [Value::Obj(x), Value::Int(n)] => {
+            if *n == 0 {
+                Ok((*x, None))
+            } else {
+                Err(Fault::Moo(Reason::Given(Code::Type)))
+            }
+        }
+        [_, _] => Err(Fault::Moo(Reason::Given(Code::Type))),
+        _ => Err(Fault::Moo(Reason::Given(Code::Arguments))),
+    }
+}

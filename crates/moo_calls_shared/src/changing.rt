@@ -1,0 +1,36 @@
+//! Writing one field of an object.
+
+ghost use Rattle.std.specs.Prelude.{◌≡◌, true, OnOk};
+ghost use Rattle.moo_world.specs.Fields.{field_changed, is_allowed_change};
+ghost use Rattle.moo_world.specs.Keeps.{Keeps};
+ghost use Rattle.moo_world.specs.Rows.{IsGood};
+ghost use Rattle.moo_world.specs.World.{is_object};
+ghost use Rattle.moo_calls_shared.specs.Outcomes.{world_in};
+
+use moo_rows::{Row, Rows};
+use moo_value::ObjNo;
+use moo_world::Change;
+use std::alloc::{AllocError, Global};
+
+/// Changes one field of an object, and nothing else. The only error is out of memory.
+///
+/// A new location has to be `#-1`, or an object that isn't x and isn't in it; an accept list has 1,000 entries at most. Names,
+/// and the numbers of owners and of what a list names, keep the limits of their types.
+pub fn change_row<R: Rows>(
+    rows: &mut R,
+    alloc: Global,
+    x: ObjNo,
+    change: Change,
+) -> Result<(), AllocError>
+    requires good { IsGood (R.held rows.old).maps }
+    requires there { is_object (world_in (R.held rows.old)) x ≡ true }
+    requires allowed { is_allowed_change (world_in (R.held rows.old)) x change ≡ true }
+    ensures world { OnOk result (world_in (R.held rows.new) ≡ field_changed (world_in (R.held rows.old)) x change) }
+    ensures kept { OnOk result (Keeps (R.held rows.old) (R.held rows.new)) }
+{
+    let row = match rows.object(x) {
+        Some(row) => row.copy(alloc)?,
+        None => unreachable!(),
+    };
+    rows.put_object(x, change.applied(row))
+}

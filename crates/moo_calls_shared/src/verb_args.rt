@@ -1,0 +1,193 @@
+//! What a call on verbs is given: descriptors, and owners, rights, names and arguments in lists. A list of another length, or
+//! with something of another type in it, is E_TYPE, and so is a descriptor that is neither a number nor a word.
+
+ghost use Rattle.std.specs.Prelude.{◌≡◌, IfOk, IfErr, Ok, Err, option_map};
+ghost use Rattle.std.specs.Result.{result_map_both};
+ghost use Rattle.moo_value.specs.declared.value.ObjNo.{ObjNo};
+ghost use Rattle.moo_rows.specs.Maps.{Maps};
+ghost use Rattle.moo_world.specs.Objects.{Name};
+ghost use Rattle.moo_world.specs.declared.descriptor.Desc.{Desc};
+ghost use Rattle.moo_world.specs.Arguments.{desc_of, verb_info_in, texts_in, object_and_desc, new_verb, new_verb_info, new_verb_args};
+ghost use Rattle.moo_calls_shared.specs.Outcomes.{GivenOrNot};
+ghost use Rattle.moo_calls_shared.specs.About.{About, about_given};
+ghost use Rattle.moo_calls_shared.specs.Told.{IsTold};
+
+use crate::fault::Fault;
+use crate::infos::Info;
+use crate::reason::Reason;
+use moo_value::{Code, MooStr, ObjNo, Value};
+use moo_world::Desc;
+use std::alloc::{AllocError, Global};
+
+/// The descriptor that a value is: a number or a word. None for any other value. The only error is out of memory.
+fn desc_of(alloc: Global, value: &Value) -> Result<Option<Desc>, AllocError>
+    ensures { IfOk result (λ desc. desc ≡ desc_of value.now) }
+{
+    match value {
+        Value::Int(number) => Ok(Some(Desc::Index(*number))),
+        Value::Str(word) => Ok(Some(Desc::Name(word.copy(alloc)?))),
+        _ => Ok(None),
+    }
+}
+
+/// What `verb_info`, `verb_args` and `delete_verb` take: an object and a descriptor.
+pub fn object_and_desc(alloc: Global, args: &[Value]) -> Result<(ObjNo, Desc), Fault>
+    ensures given { GivenOrNot (object_and_desc args.now) result }
+    ensures told { (maps : Maps) (programmer : ObjNo) (about : ObjNo × Desc → About) →
+        IsTold maps programmer (about_given (object_and_desc args.now) about) result }
+{
+    match args {
+        [Value::Obj(x), desc] => match desc_of(alloc, desc)? {
+            Some(desc) => Ok((*x, desc)),
+            None => Err(Fault::Moo(Reason::Given(Code::Type))),
+        },
+        [_, _] => Err(Fault::Moo(Reason::Given(Code::Type))),
+        _ => Err(Fault::Moo(Reason::Given(Code::Arguments))),
+    }
+}
+
+/// The owner, the letters of the rights and the names of a verb.
+#[derive(Clone, Copy)]
+pub struct VerbInfo<'a> {
+    pub info: Info<'a>,
+    pub names: &'a MooStr,
+}
+
+/// `{owner, perms, names}`.
+fn verb_info_in(values: &[Value]) -> Option<VerbInfo<'_>>
+    ensures { option_map (λ v. ((v.info.owner, v.info.perms.now), v.names.now)) result ≡ verb_info_in values.now }
+{
+    match values {
+        [Value::Obj(owner), Value::Str(perms), Value::Str(names)] => Some(VerbInfo {
+            info: Info {
+                owner: *owner,
+                perms,
+            },
+            names,
+        }),
+        _ => None,
+    }
+}
+
+/// The arguments of a verb, as texts.
+#[derive(Clone, Copy)]
+pub struct ArgTexts<'a> {
+    pub dobj: &'a MooStr,
+    pub prep: &'a MooStr,
+    pub iobj: &'a MooStr,
+}
+
+/// `{dobj, prep, iobj}`.
+fn texts_in(values: &[Value]) -> Option<ArgTexts<'_>>
+    ensures { option_map (λ t. (t.dobj.now, t.prep.now, t.iobj.now)) result ≡ texts_in values.now }
+{
+    match values {
+        [Value::Str(dobj), Value::Str(prep), Value::Str(iobj)] => {
+            Some(ArgTexts { dobj, prep, iobj })
+        }
+        _ => None,
+    }
+}
+
+/// What `add_verb` takes: an object, `{owner, perms, names}` and `{dobj, prep, iobj}`.
+#[derive(Clone, Copy)]
+pub struct NewVerb<'a> {
+    pub object: ObjNo,
+    pub verb: VerbInfo<'a>,
+    pub args: ArgTexts<'a>,
+}
+
+/// What `add_verb` takes.
+pub fn new_verb(args: &[Value]) -> Result<NewVerb<'_>, Code>
+    ensures ok { IfOk result (λ p. new_verb args.now
+        ≡ Ok (p.object, (((p.verb.info.owner, p.verb.info.perms.now), p.verb.names.now), (p.args.dobj.now, p.args.prep.now, p.args.iobj.now)))) }
+    ensures err { IfErr result (λ code. new_verb args.now ≡ Err code) }
+{
+    match args {
+        [Value::Obj(object), Value::List(info), Value::List(texts)] => {
+            let Some(verb) = verb_info_in(info.items()) else {
+                return Err(Code::Type);
+            };
+            match texts_in(texts.items()) {
+                Some(args) => Ok(NewVerb {
+                    object: *object,
+                    verb,
+                    args,
+                }),
+                None => Err(Code::Type),
+            }
+        }
+        [_, _, _] => Err(Code::Type),
+        _ => Err(Code::Arguments),
+    }
+}
+
+/// What `set_verb_info` takes: an object, a descriptor and `{owner, perms, names}`.
+#[derive(Drop)]
+pub struct NewVerbInfo<'a> {
+    pub object: ObjNo,
+    pub desc: Desc,
+    pub verb: VerbInfo<'a>,
+}
+
+/// What `set_verb_info` takes.
+pub fn new_verb_info(alloc: Global, args: &[Value]) -> Result<NewVerbInfo<'_>, Fault>
+    ensures given { GivenOrNot (new_verb_info args.now)
+        (result_map_both (λ p. (p.object, (p.desc, ((p.verb.info.owner, p.verb.info.perms.now), p.verb.names.now))))
+        (λ fault. fault) result) }
+    ensures told { (maps : Maps) (programmer : ObjNo) (about : ObjNo × (Desc × ((ObjNo × Name) × Name)) → About) →
+        IsTold maps programmer (about_given (new_verb_info args.now) about) result }
+{
+    match args {
+        [Value::Obj(object), desc, Value::List(info)] => {
+            // The list is looked at first: E_TYPE comes before the word takes memory.
+            let Some(verb) = verb_info_in(info.items()) else {
+                return Err(Fault::Moo(Reason::Given(Code::Type)));
+            };
+            match desc_of(alloc, desc)? {
+                Some(desc) => Ok(NewVerbInfo {
+                    object: *object,
+                    desc,
+                    verb,
+                }),
+                None => Err(Fault::Moo(Reason::Given(Code::Type))),
+            }
+        }
+        [_, _, _] => Err(Fault::Moo(Reason::Given(Code::Type))),
+        _ => Err(Fault::Moo(Reason::Given(Code::Arguments))),
+    }
+}
+
+/// What `set_verb_args` takes: an object, a descriptor and `{dobj, prep, iobj}`.
+#[derive(Drop)]
+pub struct NewVerbArgs<'a> {
+    pub object: ObjNo,
+    pub desc: Desc,
+    pub args: ArgTexts<'a>,
+}
+
+/// What `set_verb_args` takes.
+pub fn new_verb_args(alloc: Global, args: &[Value]) -> Result<NewVerbArgs<'_>, Fault>
+    ensures given { GivenOrNot (new_verb_args args.now)
+        (result_map_both (λ p. (p.object, (p.desc, (p.args.dobj.now, p.args.prep.now, p.args.iobj.now)))) (λ fault. fault) result) }
+    ensures told { (maps : Maps) (programmer : ObjNo) (about : ObjNo × (Desc × (Name × Name × Name)) → About) →
+        IsTold maps programmer (about_given (new_verb_args args.now) about) result }
+{
+    match args {
+        [Value::Obj(object), desc, Value::List(texts)] => {
+            let Some(args) = texts_in(texts.items()) else {
+                return Err(Fault::Moo(Reason::Given(Code::Type)));
+            };
+            match desc_of(alloc, desc)? {
+                Some(desc) => Ok(NewVerbArgs {
+                    object: *object,
+                    desc,
+                    args,
+                }),
+                None => Err(Fault::Moo(Reason::Given(Code::Type))),
+            }
+        }
+        [_, _, _] => Err(Fault::Moo(Reason::Given(Code::Type))),
+        _ => Err(Fault::Moo(Reason::Given(Code::Arguments))),
+    }
+}

@@ -1,0 +1,129 @@
+//! Adding verbs.
+
+ghost use Rattle.std.specs.Prelude.{◌≡◌, true, nat_lt, Some, Err, OnOk, IfOk, IfErr};
+ghost use Rattle.moo_rows.specs.Bits.{verb_bits_of};
+ghost use Rattle.moo_rows.specs.declared.row.VerbBits.{VerbBits};
+ghost use Rattle.moo_world.specs.Rows.{IsGood};
+ghost use Rattle.moo_world.specs.World.{World, is_object, has_word};
+ghost use Rattle.moo_world.specs.Answers.{zero};
+ghost use Rattle.moo_world.specs.Directories.{verb_added};
+ghost use Rattle.moo_world.specs.Outcomes.{Outcome, Done, Failed};
+ghost use Rattle.moo_world.specs.VerbReading.{args_of};
+ghost use Rattle.moo_world.specs.VerbCalls.{add_verb};
+ghost use Rattle.moo_world.specs.Keeps.{Keeps};
+ghost use Rattle.moo_calls_shared.specs.Outcomes.{world_in, ComesTo, Answers};
+ghost use Rattle.moo_calls_shared.specs.Reasons.{error_of};
+ghost use Rattle.moo_calls_verbs.specs.Checks.{IsTrueOfVerbInfo, taking_verb_info};
+ghost use Rattle.moo_calls_shared.specs.About.{about_new_verb};
+ghost use Rattle.moo_calls_shared.specs.Told.{IsTold};
+
+use moo_calls_shared::{ArgTexts, Fault, Reason, VerbInfo, rights};
+use moo_rows::{ArgSpec, Rows, VerbBits, VerbRow};
+use moo_tree::valid;
+use moo_value::{MooStr, ObjNo, Value};
+use moo_verbs::{check_names, read_args};
+use moo_world::ZERO;
+use std::alloc::Global;
+
+/// Whether the names have a word.
+fn has_word(names: &MooStr) -> bool
+    ensures { result ≡ has_word names.now }
+{
+    check_names(names).is_ok()
+}
+
+/// The rights that a verb takes with an owner and names, or E_INVARG: if the owner isn't an object, then if the rights have
+/// a letter other than `r`, `w`, `x` and `d`, then if the names are empty or all spaces.
+pub(crate) fn bits_taken<R: Rows>(rows: &R, verb: VerbInfo<'_>) -> Result<VerbBits, Reason>
+    ensures owner { OnOk result (is_object (world_in (R.held rows.now)) verb.entry.info.owner ≡ true) }
+    ensures bits { IfOk result (λ bits. verb_bits_of verb.entry.info.perms.now ≡ Some bits) }
+    ensures names { OnOk result (has_word verb.entry.names.now ≡ true) }
+    ensures err { IfErr result (λ reason. (then : VerbBits → Outcome World) →
+        taking_verb_info (world_in (R.held rows.now))
+        (verb.entry.info.owner, verb.entry.info.perms.now) verb.entry.names.now then ≡ Failed (error_of reason)) }
+    ensures told { IfErr result (IsTrueOfVerbInfo (R.held rows.now).maps verb.entry.info.perms.now verb.entry.names.now) }
+{
+    if !valid(rows, verb.info.owner) {
+        return Err(Reason::NoObject(verb.info.owner));
+    }
+    let Some(bits) = VerbBits::read(verb.info.perms) else {
+        return Err(Reason::VerbPerms);
+    };
+    if !has_word(verb.names) {
+        return Err(Reason::VerbNames);
+    }
+    Ok(bits)
+}
+
+/// The arguments that texts name, if they name some.
+pub(crate) fn args_of(args: ArgTexts<'_>) -> Option<ArgSpec>
+    ensures { result ≡ args_of args.entry.dobj.now args.entry.prep.now args.entry.iobj.now }
+{
+    read_args(args.dobj, args.prep, args.iobj).ok()
+}
+
+/// The rights and the arguments of the verb that the programmer may add to x, or the first error of `add_verb`.
+fn verb_taken<R: Rows>(
+    rows: &R,
+    programmer: ObjNo,
+    x: ObjNo,
+    verb: VerbInfo<'_>,
+    args: ArgTexts<'_>,
+) -> Result<(VerbBits, ArgSpec), Fault>
+    ensures ok { IfOk result (λ taken. add_verb (world_in (R.held rows.now)) programmer x (verb.entry.info.owner, verb.entry.info.perms.now) verb.entry.names.now (args.entry.dobj.now, args.entry.prep.now, args.entry.iobj.now)
+        ≡ Done zero (verb_added (world_in (R.held rows.now)) x (record { names = verb.entry.names.now; owner = verb.entry.info.owner; bits = taken.0; args = taken.1 }))) }
+    ensures err { IfErr result (λ fault. Answers (add_verb (world_in (R.held rows.now)) programmer x (verb.entry.info.owner, verb.entry.info.perms.now) verb.entry.names.now (args.entry.dobj.now, args.entry.prep.now, args.entry.iobj.now)) (R.held rows.now) (Err fault)) }
+    ensures there { OnOk result (is_object (world_in (R.held rows.now)) x ≡ true) }
+    ensures names { OnOk result (has_word verb.entry.names.now ≡ true) }
+    ensures left { OnOk result (nat_lt (world_in (R.held rows.now)).next_verb 4294967295 ≡ true) }
+    ensures told { IsTold (R.held rows.now).maps programmer (about_new_verb x verb.entry.info.perms.now verb.entry.names.now (args.entry.dobj.now, args.entry.prep.now, args.entry.iobj.now)) result }
+{
+    if !valid(rows, x) {
+        return Err(Fault::Moo(Reason::NoObject(x)));
+    }
+    let bits = bits_taken(rows, verb)?;
+    let Some(args) = args_of(args) else {
+        return Err(Fault::Moo(Reason::VerbArgs));
+    };
+    if !rights::may_write_object(rows, programmer, x) {
+        return Err(Fault::Moo(Reason::NoObjectW(x)));
+    }
+    if !rights::may_make_owner(rows, programmer, verb.info.owner) {
+        return Err(Fault::Moo(Reason::NoOwner(verb.info.owner)));
+    }
+    if rows.head().next_verb == u32::MAX {
+        return Err(Fault::Full);
+    }
+    Ok((bits, args))
+}
+
+/// `add_verb(x, {owner, perms, names}, {dobj, prep, iobj})`: puts a verb last in the directory of an object and answers 0.
+/// E_INVARG if x or the owner isn't an object, if the rights have a letter other than `r`, `w`, `x` and `d`, if the
+/// names are empty or all spaces, and if a verb may not have the arguments; then E_PERM if the programmer may
+/// not write x, and if the owner is another one and the programmer isn't a wizard. Full if every number has been given.
+/// LambdaMOO Programmer's Manual, 'Operations on Verbs'.
+pub fn add_verb<R: Rows>(
+    rows: &mut R,
+    alloc: Global,
+    programmer: ObjNo,
+    x: ObjNo,
+    verb: VerbInfo<'_>,
+    args: ArgTexts<'_>,
+) -> Result<Value, Fault>
+    requires { IsGood (R.held rows.old).maps }
+    ensures comes { ComesTo
+        (add_verb (world_in (R.held rows.old)) programmer x (verb.entry.info.owner, verb.entry.info.perms.now) verb.entry.names.now (args.entry.dobj.now, args.entry.prep.now, args.entry.iobj.now))
+        (R.held rows.old) (R.held rows.new) result }
+    ensures kept { OnOk result (Keeps (R.held rows.old) (R.held rows.new)) }
+    ensures told { IsTold (R.held rows.old).maps programmer (about_new_verb x verb.entry.info.perms.now verb.entry.names.now (args.entry.dobj.now, args.entry.prep.now, args.entry.iobj.now)) result }
+{
+    let (bits, args) = verb_taken(rows, programmer, x, verb, args)?;
+    let row = VerbRow {
+        names: verb.names.copy(alloc)?,
+        owner: verb.info.owner,
+        bits,
+        args,
+    };
+    moo_verbs::add(rows, x, row)?;
+    Ok(ZERO)
+}

@@ -1,0 +1,19 @@
+-- That no number, no service and no action is given, if what would tell it isn't there.
+use Rattle.std.{proofs.Common.{◌≡◌, ◌<◌, ◌^◌, inl, inr, ℕ, List, Some, None, true, sym, ap, ◌∙◌, arith}, proofs.lemmas.Bool.{true≢false}, specs.Prelude.{codes}, specs.Str.{bytes_eq}}
+use Rattle.clap.specs.Walk.{Row, Text, first_of}
+use Rattle.moo_cli.{specs.declared.task.Service.{Service}, specs.declared.task.Action.{Action}, specs.declared.task.Action.TheVariants.{Serve}, specs.Tasks.{HasNumber, HasCount, IsService, IsAction}}
+
+pub no_count : (rows : List Row) (text : Text) → first_of (codes "COUNT") rows ≡ Some text → ((n : ℕ) → ¬ (HasNumber rows (codes "COUNT") n × (n < 2 ^ 32))) → (n : ℕ) → ¬ (HasCount rows n)
+no_count rows text given none n (inl has) = none n (has.0, omega (arith, has.1))
+no_count rows text given none n (inr has) = let bad : Some text ≡ None = sym given ∙ has.0 in cc
+
+pub no_port : (rows : List Row) → ((n : ℕ) → ¬ (HasNumber rows (codes "PORT") n × (n < 2 ^ 32))) → (service : Service) → ¬ (IsService rows service)
+no_port rows none service has = none service.port (has.0, omega (arith, has.1.1))
+
+pub no_end : (rows : List Row) → ((n : ℕ) → ¬ (HasCount rows n)) → (service : Service) → ¬ (IsService rows service)
+no_end rows none service has = none service.count has.2
+
+-- the command `serve` is no other
+pub no_service : (rows : List Row) (name : Text) → bytes_eq name (codes "serve") ≡ true → ((service : Service) → ¬ (IsService rows service)) → (action : Action) → ¬ (IsAction (name, rows) action)
+no_service rows name is none (Serve service) has = none service has.1
+no_service rows name is none action has = absurd (true≢false (sym is ∙ ap (λ word. bytes_eq word (codes "serve")) has.0))

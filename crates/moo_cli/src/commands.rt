@@ -1,0 +1,172 @@
+//! The commands of the program.
+ghost use Rattle.std.specs.Prelude.{◌≡◌, false, codes, IfOk};
+ghost use Rattle.clap.specs.Walk.{rule_of};
+ghost use Rattle.clap.specs.Simple.{App, app_of, new_app, with_rule, with_subcommand};
+ghost use Rattle.clap.specs.declared.builder.command.Command.TheViews.{out-Command as fields_of};
+ghost use Rattle.moo_cli.specs.Commands.{text_rule, flag_rule, port_rule, count_rule, file_app, batches_app, running_app, load_app};
+ghost use Rattle.moo_cli.specs.Commands.{serve_app, program_app, moo_app};
+
+use crate::help;
+use clap::{Arg, ArgAction, Command, value_parser};
+use std::alloc::{AllocError, Global};
+
+fn text_arg<'a>(alloc: Global, id: &'a str, about: &'a str) -> Arg<'a>
+    ensures rule { rule_of result ≡ text_rule id.entry.now }
+    ensures local { result.global ≡ false }
+{
+    Arg::new(alloc, id).required(true).help(about)
+}
+
+/// A flag: it is there or it isn't.
+fn flag_arg<'a>(alloc: Global, name: &'a str, about: &'a str) -> Arg<'a>
+    ensures rule { rule_of result ≡ flag_rule name.entry.now }
+    ensures local { result.global ≡ false }
+{
+    Arg::new(alloc, name)
+        .long(name)
+        .action(ArgAction::SetTrue)
+        .help(about)
+}
+
+fn port_arg<'a>(alloc: Global) -> Arg<'a>
+    ensures rule { rule_of result ≡ port_rule }
+    ensures local { result.global ≡ false }
+{
+    Arg::new(alloc, "PORT")
+        .required(true)
+        .value_parser(value_parser!(u16).range(1..=65535))
+        .help(help::PORT)
+}
+
+fn count_arg<'a>(alloc: Global) -> Arg<'a>
+    ensures rule { rule_of result ≡ count_rule }
+    ensures local { result.global ≡ false }
+{
+    Arg::new(alloc, "COUNT")
+        .value_parser(value_parser!(u32).range(0..=1_000_000))
+        .help(help::COUNT)
+}
+
+/// A command with what help says of it and no arguments yet.
+fn described<'a>(alloc: Global, name: &'a str, about: &'a str, more: &'a str) -> Command<'a>
+    ensures shape { app_of result ≡ new_app name.entry.now }
+    ensures local { (fields_of result).has_globals ≡ false }
+{
+    Command::new(alloc, name).about(about).after_help(more)
+}
+
+fn file_command<'a>(
+    alloc: Global,
+    name: &'a str,
+    about: &'a str,
+    more: &'a str,
+) -> Result<Command<'a>, AllocError>
+    ensures shape { IfOk result (λ command. app_of command ≡ file_app name.entry.now) }
+    ensures local { IfOk result (λ command. (fields_of command).has_globals ≡ false) }
+{
+    described(alloc, name, about, more).arg(text_arg(alloc, "FILE", help::FILE))
+}
+
+/// A command of a file and one more text, an argument of this name.
+fn text_command<'a>(
+    alloc: Global,
+    name: &'a str,
+    about: &'a str,
+    more: &'a str,
+    id: &'a str,
+    text: &'a str,
+) -> Result<Command<'a>, AllocError>
+    ensures shape { IfOk result (λ command. app_of command ≡ with_rule (file_app name.entry.now) (text_rule id.entry.now)) }
+    ensures local { IfOk result (λ command. (fields_of command).has_globals ≡ false) }
+{
+    file_command(alloc, name, about, more)?.arg(text_arg(alloc, id, text))
+}
+
+/// A command of a file and batches.
+fn batches_command<'a>(
+    alloc: Global,
+    name: &'a str,
+    about: &'a str,
+    more: &'a str,
+) -> Result<Command<'a>, AllocError>
+    ensures shape { IfOk result (λ command. app_of command ≡ batches_app name.entry.now) }
+    ensures local { IfOk result (λ command. (fields_of command).has_globals ≡ false) }
+{
+    text_command(alloc, name, about, more, "BATCHES", help::BATCHES)
+}
+
+/// A command of a file and batches that may stop.
+fn running_command<'a>(
+    alloc: Global,
+    name: &'a str,
+    about: &'a str,
+    more: &'a str,
+) -> Result<Command<'a>, AllocError>
+    ensures shape { IfOk result (λ command. app_of command ≡ running_app name.entry.now) }
+    ensures local { IfOk result (λ command. (fields_of command).has_globals ≡ false) }
+{
+    batches_command(alloc, name, about, more)?.arg(flag_arg(alloc, "stop", help::STOP))
+}
+
+fn load_command<'a>(alloc: Global) -> Result<Command<'a>, AllocError>
+    ensures shape { IfOk result (λ command. app_of command ≡ load_app) }
+    ensures local { IfOk result (λ command. (fields_of command).has_globals ≡ false) }
+{
+    text_command(
+        alloc,
+        "load",
+        help::LOAD,
+        help::LOAD_MORE,
+        "DUMP",
+        help::DUMP_FILE,
+    )
+}
+
+fn serve_command<'a>(alloc: Global) -> Result<Command<'a>, AllocError>
+    ensures shape { IfOk result (λ command. app_of command ≡ serve_app) }
+    ensures local { IfOk result (λ command. (fields_of command).has_globals ≡ false) }
+{
+    file_command(alloc, "serve", help::SERVE, help::SERVE_MORE)?
+        .arg(port_arg(alloc))?
+        .arg(count_arg(alloc))
+}
+
+/// A program with one more command. Memory may have run out for either.
+fn with_command<'a>(
+    program: Result<Command<'a>, AllocError>,
+    command: Result<Command<'a>, AllocError>,
+) -> Result<Command<'a>, AllocError>
+    requires { IfOk command (λ command. (fields_of command).has_globals ≡ false) }
+    ensures { (old added : App) → IfOk program.entry (λ program. app_of program ≡ old)
+        → IfOk command.entry (λ command. app_of command ≡ added) → IfOk result (λ new. app_of new ≡ with_subcommand old added.top) }
+{
+    program?.subcommand(command?)
+}
+
+/// The program without its commands.
+fn program<'a>(alloc: Global) -> Command<'a>
+    ensures { app_of result ≡ program_app }
+{
+    described(alloc, "moo", help::MOO, help::MOO_MORE)
+        .version(help::VERSION)
+        .subcommand_required(true)
+}
+
+pub(crate) fn moo_command<'a>(alloc: Global) -> Result<Command<'a>, AllocError>
+    ensures { IfOk result (λ command. app_of command ≡ moo_app) }
+{
+    let command = file_command(alloc, "init", help::INIT, help::INIT_MORE);
+    let program = with_command(Ok(program(alloc)), command);
+    let command = running_command(alloc, "apply", help::APPLY, help::APPLY_MORE);
+    let program = with_command(program, command);
+    let command = running_command(alloc, "rehearse", help::REHEARSE, help::REHEARSE_MORE);
+    let program = with_command(program, command);
+    let command = batches_command(alloc, "ask", help::ASK, help::ASK_MORE);
+    let program = with_command(program, command);
+    let command = file_command(alloc, "dump", help::DUMP, help::DUMP_MORE);
+    let program = with_command(program, command);
+    let program = with_command(program, load_command(alloc));
+    let command = file_command(alloc, "check", help::CHECK, help::CHECK_MORE);
+    let program = with_command(program, command);
+    with_command(program, serve_command(alloc))
+}

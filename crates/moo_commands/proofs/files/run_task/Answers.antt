@@ -1,5 +1,0 @@
-use Rattle.moo_commands.proofs.Refusals.{runs_task}
-use Rattle.moo_commands.proofs.files.run_task.Goals as goal
-
-pub returns-else-eq-clause-runs : goal.returns-else-eq-clause-runs
-returns-else-eq-clause-runs g c = runs_task c.args.task _ c.run_from.result _ c.run_from.ensures.runs

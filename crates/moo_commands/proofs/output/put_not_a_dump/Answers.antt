@@ -1,7 +1,0 @@
-use Rattle.moo_commands.{proofs.Words.{not_a_dump_line}, proofs.Reporting.{writes_made}}
-use Rattle.moo_commands.proofs.output.put_not_a_dump.Goals as goal
-
-pub returns : goal.returns
-returns g c =
-    writes_made c.not_a_dump_text.result (λ text. text.bytes.items) (not_a_dump_line c.args.line) c.status.result 3 (g.W.Write.contents c.args.output.now) (g.W.Write.contents c.put_made_line.new.output) c.put_made_line.result
-    c.status.ensures c.not_a_dump_text.ensures c.put_made_line.ensures

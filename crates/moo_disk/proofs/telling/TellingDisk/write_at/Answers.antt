@@ -1,7 +1,0 @@
-use Rattle.moo_disk.{proofs.Frozen.{frozen_through}, specs.Telling.{inner_of}}
-use Rattle.moo_disk.proofs.telling.TellingDisk.write_at.Goals as goal
-
-pub returns-clause-frozen : goal.returns-clause-frozen
-returns-clause-frozen g c frozen =
-    let below = c.write_at.ensures.frozen frozen in
-    (below.0, frozen_through inner_of below.1)

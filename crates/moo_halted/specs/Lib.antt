@@ -1,2 +1,0 @@
-pub mod Halted
-pub mod Halting

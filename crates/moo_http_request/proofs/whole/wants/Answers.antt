@@ -1,0 +1,13 @@
+use Rattle.moo_http_request.{proofs.Words.{◌≡◌, body_size, plan_by, subst, sym, refl, ap, ◌+◌, rules}, specs.Whole.{IsWholeFrom}, proofs.HeadLemmas.{lacks-long, lacks_all}, proofs.WholeLemmas.{ends_after_body, ends_here}}
+use Rattle.moo_http_request.proofs.whole.wants.Goals as goal
+
+pub returns-in-Some-Whole-clause-shows : goal.returns-in-Some-Whole-clause-shows
+returns-in-Some-Whole-clause-shows c =
+    let found = c.in-Some-Whole.head in
+    let stands = rw c.in-Some-Whole.field-0-is at c.in-Some-Whole.ensures.found in
+    let plan = c.plan_head-plan.ensures.value stands.head stands.at in
+    subst (λ n. IsWholeFrom c.args.bytes.now (found.spans.len + n)) (sym c.size_of.ensures) (ends_after_body c.args.bytes.now found c.plan_head-plan.result stands plan)
+
+pub returns-in-None-clause-shows : goal.returns-in-None-clause-shows
+returns-in-None-clause-shows c =
+    ends_here c.args.bytes.now 8192 (search rules) (λ more. lacks-long c.args.bytes.now more (search rules) (c.in-None.ensures.partial refl))

@@ -1,0 +1,47 @@
+-- What was found of a head.
+use Rattle.std.specs.Prelude.{◌≡◌, ◌≢◌, ◌<◌, ◌+◌, ℕ, List, [], ◌∷◌, ◌++◌, length, drop, Option, ⊤}
+use Rattle.std.specs.Io.KnownBytes.{IsAtEnd}
+use Rattle.httparse.specs.Grammar.{RequestHead}
+use Rattle.httparse.specs.Spans.{IsRequestAt, IsRequestWithin}
+use Rattle.moo_http_request.specs.Head.{BeginsWithHead, HasNoHead}
+use Rattle.moo_http_request.specs.Settled.{Settles}
+use Rattle.moo_http_request.specs.declared.head.HeadSpans.{HeadSpans}
+use Rattle.moo_http_request.specs.declared.head.HeadRead.{HeadRead}
+use Rattle.moo_http_request.specs.declared.head.HeadRead.TheVariants.{Whole, Refused, Empty}
+use Rattle.moo_http_request.specs.declared.lines.FoundLine.{FoundLine}
+use Rattle.moo_http_request.specs.declared.lines.FoundLine.TheVariants as line
+
+-- the values of the lines of a name
+abbrev pub IsFoundAmong : List (List ℕ) → FoundLine → Type 0
+IsFoundAmong values line.Nothing = values ≡ []
+IsFoundAmong values (line.One value) = values ≡ value.now ∷ []
+IsFoundAmong values line.Several = 1 < length values
+
+-- a head is at the front of the bytes, whatever follows, and its parts are where they were found
+pub record HeadStands (bytes : List ℕ) (found : HeadSpans) : Type 0 where
+  pub head : RequestHead
+  pub begins : (more : List ℕ) → BeginsWithHead (bytes ++ more) head (drop found.spans.len bytes ++ more)
+  pub at : IsRequestAt bytes found.headers found.spans head
+  pub within : IsRequestWithin bytes found.headers found.spans
+
+-- an input that isn't empty begins with no head
+abbrev pub Lacks : List ℕ → Type 0
+Lacks input = (input ≢ []) × HasNoHead input
+
+-- what the bytes that were given say of the head
+abbrev pub FindsHead : Option (List ℕ) → List ℕ → HeadRead → Type 0
+FindsHead left given (Whole found) = HeadStands given found
+FindsHead left given Refused = Settles left given Lacks
+FindsHead left given Empty = (given ≡ []) × IsAtEnd left
+
+-- what bytes say of the head by themselves, whatever follows
+abbrev pub ShowsHead : List ℕ → HeadRead → Type 0
+ShowsHead bytes (Whole found) = HeadStands bytes found
+ShowsHead bytes Refused = (more : List ℕ) → Lacks (bytes ++ more)
+ShowsHead bytes Empty = ⊥
+
+-- a head ends in the last piece, which has at most 1,024 bytes
+abbrev pub IsClose : List ℕ → HeadRead → Type 0
+IsClose bytes (Whole found) = length bytes < found.spans.len + 1024
+IsClose bytes Refused = ⊤
+IsClose bytes Empty = ⊤

@@ -1,0 +1,102 @@
+-- What the head of a request alone decides.
+use Rattle.std.specs.Prelude.{◌==◌, ◌&&◌, true, false, not, ℕ, List, length, map, Option, Some, None, option_and_then, codes, bytes_eq, nat_lt, nat_le, if◌then◌else◌, Bool}
+use Rattle.std.specs.List.{before_first, after_first, list_all}
+use Rattle.httparse.specs.Grammar.{RequestHead}
+use Rattle.httparse.specs.Spans.{name_and_value}
+use Rattle.moo_http_request.specs.declared.asked.Asked.TheVariants.{Refused, Question as Asks}
+use Rattle.moo_http_request.specs.declared.asked.Method.{Method}
+use Rattle.moo_http_request.specs.declared.asked.Method.TheVariants.{Get, Post}
+use Rattle.moo_http_request.specs.declared.asked.Form.{Form}
+use Rattle.moo_http_request.specs.declared.asked.Form.TheVariants as form
+use Rattle.moo_http_request.specs.declared.asked.Refusal.TheVariants.{BadRequest, Forbidden, NotFound, NotAllowed, TooLarge}
+use Rattle.moo_http_request.specs.declared.routes.Endpoint.{Endpoint}
+use Rattle.moo_http_request.specs.declared.routes.Endpoint.TheVariants.{Batch, Each, About}
+use Rattle.moo_http_request.specs.declared.question.Question.{Question}
+use Rattle.moo_http_request.specs.declared.plan.Plan.{Plan}
+use Rattle.moo_http_request.specs.declared.plan.Plan.TheVariants.{Decided, Body}
+use Rattle.moo_http_request.specs.declared.question.Topic.TheVariants.{Seq, Object, Objects, Dump}
+use Rattle.moo_http_request.specs.Hosts.{is_own_line}
+use Rattle.moo_http_request.specs.Lengths.{Line, is_from_page, length_text}
+use Rattle.moo_http_request.specs.Numbers.{bounded_of}
+use Rattle.moo_http_request.specs.Questions.{question_of}
+use Rattle.moo_http_request.specs.Routes.{endpoint_of}
+
+-- the path is the target before its first question mark
+abbrev pub path_of : List ℕ → List ℕ
+path_of target = before_first (λ b. b == 63) target
+
+-- what follows the first question mark of the target is why
+abbrev pub is_why : List ℕ → Bool
+is_why target = bytes_eq (after_first (λ b. b == 63) target) (codes "why")
+
+-- the method of a route
+abbrev pub method_of : Endpoint → Method
+method_of (Batch mode) = Post
+method_of Each = Post
+method_of (About topic) = Get
+
+abbrev pub method_text : Method → List ℕ
+method_text Get = codes "GET"
+method_text Post = codes "POST"
+
+-- the length of a body: the one stated length, of 1 to 10 digits
+abbrev pub length_of : List Line → Option ℕ
+length_of lines = option_and_then (λ text. if nat_le (length text) 10 then bounded_of 9999999999 text else None) (length_text lines)
+
+-- a body says it, if its length is stated and at most 1,048,576
+abbrev pub body_plan : Form → Option ℕ → Plan
+body_plan form None = Decided (Refused BadRequest)
+body_plan form (Some n) = if nat_lt 1048576 n then Decided (Refused TooLarge) else Body form n
+
+-- the question that the path asks; not found if it asks none
+abbrev pub question_plan : Option Question → Plan
+question_plan None = Decided (Refused NotFound)
+question_plan (Some question) = Decided (Asks question)
+
+abbrev pub endpoint_plan : Endpoint → List ℕ → List Line → Plan
+endpoint_plan (Batch mode) path lines = body_plan (form.Batch mode) (length_of lines)
+endpoint_plan Each path lines = body_plan form.Each (length_of lines)
+endpoint_plan (About topic) path lines = question_plan (question_of topic path)
+
+-- the method of a route, then what it needs
+abbrev pub allowed_plan : Endpoint → List ℕ → List ℕ → List Line → Plan
+allowed_plan endpoint method path lines =
+    if bytes_eq method (method_text (method_of endpoint)) then endpoint_plan endpoint path lines else Decided (Refused (NotAllowed (method_of endpoint)))
+
+-- the routes that aren't for a request to another machine
+abbrev pub is_guarded : Endpoint → Bool
+is_guarded (Batch mode) = false
+is_guarded Each = true
+is_guarded (About Seq) = false
+is_guarded (About Object) = false
+is_guarded (About Objects) = true
+is_guarded (About Dump) = true
+
+-- first the route, then whether it is for this machine, then its method
+abbrev pub routed_plan : Option Endpoint → List ℕ → List ℕ → List Line → Plan
+routed_plan None method path lines = Decided (Refused NotFound)
+routed_plan (Some endpoint) method path lines =
+    if is_guarded endpoint && not (list_all is_own_line lines) then Decided (Refused Forbidden) else allowed_plan endpoint method path lines
+
+-- a page of a browser is refused, whatever it asks
+abbrev pub known_plan : List ℕ → List ℕ → List Line → Plan
+known_plan method path lines = if is_from_page lines then Decided (Refused Forbidden) else routed_plan (endpoint_of path) method path lines
+
+abbrev pub plan_of : List ℕ → List ℕ → List Line → Plan
+plan_of method target lines = known_plan method (path_of target) lines
+
+-- what a head decides
+abbrev pub plan_by : RequestHead → Plan
+plan_by head = plan_of head.method head.target (map name_and_value head.fields)
+
+-- the bytes that are read after the head
+abbrev pub body_size : Plan → ℕ
+body_size (Decided asked) = 0
+body_size (Body form n) = n
+
+-- whether it is to be said why, if the request is refused
+abbrev pub asks_why : RequestHead → Bool
+asks_why head = is_why head.target
+
+abbrev pub is_head : RequestHead → Bool
+is_head head = bytes_eq head.method (codes "HEAD")

@@ -1,0 +1,20 @@
+-- What the code's own types show.
+use Rattle.std.specs.Prelude.{Option, Some, None, map}
+use Rattle.moo_http_request.specs.Calls as calls
+use Rattle.moo_http_request.specs.Shape as parts
+use Rattle.moo_http_request.specs.declared.body.CallsRead.{CallsRead}
+use Rattle.moo_http_request.specs.declared.body.CallsRead.TheVariants.{Whole, Bad}
+use Rattle.moo_http_request.specs.declared.shape.Shape.{Shape}
+use Rattle.moo_http_request.specs.declared.shape.ShapeRead.{ShapeRead}
+use Rattle.moo_http_request.specs.declared.shape.ShapeRead.TheVariants as shape_read
+
+abbrev pub shape_shown : Shape → parts.Shape
+shape_shown shape = record { programmer = shape.programmer; calls = map (λ text. text.now) shape.calls.items; at = shape.at }
+
+abbrev pub shape_read_shown : ShapeRead → Option parts.Shape
+shape_read_shown (shape_read.Whole shape) = Some (shape_shown shape)
+shape_read_shown (shape_read.Bad fault) = None
+
+abbrev pub calls_shown : CallsRead → calls.Calls
+calls_shown (Whole read) = calls.Whole read.items
+calls_shown (Bad n) = calls.Bad n

@@ -1,0 +1,207 @@
+//! What a body asks.
+
+ghost use Rattle.std.specs.Prelude.{◌≡◌, ◌≤◌, ◌+◌, ◌-◌, Some, length, drop, map, max, IfOk, OnOk, IfErr, OnErr};
+ghost use Rattle.moo_http_request.specs.Body.{shape_asked, form_asked, BodyAsks};
+ghost use Rattle.serde_json.specs.View.{view};
+ghost use Rattle.moo_http_request.specs.Calls.{calls_from};
+ghost use Rattle.moo_http_request.specs.Given.{Grows, HasFailed, TakesAtMost};
+ghost use Rattle.moo_http_request.specs.Plan.{body_size};
+ghost use Rattle.moo_http_request.specs.Planned.{IsBounded};
+ghost use Rattle.moo_http_request.specs.Request.{PlanAsks};
+ghost use Rattle.moo_http_request.specs.Settled.{Settles};
+ghost use Rattle.moo_http_request.specs.Shape.{shape_of};
+ghost use Rattle.moo_http_request.specs.Shown.{shape_shown, calls_shown};
+
+use crate::asked::{Asked, Form, Mode, Refusal};
+use crate::each::{Batches, Each, bad_texts, read_each};
+use crate::fault::ReadFault;
+use crate::incoming::Incoming;
+use crate::input::read_until;
+use crate::plan::Plan;
+use crate::shape::{Shape, ShapeRead, read_json, shape_in};
+use crate::wrong::{BodyFault, ShapeFault};
+use moo_text::call_in;
+use moo_world::{Batch, Call, Calls};
+use serde_json::Value;
+use std::alloc::{AllocError, Global};
+
+/// The calls of texts.
+#[derive(Drop)]
+pub enum CallsRead {
+    /// Each text is a call.
+    Whole(Vec<Call>),
+    /// The number, from 1, of the first text that isn't one.
+    Bad(u32),
+}
+
+/// The calls of texts.
+fn read_calls(alloc: Global, texts: &[&str]) -> Result<CallsRead, AllocError>
+    requires { length texts.now ≤ 1000 }
+    ensures { IfOk result (λ read. calls_shown read ≡ calls_from 1 (map (λ text. text.now) texts.now)) }
+{
+    let mut calls = Vec::new(alloc);
+    let mut number = 0;
+    for text in texts {
+        number += 1;
+        match call_in(alloc, text.as_bytes())? {
+            Some(call) => calls.push(call)?,
+            None => return Ok(CallsRead::Bad(number)),
+        }
+    }
+    Ok(CallsRead::Whole(calls))
+}
+
+/// What is wrong with the text of a call, by its number from 1. Unknown if memory for the text is refused.
+fn bad_call(alloc: Global, texts: &[&str], number: u32) -> Option<BodyFault> {
+    let text = texts.get((number as usize).saturating_sub(1))?;
+    let text = String::from_str(alloc, text).ok()?;
+    Some(BodyFault::Call(text))
+}
+
+/// The batch that a shape asks, and what is wrong with it.
+fn ask_batch(
+    alloc: Global,
+    mode: Mode,
+    shape: &Shape<'_>,
+    wrong: &mut Option<BodyFault>,
+) -> Result<Asked, AllocError>
+    requires { length shape.now.calls.items ≤ 1000 }
+    ensures { IfOk result (λ asked. asked ≡ form_asked (Form.Batch mode) (shape_shown shape.now)) }
+{
+    match read_calls(alloc, &shape.calls)? {
+        CallsRead::Whole(calls) => Ok(Asked::Calls(
+            mode,
+            Batch {
+                programmer: shape.programmer,
+                at: shape.at,
+                calls: Calls::from_vec(calls),
+            },
+        )),
+        CallsRead::Bad(number) => {
+            *wrong = bad_call(alloc, &shape.calls, number);
+            Ok(Asked::Refused(Refusal::Malformed(number)))
+        }
+    }
+}
+
+/// The calls of a shape, each to be asked alone, and those of its texts that aren't calls. These are unknown if memory for them is refused.
+fn ask_each(
+    alloc: Global,
+    shape: &Shape<'_>,
+    wrong: &mut Option<BodyFault>,
+) -> Result<Asked, AllocError>
+    ensures { IfOk result (λ asked. asked ≡ form_asked Form.Each (shape_shown shape.now)) }
+{
+    let batches = read_each(alloc, shape.programmer, &shape.calls)?;
+    *wrong = match bad_texts(alloc, &shape.calls, &batches) {
+        Ok(texts) => Some(BodyFault::Texts(texts)),
+        Err(_) => None,
+    };
+    Ok(Asked::Each(Each {
+        at: shape.at,
+        batches: Batches::from_vec(batches),
+    }))
+}
+
+/// What a shape asks, and what is wrong with it.
+fn ask_shape(
+    alloc: Global,
+    form: Form,
+    shape: &Shape<'_>,
+    wrong: &mut Option<BodyFault>,
+) -> Result<Asked, AllocError>
+    requires { length shape.now.calls.items ≤ 1000 }
+    ensures { IfOk result (λ asked. asked ≡ shape_asked form (Some (shape_shown shape.now))) }
+{
+    match form {
+        Form::Batch(mode) => ask_batch(alloc, mode, shape, wrong),
+        Form::Each => ask_each(alloc, shape, wrong),
+    }
+}
+
+/// What a JSON asks, and what is wrong with it.
+fn ask_json(
+    alloc: Global,
+    form: Form,
+    value: &Value,
+    wrong: &mut Option<BodyFault>,
+) -> Result<Asked, AllocError>
+    ensures { IfOk result (λ asked. asked ≡ shape_asked form (shape_of (view value.now))) }
+{
+    match shape_in(alloc, value)? {
+        ShapeRead::Whole(shape) => ask_shape(alloc, form, &shape, wrong),
+        ShapeRead::Bad(fault) => {
+            *wrong = Some(BodyFault::Shape(fault));
+            Ok(Asked::Refused(Refusal::BadRequest))
+        }
+    }
+}
+
+/// What a body asks, and what is wrong with it.
+fn ask_body(
+    alloc: Global,
+    form: Form,
+    body: &[u8],
+    wrong: &mut Option<BodyFault>,
+) -> Result<Asked, AllocError>
+    ensures { IfOk result (BodyAsks form body.now) }
+{
+    match read_json(alloc, body)? {
+        Some(value) => ask_json(alloc, form, &value, wrong),
+        None => {
+            *wrong = Some(BodyFault::Shape(ShapeFault::NotJson));
+            Ok(Asked::Refused(Refusal::BadRequest))
+        }
+    }
+}
+
+/// What a body of this size asks, which begins at `start` of the bytes and goes on in the reader, and what is wrong with it.
+fn read_body<R: Incoming>(
+    alloc: Global,
+    reader: &mut R,
+    bytes: &mut Vec<u8>,
+    start: usize,
+    form: Form,
+    size: u64,
+    wrong: &mut Option<BodyFault>,
+) -> Result<Asked, ReadFault>
+    requires inside { start ≤ length bytes.old.items }
+    requires bound { start + size ≤ 1056768 }
+    ensures grows { OnOk result (Grows (R.remaining reader.old) (R.remaining reader.new) bytes.old.items bytes.new.items) }
+    ensures asks { IfOk result (λ asked. Settles (R.remaining reader.new) bytes.new.items
+        (λ input. PlanAsks (Plan.Body form size) (drop start input) asked)) }
+    ensures few { OnOk result (length bytes.new.items ≤ max (length bytes.old.items) (start + size)) }
+    ensures breaks { OnErr result (TakesAtMost ((start + size) - length bytes.old.items) (R.remaining reader.old) (R.remaining reader.new)) }
+    ensures cause { IfErr result (λ fault. fault ≡ ReadFault.Read → HasFailed R.fails reader.new) }
+{
+    let end = start + size as usize;
+    if !read_until(reader, bytes, end)? {
+        return Ok(Asked::Refused(Refusal::BadRequest));
+    }
+    let asked = ask_body(alloc, form, &bytes[start..end], wrong)?;
+    Ok(asked)
+}
+
+/// What comes of a plan whose head ends at `start` of the bytes, and what is wrong with the body. Nothing is read if it is decided.
+pub(crate) fn follow_plan<R: Incoming>(
+    alloc: Global,
+    reader: &mut R,
+    bytes: &mut Vec<u8>,
+    start: usize,
+    plan: Plan,
+    wrong: &mut Option<BodyFault>,
+) -> Result<Asked, ReadFault>
+    requires inside { start ≤ length bytes.old.items }
+    requires short { start ≤ 8192 }
+    requires bound { IsBounded plan }
+    ensures grows { OnOk result (Grows (R.remaining reader.old) (R.remaining reader.new) bytes.old.items bytes.new.items) }
+    ensures asks { IfOk result (λ asked. Settles (R.remaining reader.new) bytes.new.items (λ input. PlanAsks plan (drop start input) asked)) }
+    ensures few { OnOk result (length bytes.new.items ≤ max (length bytes.old.items) (start + body_size plan)) }
+    ensures breaks { OnErr result (TakesAtMost ((start + body_size plan) - length bytes.old.items) (R.remaining reader.old) (R.remaining reader.new)) }
+    ensures cause { IfErr result (λ fault. fault ≡ ReadFault.Read → HasFailed R.fails reader.new) }
+{
+    match plan {
+        Plan::Decided(asked) => Ok(asked),
+        Plan::Body(form, size) => read_body(alloc, reader, bytes, start, form, size, wrong),
+    }
+}

@@ -1,0 +1,99 @@
+//! Calls that are asked each alone.
+
+ghost use Rattle.std.specs.Prelude.{◌≡◌, map, IfOk};
+ghost use Rattle.moo_http_request.specs.Alone.{alone};
+
+use moo_text::call_in;
+use moo_value::ObjNo;
+use moo_world::{Batch, Calls};
+use std::alloc::{AllocError, Global};
+use std::marker::Model;
+
+/// A batch of the one call that a text is, for each text; None if it isn't a call.
+#[derive(Drop)]
+pub struct Batches {
+    items: Vec<Option<Batch>>,
+}
+
+impl Model for Batches {
+    ghost use Rattle.std.specs.Prelude.{List, Option};
+    ghost use Rattle.moo_world.specs.declared.call.Batch.{Batch};
+    ghost use Rattle.moo_world.specs.contracts.call.Batch as batch;
+    ghost use Rattle.std.specs.Coded.{coded_list, coded_option};
+
+    ghost Value = { List (Option Batch) };
+
+    ghost coded = { coded_list (coded_option batch.the_row.coded) };
+
+    ghost view = { λ a. a.items.items };
+}
+
+impl Batches {
+    /// These batches.
+    pub(crate) fn from_vec(items: Vec<Option<Batch>>) -> Batches
+        ensures { result ≡ items.items }
+    {
+        Batches { items }
+    }
+
+    /// The batches, in the order of the texts.
+    pub fn items(&self) -> &[Option<Batch>]
+        ensures { result.now ≡ self.now }
+    {
+        self.items.as_slice()
+    }
+}
+
+/// Calls that are asked each alone, and the number that they are meant for, if they name one.
+#[derive(Drop)]
+pub struct Each {
+    pub at: Option<u64>,
+    pub batches: Batches,
+}
+
+/// A batch of the one call that a text is. None if it isn't a call.
+fn read_alone(alloc: Global, programmer: ObjNo, text: &str) -> Result<Option<Batch>, AllocError>
+    ensures { IfOk result (λ batch. batch ≡ alone programmer text.now) }
+{
+    let Some(call) = call_in(alloc, text.as_bytes())? else {
+        return Ok(None);
+    };
+    let mut calls = Vec::new(alloc);
+    calls.push(call)?;
+    Ok(Some(Batch {
+        programmer,
+        at: None,
+        calls: Calls::from_vec(calls),
+    }))
+}
+
+/// A batch of each text.
+pub(crate) fn read_each(
+    alloc: Global,
+    programmer: ObjNo,
+    texts: &[&str],
+) -> Result<Vec<Option<Batch>>, AllocError>
+    ensures { IfOk result (λ batches. batches.items ≡ map (λ text. alone programmer text.now) texts.now) }
+{
+    let mut batches = Vec::new(alloc);
+    for text in texts {
+        batches.push(read_alone(alloc, programmer, text)?)?;
+    }
+    Ok(batches)
+}
+
+/// Each text that isn't a call. AllocError: memory for the texts is refused.
+pub(crate) fn bad_texts(
+    alloc: Global,
+    texts: &[&str],
+    batches: &[Option<Batch>],
+) -> Result<Vec<Option<String>>, AllocError> {
+    let mut bad = Vec::new(alloc);
+    for (i, text) in texts.iter().enumerate() {
+        match batches.get(i) {
+            Some(None) => bad.push(Some(String::from_str(alloc, text)?))?,
+            _ => bad.push(None)?,
+        }
+    }
+    Ok(bad)
+}

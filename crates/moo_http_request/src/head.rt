@@ -1,0 +1,79 @@
+//! The head of a request, read in pieces.
+
+ghost use Rattle.std.specs.Prelude.{◌≡◌, ◌≤◌, ◌<◌, [], length, None, IfOk, OnOk, IfErr, OnErr, IfSome};
+ghost use Rattle.std.specs.Io.KnownBytes.{Consumes};
+ghost use Rattle.httparse.specs.Grammar.{HasNoRequest};
+ghost use Rattle.moo_http_request.specs.Found.{FindsHead, ShowsHead, IsClose};
+ghost use Rattle.moo_http_request.specs.Given.{HasFailed, TakesAtMost};
+
+use crate::fault::ReadFault;
+use crate::incoming::Incoming;
+use crate::input::read_more;
+use httparse::Status;
+use httparse::spans::{EMPTY_HEADER_SPAN, HeaderSpan, RequestSpans, parse_request};
+
+/// How many bytes a head has at the most.
+pub const MAX_HEAD: usize = 8192;
+
+const MAX_LINES: usize = 32;
+
+/// The places of the parts of a head in the bytes.
+#[derive(Clone, Copy, Drop)]
+pub struct HeadSpans {
+    pub spans: RequestSpans,
+    pub headers: [HeaderSpan; MAX_LINES],
+}
+
+/// What the input begins with.
+#[derive(Drop)]
+pub enum HeadRead {
+    /// A head within the limits.
+    Whole(HeadSpans),
+    /// No head within the limits.
+    Refused,
+    /// Nothing: the input is empty.
+    Empty,
+}
+
+/// What the bytes say of the head, whatever follows them. `None` if it may go on after them.
+pub(crate) fn parse_head(bytes: &[u8]) -> Option<HeadRead>
+    requires { (0 < length bytes.now) × (length bytes.now ≤ 8192) }
+    ensures found { IfSome result (ShowsHead bytes.now) }
+    ensures partial { result ≡ None → HasNoRequest bytes.now }
+{
+    let mut headers = [EMPTY_HEADER_SPAN; MAX_LINES];
+    match parse_request(bytes, &mut headers) {
+        Ok(Status::Complete(spans)) => Some(HeadRead::Whole(HeadSpans { spans, headers })),
+        Ok(Status::Partial) => None,
+        Err(_) => Some(HeadRead::Refused),
+    }
+}
+
+/// Reads the head of a request, and no further once it is whole.
+pub(crate) fn read_head<R: Incoming>(
+    reader: &mut R,
+    bytes: &mut Vec<u8>,
+) -> Result<HeadRead, ReadFault>
+    requires { bytes.old.items ≡ [] }
+    ensures takes { OnOk result (Consumes (R.remaining reader.old) (R.remaining reader.new) bytes.new.items) }
+    ensures head { IfOk result (FindsHead (R.remaining reader.new) bytes.new.items) }
+    ensures few { OnOk result (length bytes.new.items ≤ 8192) }
+    ensures close { IfOk result (IsClose bytes.new.items) }
+    ensures breaks { OnErr result (TakesAtMost 8192 (R.remaining reader.old) (R.remaining reader.new)) }
+    ensures cause { IfErr result (λ fault. fault ≡ ReadFault.Read → HasFailed R.fails reader.new) }
+{
+    if !read_more(reader, bytes, MAX_HEAD)? {
+        return Ok(HeadRead::Empty);
+    }
+    'pieces: loop {
+        if let Some(read) = parse_head(bytes) {
+            return Ok(read);
+        }
+        if bytes.len() == MAX_HEAD {
+            return Ok(HeadRead::Refused);
+        }
+        if !read_more(reader, bytes, MAX_HEAD)? {
+            return Ok(HeadRead::Refused);
+        }
+    }
+}

@@ -1,0 +1,30 @@
+//! What holds of what is received.
+
+ghost use Rattle.std.specs.Prelude.{◌≡◌, ℕ, List, [], Some, None, codes, map};
+ghost use Rattle.moo_http_request.specs.Request.{Receives};
+ghost use Rattle.moo_http_request.specs.Routes.{endpoint_of};
+ghost use Rattle.moo_http_request.specs.declared.request.Received.{Received as AReceived};
+ghost use Rattle.moo_http_request.specs.declared.routes.Endpoint.TheVariants.{Batch, Each, About};
+ghost use Rattle.moo_http_request.specs.declared.asked.Mode.TheVariants.{Run, Ask};
+ghost use Rattle.moo_http_request.specs.declared.question.Topic.TheVariants.{Seq, Object};
+ghost use Rattle.moo_http_request.specs.Questions.{all_topics, sample_path};
+
+/// What is received of bytes is determined by them.
+pub fn received_once()
+    ensures { (input : List ℕ) (r q : AReceived) → Receives input r → Receives input q → r ≡ q }
+{}
+
+/// The route of a path, computed at each route and at paths that have none.
+pub fn routes_are_known()
+    ensures batch { endpoint_of (codes "/batch") ≡ Some (Batch Run) }
+    ensures ask { endpoint_of (codes "/ask") ≡ Some (Batch Ask) }
+    ensures each { endpoint_of (codes "/each") ≡ Some Each }
+    ensures seq { endpoint_of (codes "/seq") ≡ Some (About Seq) }
+    ensures object { endpoint_of (codes "/object/12") ≡ Some (About Object) }
+    ensures topics { map (λ topic. endpoint_of (sample_path topic)) all_topics ≡ map (λ topic. Some (About topic)) all_topics }
+    ensures deeper { endpoint_of (codes "/object/1/2") ≡ None }
+    ensures bare { endpoint_of (codes "/object/") ≡ None }
+    ensures unknown { endpoint_of (codes "/nothing") ≡ None }
+    ensures root { endpoint_of (codes "/") ≡ None }
+    ensures empty { endpoint_of [] ≡ None }
+{}

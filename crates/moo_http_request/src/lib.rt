@@ -1,0 +1,33 @@
+//! What a request asks, from the bytes of a connection: its head, read in pieces, its route, and its body only if the head asks for one.
+#![tactic(auto)]
+
+mod asked;
+mod body;
+mod each;
+mod fault;
+mod head;
+mod host;
+mod incoming;
+mod input;
+mod laws;
+mod lines;
+mod numbers;
+mod plan;
+mod question;
+mod request;
+mod routes;
+mod shape;
+mod whole;
+mod wrong;
+
+pub use asked::{Asked, Method, Mode, Refusal};
+pub use each::{Batches, Each};
+pub use fault::ReadFault;
+pub use head::MAX_HEAD;
+pub use incoming::Incoming;
+pub use laws::{received_once, routes_are_known};
+pub use question::Question;
+pub use request::{Received, read_request};
+pub use routes::Routes;
+pub use whole::{Wanted, wants};
+pub use wrong::{BodyFault, ShapeFault};

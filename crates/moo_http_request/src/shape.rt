@@ -1,0 +1,144 @@
+//! The JSON of a body, and its shape.
+
+ghost use Rattle.std.specs.Prelude.{◌≡◌, Some, None, map, option_map, IfOk, MatchOption, IsUtf8, nat_le, length};
+ghost use Rattle.std.specs.List.{list_all};
+ghost use Rattle.serde_json.specs.Read.{read};
+ghost use Rattle.serde_json.specs.View.{view, items_view};
+ghost use Rattle.moo_http_request.specs.Shape.{texts_of, stated_at, are_within, shape_of};
+ghost use Rattle.moo_http_request.specs.Shown.{shape_read_shown};
+
+use crate::wrong::ShapeFault;
+use moo_text::object_of;
+use moo_value::ObjNo;
+use serde_json::Value;
+use std::alloc::{AllocError, Global};
+
+const MAX_CALLS: usize = 1000;
+
+const MAX_CALL: usize = 262_144;
+
+/// Who asks, the texts of the calls, and the number that the batch is for.
+#[derive(Drop)]
+pub struct Shape<'a> {
+    pub programmer: ObjNo,
+    pub calls: Vec<&'a str>,
+    pub at: Option<u64>,
+}
+
+/// What a JSON has.
+#[derive(Drop)]
+pub enum ShapeRead<'a> {
+    /// The shape.
+    Whole(Shape<'a>),
+    /// Another one, by the first check that fails.
+    Bad(ShapeFault),
+}
+
+/// The texts of an array of strings. `None` is another array.
+fn texts_in<'a>(alloc: Global, items: &'a [Value]) -> Result<Option<Vec<&'a str>>, AllocError>
+    ensures { IfOk result (λ found. option_map (λ texts. map (λ text. text.now) texts.items) found
+        ≡ texts_of (items_view items.now)) }
+{
+    let mut texts = Vec::new(alloc);
+    for item in items {
+        let Some(text) = item.as_str() else {
+            return Ok(None);
+        };
+        texts.push(text)?;
+    }
+    Ok(Some(texts))
+}
+
+/// The number under `at`, which may be absent or null. `None` is another value.
+fn at_in(found: Option<&Value>) -> Option<Option<u64>>
+    ensures { result ≡ stated_at (option_map (λ value. view value.now) found.entry) }
+{
+    let Some(value) = found else {
+        return Some(None);
+    };
+    if value.is_null() {
+        return Some(None);
+    }
+    match value.as_u64() {
+        Some(seq) if seq < 1 << 63 => Some(Some(seq)),
+        _ => None,
+    }
+}
+
+fn all_short(texts: &[&str]) -> bool
+    ensures { result ≡ list_all (λ text. nat_le (length text.now) 262144) texts.now }
+{
+    texts.iter().all(|text| text.len() <= MAX_CALL)
+}
+
+fn are_short(texts: &[&str]) -> bool
+    ensures { result ≡ are_within (map (λ text. text.now) texts.now) }
+{
+    texts.len() <= MAX_CALLS && all_short(texts)
+}
+
+/// The JSON that the bytes are. `None` if they aren't JSON.
+pub(crate) fn read_json(alloc: Global, bytes: &[u8]) -> Result<Option<Value>, AllocError>
+    ensures { IfOk result (λ found. MatchOption found
+        (IsUtf8 bytes.now → read bytes.now ≡ None)
+        (λ value. IsUtf8 bytes.now × (read bytes.now ≡ Some (view value)))) }
+{
+    match Value::from_slice(alloc, bytes) {
+        Ok(value) => Ok(Some(value)),
+        Err(error) if error.is_memory() => Err(AllocError),
+        Err(_) => Ok(None),
+    }
+}
+
+/// What a JSON without a key lacks: the key, if it is an object.
+fn without(value: &Value, key: ShapeFault) -> ShapeFault {
+    if value.is_object() {
+        key
+    } else {
+        ShapeFault::NotAnObject
+    }
+}
+
+/// Which of the two limits the texts are over.
+fn over_limit(texts: &[&str]) -> ShapeFault {
+    if texts.len() <= MAX_CALLS {
+        ShapeFault::LongCall
+    } else {
+        ShapeFault::ManyCalls
+    }
+}
+
+/// The shape that the JSON has.
+pub(crate) fn shape_in(alloc: Global, value: &Value) -> Result<ShapeRead<'_>, AllocError>
+    ensures { IfOk result (λ found. shape_read_shown found ≡ shape_of (view value.now)) }
+{
+    let Some(named) = value.get("as") else {
+        return Ok(ShapeRead::Bad(without(value, ShapeFault::NoProgrammer)));
+    };
+    let Some(text) = named.as_str() else {
+        return Ok(ShapeRead::Bad(ShapeFault::ProgrammerNoText));
+    };
+    let Some(programmer) = object_of(alloc, text.as_bytes())? else {
+        return Ok(ShapeRead::Bad(ShapeFault::ProgrammerNoObject));
+    };
+    let Some(listed) = value.get("calls") else {
+        return Ok(ShapeRead::Bad(ShapeFault::NoCalls));
+    };
+    let Some(items) = listed.as_array() else {
+        return Ok(ShapeRead::Bad(ShapeFault::CallsNoArray));
+    };
+    let Some(calls) = texts_in(alloc, items)? else {
+        return Ok(ShapeRead::Bad(ShapeFault::CallNoText));
+    };
+    let Some(at) = at_in(value.get("at")) else {
+        return Ok(ShapeRead::Bad(ShapeFault::NoNumber));
+    };
+    if !are_short(&calls) {
+        return Ok(ShapeRead::Bad(over_limit(&calls)));
+    }
+    Ok(ShapeRead::Whole(Shape {
+        programmer,
+        calls,
+        at,
+    }))
+}

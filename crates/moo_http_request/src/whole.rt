@@ -1,0 +1,48 @@
+//! How many bytes a request has.
+
+ghost use Rattle.std.specs.Prelude.{◌≡◌, ◌≤◌, ◌<◌, ℕ, length};
+ghost use Rattle.moo_http_request.specs.Plan.{body_size};
+ghost use Rattle.moo_http_request.specs.Whole.{ShowsEnd};
+ghost use Rattle.moo_http_request.specs.declared.whole.Wanted.TheVariants.{Total};
+
+use crate::head::{HeadRead, MAX_HEAD, parse_head};
+use crate::plan::Plan;
+use crate::request::plan_head;
+use crate::routes::Routes;
+
+/// What a request still wants, by its first bytes.
+#[derive(Clone, Copy, PartialEq, Eq, Drop)]
+pub enum Wanted {
+    /// The rest of its head.
+    Head,
+    /// So many bytes in all.
+    Total(usize),
+}
+
+/// The bytes of the body that a plan asks for.
+fn size_of(plan: &Plan) -> u64
+    ensures { result ≡ body_size plan.now }
+{
+    match plan {
+        Plan::Decided(_) => 0,
+        Plan::Body(_, size) => *size,
+    }
+}
+
+/// What a request wants that begins with these bytes. `Head` if no head ends in them and it may still come. Else how many bytes the request
+/// has in all: with so many it is whole, and more bytes change nothing of what is asked; with fewer it is cut off.
+pub fn wants(routes: &Routes, bytes: &[u8]) -> Wanted
+    requires { (0 < length bytes.now) × (length bytes.now ≤ 8192) }
+    ensures shows { ShowsEnd bytes.now result }
+    ensures bound { (n : ℕ) → result ≡ Total n → n ≤ 1056768 }
+{
+    match parse_head(bytes) {
+        Some(HeadRead::Whole(head)) => {
+            let plan = plan_head(routes, bytes, &head);
+            Wanted::Total(head.spans.len + size_of(&plan) as usize)
+        }
+        Some(_) => Wanted::Total(bytes.len()),
+        None if bytes.len() == MAX_HEAD => Wanted::Total(MAX_HEAD),
+        None => Wanted::Head,
+    }
+}

@@ -1,0 +1,11 @@
+-- What a response of the code shows.
+use Rattle.std.specs.Prelude.{◌≡◌, option_map}
+use Rattle.moo_http_response.specs.Responses as spec
+use Rattle.moo_http_response.specs.declared.response.Response.{Response}
+
+-- the status, the method, the kind and the body are those of a response
+pub record Shows (r : Response) (response : spec.Response) : Type 0 where
+  pub status : r.status ≡ response.status
+  pub allow : option_map (λ method. method.now) r.allow ≡ response.allow
+  pub kind : r.kind.now ≡ response.kind
+  pub body : r.body.items ≡ response.body

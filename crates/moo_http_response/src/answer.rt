@@ -1,0 +1,25 @@
+//! The bytes of an answer.
+
+ghost use Rattle.std.specs.Prelude.{◌≡◌, IfOk};
+ghost use Rattle.moo_http_response.specs.Responses.{response_with, response_text};
+ghost use Rattle.moo_http_response.specs.Whys.{whys_shown};
+
+use crate::outcome::Outcome;
+use crate::respond::respond;
+use crate::response::print_response;
+use std::alloc::{AllocError, Global};
+
+/// The bytes of the answer to what came of a request: its head and its body, and to HEAD the head alone. If a body, a batch or a call alone
+/// is refused, and it is told why, the last key says it: of calls alone each has the sentence in its place, else it is the first.
+/// `AllocError` if memory is refused.
+pub fn answer_text(
+    alloc: Global,
+    outcome: Outcome,
+    whys: &[Option<String>],
+    is_head: bool,
+) -> Result<Vec<u8>, AllocError>
+    ensures { IfOk result (λ bytes. bytes.items ≡ response_text is_head (response_with (whys_shown whys.now) outcome)) }
+{
+    let response = respond(alloc, outcome, whys)?;
+    print_response(alloc, response, is_head)
+}

@@ -1,0 +1,139 @@
+//! The JSON of answers, printed.
+
+ghost use Rattle.std.specs.Prelude.{◌≡◌, map, IfOk, option_map, string_bytes, codes, false};
+ghost use Rattle.serde_json.specs.Data.{object, string, member, no_members};
+ghost use Rattle.serde_json.specs.View.{items_view, members_view};
+ghost use Rattle.serde_json.specs.Written.{compact_text, members_have_float};
+ghost use Rattle.moo_value.specs.Literal.{print};
+ghost use Rattle.moo_http_response.specs.Bodies.{strings, error_body, call_body, told_error_body, told_call_body, stale_body, number_body};
+ghost use Rattle.moo_http_response.specs.Bodies.{accepted_body};
+
+use crate::limits::read_limits;
+use moo_value::{Value as Literal, print_literal};
+use serde_json::{Map, Value, put};
+use std::alloc::{AllocError, Global};
+
+/// An object without floats, printed.
+pub(crate) fn printed(alloc: Global, fields: Map<String, Value>) -> Result<String, AllocError>
+    requires { members_have_float (members_view fields.entries) ≡ false }
+    ensures { IfOk result (λ text. string_bytes text ≡ compact_text (object (members_view fields.entries))) }
+{
+    Value::Object(fields).to_string(alloc)
+}
+
+/// A word under `error`.
+pub(crate) fn error_fields(alloc: Global, word: &str) -> Result<Map<String, Value>, AllocError>
+    ensures { IfOk result (λ fields. members_view fields.entries ≡ member (codes "error") (string word.now) no_members) }
+{
+    let word = String::from_str(alloc, word)?;
+    let mut fields = Map::new(alloc);
+    put(&mut fields, alloc, "error", Value::String(word))?;
+    Ok(fields)
+}
+
+/// A word under `error`.
+pub(crate) fn error_text(alloc: Global, word: &str) -> Result<String, AllocError>
+    ensures { IfOk result (λ text. string_bytes text ≡ compact_text (error_body word.now)) }
+{
+    let fields = error_fields(alloc, word)?;
+    printed(alloc, fields)
+}
+
+/// A call, by its number, and what befell it.
+pub(crate) fn call_text(alloc: Global, call: u32, word: &str) -> Result<String, AllocError>
+    ensures { IfOk result (λ text. string_bytes text ≡ compact_text (call_body call word.now)) }
+{
+    let mut fields = error_fields(alloc, word)?;
+    put(&mut fields, alloc, "call", Value::from(u64::from(call)))?;
+    printed(alloc, fields)
+}
+
+/// A word under `error`, and why, if that is told.
+pub(crate) fn told_error_text(
+    alloc: Global,
+    word: &str,
+    why: Option<&str>,
+) -> Result<String, AllocError>
+    ensures { IfOk result (λ text. string_bytes text ≡ compact_text (told_error_body (option_map (λ w. w.now) why.entry) word.now)) }
+{
+    let Some(why) = why else {
+        return error_text(alloc, word);
+    };
+    let why = String::from_str(alloc, why)?;
+    let mut fields = error_fields(alloc, word)?;
+    put(&mut fields, alloc, "why", Value::String(why))?;
+    printed(alloc, fields)
+}
+
+/// A call, by its number, what befell it, and why, if that is told.
+pub(crate) fn told_call_text(
+    alloc: Global,
+    call: u32,
+    word: &str,
+    why: Option<&str>,
+) -> Result<String, AllocError>
+    ensures { IfOk result (λ text. string_bytes text ≡ compact_text (told_call_body (option_map (λ w. w.now) why.entry) call word.now)) }
+{
+    let Some(why) = why else {
+        return call_text(alloc, call, word);
+    };
+    let why = String::from_str(alloc, why)?;
+    let mut fields = error_fields(alloc, word)?;
+    put(&mut fields, alloc, "call", Value::from(u64::from(call)))?;
+    put(&mut fields, alloc, "why", Value::String(why))?;
+    printed(alloc, fields)
+}
+
+/// The present number, if a batch named another.
+pub(crate) fn stale_text(alloc: Global, seq: u64) -> Result<String, AllocError>
+    ensures { IfOk result (λ text. string_bytes text ≡ compact_text (stale_body seq)) }
+{
+    let mut fields = error_fields(alloc, "stale")?;
+    put(&mut fields, alloc, "seq", Value::from(seq))?;
+    printed(alloc, fields)
+}
+
+/// A number under a key.
+pub(crate) fn number_text(alloc: Global, key: &str, number: u64) -> Result<String, AllocError>
+    ensures { IfOk result (λ text. string_bytes text ≡ compact_text (number_body key.now number)) }
+{
+    let mut fields = Map::new(alloc);
+    put(&mut fields, alloc, key, Value::from(number))?;
+    printed(alloc, fields)
+}
+
+/// The printed literal of a value.
+pub(crate) fn literal_text(alloc: Global, value: &Literal) -> Result<String, AllocError>
+    ensures { IfOk result (λ text. string_bytes text ≡ print value.now) }
+{
+    let mut bytes = Vec::new(alloc);
+    print_literal(alloc, value, &mut bytes)?;
+    read_limits(value);
+    Ok(String::from_utf8(bytes).unwrap())
+}
+
+/// An array of the printed literals.
+fn literals(alloc: Global, answers: &[Literal]) -> Result<Vec<Value>, AllocError>
+    ensures { IfOk result (λ list. items_view list.items ≡ strings (map print answers.now)) }
+{
+    let mut list = Vec::with_capacity(alloc, answers.len())?;
+    for answer in answers {
+        list.push(Value::String(literal_text(alloc, answer)?))?;
+    }
+    Ok(list)
+}
+
+/// The answers of a batch, each as its printed literal, and the number.
+pub(crate) fn accepted_text(
+    alloc: Global,
+    answers: &[Literal],
+    seq: u64,
+) -> Result<String, AllocError>
+    ensures { IfOk result (λ text. string_bytes text ≡ compact_text (accepted_body answers.now seq)) }
+{
+    let list = literals(alloc, answers)?;
+    let mut fields = Map::new(alloc);
+    put(&mut fields, alloc, "answers", Value::Array(list))?;
+    put(&mut fields, alloc, "seq", Value::from(seq))?;
+    printed(alloc, fields)
+}

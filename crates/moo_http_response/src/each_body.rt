@@ -1,0 +1,103 @@
+//! The JSON of what calls are answered, each alone.
+
+ghost use Rattle.std.specs.Prelude.{◌≡◌, IfOk, option_map, string_bytes};
+ghost use Rattle.serde_json.specs.View.{items_of, items_view, view};
+ghost use Rattle.serde_json.specs.Written.{compact_text};
+ghost use Rattle.moo_http_response.specs.Bodies.{told_error_body};
+ghost use Rattle.moo_http_response.specs.EachBodies.{first_answer, answer_body, reply_body, alone_body, each_items, each_body};
+ghost use Rattle.moo_http_response.specs.Whys.{whys_shown};
+
+use crate::bodies::{error_fields, literal_text, printed};
+use crate::replies::Replies;
+use crate::whys::why_of;
+use moo_text::Reply;
+use moo_value::Value as Literal;
+use serde_json::{Map, Value, put};
+use std::alloc::{AllocError, Global};
+
+/// A word under `error`, and why, if that is told.
+fn error_in(alloc: Global, word: &str, why: Option<&str>) -> Result<Value, AllocError>
+    ensures { IfOk result (λ value. view value ≡ told_error_body (option_map (λ w. w.now) why.entry) word.now) }
+{
+    let mut fields = error_fields(alloc, word)?;
+    let Some(why) = why else {
+        return Ok(Value::Object(fields));
+    };
+    let why = String::from_str(alloc, why)?;
+    put(&mut fields, alloc, "why", Value::String(why))?;
+    Ok(Value::Object(fields))
+}
+
+/// The first answer as its printed literal, or null.
+fn first_in(alloc: Global, answers: &[Literal]) -> Result<Value, AllocError>
+    ensures { IfOk result (λ value. view value ≡ first_answer answers.now) }
+{
+    match answers.split_first() {
+        Some((answer, _)) => Ok(Value::String(literal_text(alloc, answer)?)),
+        None => Ok(Value::Null),
+    }
+}
+
+/// The first answer under `answer`.
+fn answer_in(alloc: Global, answers: &[Literal]) -> Result<Value, AllocError>
+    ensures { IfOk result (λ value. view value ≡ answer_body answers.now) }
+{
+    let answer = first_in(alloc, answers)?;
+    let mut fields = Map::new(alloc);
+    put(&mut fields, alloc, "answer", answer)?;
+    Ok(Value::Object(fields))
+}
+
+/// The reply to a call alone, and why it is refused, if that is told.
+fn reply_in(alloc: Global, reply: &Reply, why: Option<&str>) -> Result<Value, AllocError>
+    ensures { IfOk result (λ value. view value ≡ reply_body (option_map (λ w. w.now) why.entry) reply.now) }
+{
+    match reply {
+        Reply::Accepted { seq: _, answers } => answer_in(alloc, answers.items()),
+        Reply::Refused { call: _, code } => error_in(alloc, code.name(), why),
+        Reply::Full { call: _ } => error_in(alloc, "full", why),
+        Reply::Stale { seq: _ } => error_in(alloc, "stale", None),
+        Reply::NoMemory => error_in(alloc, "nomemory", None),
+    }
+}
+
+/// What a text is answered, which may be no call.
+fn alone_in(alloc: Global, reply: &Option<Reply>, why: Option<&str>) -> Result<Value, AllocError>
+    ensures { IfOk result (λ value. view value ≡ alone_body (option_map (λ w. w.now) why.entry) reply.now) }
+{
+    match reply {
+        Some(reply) => reply_in(alloc, reply, why),
+        None => error_in(alloc, "malformed", why),
+    }
+}
+
+/// An array of what the calls are answered.
+fn replies_in(
+    alloc: Global,
+    replies: &[Option<Reply>],
+    whys: &[Option<String>],
+) -> Result<Vec<Value>, AllocError>
+    ensures { IfOk result (λ list. items_view list.items ≡ items_of (each_items (whys_shown whys.now) replies.now)) }
+{
+    let mut list = Vec::with_capacity(alloc, replies.len())?;
+    for (i, reply) in replies.iter().enumerate() {
+        list.push(alone_in(alloc, reply, why_of(whys, i))?)?;
+    }
+    Ok(list)
+}
+
+/// What each call alone is answered, and the number of accepted batches.
+pub(crate) fn each_text(
+    alloc: Global,
+    replies: &Replies,
+    seq: u64,
+    whys: &[Option<String>],
+) -> Result<String, AllocError>
+    ensures { IfOk result (λ text. string_bytes text ≡ compact_text (each_body (whys_shown whys.now) replies.now seq)) }
+{
+    let list = replies_in(alloc, replies.items(), whys)?;
+    let mut fields = Map::new(alloc);
+    put(&mut fields, alloc, "each", Value::Array(list))?;
+    put(&mut fields, alloc, "seq", Value::from(seq))?;
+    printed(alloc, fields)
+}

@@ -1,0 +1,119 @@
+//! The JSON of an object.
+
+ghost use Rattle.std.specs.Prelude.{◌≡◌, map, IfOk, OnOk, string_bytes};
+ghost use Rattle.serde_json.specs.Data.{string, put as insert};
+ghost use Rattle.serde_json.specs.View.{items_view, members_view};
+ghost use Rattle.serde_json.specs.Written.{compact_text};
+ghost use Rattle.moo_http_response.specs.Bodies.{strings, object_text, objects as objects_of, flag_data, look_body};
+ghost use Rattle.moo_http_response.specs.Fields.{with_links, with_flags};
+
+use crate::bodies::{literal_text, printed};
+use moo_dump::Look;
+use moo_value::{MooStr, ObjNo, Value as Literal};
+use serde_json::{Map, Value, put};
+use std::alloc::{AllocError, Global};
+
+/// An object, as `#3`.
+fn object_in(alloc: Global, x: ObjNo) -> Result<String, AllocError>
+    ensures { IfOk result (λ text. string_bytes text ≡ object_text x) }
+{
+    literal_text(alloc, &Literal::Obj(x))
+}
+
+fn objects_in(alloc: Global, objects: &[ObjNo]) -> Result<Vec<Value>, AllocError>
+    ensures { IfOk result (λ list. items_view list.items ≡ strings (map object_text objects.now)) }
+{
+    let mut list = Vec::with_capacity(alloc, objects.len())?;
+    for x in objects {
+        list.push(Value::String(object_in(alloc, *x)?))?;
+    }
+    Ok(list)
+}
+
+fn name_in(alloc: Global, name: &MooStr) -> Result<String, AllocError>
+    ensures { IfOk result (λ text. string_bytes text ≡ name.now) }
+{
+    let bytes = Vec::from_slice(alloc, name.bytes())?;
+    Ok(String::from_utf8(bytes).unwrap())
+}
+
+fn put_objects(
+    fields: &mut Map<String, Value>,
+    alloc: Global,
+    key: &str,
+    objects: &[ObjNo],
+) -> Result<(), AllocError>
+    ensures { OnOk result (members_view fields.new.entries ≡ insert key.now (objects_of objects.now) (members_view fields.old.entries)) }
+{
+    let list = objects_in(alloc, objects)?;
+    put(fields, alloc, key, Value::Array(list))
+}
+
+pub(crate) fn put_object(
+    fields: &mut Map<String, Value>,
+    alloc: Global,
+    key: &str,
+    x: ObjNo,
+) -> Result<(), AllocError>
+    ensures { OnOk result (members_view fields.new.entries ≡ insert key.now (string (object_text x)) (members_view fields.old.entries)) }
+{
+    let text = object_in(alloc, x)?;
+    put(fields, alloc, key, Value::String(text))
+}
+
+pub(crate) fn put_name(
+    fields: &mut Map<String, Value>,
+    alloc: Global,
+    key: &str,
+    name: &MooStr,
+) -> Result<(), AllocError>
+    ensures { OnOk result (members_view fields.new.entries ≡ insert key.now (string name.now) (members_view fields.old.entries)) }
+{
+    let text = name_in(alloc, name)?;
+    put(fields, alloc, key, Value::String(text))
+}
+
+pub(crate) fn put_flag(
+    fields: &mut Map<String, Value>,
+    alloc: Global,
+    key: &str,
+    set: bool,
+) -> Result<(), AllocError>
+    ensures { OnOk result (members_view fields.new.entries ≡ insert key.now (flag_data set) (members_view fields.old.entries)) }
+{
+    put(fields, alloc, key, Value::from(u64::from(set)))
+}
+
+/// The name of an object, and the objects that its fields name.
+fn put_links(fields: &mut Map<String, Value>, alloc: Global, look: &Look) -> Result<(), AllocError>
+    ensures { OnOk result (members_view fields.new.entries ≡ with_links look.now (members_view fields.old.entries)) }
+{
+    put_objects(fields, alloc, "children", look.children.items())?;
+    put_objects(fields, alloc, "contents", look.contents.items())?;
+    put_object(fields, alloc, "location", look.location)?;
+    put_name(fields, alloc, "name", &look.name)?;
+    put_object(fields, alloc, "owner", look.owner)?;
+    put_object(fields, alloc, "parent", look.parent)
+}
+
+/// The marks and bits of an object.
+fn put_flags(fields: &mut Map<String, Value>, alloc: Global, look: &Look) -> Result<(), AllocError>
+    ensures { OnOk result (members_view fields.new.entries ≡ with_flags look.now (members_view fields.old.entries)) }
+{
+    put_flag(fields, alloc, "f", look.f)?;
+    put_flag(fields, alloc, "player", look.player)?;
+    put_flag(fields, alloc, "programmer", look.programmer)?;
+    put_flag(fields, alloc, "r", look.r)?;
+    put_flag(fields, alloc, "w", look.w)?;
+    put_flag(fields, alloc, "wizard", look.wizard)
+}
+
+/// The fields of an object, its children and what is in it.
+pub(crate) fn look_text(alloc: Global, look: &Look) -> Result<String, AllocError>
+    ensures { IfOk result (λ text. string_bytes text ≡ compact_text (look_body look.now)) }
+{
+    let mut fields = Map::new(alloc);
+    put_links(&mut fields, alloc, look)?;
+    put_flags(&mut fields, alloc, look)?;
+    printed(alloc, fields)
+}

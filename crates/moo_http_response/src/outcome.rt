@@ -1,0 +1,25 @@
+//! What came of a request.
+
+use crate::replies::Replies;
+use crate::told::Told;
+use moo_http_request::Refusal;
+use moo_text::Reply;
+
+/// What came of a request; what refuses it is first, in the order of the answers' table.
+#[derive(Drop)]
+pub enum Outcome {
+    /// It was refused before the World was asked.
+    Refused(Refusal),
+    /// The World had failed before.
+    Closed,
+    /// The store failed.
+    Fault,
+    /// Memory ran out, and nothing changed.
+    NoMemory,
+    /// What its batch was answered.
+    Replied(Reply),
+    /// What its calls were answered, each alone, and the number of accepted batches.
+    Each(Replies, u64),
+    /// What its question was told.
+    Told(Told),
+}

@@ -1,0 +1,60 @@
+//! A page of the list of all objects.
+
+ghost use Rattle.std.specs.Prelude.{◌≡◌, ◌<◌, ◌≤◌, ◌⊎◌, Some, None, IfOk, MatchOption};
+ghost use Rattle.moo_http_response.specs.Pages.{before_page as before_page_of, page_of};
+ghost use Rattle.moo_rows.specs.Ordered.{IsNext};
+ghost use Rattle.moo_world.specs.Rows.{world_of};
+ghost use Rattle.moo_world.specs.World.{IsTree};
+
+use crate::entry::{Entries, list_object};
+use moo_rows::Rows;
+use moo_value::ObjNo;
+use std::alloc::{AllocError, Global};
+
+/// A page has so many objects at most.
+const MOST: u32 = 1000;
+
+/// Some of the objects, ascending, and the first that follows them.
+#[derive(Drop)]
+pub struct Page {
+    pub objects: Entries,
+    pub next: Option<ObjNo>,
+}
+
+/// The number before that of the first object of a page.
+fn before_page(from: ObjNo) -> ObjNo
+    ensures { result ≡ before_page_of from }
+{
+    ObjNo(from.0.max(0) - 1)
+}
+
+/// The object past the last one, if a page with so many has room for it.
+fn next_within<R: Rows>(rows: &R, last: ObjNo, count: u32) -> Option<ObjNo>
+    ensures { MatchOption result ((1000 ≤ count) ⊎ IsNext (R.held rows.now).maps.objects (Some last) None)
+        (λ x. (count < 1000) × IsNext (R.held rows.now).maps.objects (Some last) (Some x)) }
+{
+    if count < MOST {
+        rows.next_object(Some(last))
+    } else {
+        None
+    }
+}
+
+/// The objects from a number on, at most 1,000 of them. The only error is a lack of memory.
+pub(crate) fn list_page<R: Rows>(alloc: Global, rows: &R, from: ObjNo) -> Result<Page, AllocError>
+    requires { IsTree (world_of (R.held rows.now).maps) }
+    ensures { IfOk result (λ page. page ≡ page_of (world_of (R.held rows.now).maps) from) }
+{
+    let mut list = Vec::new(alloc);
+    let mut last = before_page(from);
+    let mut count = 0;
+    while let Some(x) = next_within(rows, last, count) {
+        list_object(alloc, rows, x, &mut list)?;
+        last = x;
+        count += 1;
+    }
+    Ok(Page {
+        objects: Entries::from_vec(list),
+        next: rows.next_object(Some(last)),
+    })
+}

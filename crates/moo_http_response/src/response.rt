@@ -1,0 +1,95 @@
+//! Responses as bytes.
+
+ghost use Rattle.std.specs.Prelude.{◌≡◌, ◌++◌, IfOk, option_map, string_bytes};
+ghost use Rattle.moo_http_response.specs.Bytes.{reason_of, allow_line, head_text, text_of};
+
+use http::StatusCode;
+use std::alloc::{AllocError, Global};
+
+/// An answer: its status, the method of the route if another was asked, and its body with its kind.
+#[derive(Drop)]
+pub(crate) struct Response {
+    pub status: StatusCode,
+    pub allow: Option<&'static str>,
+    pub kind: &'static str,
+    pub body: Vec<u8>,
+}
+
+fn reason(status: StatusCode) -> &'static str
+    ensures { result.now ≡ reason_of status }
+{
+    match status.canonical_reason() {
+        Some(reason) => reason,
+        None => "",
+    }
+}
+
+/// The line that names the method of the route, or nothing.
+fn allow_line(alloc: Global, allow: Option<&str>) -> Result<String, AllocError>
+    ensures { IfOk result (λ line. string_bytes line ≡ allow_line (option_map (λ method. method.now) allow.entry)) }
+{
+    match allow {
+        Some(method) => ["allow: ", method, "\r\n"].concat(alloc),
+        None => Ok(String::new(alloc)),
+    }
+}
+
+fn print_head(
+    alloc: Global,
+    status: StatusCode,
+    kind: &'static str,
+    allow: Option<&str>,
+    size: usize,
+) -> Result<String, AllocError>
+    ensures { IfOk result (λ text. string_bytes text ≡ head_text status kind.now (option_map (λ method. method.now) allow.entry) size) }
+{
+    let code = status.as_u16().to_string(alloc)?;
+    let length = size.to_string(alloc)?;
+    let allow = allow_line(alloc, allow)?;
+    [
+        "HTTP/1.1 ",
+        code.as_str(),
+        " ",
+        reason(status),
+        "\r\ncontent-type: ",
+        kind,
+        "\r\ncontent-length: ",
+        length.as_str(),
+        "\r\nconnection: close\r\n",
+        allow.as_str(),
+        "\r\n",
+    ]
+    .concat(alloc)
+}
+
+/// The bytes, with a head before them. They aren't copied if their memory has room for it.
+fn after_head(bytes: Vec<u8>, head: &[u8]) -> Result<Vec<u8>, AllocError>
+    ensures { IfOk result (λ whole. whole.items ≡ head.now ++ bytes.items) }
+{
+    let mut whole = bytes;
+    whole.extend_from_slice(head)?;
+    whole.rotate_right(head.len());
+    Ok(whole)
+}
+
+/// The bytes of a response. To HEAD the body is left off.
+pub(crate) fn print_response(
+    alloc: Global,
+    response: Response,
+    is_head: bool,
+) -> Result<Vec<u8>, AllocError>
+    ensures { IfOk result (λ bytes. bytes.items ≡ text_of is_head response.status response.kind.now (option_map
+        (λ method. method.now) response.allow) response.body.items) }
+{
+    let head = print_head(
+        alloc,
+        response.status,
+        response.kind,
+        response.allow,
+        response.body.len(),
+    )?;
+    if is_head {
+        return Ok(head.into_bytes());
+    }
+    after_head(response.body, head.as_bytes())
+}

@@ -1,0 +1,108 @@
+//! What a question is told, and the status and the body that tell it.
+
+ghost use Rattle.std.specs.Prelude.{◌≡◌, IfOk, OnErr};
+ghost use Rattle.moo_world.specs.Judge.{state_of};
+ghost use Rattle.moo_dump.specs.Dump.{dump};
+ghost use Rattle.moo_world.specs.Rows.{IsGood};
+ghost use Rattle.moo_http_response.specs.Told.{looked, told_of, TellingTakesMemory, told_status, told_kind, told_bytes};
+
+use crate::bodies::{error_text, number_text};
+use crate::look_body::look_text;
+use crate::page::{Page, list_page};
+use crate::page_body::page_text;
+use crate::text::Text;
+use http::StatusCode;
+use moo_dump::{Look, dump, look};
+use moo_http_request::Question;
+use moo_rows::Rows;
+use std::alloc::{AllocError, Global};
+
+/// Room after a dump for the head of its answer, which is then put before it without more memory.
+const HEAD_ROOM: usize = 256;
+
+/// What a question is told.
+#[derive(Drop)]
+pub enum Told {
+    /// The number of accepted batches.
+    Seq(u64),
+    /// What the object looks like.
+    Object(Look),
+    /// The number is that of no object.
+    NoObject,
+    /// Some of the objects, and the number of accepted batches.
+    Objects(Page, u64),
+    /// All that the world holds.
+    Dump(Text),
+}
+
+/// What a look tells. It shows nothing if there isn't such an object.
+fn seen(look: Option<Look>) -> Told
+    ensures { result ≡ looked look }
+{
+    match look {
+        Some(look) => Told::Object(look),
+        None => Told::NoObject,
+    }
+}
+
+/// All that the rows hold, as text, in memory that has room for a head. The only error is a lack of memory.
+fn dumped<R: Rows>(alloc: Global, rows: &R) -> Result<Text, AllocError>
+    requires { IsGood (R.held rows.now).maps }
+    ensures { IfOk result (λ text. text ≡ dump (state_of (R.held rows.now).maps)) }
+{
+    let mut bytes = Vec::new(alloc);
+    let Ok(()) = dump(alloc, rows, &mut bytes) else {
+        return Err(AllocError);
+    };
+    bytes.reserve_exact(HEAD_ROOM)?;
+    Ok(Text::from_vec(bytes))
+}
+
+/// What the rows of a world tell of a question. The only error is a lack of memory.
+pub fn tell<R: Rows>(alloc: Global, rows: &R, question: Question) -> Result<Told, AllocError>
+    requires { IsGood (R.held rows.now).maps }
+    ensures told { IfOk result (λ told. told ≡ told_of question (state_of (R.held rows.now).maps)) }
+    ensures memory { OnErr result (TellingTakesMemory question) }
+{
+    match question {
+        Question::Seq => Ok(Told::Seq(rows.head().seq)),
+        Question::Object(number) => Ok(seen(look(alloc, rows, number)?)),
+        Question::Objects(number) => {
+            Ok(Told::Objects(list_page(alloc, rows, number)?, rows.head().seq))
+        }
+        Question::Dump => Ok(Told::Dump(dumped(alloc, rows)?)),
+    }
+}
+
+/// The status of what is told.
+pub(crate) fn status_of(told: &Told) -> StatusCode
+    ensures { result ≡ told_status told.now }
+{
+    match told {
+        Told::Seq(_) | Told::Object(_) | Told::Objects(_, _) | Told::Dump(_) => StatusCode::OK,
+        Told::NoObject => StatusCode::NOT_FOUND,
+    }
+}
+
+/// The kind of the body of what is told.
+pub(crate) fn kind_of(told: &Told) -> &'static str
+    ensures { result.now ≡ told_kind told.now }
+{
+    match told {
+        Told::Dump(_) => "text/plain",
+        _ => "application/json",
+    }
+}
+
+/// The bytes of the body of what is told.
+pub(crate) fn told_bytes(alloc: Global, told: Told) -> Result<Vec<u8>, AllocError>
+    ensures { IfOk result (λ bytes. bytes.items ≡ told_bytes told) }
+{
+    match told {
+        Told::Seq(seq) => Ok(number_text(alloc, "seq", seq)?.into_bytes()),
+        Told::Object(look) => Ok(look_text(alloc, &look)?.into_bytes()),
+        Told::NoObject => Ok(error_text(alloc, "E_INVARG")?.into_bytes()),
+        Told::Objects(page, seq) => Ok(page_text(alloc, &page, seq)?.into_bytes()),
+        Told::Dump(text) => Ok(text.into_vec()),
+    }
+}

@@ -1,4 +1,0 @@
-use Rattle.moo_property_calls.proofs.slots.may_read.Goals as goal
-
-pub returns : goal.returns
-returns g c = c.may_read_slot.ensures c.args.found.definer

@@ -1,4 +1,0 @@
-use Rattle.moo_property_calls.proofs.slots.may_write.Goals as goal
-
-pub returns : goal.returns
-returns g c = c.may_write_slot.ensures c.args.found.definer

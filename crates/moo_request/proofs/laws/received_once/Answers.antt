@@ -1,5 +1,0 @@
-use Rattle.moo_request.proofs.OnceLemmas.{received-once}
-use Rattle.moo_request.proofs.laws.received_once.Goals as goal
-
-pub returns : goal.returns
-returns c = received-once

@@ -1,4 +1,0 @@
-use Rattle.moo_responses.proofs.told.tell.Goals as goal
-
-pub list_page-requires : goal.list_page-requires
-list_page-requires g c = c.requires.formed.tree

@@ -1,0 +1,86 @@
+-- The world that a task begins with.
+use Rattle.moo_run.{proofs.Words.{◌≡◌, ◌⊎◌, inl, inr, ℕ, List, Option, Some, Bor, codes, refl, sym, ap, subst, ◌∙◌, ◌<◌, ◌^◌, true, false, ◌||◌, bytes_eq, true≢false, Maps, opening_maps, IsGood, State, state_of, Ghosts, Image, IsHeld, Stand, LeavesState, Task, Given, Run, Leads, makes_world, begins_anew, is_load, dump_word, is_input, reads_input, ReadsFile, IsDumpedAs, BeginsWith, BeginsNumbered, RunsFrom, FailsAtOnce, RefusesDump, FailsToBegin, RunsNew, Failure}, proofs.Connections.{unseen}}
+use Rattle.sqlite.specs.Tree.{Trees}
+use Rattle.moo_run.specs.Run.{RefusesTask, TellsLack}
+use Rattle.moo_load.specs.RowsOf.{AreRowsOf}
+use Rattle.moo_files.{specs.Remains.{KeepsSuch, KeepsNothingBut}, specs.declared.remains.Remains.{Remains}, proofs.RemainsLemmas.{keeps_more, blank_more}}
+use Rattle.moo_cli.{specs.declared.task.Action.{Action}, specs.declared.task.Action.TheVariants.{Load}, specs.Tasks.{text_word}}
+
+pub begins_opening : (action : Action) (given : Given) → is_load action ≡ false → BeginsWith action given (state_of opening_maps)
+begins_opening (Load dump) given other = absurd (true≢false other)
+begins_opening action given other = refl
+
+-- good rows after fewer than 2^63 batches show a well formed state
+pub held_rows : (rows : Maps) → IsGood rows → rows.head.seq < 2 ^ 63 → IsHeld (state_of rows)
+held_rows rows good limit = record { formed = record { world = good.formed; petitions = good.petitions }; limit = limit }
+
+pub begins_dumped : (action : Action) (given : Given) (dump : List ℕ) (s : State) → is_load action ≡ true → dump_word action ≡ dump → IsDumpedAs (given.text dump) s → IsHeld s → BeginsWith action given s
+begins_dumped (Load word) given dump s loads is it held = (subst (λ w. IsDumpedAs (given.text w) s) (sym is) it, held)
+begins_dumped action given dump s loads is it held = absurd (true≢false (sym loads))
+
+-- the rows of the opening world, and those that a dump was read as
+pub numbered_opening : (action : Action) (rows : Maps) → is_load action ≡ false → rows ≡ opening_maps → BeginsNumbered action rows
+numbered_opening (Load dump) rows other same = absurd (true≢false other)
+numbered_opening action rows other same = same
+
+pub numbered_dumped : (action : Action) (rows : Maps) → is_load action ≡ true → AreRowsOf (state_of rows) rows → BeginsNumbered action rows
+numbered_dumped (Load dump) rows loads numbered = numbered
+numbered_dumped action rows loads numbered = absurd (true≢false (sym loads))
+
+-- why its dump gives no world
+pub refuses_dump : (action : Action) (given : Given) (dump : List ℕ) (failure : Failure) → dump_word action ≡ dump → RefusesDump (given.text dump) failure → TellsLack given.lacks dump failure → RefusesTask given action failure
+refuses_dump action given dump failure is it lack = subst (λ word. RefusesDump (given.text word) failure × TellsLack given.lacks word failure) (sym is) (it, lack)
+
+load_makes : (action : Action) → is_load action ≡ true → makes_world action ≡ true
+load_makes (Load dump) loads = refl
+load_makes action loads = absurd (true≢false (sym loads))
+
+pub load_begins : (task : Task) → is_load task.action ≡ true → begins_anew task ≡ true
+load_begins task loads = ap (λ makes. makes || bytes_eq task.file.now (codes ":memory:")) (load_makes task.action loads)
+
+-- what it reads besides its file is the word for its dump
+load_reads : (action : Action) (dump : List ℕ) → is_load action ≡ true → dump_word action ≡ dump → text_word action ≡ Some dump
+load_reads (Load word) dump loads is = ap Some is
+load_reads action dump loads is = absurd (true≢false (sym loads))
+
+pub reads_dump : (task : Task) (dump : List ℕ) → is_load task.action ≡ true → dump_word task.action ≡ dump → bytes_eq dump (codes "-") ≡ false → ReadsFile task dump
+reads_dump task dump loads is other = (load_reads task.action dump loads is, other)
+
+pub keeps_input : (task : Task) (dump : List ℕ) → is_load task.action ≡ true → dump_word task.action ≡ dump → reads_input task ≡ false → bytes_eq dump (codes "-") ≡ false
+keeps_input task dump loads is other = subst (λ word. is_input word ≡ false) (load_reads task.action dump loads is) other
+
+-- what comes after a load reads no text
+of_others : (file : Bor (List ℕ)) (action : Action) → is_load action ≡ true → (s : State) (run : Run) (others : Given) (Clean : Type 0) (Crash : Stand → Type 0) (Led : Leads) (Shown : Type 0)
+    → RunsFrom (record { file = file; action = action }) s run Clean Crash Led Shown → (run.given.ports.rests → others.ports.rests) → RunsFrom (record { file = file; action = action }) s (record run { given = others }) Clean Crash Led Shown
+of_others file (Load dump) loads s run others Clean Crash Led Shown it on = record { end = it.end; crash = it.crash; still = it.still; rests = λ other. on (it.rests other); writes = it.writes }
+of_others file action loads s run others Clean Crash Led Shown it on = absurd (true≢false (sym loads))
+
+pub of_other_texts : (task : Task) → is_load task.action ≡ true → (s : State) (run : Run) (others : Given) (Clean : Type 0) (Crash : Stand → Type 0) (Led : Leads) (Shown : Type 0)
+    → RunsFrom task s run Clean Crash Led Shown → (run.given.ports.rests → others.ports.rests) → RunsFrom task s (record run { given = others }) Clean Crash Led Shown
+of_other_texts task = of_others task.file task.action
+
+pub fails_to_begin : (task : Task) (run : Run) → FailsAtOnce run → FailsToBegin task run
+fails_to_begin task run (failure, opening, reports) = (failure, inl opening, reports)
+
+-- a run from the world that a task begins with, of which nothing more is said than what is written
+pub new_unseen : (task : Task) (run : Run) (Clean : Type 0) (Crash : Stand → Type 0) (Led : Leads) (Shown : Type 0)
+    → (run.given.ports.rests × FailsToBegin task run) ⊎ ((s : State) × BeginsWith task.action run.given s × RunsFrom task s run Clean Crash Led Shown) → RunsNew task run
+new_unseen task run Clean Crash Led Shown (inl fails) = inl fails
+new_unseen task run Clean Crash Led Shown (inr (s, begins, it)) = inr (s, begins, unseen task s run Clean Crash Led Shown it)
+
+-- what a refused making of that world leaves
+pub unmade_begins : {T D : Type 0} {g : Ghosts D} (action : Action) (given : Given) (s : State) → BeginsWith action given s → (trees : Trees) (image : Image) (remains : Remains T D g)
+    → KeepsSuch (λ found. (found ≡ trees) ⊎ LeavesState found s) image remains → KeepsSuch (λ found. (found ≡ trees) ⊎ ((t : State) × BeginsWith action given t × LeavesState found t)) image remains
+unmade_begins action given s begins trees image remains =
+    keeps_more (λ found. (found ≡ trees) ⊎ LeavesState found s) (λ found. (found ≡ trees) ⊎ ((t : State) × BeginsWith action given t × LeavesState found t))
+    (λ found kept. elim kept [ inl same ↦ inl same | inr leaves ↦ inr (s, begins, leaves) ]) image remains
+
+-- and of files that held nothing
+pub fresh_begins : {T D : Type 0} {g : Ghosts D} (action : Action) (given : Given) (s : State) → BeginsWith action given s → (image : Image) (remains : Remains T D g)
+    → KeepsNothingBut (λ found. LeavesState found s) image remains → KeepsNothingBut (λ found. (t : State) × BeginsWith action given t × LeavesState found t) image remains
+fresh_begins action given s begins image remains =
+    blank_more (λ found. LeavesState found s) (λ found. (t : State) × BeginsWith action given t × LeavesState found t) (λ found leaves. (s, begins, leaves)) image remains
+
+-- a task that begins with a new world isn't one that takes up its file
+pub never_other : {A : Type 0} (task : Task) → is_load task.action ≡ true → begins_anew task ≡ false → A
+never_other task loads other = absurd (true≢false (sym (load_begins task loads) ∙ other))

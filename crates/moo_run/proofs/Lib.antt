@@ -1,0 +1,8 @@
+pub mod Words
+mod Beginning
+pub mod Connections
+mod Dumps
+mod Held
+mod Making
+mod Refusals
+mod Tasks

@@ -1,0 +1,73 @@
+use Rattle.moo_cli.specs.Tasks.{text_word}
+use Rattle.moo_run.{proofs.Words.{refl, sym, ap, subst, state, store_of, LeavesNothingNew, inl, inr, true≢false, Works}, proofs.Tasks.{unchanged, still_there, stays_at, both_ok, by_result, by_either, with_failure}}
+use Rattle.moo_run.proofs.commands.do_task.Goals as goal
+
+pub returns-in-Init : goal.returns-in-Init
+returns-in-Init g c = record {
+  ends = λ known s stands. rw c.in-Init.is (by_result _ _ _ _ c.put_text.result (λ status it. unchanged g.B.Store known c.args.world.now s _ (c.leaves.ensures known (Works s) stands) (refl, it.0, it.1)) (λ failure it. unchanged g.B.Store known c.args.world.now s _ (c.leaves.ensures known (Works s) stands) (refl, it)) c.put_text.ensures.done c.put_text.ensures.stops);
+  rests = λ other. refl;
+  still = λ reads clean trees may. may;
+  input = λ other. refl;
+}
+
+pub returns-in-Apply : goal.returns-in-Apply
+returns-in-Apply g c = record {
+  ends = λ known s stands. rw c.in-Apply.is (c.apply.ensures.applies c.open_batches-text.ensures.opened c.open_batches-text.ensures.lacks known s stands);
+  rests = λ other. c.apply.ensures.rests;
+  still = rw c.in-Apply.is (λ reads. absurd (true≢false (sym reads)));
+  input = rw c.in-Apply.is (c.apply.ensures.input c.open_batches-text.ensures.opened);
+}
+
+pub returns-in-Rehearse : goal.returns-in-Rehearse
+returns-in-Rehearse g c = record {
+  ends = λ known s stands. rw c.in-Rehearse.is (by_either _ _ _ _ c.rehearse.result (λ status it. still_there g.B.Store known c.args.world.now c.rehearse.new.world s _ c.rehearse.ensures.still (c.leaves.ensures known (Works s) stands) (refl, it)) (λ failure it. still_there g.B.Store known c.args.world.now c.rehearse.new.world s _ c.rehearse.ensures.still (c.leaves.ensures known (Works s) stands) (refl, it.0, it.1)) (with_failure c.rehearse.result _ _ _ (c.rehearse.ensures.rehearses c.open_batches-text-in-Rehearse.ensures.opened known s stands) (c.rehearse.ensures.lacks c.open_batches-text-in-Rehearse.ensures.lacks)));
+  rests = λ other. c.rehearse.ensures.rests;
+  still = λ reads. subst (λ conn. LeavesNothingNew (store_of g.B.Store c.args.world.now) (state g.B.Store conn)) (sym c.rehearse.ensures.still) (λ clean trees may. may);
+  input = rw c.in-Rehearse.is (c.rehearse.ensures.input c.open_batches-text-in-Rehearse.ensures.opened);
+}
+
+pub returns-in-Ask : goal.returns-in-Ask
+returns-in-Ask g c = record {
+  ends = λ known s stands. rw c.in-Ask.is (by_either _ _ _ _ c.ask.result (λ status it. unchanged g.B.Store known c.args.world.now s _ (c.leaves.ensures known (Works s) stands) (refl, it)) (λ failure it. unchanged g.B.Store known c.args.world.now s _ (c.leaves.ensures known (Works s) stands) (refl, it.0, it.1)) (with_failure c.ask.result _ _ _ (c.ask.ensures.asks c.open_batches-text-in-Ask.ensures.opened known s stands) (c.ask.ensures.lacks c.open_batches-text-in-Ask.ensures.lacks)));
+  rests = λ other. c.ask.ensures.rests;
+  still = λ reads clean trees may. may;
+  input = rw c.in-Ask.is (c.ask.ensures.input c.open_batches-text-in-Ask.ensures.opened);
+}
+
+pub returns-in-Dump : goal.returns-in-Dump
+returns-in-Dump g c = record {
+  ends = λ known s stands. rw c.in-Dump.is (by_result _ _ _ _ c.show.result (λ status it. unchanged g.B.Store known c.args.world.now s _ (c.leaves.ensures known (Works s) stands) (refl, it.0, it.1)) (λ failure it. unchanged g.B.Store known c.args.world.now s _ (c.leaves.ensures known (Works s) stands) (refl, it)) (c.show.ensures.done known s stands) (c.show.ensures.stops known s stands));
+  rests = λ other. refl;
+  still = λ reads clean trees may. may;
+  input = λ other. refl;
+}
+
+pub returns-in-Load : goal.returns-in-Load
+returns-in-Load g c = record {
+  ends = λ known s stands. rw c.in-Load.is (by_result _ _ _ _ c.show_loaded.result (λ status it. unchanged g.B.Store known c.args.world.now s _ (c.leaves.ensures known (Works s) stands) (refl, it.0, it.1)) (λ failure it. unchanged g.B.Store known c.args.world.now s _ (c.leaves.ensures known (Works s) stands) (refl, it)) (c.show_loaded.ensures.done known s stands) (c.show_loaded.ensures.stops known s stands));
+  rests = λ other. refl;
+  still = λ reads clean trees may. may;
+  input = λ other. refl;
+}
+
+pub returns-in-Check : goal.returns-in-Check
+returns-in-Check g c = record {
+  ends = λ known s stands. rw c.in-Check.is (by_result _ _ _ _ c.check.result (λ status it. stays_at g.B.Store known c.args.world.now c.check.new.world s _ c.check.ensures.crash (c.leaves.ensures known (Works s) stands) (refl, it.1, it.0.0, it.0.1)) (λ failure it. stays_at g.B.Store known c.args.world.now c.check.new.world s _ c.check.ensures.crash (c.leaves.ensures known (Works s) stands) (refl, it)) (both_ok c.check.result _ _ (c.check.ensures.done known s stands) c.check.ensures.shown) (c.check.ensures.stops known s stands));
+  rests = λ other. refl;
+  still = λ reads clean trees may. elim (c.check.ensures.crash.crash clean trees may) [ inl before ↦ before | inr none ↦ absurd none ];
+  input = λ other. refl;
+}
+
+pub returns-in-Serve : goal.returns-in-Serve
+returns-in-Serve g c = record {
+  ends = λ known s stands. rw c.in-Serve.is (c.serve.ensures.serves known s stands);
+  rests = rw c.in-Serve.is (λ other. absurd (true≢false other));
+  still = rw c.in-Serve.is (λ reads. absurd (true≢false (sym reads)));
+  input = λ other. c.serve.ensures.input;
+}
+
+pub open_batches-text-requires : goal.open_batches-text-requires
+open_batches-text-requires g c other = c.requires.read c.in-Apply.batches.path.now (ap text_word c.in-Apply.is, other)
+
+pub open_batches-text-requires-in-Rehearse : goal.open_batches-text-requires-in-Rehearse
+open_batches-text-requires-in-Rehearse g c other = c.requires.read c.in-Rehearse.batches.path.now (ap text_word c.in-Rehearse.is, other)

@@ -1,0 +1,45 @@
+use Rattle.moo_run.{proofs.Words.{inl, true, false, refl, image_at, state_of, Run, given_to}, proofs.Held.{ran_onto}, proofs.Connections.{surely, unseen}, proofs.Refusals.{refuses_file, tells_fault, refused_onto, still_held, never_anew}}
+use Rattle.moo_run.proofs.files.run_found.Goals as goal
+use Rattle.moo_files.specs.Opened.{Database}
+
+pub returns-in-Ok-clause-runs : goal.returns-in-Ok-clause-runs
+returns-in-Ok-clause-runs g c =
+    let world = c.in-Ok.world in
+    let here = state_of world.rows.maps in
+    let found = c.in-Ok.ensures.opened in
+    let ran = c.run_in_files.ensures in
+    record {
+      anew = λ anew. never_anew c.args.task c.requires.other anew;
+      taken = λ s anew. never_anew c.args.task c.requires.other anew;
+      over = λ other held holds clean.
+          ran_onto c.args.task (image_at g.S.File.Start) world c.run_in_files.result _ held holds found.good (c.in-Ok.ensures.opens held holds (ran.clean false here found.stands clean))
+          (λ s stands. surely _ _ _ _ _ _ _ (ran.runs true s stands)) (unseen _ _ _ _ _ _ _ (ran.runs false here found.stands)) (λ reads. ran.still reads clean);
+      sound = λ other clean. found.sound (ran.clean false here found.stands clean);
+      room = λ anew. never_anew c.args.task c.requires.other anew;
+      occupied = λ trees anew. never_anew c.args.task c.requires.other anew;
+      opened = λ other. (world.rows.maps, found.good, unseen _ _ _ _ _ _ _ (ran.runs false here found.stands));
+    }
+
+pub returns-in-Err-clause-runs : goal.returns-in-Err-clause-runs
+returns-in-Err-clause-runs g c =
+    let fault = c.in-Err.fault in
+    let given = given_to g.S.Input.Read g.S.Host.BatchFiles g.S.Host.WorldFiles.denies g.S.Host.Ports g.S.Host.Source.Arrivals g.S.Host.Source.Reader.Read g.S.Host.Source.Reader.Incoming.fails g.S.Host.Source.Writer.Write c.args.session.now.input c.args.session.now.host c.args.session.now.host in
+    let old = g.S.Output.Write.contents c.args.session.now.output in
+    let new = g.S.Output.Write.contents c.report-session.new.output in
+    let run : Run = record { given = given; before = old; after = new; status = c.report-session.result } in
+    let reports = tells_fault fault c.refusal_of-failure.result old new c.report-session.result c.refusal_of-failure.ensures c.report-session.ensures in
+    record {
+      anew = λ anew. never_anew c.args.task c.requires.other anew;
+      over = λ other held holds clean. refused_onto (image_at g.S.File.Start) fault c.in-Err.remains run held (c.in-Err.ensures.refuses held holds clean) reports;
+      opened = λ other. refuses_file fault run reports;
+      left = still_held (image_at g.S.File.Start) fault c.in-Err.remains c.in-Err.ensures.refuses;
+      spared = λ trees anew. never_anew c.args.task c.requires.other anew;
+      unmade = λ trees anew. never_anew c.args.task c.requires.other anew;
+      spares = λ some whole. c.in-Err.ensures.refused.spared some;
+      fresh = λ anew. never_anew c.args.task c.requires.other anew;
+      begun = λ anew. never_anew c.args.task c.requires.other anew;
+      rests = refl;
+      told = inl (fault, c.in-Err.ensures.refused.stopped, reports);
+      cause = λ other s holds clean.
+          (fault, (c.in-Err.ensures.refuses (Database holds.trees) holds.holds clean).state s holds.such, c.in-Err.ensures.stopped s holds clean, reports);
+    }

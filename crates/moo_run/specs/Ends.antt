@@ -1,0 +1,190 @@
+-- The outcome of a run over a file, by what the file holds.
+use Rattle.std.specs.Prelude.{IsTrue, ◌≡◌, ◌<◌, ◌⊎◌, ℕ, true, false, List, Option, length, codes, ⊤}
+use Rattle.std.specs.Str.{bytes_eq}
+use Rattle.sqlite_disk.specs.declared.Disk.{Ghosts}
+use Rattle.sqlite_store.specs.declared.store.FileStore.{FileStore}
+use Rattle.sqlite_wal.specs.Recovery.{Image}
+use Rattle.sqlite.specs.Tree.{Trees}
+use Rattle.sqlite.specs.State.{HasCleanDisk}
+use Rattle.sqlite.specs.Held.{Held}
+use Rattle.sqlite.specs.Files.{IsNothing, file_state}
+use Rattle.moo_rows.specs.Maps.{Maps}
+use Rattle.moo_world.specs.Rows.{IsGood}
+use Rattle.moo_world.specs.Judge.{State, state_of}
+use Rattle.moo_tables.specs.Tables.{Tables}
+use Rattle.moo_cells.specs.Shows.{ShowsRows}
+use Rattle.moo_store.specs.Opening.{Says, IsOfStore}
+use Rattle.moo_store.specs.States.{LeavesRows, LeavesState}
+use Rattle.moo_tables.specs.Inside.{Leaves}
+use Rattle.moo_files.specs.Opened.{Contents, Nothing, Database, Unfit, Hold}
+use Rattle.moo_store.specs.Current.{BecomesCurrent, unread_from}
+use Rattle.moo_store.specs.Led.{LeavesLed}
+use Rattle.moo_store.specs.Untouched.{LeavesWritten}
+use Rattle.moo_store.specs.World.{CrashLeaves}
+use Rattle.moo_store.specs.declared.fault.StoreFault.{StoreFault}
+use Rattle.moo_files.specs.Contents.{HoldsSuch, HoldsTrees, HoldsState, HoldsNoTable, HasOtherTables, HasAnyTable, IsKept, ReadsAsOurs}
+use Rattle.moo_files.specs.Remains.{IsCleanRemains, MayStopAs, Spares, KeepsSuch, KeepsNothingBut, StillHolds, StillHoldsTrees}
+use Rattle.moo_files.specs.Blank.{IsBlank}
+use Rattle.moo_files.specs.Causes.{HasCauseOfState, IsDenied}
+use Rattle.moo_files.specs.Closing.{IsClosedFrom}
+use Rattle.moo_files.specs.declared.remains.Remains.{Remains}
+use Rattle.moo_files.specs.declared.remains.Remains.TheVariants as remains
+use Rattle.moo_cli.specs.declared.task.Task.{Task}
+use Rattle.moo_cli.specs.Tasks.{NamesTask, NamesAlone}
+use Rattle.moo_run_lines.specs.Lines.{Reports, store_failure}
+use Rattle.moo_run.specs.Given.{Run}
+use Rattle.moo_run.specs.Run.{begins_anew, only_reads, is_load, RefusesTask, BeginsWith, BeginsFrom, FailsToBegin}
+use Rattle.moo_run.specs.Run.{RunsFrom, RunsUnseen, RunsTask, FailsAtOnce, RefusesFile, EndsUsage}
+use Rattle.moo_run_lines.specs.declared.failure.Failure.{Failure}
+use Rattle.moo_run.specs.declared.ends.Ends.{Ends}
+use Rattle.moo_run.specs.declared.ends.Ends.TheVariants as variant
+
+-- a log and its file hold a database whose tables show these good rows
+abbrev pub HoldsRows : Image → Maps → Type 0
+HoldsRows image rows = IsGood rows × HoldsSuch (λ trees. LeavesRows trees rows) image
+
+-- a database of the new world that the task begins with
+abbrev pub LeavesNew : Task → Run → Trees → Type 0
+LeavesNew task run trees = (s : State) × BeginsWith task.action run.given s × LeavesState trees s
+
+module _ {D : Type 0} {g : Ghosts D} where
+  -- A task ran over its file from these rows. If the disk is clean, a crash leaves rows to which its batches lead, with all numbers kept.
+  abbrev pub RunsRows : Task → Maps → Held (FileStore D g) → Run → Type 0
+  RunsRows task rows conn run = RunsFrom task (state_of rows) run (HasCleanDisk (file_state conn)) (CrashLeaves (file_state conn))
+      (LeavesLed (file_state conn) rows) ⊤
+
+  -- the task ran over its file from s, with what a crash then leaves
+  abbrev pub RanFrom : Task → State → Held (FileStore D g) → Run → Type 0
+  RanFrom task s conn run = RunsFrom task s run (HasCleanDisk (file_state conn)) (CrashLeaves (file_state conn)) (λ _ _. ⊤) ⊤
+
+  -- A task ran over its file from these rows, which these tables of these trees showed, or those that they were migrated to. If the disk is
+  -- clean, a crash leaves tables to which its batches lead, each with the cells kept of every row and column that it leaves as it is; and the
+  -- table that isn't read has the rows that it had, or none after a migration.
+  abbrev pub RunsCells : Task → Trees → Tables → Maps → Held (FileStore D g) → Run → Type 0
+  RunsCells task trees tables rows conn run = (current : Tables) × BecomesCurrent tables current
+      × RunsFrom task (state_of rows) run (HasCleanDisk (file_state conn)) (CrashLeaves (file_state conn))
+      (LeavesWritten (file_state conn) rows current (unread_from tables.version trees)) ⊤
+
+module _ {D : Type 0} {g : Ghosts D} where
+  -- A task ran over this database: its tables are ours, and it ran from the state, the rows, the cells and the world that they show. After
+  -- one that only reads, a crash leaves the database, each cell as it was; or what that was migrated to.
+  pub record RanOn (task : Task) (trees : Trees) (conn : Held (FileStore D g)) (run : Run) : Type 0 where
+    pub ours : ¬ HasOtherTables trees
+    pub state : (s : State) → LeavesState trees s → RanFrom task s conn run
+    pub rows : (rows : Maps) → IsGood rows → LeavesRows trees rows → RunsRows task rows conn run
+    pub cells : (tables : Tables) (rows : Maps) → Leaves trees tables → IsGood rows → ShowsRows tables rows →
+        RunsCells task trees tables rows conn run
+    pub tables : (tables : Tables) → Leaves trees tables →
+        (rows : Maps) × IsGood rows × ShowsRows tables rows × RunsUnseen task (state_of rows) run
+    pub still : only_reads task.action ≡ true → (found : Trees) → (file_state conn).may_leave found → IsKept trees found
+
+  -- a task that takes up its file runs over a database of ours, and over nothing else
+  abbrev pub RanOnto : Task → Contents → Held (FileStore D g) → Run → Type 0
+  RanOnto task Nothing conn run = ⊥
+  RanOnto task (Database trees) conn run = RanOn task trees conn run
+  RanOnto task Unfit conn run = ⊥
+
+  -- the task ran over the file that held this image
+  pub record RanOver (task : Task) (image : Image) (conn : Held (FileStore D g)) (run : Run) : Type 0 where
+    -- it begins with a new world, and runs from that, which is made only if the files have room for it: never over a world or a table
+    pub anew : begins_anew task ≡ true → (rows : Maps) × BeginsFrom task.action run.given rows × RunsRows task rows conn run
+    pub room : begins_anew task ≡ true → HasCleanDisk (file_state conn) → HoldsNoTable image
+    pub taken : (s : State) → begins_anew task ≡ true → HoldsState image s → HasCleanDisk (file_state conn) → ⊥
+    pub occupied : (trees : Trees) → begins_anew task ≡ true → HoldsTrees image trees → HasAnyTable trees →
+        HasCleanDisk (file_state conn) → ⊥
+    -- or it takes up what the file holds, and runs from a well formed world whatever that is
+    pub over : begins_anew task ≡ false → (held : Contents) → Hold image held → HasCleanDisk (file_state conn) → RanOnto task held conn run
+    pub sound : begins_anew task ≡ false → HasCleanDisk (file_state conn) → ReadsAsOurs image
+    pub opened : begins_anew task ≡ false → (rows : Maps) × IsGood rows × RunsUnseen task (state_of rows) run
+
+module _ {T D : Type 0} {g : Ghosts D} where
+  -- there is a file: the task ran over its world, or no world was opened or made
+  abbrev pub MatchFile : Ends T D g → (Held (FileStore D g) → Type 0) → (Remains T D g → Type 0) → Type 0
+  MatchFile (variant.Ran conn) Ran Refused = Ran conn
+  MatchFile (variant.Refused remains) Ran Refused = Refused remains
+  MatchFile (variant.NoFile start) Ran Refused = ⊥
+
+  -- The words have no file, and none was opened: the start is unspent.
+  abbrev pub HasNoFile : Ends T D g → Type 0
+  HasNoFile (variant.Ran conn) = ⊥
+  HasNoFile (variant.Refused remains) = ⊥
+  HasNoFile (variant.NoFile start) = ⊤
+
+  -- it fails at once, for a cause, over the file of this path, which held this image
+  abbrev pub FailsFor : List ℕ → Image → Remains T D g → Run → Type 0
+  FailsFor path image rest run =
+      (fault : StoreFault) × IsOfStore fault × HasCauseOfState image (IsDenied run.given.denies path) fault rest
+      × Reports (store_failure fault) run.before run.after run.status
+
+  -- files that were never opened: the start is unspent
+  abbrev pub IsUntouched : Remains T D g → Type 0
+  IsUntouched left = (start : T) × (left ≡ remains.Untouched start)
+
+  -- This database is refused: a damage that the line tells is that of its tables, and none is told of a state or of other tables. It is
+  -- kept, damaged or of other tables as it is, or migrated.
+  pub record RefusedOn (trees : Trees) (image : Image) (rest : Remains T D g) (run : Run) : Type 0 where
+    pub state : (s : State) → LeavesState trees s → FailsAtOnce run
+    pub tables : (tables : Tables) → Leaves trees tables →
+        (fault : StoreFault) × Says tables fault × Reports (store_failure fault) run.before run.after run.status
+    pub other : HasOtherTables trees → FailsAtOnce run
+    pub kept : StillHoldsTrees image rest trees
+
+  -- anything else is refused because the store fails, or memory ran out
+  abbrev pub RefusedOnto : Contents → Image → Remains T D g → Run → Type 0
+  RefusedOnto Nothing image rest run = FailsAtOnce run × KeepsNothingBut (λ _. ⊥) image rest
+  RefusedOnto (Database trees) image rest run = RefusedOn trees image rest run
+  RefusedOnto Unfit image rest run = FailsAtOnce run
+
+  -- no world was opened or made of the file that held this image, and this is what is left of it
+  pub record RefusedOver (task : Task) (image : Image) (rest : Remains T D g) (run : Run) : Type 0 where
+    -- a new world can't be made
+    pub anew : begins_anew task ≡ true → FailsToBegin task run
+    -- or what the file holds isn't taken up
+    pub over : begins_anew task ≡ false → (held : Contents) → Hold image held → IsCleanRemains rest → RefusedOnto held image rest run
+    pub opened : begins_anew task ≡ false → RefusesFile run
+    -- it holds its state still, and so does what a crash leaves of it; and if it held anything, sound or not, it is spared
+    pub left : (s : State) → HoldsState image s → IsCleanRemains rest → StillHolds image rest s
+    pub spares : ¬ IsNothing image → (begins_anew task ≡ true → ¬ IsBlank image) → IsCleanRemains rest → Spares image rest
+    -- No new world is put in place of a table, but into a database without any, and then whole or not at all.
+    pub spared : (trees : Trees) → begins_anew task ≡ true → HoldsTrees image trees → HasAnyTable trees → IsCleanRemains rest →
+        KeepsSuch (λ found. found ≡ trees) image rest
+    pub unmade : (trees : Trees) → begins_anew task ≡ true → HoldsTrees image trees → IsCleanRemains rest →
+        KeepsSuch (λ found. (found ≡ trees) ⊎ LeavesNew task run found) image rest
+    -- Of files that held nothing, or half a first page, a new world that can't be made leaves no more than they held, a database without
+    -- rows, or that world, whole.
+    pub fresh : begins_anew task ≡ true → IsNothing image → IsCleanRemains rest → KeepsNothingBut (LeavesNew task run) image rest
+    pub begun : begins_anew task ≡ true → IsBlank image → IsCleanRemains rest → KeepsNothingBut (LeavesNew task run) image rest
+    -- nothing is asked of the ports
+    pub rests : run.given.ports.rests
+    -- if no file was opened, the line tells why; or the start is unspent, and the line tells why a dump gives no world
+    pub told : ((fault : StoreFault) × MayStopAs fault rest × Reports (store_failure fault) run.before run.after run.status)
+        ⊎ (IsTrue (is_load task.action) × IsUntouched rest × (failure : Failure)
+        × RefusesTask run.given task.action failure × Reports failure run.before run.after run.status)
+    -- A state is refused only if the host denied the file, its disk failed or refused, or memory ran out. Only one of an earlier version may
+    -- be refused because it can't be migrated.
+    pub cause : begins_anew task ≡ false → (s : State) → HoldsState image s → IsCleanRemains rest → FailsFor task.file.now image rest run
+
+  -- a task over the file that held this image
+  abbrev pub RunsFile : Task → Image → Ends T D g → Run → Type 0
+  RunsFile task image ends run = MatchFile ends (λ conn. RanOver task image conn run) (λ rest. RefusedOver task image rest run)
+
+  -- a task on a file runs over it, and one on `:memory:` over none, whatever file there is
+  pub record EndsWith (task : Task) (image : Image) (ends : Ends T D g) (run : Run) : Type 0 where
+    pub file : bytes_eq task.file.now (codes ":memory:") ≡ false → RunsFile task image ends run
+    pub memory : bytes_eq task.file.now (codes ":memory:") ≡ true → HasNoFile ends
+
+  -- the outcome of the words if their file held this image
+  abbrev pub RunsOver : List (List ℕ) → Image → Ends T D g → Run → Type 0
+  RunsOver words image ends run =
+      ((task : Task) × NamesTask words task × NamesAlone words task × RunsTask task run × EndsWith task image ends run)
+      ⊎ ((1 < length words) × run.given.ports.rests × EndsUsage words run.before run.after run.status × HasNoFile ends)
+
+  -- the file of a run was closed: what it then holds, and what a crash leaves of it, is what a crash might have left before
+  abbrev pub IsClosedEnd : Ends T D g → Remains T D g → Type 0
+  IsClosedEnd (variant.Ran conn) now = IsClosedFrom (remains.Connection conn) now
+  IsClosedEnd (variant.Refused was) now = IsClosedFrom was now
+  IsClosedEnd (variant.NoFile start) now = now ≡ remains.Untouched start
+
+  -- the words were run so, and then the file was closed
+  abbrev pub RunsClosed : List (List ℕ) → Image → Remains T D g → Run → Type 0
+  RunsClosed words image closed run = (ends : Ends T D g) × RunsOver words image ends run × IsClosedEnd ends closed

@@ -1,0 +1,447 @@
+-- What a run of the program writes, the status that it ends with, and what a crash then leaves.
+use Rattle.std.specs.Prelude.{◌≡◌, ◌<◌, ◌≤◌, ◌⊎◌, ◌==◌, ◌||◌, ℕ, Bool, true, false, IsTrue, ⊤, if◌then◌else◌}
+use Rattle.std.specs.Prelude.{List, [], ◌++◌, take, length, Option, Some, None, IfSome, Result, MatchResult, codes}
+use Rattle.std.specs.Str.{bytes_eq}
+use Rattle.std.specs.Io.KnownBytes.{Appends}
+use Rattle.clap.specs.Kinds.{IsAmong}
+use Rattle.clap.specs.declared.error.kind.ErrorKind.{ErrorKind}
+use Rattle.clap.specs.declared.error.kind.ErrorKind.TheVariants.{DisplayHelp, DisplayVersion}
+use Rattle.sqlite.specs.State.{State as Database, HasCleanDisk}
+use Rattle.sqlite.specs.Held.{Held, state}
+use Rattle.sqlite.specs.Tree.{Trees}
+use Rattle.sqlite.specs.Store.{Ghosts}
+use Rattle.moo_world.specs.declared.call.Batch.{Batch}
+use Rattle.moo_rows.specs.Maps.{Maps}
+use Rattle.moo_rows.specs.Opening.{opening_maps}
+use Rattle.moo_world.specs.Rows.{IsGood}
+use Rattle.moo_world.specs.Judge.{State, state_of}
+use Rattle.moo_world.specs.ObjectLists.{objects_of}
+use Rattle.moo_tables.specs.Tables.{Tables}
+use Rattle.moo_tables.specs.Inside.{Rests}
+use Rattle.moo_cells.specs.Shows.{ShowsRows}
+use Rattle.moo_text.specs.Items.{items}
+use Rattle.moo_text.specs.declared.fault.TextFault.{TextFault}
+use Rattle.moo_dump.specs.Dump.{dump as dump_of}
+use Rattle.moo_load.specs.OneState.{IsHeld}
+use Rattle.moo_load.specs.RowsOf.{AreRowsOf}
+use Rattle.moo_store.specs.declared.fault.StoreFault.{StoreFault}
+use Rattle.moo_store.specs.declared.course.Course.{Course}
+use Rattle.moo_store.specs.Stand.{Stand, Works, RunsBatch, AsksBatch}
+use Rattle.moo_text.specs.declared.reply.Answer.{Answer}
+use Rattle.moo_store.specs.Turns.{Completes, Halts}
+use Rattle.moo_store.specs.Stopping.{CompletesUntil, HaltsUntil, EndsEarly}
+use Rattle.moo_store.specs.Rehearsed.{RehearsesBatch}
+use Rattle.moo_store.specs.Text.{accepted, faulted}
+use Rattle.moo_store.specs.Current.{unread_of}
+use Rattle.moo_store.specs.Led.{LeavesLed}
+use Rattle.moo_store.specs.Untouched.{LeavesWritten}
+use Rattle.moo_store.specs.Opening.{Says, IsOfStore}
+use Rattle.moo_store.specs.States.{LeavesState}
+use Rattle.moo_store.specs.Kept.{World}
+use Rattle.moo_store.specs.World.{store_of, CrashLeaves}
+use Rattle.moo_cli.specs.declared.task.Task.{Task}
+use Rattle.moo_cli.specs.declared.task.Action.{Action}
+use Rattle.moo_cli.specs.declared.task.Action.TheVariants.{Init, Apply, Rehearse, Ask, Dump, Load, Check, Serve}
+use Rattle.moo_http.specs.Ledger.{Ledger, no_batches}
+use Rattle.moo_http.specs.Lines.{listening_line}
+use Rattle.moo_http.specs.Turns.{Attendance, SaysAttended}
+use Rattle.moo_run.specs.Given.{Given, Run}
+use Rattle.moo_cli.specs.Tasks.{NamesTask, NamesAlone, NamesNone, text_word, mistakes}
+use Rattle.moo_run_lines.specs.Lines.{Reports, WritesLine, text_failure, store_failure, created_line, loaded_line, checked_line}
+use Rattle.moo_run_lines.specs.declared.failure.Failure.{Failure}
+use Rattle.moo_run_lines.specs.declared.failure.Failure.TheVariants.{Usage, NoFile, Store, Damaged, NewerVersion, NotADump, NoBatches}
+use Rattle.moo_run_lines.specs.declared.failure.Failure.TheVariants.{Read, TooLong, Write, Port, NoMemory}
+
+-- ---- tasks
+
+-- `init` and `load` make the world of their file
+abbrev pub makes_world : Action → Bool
+makes_world Init = true
+makes_world (Load dump) = true
+makes_world action = false
+
+-- the task begins with a new world: `init`, `load`, and each task on `:memory:`
+abbrev pub begins_anew : Task → Bool
+begins_anew task = makes_world task.action || bytes_eq task.file.now (codes ":memory:")
+
+-- the world that it makes is read from a dump
+abbrev pub is_load : Action → Bool
+is_load (Load dump) = true
+is_load action = false
+
+-- the word for that dump
+abbrev pub dump_word : Action → List ℕ
+dump_word (Load dump) = dump.now
+dump_word action = []
+
+-- the word names the input
+abbrev pub is_input : Option (List ℕ) → Bool
+is_input None = false
+is_input (Some word) = bytes_eq word (codes "-")
+
+-- the task reads the input
+abbrev pub reads_input : Task → Bool
+reads_input task = is_input (text_word task.action)
+
+-- the task reads the file of this path
+abbrev pub ReadsFile : Task → List ℕ → Type 0
+ReadsFile task path = (text_word task.action ≡ Some path) × (bytes_eq path (codes "-") ≡ false)
+
+-- the input is as it was, unless the words name a task that reads it
+abbrev pub KeepsInput : {R : Type 0} → List (List ℕ) → R → R → Type 0
+KeepsInput words old new = ((task : Task) → NamesTask words task → reads_input task ≡ false) → new ≡ old
+
+-- Once its world is open or made, the task only reads it: all but `apply` and `serve`. A rehearsal changes it in memory alone.
+abbrev pub only_reads : Action → Bool
+only_reads (Apply batches) = false
+only_reads (Serve service) = false
+only_reads action = true
+
+-- the task answers connections
+abbrev pub serves : Action → Bool
+serves (Serve service) = true
+serves action = false
+
+-- the dump of this state is the text, byte for byte, if it is known
+abbrev pub IsDumpedAs : Option (List ℕ) → State → Type 0
+IsDumpedAs text s = IfSome text (λ bytes. dump_of s ≡ bytes)
+
+-- The state of the new world that a task begins with: a well formed one that is dumped as the text of the dump, or the opening state.
+abbrev pub BeginsWith : Action → Given → State → Type 0
+BeginsWith (Load dump) given s = IsDumpedAs (given.text dump.now) s × IsHeld s
+BeginsWith action given s = s ≡ state_of opening_maps
+
+-- The numbers in the rows of that world: properties and verbs are numbered from 1, in the order of the dump; or they are those of the
+-- opening world.
+abbrev pub BeginsNumbered : Action → Maps → Type 0
+BeginsNumbered (Load dump) rows = AreRowsOf (state_of rows) rows
+BeginsNumbered action rows = rows ≡ opening_maps
+
+-- the rows of the new world that a task begins with
+pub record BeginsFrom (action : Action) (given : Given) (rows : Maps) : Type 0 where
+  pub good : IsGood rows
+  pub world : BeginsWith action given (state_of rows)
+  pub numbers : BeginsNumbered action rows
+
+-- 1 if an answer is `fault` or `closed`
+abbrev pub lost_status : ℕ → ℕ
+lost_status lost = if lost == 0 then 0 else 1
+
+-- the status of a text that was answered so far: 1 if it stopped
+abbrev pub course_status : Course → ℕ
+course_status course = if course.stopped then 1 else lost_status course.tally.lost
+
+-- ---- a task over a world
+
+-- what is said of the batches that were acknowledged, and of those in which the store failed
+abbrev pub Leads : Type 1
+Leads = List Batch → List Batch → Type 0
+
+-- what is said of one batch: where it began, its answer, and where it left off
+abbrev pub Steps : Type 1
+Steps = Stand → Batch → Answer → Stand → Type 0
+
+-- A text of batches is answered to its end. Or it ends after the first answer that isn't `accepted`, if it was to stop there, and the
+-- status is 1.
+abbrev pub AnswersText : Steps → Leads → Bool → State → Stand → Option (List ℕ) → Option (List ℕ) → Option (List ℕ) → ℕ → Type 0
+AnswersText step Led stop s end text old new status =
+    ((batches lost : ℕ) × (run : CompletesUntil step stop (Works s) end text old new batches lost) × (status ≡ lost_status lost)
+    × Led (accepted (items run.0.given) run.0.answers) (faulted (items run.0.given) run.0.answers))
+    ⊎ ((stop ≡ true) × (batches lost : ℕ) × (run : EndsEarly step (Works s) end text old new batches lost) × (status ≡ 1)
+    × Led (accepted run.done run.answers) (faulted run.done run.answers))
+
+-- if the failure is that a file of batches or a dump can't be opened, it is this one
+abbrev pub TellsLack : (List ℕ → Type 0) → List ℕ → Failure → Type 0
+TellsLack lacks path failure = failure ≡ NoBatches → lacks path
+
+-- a fault stops it; or its file can't be opened, and nothing is done
+abbrev pub StopsText : Steps → Leads → Bool → State → Stand → Failure → Option (List ℕ) → Option (List ℕ) → Option (List ℕ) → Type 0
+StopsText step Led stop s end failure text old new =
+    ((fault : TextFault) × (failure ≡ text_failure fault) × (run : HaltsUntil step stop (Works s) end text old new fault)
+    × Led (accepted run.0.done run.0.answers ++ accepted run.0.hand run.0.last)
+    (faulted run.0.done run.0.answers ++ faulted run.0.hand run.0.last))
+    ⊎ ((failure ≡ NoBatches) × (end ≡ Works s) × (new ≡ old) × Led [] [])
+
+-- a text of batches is run
+abbrev pub AppliesText : Leads → Bool → State → Stand → Option (List ℕ) → Option (List ℕ) → Option (List ℕ) → ℕ → Type 0
+AppliesText Led = AnswersText RunsBatch Led
+
+abbrev pub StopsApplying : Leads → Bool → State → Stand → Failure → Option (List ℕ) → Option (List ℕ) → Option (List ℕ) → Type 0
+StopsApplying Led = StopsText RunsBatch Led
+
+-- A text of batches is rehearsed: what is written and the status are those of a run of it, which ends somewhere.
+abbrev pub RehearsesText : Bool → State → Option (List ℕ) → Option (List ℕ) → Option (List ℕ) → ℕ → Type 0
+RehearsesText stop s text old new status = (end : Stand) × AnswersText RehearsesBatch (λ _ _. ⊤) stop s end text old new status
+
+abbrev pub StopsRehearsing : Bool → State → Failure → Option (List ℕ) → Option (List ℕ) → Option (List ℕ) → Type 0
+StopsRehearsing stop s failure text old new = (end : Stand) × StopsText RehearsesBatch (λ _ _. ⊤) stop s end failure text old new
+
+-- a text of batches is asked to its end
+abbrev pub AsksText : State → Option (List ℕ) → Option (List ℕ) → Option (List ℕ) → ℕ → Type 0
+AsksText s text old new status =
+    (batches lost : ℕ) × Completes AsksBatch (Works s) (Works s) text old new batches lost × (status ≡ lost_status lost)
+
+-- it stops; or its file can't be opened, and nothing is done
+abbrev pub StopsAsking : State → Failure → Option (List ℕ) → Option (List ℕ) → Option (List ℕ) → Type 0
+StopsAsking s failure text old new =
+    ((fault : TextFault) × (failure ≡ text_failure fault) × Halts AsksBatch (Works s) (Works s) text old new fault)
+    ⊎ ((failure ≡ NoBatches) × (new ≡ old))
+
+-- The connections that came to a port were served, so many of them, and what is said of them is written. The world moved by what they
+-- asked, and by nothing else: the ledger has just the batches that they asked and that were run.
+abbrev pub Serving : Attendance → ℕ → ℕ → Ledger → State → Stand → Option (List ℕ) → Option (List ℕ) → ℕ → Type 0
+Serving ports port count ledger s end old new status =
+    (text : List ℕ) × SaysAttended ports port count ledger (Works s) end text × Appends old new text × (status ≡ 0)
+
+-- The task is done, and this is its run. `Led` is true of the batches that it ran, and a check found the tables as `Shown` says.
+abbrev pub Done : Action → State → Stand → Leads → Type 0 → Run → Type 0
+Done Init s end Led Shown run = (end ≡ Works s) × Appends run.before run.after created_line × (run.status ≡ 0)
+Done (Apply batches) s end Led Shown run =
+    AppliesText Led batches.options.stop s end (run.given.text batches.path.now) run.before run.after run.status
+Done (Rehearse batches) s end Led Shown run =
+    (end ≡ Works s) × RehearsesText batches.options.stop s (run.given.text batches.path.now) run.before run.after run.status
+Done (Ask batches) s end Led Shown run = (end ≡ Works s) × AsksText s (run.given.text batches.now) run.before run.after run.status
+Done Dump s end Led Shown run = (end ≡ Works s) × Appends run.before run.after (dump_of s) × (run.status ≡ 0)
+Done (Load dump) s end Led Shown run =
+    (end ≡ Works s) × Appends run.before run.after (loaded_line s.seq (length (objects_of s.world))) × (run.status ≡ 0)
+Done Check s end Led Shown run =
+    (end ≡ Works s) × Shown × Appends run.before run.after (checked_line s.seq (length (objects_of s.world))) × (run.status ≡ 0)
+Done (Serve service) s end Led Shown run =
+    (ledger : Ledger) × Serving run.given.ports service.port service.count ledger s end run.before run.after run.status
+    × Led ledger.taken ledger.lost
+
+-- a front of a text is written, since the writer failed or memory ran out
+abbrev pub StopsIn : List ℕ → Failure → Option (List ℕ) → Option (List ℕ) → Type 0
+StopsIn text failure old new = ((failure ≡ Write) ⊎ (failure ≡ NoMemory)) × (count : ℕ) × Appends old new (take count text)
+
+-- The port can't be listened on, and nothing is done. Or what is said of the service stops in its first line, and no connection is taken
+-- from the port; or after the last one.
+abbrev pub StopsServing : Attendance → ℕ → ℕ → Ledger → State → Stand → Failure → Option (List ℕ) → Option (List ℕ) → Type 0
+StopsServing ports port count ledger s end failure old new =
+    ((failure ≡ Port) × (end ≡ Works s) × (ledger ≡ no_batches) × ports.refuses port × (new ≡ old))
+    ⊎ ((end ≡ Works s) × (ledger ≡ no_batches) × ports.attends port 0 0 ledger (Works s) end
+    × StopsIn (listening_line port) failure old new)
+    ⊎ ((text : List ℕ) × SaysAttended ports port count ledger (Works s) end text × StopsIn text failure old new)
+
+-- It stops with this failure, and so much is written. On a clean disk no check of a World that stands for a state finds a damage.
+abbrev pub StopsTask : Action → State → Stand → Failure → Leads → Type 0 → Run → Type 0
+StopsTask Init s end failure Led Clean run = (end ≡ Works s) × StopsIn created_line failure run.before run.after
+StopsTask (Apply batches) s end failure Led Clean run =
+    StopsApplying Led batches.options.stop s end failure (run.given.text batches.path.now) run.before run.after
+    × TellsLack run.given.lacks batches.path.now failure
+StopsTask (Rehearse batches) s end failure Led Clean run =
+    (end ≡ Works s) × StopsRehearsing batches.options.stop s failure (run.given.text batches.path.now) run.before run.after
+    × TellsLack run.given.lacks batches.path.now failure
+StopsTask (Ask batches) s end failure Led Clean run =
+    (end ≡ Works s) × StopsAsking s failure (run.given.text batches.now) run.before run.after
+    × TellsLack run.given.lacks batches.now failure
+StopsTask Dump s end failure Led Clean run = (end ≡ Works s) × StopsIn (dump_of s) failure run.before run.after
+StopsTask (Load dump) s end failure Led Clean run =
+    (end ≡ Works s) × StopsIn (loaded_line s.seq (length (objects_of s.world))) failure run.before run.after
+StopsTask Check s end failure Led Clean run =
+    (end ≡ Works s)
+    × (((fault : StoreFault) × (failure ≡ store_failure fault) × (Clean → IsOfStore fault) × (run.after ≡ run.before))
+    ⊎ StopsIn (checked_line s.seq (length (objects_of s.world))) failure run.before run.after)
+StopsTask (Serve service) s end failure Led Clean run =
+    (ledger : Ledger) × StopsServing run.given.ports service.port service.count ledger s end failure run.before run.after
+    × Led ledger.taken ledger.lost
+
+-- a crash leaves nothing that it couldn't leave before
+abbrev pub LeavesNothingNew : Database → Database → Type 0
+LeavesNothingNew old new = HasCleanDisk new → (trees : Trees) → new.may_leave trees → old.may_leave trees
+
+-- What was done to a World leaves it so: if the disk returns what was written, it did so before, and what a crash leaves is known.
+pub record EndsTask {S : Type 0} (g : Ghosts S) (known : Bool) (was world : World S) (End : Stand → Type 0) : Type 0 where
+  pub end : Stand
+  pub clean : HasCleanDisk (store_of g world) → HasCleanDisk (store_of g was)
+  pub crash : IsTrue known → HasCleanDisk (store_of g world) → CrashLeaves (store_of g world) end
+  pub ends : End end
+
+-- Whatever a crash leaves shows rows that these batches lead to from those before, or these and one of the others. Of any tables that were
+-- in the store before, it has the cells kept of all that they leave as it is, and the table that isn't read as it was.
+abbrev pub LeadsFrom : Database → Database → Maps → Leads
+LeadsFrom was store rows batches others =
+    LeavesLed store rows batches others
+    × ((tables : Tables) → Rests was tables → LeavesWritten store rows tables (unread_of was.now.trees) batches others)
+
+-- so these batches lead on from the rows and the tables of the World before
+abbrev pub MayLead : {S : Type 0} → Ghosts S → Bool → World S → World S → Leads
+MayLead g known was world batches others =
+    IsTrue known × HasCleanDisk (store_of g world) → LeadsFrom (store_of g was) (store_of g world) was.rows.maps batches others
+
+-- If the disk returned what was written, any tables that were at rest in the store of this World show its rows.
+abbrev pub ShowsTables : {S : Type 0} → Ghosts S → World S → Database → Type 0
+ShowsTables g world after = HasCleanDisk after → (tables : Tables) → Rests (store_of g world) tables → ShowsRows tables world.rows.maps
+
+module _ {S : Type 0} (g : Ghosts S) (known : Bool) (was world : World S) where
+  -- A text of batches was run over the World, which stood for a state, to its end or until it stopped; by its course.
+  abbrev pub RunsText : Bool → State → Option (List ℕ) → Option (List ℕ) → Option (List ℕ) → Result Course Failure → Type 0
+  RunsText stop s text old new r = MatchResult r
+      (λ course. EndsTask g known was world (λ end. AppliesText (MayLead g known was world) stop s end text old new (course_status course)))
+      (λ failure. EndsTask g known was world (λ end. StopsApplying (MayLead g known was world) stop s end failure text old new))
+
+  -- A task was done over the World, which stood for a state, or it stopped; by its status.
+  abbrev pub RunsAction : Action → State → Run → Result ℕ Failure → Type 0
+  RunsAction action s run r = MatchResult r
+      (λ status. EndsTask g known was world (λ end.
+      Done action s end (MayLead g known was world) (ShowsTables g was (store_of g world)) (record run { status = status })))
+      (λ failure. EndsTask g known was world (λ end.
+      StopsTask action s end failure (MayLead g known was world) (IsTrue known × HasCleanDisk (store_of g world)) run))
+
+-- A text of batches was rehearsed to its end, or stopped; by its status.
+abbrev pub RehearsesBy : Bool → State → Option (List ℕ) → Option (List ℕ) → Option (List ℕ) → Result ℕ Failure → Type 0
+RehearsesBy stop s text old new r =
+    MatchResult r (RehearsesText stop s text old new) (λ failure. StopsRehearsing stop s failure text old new)
+
+-- A text of batches was asked to its end, or stopped; by its status.
+abbrev pub AsksBy : State → Option (List ℕ) → Option (List ℕ) → Option (List ℕ) → Result ℕ Failure → Type 0
+AsksBy s text old new r = MatchResult r (AsksText s text old new) (λ failure. StopsAsking s failure text old new)
+
+-- ---- a task over a connection
+
+-- A task runs from a world of this state: it is done, or stops and the failure is reported. If the disk is clean, a crash then
+-- leaves what its end tells: the state after the last acknowledged batch, or if the store failed in a batch, that or the one after it.
+-- And `Led` is true of the batches that it ran: a task that only reads runs none. If it is a check that is done, it found the tables as
+-- `Shown` says.
+pub record RunsFrom (task : Task) (s : State) (run : Run) (Clean : Type 0) (Crash : Stand → Type 0) (Led : Leads) (Shown : Type 0)
+    : Type 0 where
+  pub end : Stand
+  pub crash : Clean → Crash end
+  pub still : only_reads task.action ≡ true → Clean → Led [] []
+  -- only a task that serves asks anything of the ports
+  pub rests : serves task.action ≡ false → run.given.ports.rests
+  pub writes :
+      Done task.action s end (λ batches others. Clean → Led batches others) Shown run
+      ⊎ ((failure : Failure) × (between : Option (List ℕ))
+      × StopsTask task.action s end failure (λ batches others. Clean → Led batches others) Clean (record run { after = between })
+      × Reports failure between run.after run.status)
+
+-- the same, if nothing is known of the disk and the tables
+abbrev pub RunsUnseen : Task → State → Run → Type 0
+RunsUnseen task s run = RunsFrom task s run ⊥ (λ _. ⊥) (λ _ _. ⊥) ⊤
+
+module _ {S : Type 0} (g : Ghosts S) where
+  -- A task ran over this World from a state, and left this connection. Its batches led on from the rows and the tables of the World.
+  abbrev pub RunsIn : Bool → World S → Held S → Task → State → Run → Type 0
+  RunsIn known world conn task s run = RunsFrom task s run (IsTrue known × HasCleanDisk (state g conn)) (CrashLeaves (state g conn))
+      (LeadsFrom (store_of g world) (state g conn) world.rows.maps) (ShowsTables g world (state g conn))
+
+  -- A task ran from a state, and left this connection. Nothing is said of the rows.
+  abbrev pub RunsOn : Held S → Task → State → Run → Type 0
+  RunsOn conn task s run = RunsFrom task s run (HasCleanDisk (state g conn)) (CrashLeaves (state g conn)) (λ _ _. ⊤) ⊤
+
+-- a failure of the store, or memory ran out
+abbrev pub IsOpening : Failure → Type 0
+IsOpening (Store error) = ⊤
+IsOpening NoMemory = ⊤
+IsOpening failure = ⊥
+
+-- why a file isn't opened, whatever it holds: it is missing, damaged or of a later version, or one of these two
+abbrev pub MayRefuse : Failure → Type 0
+MayRefuse NoFile = ⊤
+MayRefuse (Damaged kind key) = ⊤
+MayRefuse NewerVersion = ⊤
+MayRefuse failure = IsOpening failure
+
+abbrev pub RefusesFile : Run → Type 0
+RefusesFile run = (failure : Failure) × MayRefuse failure × Reports failure run.before run.after run.status
+
+-- no world is opened or made, and that alone is reported
+abbrev pub FailsAtOnce : Run → Type 0
+FailsAtOnce run = (failure : Failure) × IsOpening failure × Reports failure run.before run.after run.status
+
+-- why a dump gives no world: it is missing, can't be read, is too long, isn't a dump, or shows no world; or memory ran out
+abbrev pub IsOfDump : Failure → Type 0
+IsOfDump NoBatches = ⊤
+IsOfDump Read = ⊤
+IsOfDump TooLong = ⊤
+IsOfDump (NotADump line) = ⊤
+IsOfDump (Damaged kind key) = ⊤
+IsOfDump NoMemory = ⊤
+IsOfDump failure = ⊥
+
+-- why a dump gives no text: it is missing, can't be read, or memory ran out
+abbrev pub GivesNoText : Failure → Type 0
+GivesNoText NoBatches = ⊤
+GivesNoText Read = ⊤
+GivesNoText NoMemory = ⊤
+GivesNoText failure = ⊥
+
+-- Why the dump of this text gives no world, if the text is known. That of a well formed state, of at most 1,073,741,824 bytes, is refused
+-- only if it gives no text.
+abbrev pub RefusesDump : Option (List ℕ) → Failure → Type 0
+RefusesDump text failure =
+    IsOfDump failure
+    × IfSome text (λ bytes. (s : State) → IsHeld s → dump_of s ≡ bytes → length bytes ≤ 1073741824 → GivesNoText failure)
+
+-- why the dump of a task gives no world: its text does, or its file can't be opened
+abbrev pub RefusesTask : Given → Action → Failure → Type 0
+RefusesTask given action failure =
+    RefusesDump (given.text (dump_word action)) failure × TellsLack given.lacks (dump_word action) failure
+
+-- why a new world can't be made: a failure of opening, or the dump gives no world
+abbrev pub MayNotBegin : Task → Given → Failure → Type 0
+MayNotBegin task given failure =
+    IsOpening failure ⊎ (IsTrue (is_load task.action) × RefusesTask given task.action failure)
+
+abbrev pub FailsToBegin : Task → Run → Type 0
+FailsToBegin task run = (failure : Failure) × MayNotBegin task run.given failure × Reports failure run.before run.after run.status
+
+-- a new world can't be made, and nothing is asked of the ports; or the task runs from the one that it begins with
+abbrev pub RunsNew : Task → Run → Type 0
+RunsNew task run =
+    (run.given.ports.rests × FailsToBegin task run) ⊎ ((s : State) × BeginsWith task.action run.given s × RunsUnseen task s run)
+
+-- a crash leaves nothing that it couldn't leave before, but tables that show this state
+abbrev pub LeavesAsBefore : State → Database → Database → Type 0
+LeavesAsBefore s old new = (trees : Trees) → new.may_leave trees → old.may_leave trees ⊎ LeavesState trees s
+
+module _ {S : Type 0} (g : Ghosts S) (task : Task) (run : Run) where
+  -- A new world can't be made, and nothing is asked of the ports; or the task runs from the one that it begins with, and leaves this
+  -- connection.
+  abbrev pub RunsAnew : Held S → Type 0
+  RunsAnew conn =
+      (run.given.ports.rests × FailsToBegin task run) ⊎ ((s : State) × BeginsWith task.action run.given s × RunsOn g conn task s run)
+
+  -- It fails at once, nothing is asked of the ports, and a crash leaves what it left before; or the task runs from this state of the first
+  -- connection, and leaves the second.
+  abbrev pub RunsKept : State → Held S → Held S → Type 0
+  RunsKept s was conn =
+      (run.given.ports.rests × FailsAtOnce run × LeavesAsBefore s (state g was) (state g conn)) ⊎ RunsOn g conn task s run
+
+-- the status of a mistake in the words; asking for help or the version is 0
+abbrev pub mistake_status : ErrorKind → ℕ
+mistake_status DisplayHelp = 0
+mistake_status DisplayVersion = 0
+mistake_status mistake = 2
+
+-- The words have a mistake, and what their reader says of it is written, with its status. Or a line of our own says that memory ran out,
+-- or that they name no task.
+abbrev pub EndsUsage : List (List ℕ) → Option (List ℕ) → Option (List ℕ) → ℕ → Type 0
+EndsUsage words old new status =
+    ((mistake : ErrorKind) × IsAmong mistake (mistakes words) × (text : List ℕ) × WritesLine text (mistake_status mistake) old new status)
+    ⊎ Reports NoMemory old new status
+    ⊎ (NamesNone words × Reports Usage old new status)
+
+-- a file is refused, and nothing is asked of the ports; or the task runs from a well formed world
+abbrev pub RunsOpened : Task → Run → Type 0
+RunsOpened task run = (run.given.ports.rests × RefusesFile run) ⊎ ((rows : Maps) × IsGood rows × RunsUnseen task (state_of rows) run)
+
+-- the task runs from the world that these tables show; or the line tells a fault of theirs, and nothing is asked of the ports
+abbrev pub RunsShown : Task → Tables → Run → Type 0
+RunsShown task tables run =
+    (run.given.ports.rests × (fault : StoreFault) × Says tables fault × Reports (store_failure fault) run.before run.after run.status)
+    ⊎ ((rows : Maps) × IsGood rows × ShowsRows tables rows × RunsUnseen task (state_of rows) run)
+
+-- The outcome of a task, whatever its file holds. If it begins with a new world, it runs from that, or it can't be made. Any
+-- other runs from the world that was found in its file, or the file is refused. (That it is the world which the file's tables
+-- show, `RunsFile` says.)
+pub record RunsTask (task : Task) (run : Run) : Type 0 where
+  pub anew : begins_anew task ≡ true → RunsNew task run
+  pub opened : begins_anew task ≡ false → RunsOpened task run
+
+-- the same of the task that the words name; or they have a mistake, and nothing is asked of the ports
+abbrev pub RunsWords : List (List ℕ) → Run → Type 0
+RunsWords words run =
+    ((task : Task) × NamesTask words task × NamesAlone words task × RunsTask task run)
+    ⊎ ((1 < length words) × run.given.ports.rests × EndsUsage words run.before run.after run.status)

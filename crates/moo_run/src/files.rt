@@ -1,0 +1,228 @@
+//! The file of a task.
+
+ghost use Rattle.std.specs.Prelude.{◌≡◌, ℕ, List, Bool, true, false};
+ghost use Rattle.sqlite.specs.State.{HasCleanDisk};
+ghost use Rattle.sqlite.specs.Files.{over_files, file_state};
+ghost use Rattle.sqlite.specs.WalFiles.{image_at};
+ghost use Rattle.moo_world.specs.Rows.{IsGood};
+ghost use Rattle.moo_world.specs.Judge.{State};
+ghost use Rattle.moo_store.specs.World.{store_of, StandsFor};
+ghost use Rattle.moo_run_lines.specs.Lines.{Tells, store_failure};
+ghost use Rattle.moo_run.specs.Run.{begins_anew, is_load, dump_word, reads_input, ReadsFile, only_reads};
+ghost use Rattle.moo_run.specs.Run.{LeavesNothingNew, RunsIn, RunsTask};
+ghost use Rattle.moo_run.specs.Ends.{RunsFile, EndsWith};
+
+use crate::ends::Ends;
+use crate::loading::{dump_word, read_world};
+use crate::over::{begins_anew, run_in, run_over};
+use crate::session::{Runs, Session, Streams};
+use moo_cli::Task;
+use moo_files::{Remains, WorldFiles, create_from, load_from, open_from};
+use moo_run_lines::{Failure, report};
+use moo_store::{StoreFault, World};
+use sqlite::{Connection, Error, ErrorCode, FileStore, Start};
+use sqlite_disk::Disk;
+use std::alloc::Global;
+
+/// `run_in` at the store in files, over any disk. What is known of that store weighs on each function that calls a generic one at it,
+/// so this call has a function of its own.
+fn run_in_files<'s, S: Streams, D: Disk + Drop>(
+    session: &mut Session<'s, S>,
+    world: World<FileStore<D>>,
+    task: Task<'_>,
+) -> Connection<FileStore<D>>
+    requires read { (path : List ℕ) → ReadsFile task path → S.Host.may_read session.old.host path }
+    ensures runs { (known : Bool) (s : State) → StandsFor over_files known world s →
+        RunsIn over_files known world result task.entry s (⟦<Session<'s, S> as Runs>⟧.run session.old session.new) }
+    ensures clean { (known : Bool) (s : State) → StandsFor over_files known world s →
+        HasCleanDisk (file_state result) → HasCleanDisk (store_of over_files world) }
+    ensures good { world.failed ≡ false → IsGood world.rows.maps }
+    ensures still { only_reads task.entry.action ≡ true → LeavesNothingNew (store_of over_files world) (file_state result) }
+    ensures input { reads_input task.entry ≡ false → session.new.input ≡ session.old.input }
+{
+    run_in(session, world, task)
+}
+
+/// Each fault of opening refuses the file.
+fn refusal(fault: StoreFault) -> Failure
+    ensures { result ≡ store_failure fault }
+{
+    Failure::from(fault)
+}
+
+/// Why a file isn't opened. A missing file is told apart, for what is said of it on standard error.
+fn refusal_of<T: Start, H: WorldFiles<T>>(host: &H, file: &str, fault: StoreFault) -> Failure
+    requires may { H.may_open host.now file.now }
+    ensures { Tells fault result }
+{
+    let failure = refusal(fault);
+    let is_unopened = matches!(
+        failure,
+        Failure::Store(Error::SqliteFailure(ErrorCode::CannotOpen))
+    );
+    if is_unopened && host.metadata(file).is_err() {
+        return Failure::NoFile;
+    }
+    failure
+}
+
+/// Makes the world of a dump in a file, does what the task says over it, and hands back what is left of the file.
+fn run_loaded<'s, S: Streams>(
+    session: &mut Session<'s, S>,
+    file: &str,
+    start: S::File,
+    dump: &str,
+    task: Task<'_>,
+) -> Ends<S::File, <S::Host as WorldFiles<S::File>>::Disk>
+    requires may { S.Host.may_open session.old.host file.now }
+    requires read { (path : List ℕ) → ReadsFile task path → S.Host.may_read session.old.host path }
+    requires load { is_load task.action ≡ true }
+    requires word { dump_word task.action ≡ dump.now }
+    ensures runs { RunsFile task.entry (image_at S.File.Start) result (⟦<Session<'s, S> as Runs>⟧.run session.old session.new) }
+    ensures input { reads_input task.entry ≡ false → session.new.input ≡ session.old.input }
+{
+    let rows = match read_world(
+        session.alloc,
+        session.console,
+        dump,
+        &session.host,
+        &mut session.input,
+    ) {
+        Ok(rows) => rows,
+        Err(failure) => {
+            session.status = report(session.alloc, session.console, failure, &mut session.output);
+            return Ends::Refused(Remains::Untouched(start));
+        }
+    };
+    match load_from(session.alloc, &session.host, file, start, rows) {
+        Ok(world) => Ends::Ran(run_in_files(session, world, task)),
+        Err((fault, remains)) => {
+            session.status = report(
+                session.alloc,
+                session.console,
+                refusal(fault),
+                &mut session.output,
+            );
+            Ends::Refused(remains)
+        }
+    }
+}
+
+/// Makes the opening world in a file, does what the task says over it, and hands back what is left of the file.
+fn run_created<'s, S: Streams>(
+    session: &mut Session<'s, S>,
+    file: &str,
+    start: S::File,
+    task: Task<'_>,
+) -> Ends<S::File, <S::Host as WorldFiles<S::File>>::Disk>
+    requires may { S.Host.may_open session.old.host file.now }
+    requires read { (path : List ℕ) → ReadsFile task path → S.Host.may_read session.old.host path }
+    requires load { is_load task.action ≡ false }
+    requires anew { begins_anew task ≡ true }
+    ensures runs { RunsFile task.entry (image_at S.File.Start) result (⟦<Session<'s, S> as Runs>⟧.run session.old session.new) }
+    ensures input { reads_input task.entry ≡ false → session.new.input ≡ session.old.input }
+{
+    match create_from(session.alloc, &session.host, file, start) {
+        Ok(world) => Ends::Ran(run_in_files(session, world, task)),
+        Err((fault, remains)) => {
+            session.status = report(
+                session.alloc,
+                session.console,
+                refusal(fault),
+                &mut session.output,
+            );
+            Ends::Refused(remains)
+        }
+    }
+}
+
+/// Opens the world of a file, does what the task says over it, and hands back what is left of the file.
+fn run_found<'s, S: Streams>(
+    session: &mut Session<'s, S>,
+    start: S::File,
+    task: Task<'_>,
+) -> Ends<S::File, <S::Host as WorldFiles<S::File>>::Disk>
+    requires may { S.Host.may_open session.old.host task.file.now }
+    requires read { (path : List ℕ) → ReadsFile task path → S.Host.may_read session.old.host path }
+    requires other { begins_anew task ≡ false }
+    ensures runs { RunsFile task.entry (image_at S.File.Start) result (⟦<Session<'s, S> as Runs>⟧.run session.old session.new) }
+    ensures input { reads_input task.entry ≡ false → session.new.input ≡ session.old.input }
+{
+    match open_from(session.alloc, &session.host, task.file, start) {
+        Ok(world) => Ends::Ran(run_in_files(session, world, task)),
+        Err((fault, remains)) => {
+            let failure = refusal_of(&session.host, task.file, fault);
+            session.status = report(session.alloc, session.console, failure, &mut session.output);
+            Ends::Refused(remains)
+        }
+    }
+}
+
+/// Does what a task says over its file, writes the line of a failure, and hands back what is left of the file. The status is that
+/// of `run_words`.
+///
+/// `S::File` is what the file of the words holds, and `S::Host` the host, with its files and its ports: it is proved for all contents and
+/// all connections, and no code looks at them. No other path is looked at or opened. The program calls it for files that nobody has read.
+///
+/// Only `init` and `load` make a file.
+pub fn run_from<'s, S: Streams>(
+    session: &mut Session<'s, S>,
+    start: S::File,
+    task: Task<'_>,
+) -> Ends<S::File, <S::Host as WorldFiles<S::File>>::Disk>
+    requires may { S.Host.may_open session.old.host task.file.now }
+    requires read { (path : List ℕ) → ReadsFile task path → S.Host.may_read session.old.host path }
+    ensures runs { RunsFile task.entry (image_at S.File.Start) result (⟦<Session<'s, S> as Runs>⟧.run session.old session.new) }
+    ensures input { reads_input task.entry ≡ false → session.new.input ≡ session.old.input }
+{
+    match dump_word(task) {
+        Some(dump) => run_loaded(session, task.file, start, dump, task),
+        None => {
+            if begins_anew(task) {
+                run_created(session, task.file, start, task)
+            } else {
+                run_found(session, start, task)
+            }
+        }
+    }
+}
+
+/// Does what a task says over a new world in memory.
+fn run_in_memory<'s, S: Streams>(session: &mut Session<'s, S>, task: Task<'_>)
+    requires read { (path : List ℕ) → ReadsFile task path → S.Host.may_read session.old.host path }
+    ensures runs { RunsTask task.entry (⟦<Session<'s, S> as Runs>⟧.run session.old session.new) }
+    ensures input { reads_input task.entry ≡ false → session.new.input ≡ session.old.input }
+{
+    let Ok(conn) = Connection::open_in_memory(session.alloc) else {
+        session.status = report(
+            session.alloc,
+            session.console,
+            Failure::NoMemory,
+            &mut session.output,
+        );
+        return;
+    };
+    let _conn = run_over(session, conn, task);
+}
+
+/// Does what a task says, and hands back what is left of its file. On `:memory:` that is the unspent start. The status is that of
+/// `run_words`.
+pub(crate) fn run_task<'s, S: Streams>(
+    session: &mut Session<'s, S>,
+    task: Task<'_>,
+    start: S::File,
+) -> Ends<S::File, <S::Host as WorldFiles<S::File>>::Disk>
+    requires may { S.Host.may_open session.old.host task.file.now }
+    requires read { (path : List ℕ) → ReadsFile task path → S.Host.may_read session.old.host path }
+    ensures runs { RunsTask task.entry (⟦<Session<'s, S> as Runs>⟧.run session.old session.new) }
+    ensures ends { EndsWith task.entry (image_at S.File.Start) result (⟦<Session<'s, S> as Runs>⟧.run session.old session.new) }
+    ensures input { reads_input task.entry ≡ false → session.new.input ≡ session.old.input }
+{
+    let file = task.file;
+    if file == ":memory:" {
+        run_in_memory(session, task);
+        Ends::NoFile(start)
+    } else {
+        run_from(session, start, task)
+    }
+}

@@ -1,0 +1,127 @@
+//! The world of a dump.
+
+ghost use Rattle.std.specs.Prelude.{◌≡◌, ◌≢◌, ◌<◌, ◌^◌, true, false, length, codes, IfOk, IfErr, MatchOption};
+ghost use Rattle.std.specs.Str.{bytes_eq};
+ghost use Rattle.moo_world.specs.Rows.{IsGood};
+ghost use Rattle.moo_world.specs.Judge.{State, state_of};
+ghost use Rattle.moo_dump.specs.Dump.{dump as dump_of};
+ghost use Rattle.moo_load.specs.OneState.{IsHeld};
+ghost use Rattle.moo_load.specs.RowsOf.{AreRowsOf};
+ghost use Rattle.moo_load.specs.declared.fault.LoadFault.TheVariants.{OutOfMemory};
+ghost use Rattle.moo_run.specs.Given.{texts_by};
+ghost use Rattle.moo_run.specs.Run.{IsDumpedAs, RefusesDump, TellsLack, is_load, dump_word};
+
+use crate::host::BatchFiles;
+use moo_cli::{Action, Task};
+use moo_load::{LoadFault, read_dump, read_text};
+use moo_load_reasons::{WHAT_TO_DO, is_lambdamoo, told};
+use moo_memory::Flat;
+use moo_run_lines::Failure;
+use std::alloc::Global;
+use std::io::{Eprint, Read};
+
+/// The word for the dump of a task, if it begins with the world of one.
+pub(crate) fn dump_word<'a>(task: Task<'a>) -> Option<&'a str>
+    ensures { MatchOption result
+        (is_load task.entry.action ≡ false)
+        (λ dump. (is_load task.entry.action ≡ true) × (dump_word task.entry.action ≡ dump.now)) }
+{
+    match task.action {
+        Action::Load { dump } => Some(dump),
+        _ => None,
+    }
+}
+
+/// Says a sentence about a text on standard error. The path is that of the text, if it isn't standard input.
+fn say<C: Eprint>(console: &C, path: Option<&str>, why: &str) {
+    match path {
+        Some(path) => {
+            let _said = eprintln!(console; "moo: {path}: {why}");
+        }
+        None => {
+            let _said = eprintln!(console; "moo: {why}");
+        }
+    }
+}
+
+/// Says on standard error why a text gives no world, and in which line; or that it is a LambdaMOO database.
+fn explain_dump<C: Eprint>(
+    alloc: Global,
+    console: &C,
+    path: Option<&str>,
+    text: &[u8],
+    fault: LoadFault,
+) {
+    if is_lambdamoo(text) {
+        say(console, path, WHAT_TO_DO);
+    } else if let Ok(Some(why)) = told(alloc, text, fault) {
+        say(console, path, why.as_str());
+    }
+}
+
+/// What `read_dump` says of a text. If it gives no world, standard error says why.
+fn read_told<C: Eprint>(
+    alloc: Global,
+    console: &C,
+    path: Option<&str>,
+    text: &[u8],
+) -> Result<Flat, LoadFault>
+    ensures loaded { IfOk result (λ rows. dump_of (state_of rows.maps) ≡ text.now) }
+    ensures good { IfOk result (λ rows. IsGood rows.maps) }
+    ensures limit { IfOk result (λ rows. rows.maps.head.seq < 2 ^ 63) }
+    ensures numbered { IfOk result (λ rows. AreRowsOf (state_of rows.maps) rows.maps) }
+    ensures complete { IfErr result (λ fault. fault ≢ OutOfMemory → length text.now < 4294967295 →
+        (s : State) → IsHeld s → dump_of s ≢ text.now) }
+{
+    let read = read_dump(alloc, text);
+    if let Err(fault) = &read {
+        explain_dump(alloc, console, path, text, *fault);
+    }
+    read
+}
+
+/// The rows of the world that a text is the dump of. If it isn't one, standard error says why.
+fn rows_of<C: Eprint, R: Read + Drop>(
+    alloc: Global,
+    console: &C,
+    path: Option<&str>,
+    mut text: R,
+) -> Result<Flat, Failure>
+    ensures good { IfOk result (λ rows. IsGood rows.maps) }
+    ensures limit { IfOk result (λ rows. rows.maps.head.seq < 2 ^ 63) }
+    ensures numbered { IfOk result (λ rows. AreRowsOf (state_of rows.maps) rows.maps) }
+    ensures dumped { IfOk result (λ rows. IsDumpedAs (R.remaining text) (state_of rows.maps)) }
+    ensures failure { IfErr result (RefusesDump (R.remaining text)) }
+    ensures opened { IfErr result (λ failure. failure ≢ Failure.NoBatches) }
+{
+    let bytes = read_text(alloc, &mut text)?;
+    let rows = read_told(alloc, console, path, &bytes)?;
+    Ok(rows)
+}
+
+/// The rows of the world that a file is the dump of, or the input for `-`. If it isn't a dump, standard error says why.
+pub(crate) fn read_world<C: Eprint, H: BatchFiles, R: Read + Drop>(
+    alloc: Global,
+    console: &C,
+    dump: &str,
+    host: &H,
+    input: &mut R,
+) -> Result<Flat, Failure>
+    requires read { bytes_eq dump.now (codes "-") ≡ false → H.may_read host.now dump.now }
+    ensures good { IfOk result (λ rows. IsGood rows.maps) }
+    ensures limit { IfOk result (λ rows. rows.maps.head.seq < 2 ^ 63) }
+    ensures numbered { IfOk result (λ rows. AreRowsOf (state_of rows.maps) rows.maps) }
+    ensures dumped { IfOk result (λ rows.
+        IsDumpedAs (texts_by (R.remaining input.old) (H.text host.now) dump.now) (state_of rows.maps)) }
+    ensures failure { IfErr result (RefusesDump (texts_by (R.remaining input.old) (H.text host.now) dump.now)) }
+    ensures lacks { IfErr result (TellsLack (H.lacks host.now) dump.now) }
+    ensures input { bytes_eq dump.now (codes "-") ≡ false → input.new ≡ input.old }
+{
+    if dump == "-" {
+        return rows_of(alloc, console, None, input);
+    }
+    match host.open(dump) {
+        Ok(text) => rows_of(alloc, console, Some(dump), text),
+        Err(_) => Err(Failure::NoBatches),
+    }
+}

@@ -1,0 +1,133 @@
+//! What the words of the command line do.
+
+ghost use Rattle.std.specs.Prelude.{◌≡◌, ℕ, List, map};
+ghost use Rattle.clap.specs.Kinds.{HasKind};
+ghost use Rattle.moo_cli.specs.declared.task.Task.{Task};
+ghost use Rattle.moo_cli.specs.Tasks.{NamesTask, IsRefusal, mistakes};
+ghost use Rattle.sqlite.specs.WalFiles.{image_at};
+ghost use Rattle.moo_run.specs.Run.{mistake_status, EndsUsage, ReadsFile, KeepsInput, RunsWords};
+ghost use Rattle.moo_run.specs.Ends.{RunsOver, RunsClosed};
+
+use crate::ends::Ends;
+use crate::files::run_task;
+use crate::session::{Runs, Session, Streams};
+use clap::error::ErrorKind;
+use moo_cli::{Usage, read_words};
+use moo_files::{Remains, WorldFiles};
+use moo_run_lines::{Failure, put_line, report};
+use std::alloc::Global;
+use std::io::{Eprint, Write};
+
+/// The status of what the reader of the words says: 0 for help and the version, 2 for a mistake.
+fn mistake_status(kind: ErrorKind) -> u8
+    ensures { result ≡ mistake_status kind }
+{
+    match kind {
+        ErrorKind::DisplayHelp | ErrorKind::DisplayVersion => 0,
+        _ => 2,
+    }
+}
+
+/// Writes what the reader of the words says, and answers its status.
+fn put_mistake<C: Eprint, W: Write>(
+    alloc: Global,
+    console: &C,
+    error: &clap::Error,
+    output: &mut W,
+) -> u8
+    ensures { (words : List (List ℕ)) → HasKind (mistakes words) error.now →
+        EndsUsage words (W.contents output.old) (W.contents output.new) result }
+{
+    let kind = error.kind();
+    if kind == ErrorKind::OutOfMemory {
+        return report(alloc, console, Failure::NoMemory, output);
+    }
+    let Ok(text) = error.to_string(alloc) else {
+        return report(alloc, console, Failure::NoMemory, output);
+    };
+    put_line(text.as_str(), mistake_status(kind), output)
+}
+
+/// Says why the words name no task.
+fn report_usage<C: Eprint, W: Write>(
+    alloc: Global,
+    console: &C,
+    usage: &Usage,
+    output: &mut W,
+) -> u8
+    ensures { (words : List (List ℕ)) → IsRefusal words usage.now →
+        EndsUsage words (W.contents output.old) (W.contents output.new) result }
+{
+    match usage {
+        Usage::Refused(error) => put_mistake(alloc, console, error, output),
+        Usage::Absent => report(alloc, console, Failure::Usage, output),
+    }
+}
+
+/// Does what the words say, which begin with `moo`, and sets the exit status: `init`, `load`, `apply`, `ask`, `dump`, `check` or
+/// `serve` on a file, or on a new world in memory for `:memory:`. With no other word it is `apply :memory: -`.
+///
+/// What the command writes goes to the output, and after it the line of a failure. The status is 1 if the store, the reader or
+/// the writer failed, the text is too long, the port can't be listened on, or an answer is `fault` or `closed`; 3 if the file
+/// is damaged or of a newer version, or a dump shows no world; 4 if memory ran out. Words that name no task give the text of their
+/// reader: 2, or 0 for help and the version. If the store, the batches, the dump or the port failed, the cause goes to standard error,
+/// and so does a hint if a batch met a fault of the store. If a batch isn't accepted, standard error says its line and why. A connection
+/// that fails isn't a failure of `serve`.
+///
+/// `S::File` is what the file of the words holds, and `S::Host` the host, with its files and its ports: it is proved for all contents and
+/// all connections, and no code looks at them. It looks at and opens no file of a world but that of the words, and reads no file of
+/// batches and no dump but theirs. What is left of the file is handed back, to be closed. If the words name no file, that is the unspent
+/// start.
+pub fn run_words<'s, S: Streams>(
+    session: &mut Session<'s, S>,
+    words: &[&str],
+    start: S::File,
+) -> Ends<S::File, <S::Host as WorldFiles<S::File>>::Disk>
+    requires may { (task : Task) → NamesTask (map (λ word. word.now) words.now) task →
+        S.Host.may_open session.old.host task.file.now }
+    requires read { (task : Task) (path : List ℕ) → NamesTask (map (λ word. word.now) words.now) task → ReadsFile task path →
+        S.Host.may_read session.old.host path }
+    // What is written, whatever the file holds.
+    ensures words { RunsWords (map (λ word. word.now) words.now) (⟦<Session<'s, S> as Runs>⟧.run session.old session.new) }
+    // And by what it holds: the run is one over the world that it shows.
+    ensures over { RunsOver (map (λ word. word.now) words.now) (image_at S.File.Start) result
+        (⟦<Session<'s, S> as Runs>⟧.run session.old session.new) }
+    // Only words of a task that reads the input change it.
+    ensures input { KeepsInput (map (λ word. word.now) words.now) session.old.input session.new.input }
+{
+    match read_words(session.alloc, words) {
+        Ok(task) => run_task(session, task, start),
+        Err(usage) => {
+            session.status = report_usage(
+                session.alloc,
+                session.console,
+                &usage,
+                &mut session.output,
+            );
+            Ends::NoFile(start)
+        }
+    }
+}
+
+/// `run_words`, and then the file is closed. It holds all that was committed, and its log FILE-wal beside it is short. If closing fails,
+/// and after a kill, a part of what was committed is in the log alone; the next open reads it, and the status is the same.
+///
+/// What is left of the file is handed back, to be dropped. If the words name no file, that is the unspent start.
+pub fn run_to_end<'s, S: Streams>(
+    session: &mut Session<'s, S>,
+    words: &[&str],
+    start: S::File,
+) -> Remains<S::File, <S::Host as WorldFiles<S::File>>::Disk>
+    requires may { (task : Task) → NamesTask (map (λ word. word.now) words.now) task →
+        S.Host.may_open session.old.host task.file.now }
+    requires read { (task : Task) (path : List ℕ) → NamesTask (map (λ word. word.now) words.now) task → ReadsFile task path →
+        S.Host.may_read session.old.host path }
+    ensures words { RunsWords (map (λ word. word.now) words.now) (⟦<Session<'s, S> as Runs>⟧.run session.old session.new) }
+    // The file is closed after a run over what it held.
+    ensures closed { RunsClosed (map (λ word. word.now) words.now) (image_at S.File.Start) result
+        (⟦<Session<'s, S> as Runs>⟧.run session.old session.new) }
+    // Only words of a task that reads the input change it.
+    ensures input { KeepsInput (map (λ word. word.now) words.now) session.old.input session.new.input }
+{
+    run_words(session, words, start).close()
+}

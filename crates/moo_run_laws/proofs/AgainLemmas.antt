@@ -1,0 +1,332 @@
+-- From what a crash left of a run to the next run.
+use Rattle.moo_run.{proofs.Words.{◌≡◌, ◌≢◌, ◌⊎◌, inl, inr, ℕ, zero, suc, Bool, true, false, List, length, Option, codes, refl, sym, ap, subst, true≢false, false_from_ne_true, ◌||◌, bytes_eq, Ghosts, Image, HasCleanDisk, Held, file_state, Maps, Batch, IsGood, State, state_of, LeavesLed, LeavesRows, LeavesState, Task, Given, Run, makes_world, begins_anew, HoldsRows, RunsRows, RanFrom, RanOver, RefusedOver, EndsWith, RunsOver, IsClosedEnd, RunsClosed}, proofs.Connections.{runs_when, unled}, specs.declared.ends.Ends.{Ends}}
+use Rattle.moo_run_laws.specs.Again.{Started, StartedRows, LeadTo, TakesUp, TakesRows, IsLeftAfter, IsFoundOf, CrashesTo, LeadsOn, ClosesOn, IsFoundIn, ClosesTo}
+use Rattle.moo_run.specs.declared.ends.Ends.TheVariants as variant
+use Rattle.sqlite_store.specs.declared.store.FileStore.{FileStore}
+use Rattle.sqlite.{specs.State.{State as Database}, specs.Schema.{Schema}, specs.Tree.{Trees}, specs.Held.{AreDatabases}, specs.Files.{IsCleanLeft}, specs.declared.file.Leftover.{Leftover}}
+use Rattle.sqlite.specs.declared.file.Leftover.TheVariants as left
+use Rattle.moo_tables.{specs.declared.version.Version.{Version}, specs.declared.version.Version.TheVariants.{First, Second}, specs.Tables.{Tables, schema_of, no_schema}, specs.Inside.{Leaves}, proofs.SchemaLemmas.{one_schema}}
+use Rattle.moo_cells.{proofs.CellsLemmas.{one_good}, proofs.GoodRows.{good_within}}
+use Rattle.moo_files.{specs.Contents.{HoldsSuch, HoldsState, HasAnyTable, IsKept, IsLeftBy}, specs.Remains.{IsCleanRemains, LeftoverKeeps, KeepsSuch, StillHolds}, specs.Closing.{IsLeftOf, IsClosedFrom}, specs.declared.remains.Remains.{Remains}, specs.Stop.{AreNumbered}, proofs.AgainLemmas.{held_after}, proofs.RemainsLemmas.{keeps_more}, proofs.StopLemmas.{left_by_store, such_by_bytes, state_is_database, states_are_databases}}
+use Rattle.moo_files.specs.Opened.{Database as a_database}
+use Rattle.moo_files.specs.declared.remains.Remains.TheVariants as remains
+
+later_false : (a b : Bool) → (a || b) ≡ false → b ≡ false
+later_false true b either = absurd (true≢false either)
+later_false false b either = either
+
+-- files that weren't opened are found as they were
+pub same_untouched : (image next : Image) → (next ≡ image) ⊎ (next ≡ image) → next ≡ image
+same_untouched image next (inl same) = same
+same_untouched image next (inr same) = same
+
+-- a task that doesn't begin anew is on a file
+on_file : (task : Task) → begins_anew task ≡ false → bytes_eq task.file.now (codes ":memory:") ≡ false
+on_file task other = later_false (makes_world task.action) _ other
+
+pub started_map : (task : Task) (image : Image) (given : Given) (From Then : State → Type 0) → ((s : State) → From s → Then s) → Started task image given From → Started task image given Then
+started_map task image given From Then on it = ((λ other s holds. on s (it.0 other s holds)), (λ anew. let begun = it.1 anew in (begun.0, begun.1, on begun.0 begun.2)))
+
+pub started_rows_map : (task : Task) (image : Image) (given : Given) (From Then : Maps → Type 0) → ((rows : Maps) → From rows → Then rows) → StartedRows task image given From → StartedRows task image given Then
+started_rows_map task image given From Then on it = ((λ other rows holds. on rows (it.0 other rows holds)), (λ anew. let begun = it.1 anew in (begun.0, begun.1, on begun.0 begun.2)))
+
+module _ {D : Type 0} {g : Ghosts D} where
+  -- what is found after a connection was closed is what a crash might have left before
+  pub found_left : (T : Type 0) (store : Database) (left_over : Leftover D g) (next : Image) → AreDatabases store.may_leave → IsCleanLeft left_over → IsLeftOf store left_over
+      → IsFoundIn {T = T} (remains.Leftover left_over) next → IsLeftBy store next
+  found_left T store (left.Files now) next sound clean of (inl is) = subst (IsLeftBy store) (sym is) of.0
+  found_left T store (left.Files now) next sound clean of (inr out) = of.1 next out
+  found_left T store (left.Unopened now) next sound clean of found = absurd of
+  found_left T store (left.Store now) next sound clean of found =
+      let it = left_by_store now next clean (λ trees may. sound trees (of trees may)) found in
+      record { trees = it.trees; holds = it.holds; such = of it.trees it.such }
+
+-- ---- rows
+
+begins_or_not : (b : Bool) → (b ≡ true) ⊎ (b ≡ false)
+begins_or_not true = inl refl
+begins_or_not false = inr refl
+
+-- tables of ours are tables
+some_tables : (version : Version) → no_schema ≢ schema_of version
+some_tables First none = let odd : zero ≡ suc 4 = ap (λ (schema : Schema). length schema.tables) none in absurd cc
+some_tables Second none = let odd : zero ≡ suc 7 = ap (λ (schema : Schema). length schema.tables) none in absurd cc
+
+any_of_ours : (trees : Trees) (tables : Tables) → Leaves trees tables → HasAnyTable trees
+any_of_ours trees tables it none = some_tables tables.version (one_schema tables.version trees no_schema it.sound none)
+
+-- a database that was kept, or migrated, shows the rows that it showed
+kept_rows : (rows : Maps) → IsGood rows → (old new : Trees) → LeavesRows old rows → IsKept old new → LeavesRows new rows
+kept_rows rows good old new shown (inl same) = subst (λ trees. LeavesRows trees rows) (sym same) shown
+kept_rows rows good old new shown (inr moved) =
+    let found = moved.sound shown.tables shown.leaves in
+    subst (LeavesRows new) (one_good shown.tables found.0 rows found.2 (good_within found.0 found.1) shown.shows good) found.3
+
+-- and so it is a database
+kept_is_database : (rows : Maps) → IsGood rows → (old : Trees) → LeavesRows old rows → AreDatabases (IsKept old)
+kept_is_database rows good old shown new kept =
+    let it = kept_rows rows good old new shown kept in
+    (schema_of it.tables.version, it.leaves.sound)
+
+-- what a crash left of a store holds rows that its batches lead to
+led_on : (store : Database) (rows : Maps) (next : Image) (Next : Maps → Type 0) → ((end : Maps) → HoldsRows next end → Next end) → (batches others : List Batch) → LeavesLed store rows batches others
+    → IsLeftBy store next → (end : Maps) × LeadTo rows end batches others × HoldsRows next end × Next end
+led_on store rows next Next goes batches others led left =
+    let it = led left.trees left.such in
+    let holds : HoldsRows next it.2 = (it.3, record { trees = left.trees; holds = left.holds; such = it.5 }) in
+    (it.2, (it.0, it.1, it.4), holds, goes it.2 holds)
+
+module _ {D : Type 0} {g : Ghosts D} where
+  -- it started from the state that the file held, or from one that it may begin with
+  ran_from : (task : Task) (image : Image) (conn : Held (FileStore D g)) (run : Run) (After : State → Type 0)
+      → HasCleanDisk (file_state conn) → RanOver task image conn run → ((s : State) → RanFrom task s conn run → After s) → Started task image run.given After
+  ran_from task image conn run After clean it after = ((λ other s holds. after s ((it.over other (a_database holds.trees) holds.holds clean).state s holds.such)), (λ anew. let begun = it.anew anew in (state_of begun.0, begun.1.world, after (state_of begun.0) (unled _ _ _ _ _ _ _ begun.2))))
+
+  -- the same of rows
+  rows_from : (task : Task) (image : Image) (conn : Held (FileStore D g)) (run : Run) (After : Maps → Type 0)
+      → HasCleanDisk (file_state conn) → RanOver task image conn run → ((rows : Maps) → RunsRows task rows conn run → After rows) → StartedRows task image run.given After
+  rows_from task image conn run After clean it after = ((λ other rows holds. after rows ((it.over other (a_database holds.1.trees) holds.1.holds clean).rows rows holds.0 holds.1.such)), (λ anew. let begun = it.anew anew in (begun.0, begun.1, after begun.0 begun.2)))
+
+module _ {T D : Type 0} {g : Ghosts D} where
+  -- a task that ran over a file is on a file, and this is its run
+  pub ran_file : (task : Task) (image : Image) (conn : Held (FileStore D g)) (run : Run)
+      → EndsWith {T = T} task image (variant.Ran conn) run → RanOver task image conn run
+  ran_file task image conn run it = it.file (false_from_ne_true _ it.memory)
+
+  refused_file : (task : Task) (image : Image) (rest : Remains T D g) (run : Run)
+      → EndsWith task image (variant.Refused rest) run → RefusedOver task image rest run
+  refused_file task image rest run it = it.file (false_from_ne_true _ it.memory)
+
+  -- words over a file whose tables show rows run from these
+  pub takes_rows : (words : List (List ℕ)) (image : Image) (ends : Ends T D g) (run : Run)
+      → RunsOver words image ends run → (rows : Maps) → HoldsRows image rows → TakesRows words rows ends run
+  takes_rows words image (variant.Ran conn) run (inl (task, named, alone, runs, it)) rows holds = inl (task, named, λ other clean. ((ran_file task image conn run it).over other (a_database holds.1.trees) holds.1.holds clean).rows rows holds.0 holds.1.such)
+  takes_rows words image (variant.Refused rest) run (inl (task, named, alone, runs, it)) rows holds = inl (task, named, λ other. tt)
+  takes_rows words image (variant.NoFile start) run (inl (task, named, alone, runs, it)) rows holds = inl (task, named, λ other. absurd (it.file (on_file task other)))
+  takes_rows words image ends run (inr (some, rests, usage, none)) rows holds = inr (some, none)
+
+  -- words over a file that holds a state take it up
+  pub takes_up : (words : List (List ℕ)) (image : Image) (ends : Ends T D g) (run : Run)
+      → RunsOver words image ends run → (s : State) → HoldsState image s → TakesUp words image s ends run
+  takes_up words image (variant.Ran conn) run (inl (task, named, alone, runs, it)) s holds = inl (task, named, λ other clean. ((ran_file task image conn run it).over other (a_database holds.trees) holds.holds clean).state s holds.such)
+  takes_up words image (variant.Refused rest) run (inl (task, named, alone, runs, it)) s holds = inl (task, named, λ other clean. (refused_file task image rest run it).cause other s holds clean)
+  takes_up words image (variant.NoFile start) run (inl (task, named, alone, runs, it)) s holds = inl (task, named, λ other. absurd (it.file (on_file task other)))
+  takes_up words image ends run (inr (some, rests, usage, none)) s holds = inr (some, usage, none)
+
+  -- what a crash left of files that kept such a database holds such a one
+  pub still_such : (P : Trees → Type 0) (image : Image) (rest : Remains T D g) (next : Image) → KeepsSuch P image rest → HoldsSuch P image → IsLeftAfter image rest next → HoldsSuch P next
+  still_such P image (remains.Untouched start) next keeps holds is = subst (HoldsSuch P) (sym is) holds
+  still_such P image (remains.NotOpened seal) next keeps holds is = subst (HoldsSuch P) (sym is) holds
+  still_such P image (remains.Leftover (left.Files now)) next keeps holds left = keeps next left
+  still_such P image (remains.Leftover (left.Unopened now)) next keeps holds left = (keeps next left.0).1 left.1
+  still_such P image (remains.Leftover (left.Store now)) next keeps holds left = record { trees = left.trees; holds = left.holds; such = keeps left.trees left.such }
+  still_such P image (remains.Connection conn) next keeps holds left = record { trees = left.trees; holds = left.holds; such = keeps left.trees left.such }
+
+  -- and so does any that is found of them
+  pub such_after : (P : Trees → Type 0) (image : Image) (rest : Remains T D g) (next : Image) → AreDatabases P → IsCleanRemains rest → AreNumbered rest → KeepsSuch P image rest → HoldsSuch P image → IsFoundOf image rest next
+      → HoldsSuch P next
+  such_after P image rest next sound clean numbered keeps holds (inl bytes) = such_by_bytes P image rest next sound clean numbered holds keeps bytes
+  such_after P image rest next sound clean numbered keeps holds (inr left) = still_such P image rest next keeps holds left
+
+  -- files that are closed have no connection, and before that its trees were numbered
+  pub closed_numbered : (was now : Remains T D g) → IsClosedFrom was now → AreNumbered now
+  closed_numbered (remains.Untouched start) now is = subst AreNumbered (sym is) tt
+  closed_numbered (remains.NotOpened seal) now is = subst AreNumbered (sym is) tt
+  closed_numbered (remains.Leftover rest) now is = subst AreNumbered (sym is) tt
+  closed_numbered (remains.Connection conn) now (rest, is, copied, closes) = subst AreNumbered (sym is) tt
+
+  pub was_numbered : (was now : Remains T D g) → IsClosedFrom was now → IsCleanRemains now → AreNumbered was
+  was_numbered (remains.Untouched start) now is clean = tt
+  was_numbered (remains.NotOpened seal) now is clean = tt
+  was_numbered (remains.Leftover rest) now is clean = tt
+  was_numbered (remains.Connection conn) now (rest, is, copied, closes) clean = (closes (subst IsCleanRemains is clean)).2
+
+  -- files whose words were refused keep their state
+  pub refused_left : (words : List (List ℕ)) (image : Image) (rest : Remains T D g) (run : Run)
+      → RunsOver words image (variant.Refused rest) run → (s : State) → HoldsState image s → IsCleanRemains rest → StillHolds image rest s
+  refused_left words image rest run (inl (task, named, alone, runs, it)) s holds clean = (refused_file task image rest run it).left s holds clean
+  refused_left words image rest run (inr (some, rests, usage, none)) s holds clean = absurd none
+
+  pub crashes_to : (words : List (List ℕ)) (image : Image) (ends : Ends T D g) (run : Run) (next : Image) (Next : State → Type 0)
+      → RunsOver words image ends run → ((t : State) → HoldsState next t → Next t) → CrashesTo words image ends run next Next
+  crashes_to words image (variant.Ran conn) run next Next (inl (task, named, alone, runs, it)) goes = λ clean. (
+    task,
+    named,
+    ran_from task image conn run _ clean (ran_file task image conn run it)
+        (λ s run. (
+          run,
+          λ left.
+              let lies = held_after (file_state conn) run.end next left.trees (run.crash clean) left.such left.holds in
+              (lies.0, lies.1, lies.2, goes lies.0 lies.2),
+        )),
+  )
+  crashes_to words image (variant.Ran conn) run next Next (inr (some, rests, usage, none)) goes = absurd none
+  crashes_to words image (variant.Refused rest) run next Next over goes = λ clean s holds left.
+      let still = still_such (λ trees. LeavesState trees s) image rest next (refused_left words image rest run over s holds clean) holds left in
+      (still, goes s still)
+  crashes_to words image (variant.NoFile start) run next Next over goes = λ clean s holds same.
+      let still = subst (λ it. HoldsState it s) (sym same) holds in
+      (still, goes s still)
+
+  -- files whose words were refused keep their rows
+  pub refused_rows : (words : List (List ℕ)) (image : Image) (rest : Remains T D g) (run : Run)
+      → RunsOver words image (variant.Refused rest) run → (rows : Maps) (holds : HoldsRows image rows) → IsCleanRemains rest → KeepsSuch (IsKept holds.1.trees) image rest
+  refused_rows words image rest run (inl (task, named, alone, runs, it)) rows holds clean = elim (begins_or_not (begins_anew task)) [
+    | inl anew ↦
+        keeps_more (λ found. found ≡ holds.1.trees) (IsKept holds.1.trees) (λ found same. inl same) image rest
+        ((refused_file task image rest run it).spared holds.1.trees anew holds.1.holds (any_of_ours holds.1.trees holds.1.such.tables holds.1.such.leaves) clean)
+    | inr other ↦ ((refused_file task image rest run it).over other (a_database holds.1.trees) holds.1.holds clean).kept
+  ]
+  refused_rows words image rest run (inr (some, rests, usage, none)) rows holds clean = absurd none
+
+  -- what a crash left of files that kept their database holds the rows
+  pub still_rows : (image : Image) (rest : Remains T D g) (next : Image) (rows : Maps) (holds : HoldsRows image rows) → KeepsSuch (IsKept holds.1.trees) image rest → IsLeftAfter image rest next → HoldsRows next rows
+  still_rows image rest next rows holds keeps left =
+      let still = still_such (IsKept holds.1.trees) image rest next keeps (record { trees = holds.1.trees; holds = holds.1.holds; such = inl refl }) left in
+      (holds.0, record { trees = still.trees; holds = still.holds; such = kept_rows rows holds.0 holds.1.trees still.trees holds.1.such still.such })
+
+  -- and so does any that is found of them
+  pub rows_after : (image : Image) (rest : Remains T D g) (next : Image) (rows : Maps) (holds : HoldsRows image rows) → IsCleanRemains rest → AreNumbered rest → KeepsSuch (IsKept holds.1.trees) image rest → IsFoundOf image rest next
+      → HoldsRows next rows
+  rows_after image rest next rows holds clean numbered keeps found =
+      let sound = kept_is_database rows holds.0 holds.1.trees holds.1.such in
+      let still = such_after (IsKept holds.1.trees) image rest next sound clean numbered keeps (record { trees = holds.1.trees; holds = holds.1.holds; such = inl refl }) found in
+      (holds.0, record { trees = still.trees; holds = still.holds; such = kept_rows rows holds.0 holds.1.trees still.trees holds.1.such still.such })
+
+  pub leads_on : (words : List (List ℕ)) (image : Image) (ends : Ends T D g) (run : Run) (next : Image) (Next : Maps → Type 0)
+      → RunsOver words image ends run → ((rows : Maps) → HoldsRows next rows → Next rows) → LeadsOn words image ends run next Next
+  leads_on words image (variant.Ran conn) run next Next (inl (task, named, alone, runs, it)) goes = λ clean. (
+    task,
+    named,
+    rows_from task image conn run _ clean (ran_file task image conn run it)
+        (λ rows run. runs_when _ _ _ _ _ _ _ _ _ _ (λ clean. clean) (λ end clean crash. crash) (λ batches others clean led. led_on (file_state conn) rows next Next goes batches others led) run),
+  )
+  leads_on words image (variant.Ran conn) run next Next (inr (some, rests, usage, none)) goes = absurd none
+  leads_on words image (variant.Refused rest) run next Next over goes = λ clean rows holds left.
+      let still = still_rows image rest next rows holds (refused_rows words image rest run over rows holds clean) left in
+      (still, goes rows still)
+  leads_on words image (variant.NoFile start) run next Next over goes = λ clean rows holds same.
+      let still = subst (λ it. HoldsRows it rows) (sym same) holds in
+      (still, goes rows still)
+
+  -- what is closed keeps what it kept
+  pub kept_closed : (P : Trees → Type 0) (image : Image) (was now : Remains T D g) → IsClosedFrom was now → IsCleanRemains now → (IsCleanRemains was → KeepsSuch P image was) → KeepsSuch P image now
+  kept_closed P image (remains.Untouched start) now is clean keeps = subst (KeepsSuch P image) (sym is) (keeps tt)
+  kept_closed P image (remains.NotOpened seal) now is clean keeps = subst (KeepsSuch P image) (sym is) (keeps tt)
+  kept_closed P image (remains.Leftover rest) now is clean keeps = subst (KeepsSuch P image) (sym is) (keeps (subst IsCleanRemains is clean))
+  kept_closed P image (remains.Connection conn) now (rest, is, copied, closes) clean keeps =
+      let both = closes (subst IsCleanRemains is clean) in
+      subst (KeepsSuch P image) (sym is) (kept_left rest both.1 (keeps both.0))
+    where
+      kept_left : (rest : Leftover D g) → IsLeftOf (file_state conn) rest → ((trees : Trees) → (file_state conn).may_leave trees → P trees) → LeftoverKeeps P image rest
+      kept_left (left.Files files) of all = λ found out. let it = of.1 found out in record { trees = it.trees; holds = it.holds; such = all it.trees it.such }
+      kept_left (left.Unopened files) of all = absurd of
+      kept_left (left.Store store) of all = λ trees recovers. all trees (of trees recovers)
+
+  closes_by : (words : List (List ℕ)) (image : Image) (ends : Ends T D g) (closed : Remains T D g) (run : Run) (next : Image) (Next : State → Type 0)
+      → RunsOver words image ends run → IsClosedEnd ends closed → ((t : State) → HoldsState next t → Next t) → ClosesTo words image closed run next Next
+  closes_by words image (variant.Ran conn) closed run next Next over (rest, is, copied, closes) goes = (
+    variant.Ran conn,
+    over,
+    (rest, is, copied, closes),
+    λ clean.
+        let both = closes (subst IsCleanRemains is clean) in
+        let ran = crashes_to words image (variant.Ran conn) run next Next over goes both.0 in (
+          ran.0,
+          ran.1,
+          started_map ran.0 image run.given _ _ (λ s run. (
+            run.0,
+            λ found.
+                let sound = states_are_databases (file_state conn) run.0.end (run.0.crash both.0) in
+                run.1 (found_left T (file_state conn) rest next sound (subst IsCleanRemains is clean) both.1 (subst (λ it. IsFoundIn it next) is found)),
+          )) ran.2,
+        ),
+  )
+  closes_by words image (variant.Refused was) closed run next Next over from goes = (
+    variant.Refused was,
+    over,
+    from,
+    λ clean s holds found.
+        let kept = kept_closed (λ trees. LeavesState trees s) image was closed from clean (λ early. refused_left words image was run over s holds early) in
+        let still = such_after (λ trees. LeavesState trees s) image closed next (state_is_database s) clean (closed_numbered was closed from) kept holds found in
+        (still, goes s still),
+  )
+  closes_by words image (variant.NoFile start) closed run next Next over is goes = (
+    variant.NoFile start,
+    over,
+    is,
+    λ clean s holds found.
+        let still = subst (λ it. HoldsState it s) (sym (same_untouched image next (subst (λ it. IsFoundOf image it next) is found))) holds in
+        (still, goes s still),
+  )
+
+  pub closes_to : (words : List (List ℕ)) (image : Image) (closed : Remains T D g) (run : Run) (next : Image) (Next : State → Type 0)
+      → RunsClosed words image closed run → ((t : State) → HoldsState next t → Next t) → ClosesTo words image closed run next Next
+  closes_to words image closed run next Next it goes = closes_by words image it.0 closed run next Next it.1 it.2 goes
+
+  closes_by_rows : (words : List (List ℕ)) (image : Image) (ends : Ends T D g) (closed : Remains T D g) (run : Run) (next : Image) (Next : Maps → Type 0)
+      → RunsOver words image ends run → IsClosedEnd ends closed → ((rows : Maps) → HoldsRows next rows → Next rows) → ClosesOn words image closed run next Next
+  closes_by_rows words image (variant.Ran conn) closed run next Next over (rest, is, copied, closes) goes = (
+    variant.Ran conn,
+    over,
+    (rest, is, copied, closes),
+    λ clean.
+        let both = closes (subst IsCleanRemains is clean) in
+        let ran = leads_on words image (variant.Ran conn) run next Next over goes both.0 in (
+          ran.0,
+          ran.1,
+          started_rows_map ran.0 image run.given _ _
+              (λ rows run. runs_when _ _ _ _ _ _ _ _ _ _ (λ clean. clean) (λ end clean crash. crash)
+              (λ batches others sure led found.
+              let sound = states_are_databases (file_state conn) run.end (run.crash both.0) in
+              led (found_left T (file_state conn) rest next sound (subst IsCleanRemains is clean) both.1 (subst (λ it. IsFoundIn it next) is found))) run)
+              ran.2,
+        ),
+  )
+  closes_by_rows words image (variant.Refused was) closed run next Next over from goes = (
+    variant.Refused was,
+    over,
+    from,
+    λ clean rows holds found.
+        let kept = kept_closed (IsKept holds.1.trees) image was closed from clean (λ early. refused_rows words image was run over rows holds early) in
+        let still = rows_after image closed next rows holds clean (closed_numbered was closed from) kept found in
+        (still, goes rows still),
+  )
+  closes_by_rows words image (variant.NoFile start) closed run next Next over is goes = (
+    variant.NoFile start,
+    over,
+    is,
+    λ clean rows holds found.
+        let still = subst (λ it. HoldsRows it rows) (sym (same_untouched image next (subst (λ it. IsFoundOf image it next) is found))) holds in
+        (still, goes rows still),
+  )
+
+  pub closes_on : (words : List (List ℕ)) (image : Image) (closed : Remains T D g) (run : Run) (next : Image) (Next : Maps → Type 0)
+      → RunsClosed words image closed run → ((rows : Maps) → HoldsRows next rows → Next rows) → ClosesOn words image closed run next Next
+  closes_on words image closed run next Next it goes = closes_by_rows words image it.0 closed run next Next it.1 it.2 goes
+
+-- ---- two runs
+
+pub crash_run : {T D U E S N : Type 0} {d : Ghosts D} {e : Ghosts E} (run : S → S → Run) (next_run : N → N → Run) (words next_words : List (List ℕ)) (session after : S) (next next_after : N)
+    (image next_image : Image) (ends : Ends T D d) (next_ends : Ends U E e) → RunsOver words image ends (run session after) → RunsOver next_words next_image next_ends (next_run next next_after)
+    → CrashesTo words image ends (run session after) next_image (λ t. TakesUp next_words next_image t next_ends (next_run next next_after))
+crash_run run next_run words next_words session after next next_after image next_image ends next_ends over then =
+    crashes_to words image ends (run session after) next_image _ over (takes_up next_words next_image next_ends (next_run next next_after) then)
+
+pub crash_rows : {T D U E S N : Type 0} {d : Ghosts D} {e : Ghosts E} (run : S → S → Run) (next_run : N → N → Run) (words next_words : List (List ℕ)) (session after : S) (next next_after : N)
+    (image next_image : Image) (ends : Ends T D d) (next_ends : Ends U E e) → RunsOver words image ends (run session after) → RunsOver next_words next_image next_ends (next_run next next_after)
+    → LeadsOn words image ends (run session after) next_image (λ rows. TakesRows next_words rows next_ends (next_run next next_after))
+crash_rows run next_run words next_words session after next next_after image next_image ends next_ends over then =
+    leads_on words image ends (run session after) next_image _ over (takes_rows next_words next_image next_ends (next_run next next_after) then)
+
+pub close_run : {T D U E S N : Type 0} {d : Ghosts D} {e : Ghosts E} (run : S → S → Run) (next_run : N → N → Run) (words next_words : List (List ℕ)) (session after : S) (next next_after : N)
+    (image next_image : Image) (closed : Remains T D d) (next_ends : Ends U E e) → RunsClosed words image closed (run session after) → RunsOver next_words next_image next_ends (next_run next next_after)
+    → ClosesTo words image closed (run session after) next_image (λ t. TakesUp next_words next_image t next_ends (next_run next next_after))
+close_run run next_run words next_words session after next next_after image next_image closed next_ends over then =
+    closes_to words image closed (run session after) next_image _ over (takes_up next_words next_image next_ends (next_run next next_after) then)
+
+pub close_rows : {T D U E S N : Type 0} {d : Ghosts D} {e : Ghosts E} (run : S → S → Run) (next_run : N → N → Run) (words next_words : List (List ℕ)) (session after : S) (next next_after : N)
+    (image next_image : Image) (closed : Remains T D d) (next_ends : Ends U E e) → RunsClosed words image closed (run session after) → RunsOver next_words next_image next_ends (next_run next next_after)
+    → ClosesOn words image closed (run session after) next_image (λ rows. TakesRows next_words rows next_ends (next_run next next_after))
+close_rows run next_run words next_words session after next next_after image next_image closed next_ends over then =
+    closes_on words image closed (run session after) next_image _ over (takes_rows next_words next_image next_ends (next_run next next_after) then)

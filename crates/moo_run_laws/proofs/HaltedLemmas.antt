@@ -1,0 +1,51 @@
+-- From what the disk leaves at the end of a run to what may be found after it.
+use Rattle.std.proofs.Common.{◌≡◌, ◌⊎◌, inl, inr, Bool, true, false, IsTrue, refl, sym, subst}
+use Rattle.sqlite_disk.specs.declared.Disk.{Ghosts}
+use Rattle.sqlite_store.specs.declared.store.FileStore.{FileStore}
+use Rattle.sqlite_wal.specs.Recovery.{Image}
+use Rattle.sqlite.{specs.Held.{Held}, specs.declared.file.Leftover.{Leftover}}
+use Rattle.sqlite.specs.declared.file.Leftover.TheVariants as left
+use Rattle.moo_files.{specs.Closing.{IsClosedAs, IsClosedFrom}, specs.Remains.{IsCleanRemains}, specs.Stop.{KeepsTreesNumbered, DiskLeaves}, specs.declared.remains.Remains.{Remains}}
+use Rattle.moo_files.specs.declared.remains.Remains.TheVariants as remains
+use Rattle.moo_run.{specs.Ends.{IsClosedEnd}, specs.declared.ends.Ends.{Ends}}
+use Rattle.moo_run_laws.{specs.Again.{IfRan, IsFoundIn, IsFoundOf}, specs.FileRuns.{FileRun, IsFileRun, Follows, GoesTo, GoesToRows, ServesTo, GoesOnFrom, GoesOnFromRows}}
+use Rattle.moo_run.specs.declared.session.Runs as Runs
+use Rattle.moo_run.specs.declared.ends.Ends.TheVariants as variant
+use Rattle.moo_run_laws.specs.Halted.{ClosedLeaves, EndLeaves}
+
+-- what wasn't open and is shut now was shut before, or is open still
+still_open : (was now : Bool) → ¬ (IsTrue was × (now ≡ false)) → IsTrue now ⊎ (was ≡ false)
+still_open was true never = inl refl
+still_open true false never = absurd (never (refl, refl))
+still_open false false never = inr refl
+
+module _ {D : Type 0} {g : Ghosts D} where
+  left_found : (T : Type 0) (image : Image) (conn : Held (FileStore D g)) (rest : Leftover D g) (next : Image) → IsClosedAs conn rest → KeepsTreesNumbered conn rest → ClosedLeaves {T = T} image conn (remains.Leftover rest) next → IsFoundIn {T = T} (remains.Leftover rest) next
+  left_found T image conn (left.Files now) next copied keeps bytes = inr bytes
+  left_found T image conn (left.Unopened now) next copied keeps bytes = absurd copied
+  left_found T image conn (left.Store now) next copied keeps (inl (open_still, bytes)) = inl (keeps (still_open _ _ open_still), bytes)
+  left_found T image conn (left.Store now) next copied keeps (inr holds) = inr holds
+
+module _ {T D : Type 0} {g : Ghosts D} where
+  closed_found : (image : Image) (conn : Held (FileStore D g)) (closed : Remains T D g) (next : Image) → IsClosedFrom (remains.Connection conn) closed → IsCleanRemains closed → ClosedLeaves image conn closed next → IsFoundIn closed next
+  closed_found image conn closed next (rest, is, copied, closes) clean bytes =
+      subst (λ (it : Remains T D g). IsFoundIn it next) (sym is) (left_found T image conn rest next copied (closes (subst IsCleanRemains is clean)).3 (subst (λ (it : Remains T D g). ClosedLeaves image conn it next) is bytes))
+
+  -- what the disk leaves at the end of a run may be found after it
+  pub end_found : (image : Image) (ends : Ends T D g) (closed : Remains T D g) (next : Image) → IsClosedEnd ends closed → IsCleanRemains closed → EndLeaves image ends closed next
+      → IfRan ends (λ conn. DiskLeaves conn next ⊎ IsFoundIn closed next) (λ rest. IsFoundOf image rest next ⊎ IsFoundOf image closed next)
+  end_found image (variant.Ran conn) closed next is clean bytes = inr (closed_found image conn closed next is clean bytes)
+  end_found image (variant.Refused rest) closed next is clean bytes = inr (inl bytes)
+  end_found image (variant.NoFile start) closed next is clean bytes = inr (inl bytes)
+
+module _ {S T D N U E : Type 0} {g : Runs.Ghosts S T D} {disk : Ghosts D} {h : Runs.Ghosts N U E} {other : Ghosts E} where
+  -- what the law of the program says of a run that came to a stop and of the next one
+  pub goes_on : ((first : FileRun g disk) (next : FileRun h other) → Follows first next → GoesTo first (GoesOnFrom next))
+      → ((first : FileRun g disk) (next : FileRun h other) → Follows first next → GoesToRows first (GoesOnFromRows next))
+      → ((first : FileRun g disk) (next : FileRun h other) → Follows first next → ServesTo first (GoesOnFrom next))
+      → (first : FileRun g disk) (next : FileRun h other) → IsFileRun first → IsFileRun next → IsCleanRemains first.closed → EndLeaves first.image first.ends first.closed next.image
+      → GoesTo first (GoesOnFrom next) × GoesToRows first (GoesOnFromRows next) × ServesTo first (GoesOnFrom next)
+  goes_on state rows served first next ran then clean bytes =
+      let found = end_found first.image first.ends first.closed next.image ran.1 clean bytes in
+      let follows : Follows first next = (ran, then, clean, found) in
+      (state first next follows, rows first next follows, served first next follows)

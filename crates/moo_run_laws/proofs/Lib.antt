@@ -1,0 +1,5 @@
+mod AgainLemmas
+mod Stopped
+mod LawLemmas
+pub mod Desks
+mod HaltedLemmas

@@ -1,0 +1,45 @@
+-- The law of a run that comes to a stop at any call.
+use Rattle.std.specs.Prelude.{◌≡◌, ◌⊎◌, IsTrue, false, ℕ, List}
+use Rattle.sqlite_disk.specs.declared.Disk.{Ghosts}
+use Rattle.sqlite_store.specs.declared.store.FileStore.{FileStore}
+use Rattle.sqlite_store.specs.FileStore.{view, recovers}
+use Rattle.sqlite_wal.specs.Recovery.{Image}
+use Rattle.sqlite.specs.Held.{Held}
+use Rattle.sqlite.specs.declared.file.Leftover.TheVariants as left
+use Rattle.moo_files.specs.Contents.{HoldsSuch}
+use Rattle.moo_files.specs.Remains.{IsCleanRemains}
+use Rattle.moo_files.specs.Stop.{StoreLeaves, BytesLeave}
+use Rattle.moo_files.specs.declared.remains.Remains.{Remains}
+use Rattle.moo_files.specs.declared.remains.Remains.TheVariants as remains
+use Rattle.moo_run_laws.specs.Again.{IfRan}
+use Rattle.moo_run_laws.specs.FileRuns.{FileRun, IsFileRun, GoesTo, GoesToRows, ServesTo, GoesOnFrom, GoesOnFromRows}
+use Rattle.moo_run.specs.declared.ends.Ends.{Ends}
+use Rattle.moo_run.specs.declared.session.Runs as Runs
+
+module _ {D : Type 0} {g : Ghosts D} where
+  -- closing shut the store of this connection: it couldn't sync the database file, or turn its log over
+  abbrev pub IsShutByClosing : Held (FileStore D g) → FileStore D g → Type 0
+  IsShutByClosing conn now = IsTrue (view conn.store).is_open × ((view now).is_open ≡ false)
+
+module _ {T D : Type 0} {g : Ghosts D} where
+  -- What the disk may leave of the two files of this connection once it is closed, whether or not closing failed: any bytes. If closing
+  -- shut the store, they hold a database that it may leave.
+  abbrev pub ClosedLeaves : Image → Held (FileStore D g) → Remains T D g → Image → Type 0
+  ClosedLeaves image conn (remains.Leftover (left.Store now)) next =
+      ((¬ IsShutByClosing conn now) × StoreLeaves now next) ⊎ HoldsSuch (recovers now) next
+  ClosedLeaves image conn closed next = BytesLeave image closed next
+
+  -- the same at the end of a run, whether or not a task ran over the files
+  abbrev pub EndLeaves : Image → Ends T D g → Remains T D g → Image → Type 0
+  EndLeaves image ends closed next = IfRan ends (λ conn. ClosedLeaves image conn closed next) (λ rest. BytesLeave image closed next)
+
+module _ {S T D N U E : Type 0} (g : Runs.Ghosts S T D) {disk : Ghosts D} {h : Runs.Ghosts N U E} {other : Ghosts E} where
+  -- The words ran over files that held this image, from such a session to this one, and came to a stop. The disk returned what was written,
+  -- and the next run is over any bytes of the two files that it then leaves. That goes on from a state to which the first run leads, and
+  -- from such rows.
+  abbrev pub HaltsBefore : List (List ℕ) → Image → (S → Type 0) → S → Remains T D disk → FileRun h other → Type 0
+  HaltsBefore words image Began ended closed next = (began : S) × Began began × (ends : Ends T D disk)
+      × (let first : FileRun g disk =
+      record { words = words; image = image; began = began; ended = ended; ends = ends; closed = closed } in
+      IsFileRun first × (IsCleanRemains closed → EndLeaves image ends closed next.image →
+      GoesTo first (GoesOnFrom next) × GoesToRows first (GoesOnFromRows next) × ServesTo first (GoesOnFrom next)))

@@ -1,0 +1,5 @@
+pub mod Again
+pub mod FileRuns
+pub mod Desk
+pub mod Halted
+pub mod Halting

@@ -1,0 +1,22 @@
+//! The laws of the program: what a run leaves of its file, and what the next run finds.
+//!
+//! No program calls them. A run here is any call of `run_to_end` of `moo_run`, which is the call that the program makes.
+#![tactic(auto)]
+
+mod again;
+mod connections;
+mod desk;
+mod halted;
+mod host;
+mod output;
+mod stops;
+mod streams;
+
+pub use again::run_and_run_again;
+pub use connections::HaltingConnections;
+pub use desk::exchanges_pass_the_desk;
+pub use halted::run_halted;
+pub use host::{Halt, HaltingHost, halting_files};
+pub use output::HaltingOutput;
+pub use stops::{run_close_run, run_crash_run, run_stop_run};
+pub use streams::{HaltingStreams, halting};

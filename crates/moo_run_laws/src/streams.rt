@@ -1,0 +1,44 @@
+//! What a run works with that comes to a stop.
+
+ghost use Rattle.std.specs.Prelude.{◌≡◌};
+
+use crate::host::{Halt, HaltingHost};
+use crate::output::HaltingOutput;
+use moo_run::{Session, Streams};
+use std::marker::PhantomData;
+
+/// The types of what a run works with that comes to a stop. `S` has those of the run that doesn't.
+pub struct HaltingStreams<S> {
+    of: PhantomData<S>,
+}
+
+impl<S: Streams> Streams for HaltingStreams<S> {
+    type File = S::File;
+
+    type Host = HaltingHost<S::Host>;
+
+    type Console = S::Console;
+
+    type Input = S::Input;
+
+    type Output = HaltingOutput<S::Output>;
+}
+
+/// The same session, with a host and an output that come to a stop then.
+pub fn halting<'s, S: Streams>(
+    session: Session<'s, S>,
+    halt: Halt,
+) -> Session<'s, HaltingStreams<S>>
+    ensures host { result.host ≡ record { inner = session.entry.host; halt = halt } }
+    ensures output { result.output ≡ record { inner = session.entry.output; bytes_left = halt.bytes } }
+    ensures input { result.input ≡ session.entry.input }
+{
+    Session {
+        alloc: session.alloc,
+        console: session.console,
+        host: HaltingHost::new(session.host, halt),
+        input: session.input,
+        output: HaltingOutput::new(session.output, halt.bytes),
+        status: session.status,
+    }
+}

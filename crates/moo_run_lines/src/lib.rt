@@ -1,0 +1,8 @@
+//! How a run of the program fails, and the lines that it writes beside replies and dumps.
+#![tactic(auto)]
+
+mod failure;
+mod output;
+
+pub use failure::Failure;
+pub use output::{checked_text, explain_lost, loaded_text, put_line, report};

@@ -1,0 +1,151 @@
+//! What is written of a failure, and the lines with numbers.
+
+ghost use Rattle.std.specs.Prelude.{MatchResult, ◌≡◌, IfOk};
+ghost use Rattle.moo_run_lines.specs.Lines.{WritesLine, Reports, word_of, status_of};
+ghost use Rattle.moo_run_lines.specs.Lines.{checked_line, damaged_line, loaded_line, not_a_dump_line};
+
+use crate::failure::Failure;
+use moo_damage::{Key, Kind};
+use moo_dump::put_all;
+use moo_store::Tally;
+use sqlite::{Error, ErrorCode};
+use std::alloc::{AllocError, Global};
+use std::io::{Eprint, Write};
+
+/// The line of a check. An `Err` means that memory ran out.
+pub fn checked_text(alloc: Global, seq: u64, objects: u64) -> Result<String, AllocError>
+    ensures { IfOk result (λ text. text.bytes.items ≡ checked_line seq objects) }
+{
+    format!(in alloc; "ok seq {seq} objects {objects}\n")
+}
+
+/// The line of a damage.
+fn damaged_text(alloc: Global, kind: Kind, key: Key) -> Result<String, AllocError>
+    ensures { IfOk result (λ text. text.bytes.items ≡ damaged_line kind key) }
+{
+    format!(in alloc; "moo: damaged {kind} {key}\n")
+}
+
+/// The line of a load. An `Err` means that memory ran out.
+pub fn loaded_text(alloc: Global, seq: u64, objects: u64) -> Result<String, AllocError>
+    ensures { IfOk result (λ text. text.bytes.items ≡ loaded_line seq objects) }
+{
+    format!(in alloc; "loaded seq {seq} objects {objects}\n")
+}
+
+/// The line of a text that isn't a dump.
+fn not_a_dump_text(alloc: Global, line: u64) -> Result<String, AllocError>
+    ensures { IfOk result (λ text. text.bytes.items ≡ not_a_dump_line line) }
+{
+    format!(in alloc; "moo: not a dump, line {line}\n")
+}
+
+/// Writes a line, and answers the status; or that of a writer that fails.
+pub fn put_line<W: Write>(line: &str, status: u8, output: &mut W) -> u8
+    ensures { WritesLine line.now status (W.contents output.old) (W.contents output.new) result }
+{
+    match put_all(output, line.as_bytes()) {
+        Ok(()) => status,
+        Err(_) => Failure::Write.status(),
+    }
+}
+
+/// Why the store failed, of the causes that have words of ours.
+fn store_cause(error: Error) -> Option<&'static str> {
+    match error {
+        Error::SqliteFailure(ErrorCode::DatabaseBusy) => {
+            Some("moo: store fault: in use by another program")
+        }
+        Error::SqliteFailure(ErrorCode::NotADatabase) => {
+            Some("moo: store fault: not a database of moo")
+        }
+        Error::SqliteFailure(ErrorCode::NameTaken) => {
+            Some("moo: store fault: it has tables already")
+        }
+        Error::SqliteFailure(ErrorCode::DiskFull) => Some("moo: store fault: the disk is full"),
+        _ => None,
+    }
+}
+
+/// Says on standard error why the store, the batches, the dump or the port failed.
+fn explain<C: Eprint>(console: &C, failure: Failure) {
+    let cause = match failure {
+        Failure::NoFile => Some("moo: store fault: no such file"),
+        Failure::NoBatches => {
+            Some("moo: read fault: no such file of batches or dump, or it can't be opened")
+        }
+        Failure::Read => Some("moo: read fault: the batches or the dump can't be read to the end"),
+        Failure::Port => Some("moo: cannot listen: is the port in use, or one below 1024?"),
+        Failure::Store(error) => store_cause(error),
+        _ => return,
+    };
+    if let Some(cause) = cause {
+        let _said = eprintln!(console; "{cause}");
+    } else if let Failure::Store(error) = failure {
+        let _said = eprintln!(console; "moo: store fault: {error}");
+    }
+}
+
+const LOST: &str =
+    "moo: store fault: the store failed in the batch that is answered `fault` (is the disk full?)
+moo: the last `accepted S` is kept, and perhaps the batch after it: `moo check FILE` says the number\n";
+
+/// Says on standard error what to do if the store failed in a batch of a text.
+pub fn explain_lost<C: Eprint>(console: &C, tally: Tally) {
+    if tally.lost > 0 {
+        let _said = eprint!(console; "{LOST}");
+    }
+}
+
+/// Writes a line that was made, or that there was no memory to make it.
+fn put_made_line<W: Write>(line: Result<String, AllocError>, status: u8, output: &mut W) -> u8
+    ensures { MatchResult line
+        (λ text. WritesLine text.bytes.items status (W.contents output.old) (W.contents output.new) result)
+        (λ _. WritesLine (word_of Failure.NoMemory) (status_of Failure.NoMemory)
+        (W.contents output.old) (W.contents output.new) result) }
+{
+    match line {
+        Ok(line) => put_line(line.as_str(), status, output),
+        Err(_) => put_line(Failure::NoMemory.word(), Failure::NoMemory.status(), output),
+    }
+}
+
+/// Writes the line of a damage, and answers its status.
+fn put_damage<W: Write>(alloc: Global, kind: Kind, key: Key, output: &mut W) -> u8
+    ensures { Reports (Failure.Damaged kind key) (W.contents output.old) (W.contents output.new) result }
+{
+    put_made_line(
+        damaged_text(alloc, kind, key),
+        Failure::Damaged(kind, key).status(),
+        output,
+    )
+}
+
+/// Writes the line of a text that isn't a dump, and answers its status.
+fn put_not_a_dump<W: Write>(alloc: Global, line: u64, output: &mut W) -> u8
+    ensures { Reports (Failure.NotADump line) (W.contents output.old) (W.contents output.new) result }
+{
+    put_made_line(
+        not_a_dump_text(alloc, line),
+        Failure::NotADump(line).status(),
+        output,
+    )
+}
+
+/// Writes the line of a failure, and answers its status. If the store, the batches, the dump or the port failed, the cause goes to
+/// standard error.
+pub fn report<C: Eprint, W: Write>(
+    alloc: Global,
+    console: &C,
+    failure: Failure,
+    output: &mut W,
+) -> u8
+    ensures { Reports failure (W.contents output.old) (W.contents output.new) result }
+{
+    explain(console, failure);
+    match failure {
+        Failure::Damaged(kind, key) => put_damage(alloc, kind, key, output),
+        Failure::NotADump(line) => put_not_a_dump(alloc, line, output),
+        _ => put_line(failure.word(), failure.status(), output),
+    }
+}

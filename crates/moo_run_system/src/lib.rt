@@ -1,0 +1,8 @@
+//! The program over the system: its command line, its standard streams, its files and its ports.
+#![tactic(auto)]
+
+mod host;
+mod standard;
+
+pub use host::System;
+pub use standard::{run_command, run_given};

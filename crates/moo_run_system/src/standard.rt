@@ -1,0 +1,144 @@
+//! The program over the words of the command line and the standard streams.
+
+ghost use Rattle.std.specs.Prelude.{◌≡◌, ◌≢◌, ◌⊎◌, ◌∷◌, ℕ, List, codes, map, drop, string_bytes, IfOk, IfErr};
+ghost use Rattle.std.specs.IoError.{error_kind};
+ghost use Rattle.moo_run_lines.specs.Lines.{Reports};
+ghost use Rattle.sqlite.specs.WalFiles.{image_at};
+ghost use Rattle.moo_cli.specs.declared.task.Task.{Task};
+ghost use Rattle.moo_cli.specs.Tasks.{NamesTask};
+ghost use Rattle.moo_run.specs.Run.{ReadsFile, KeepsInput};
+ghost use Rattle.moo_run.specs.Ends.{IsUntouched, RunsClosed};
+
+use crate::host::System;
+use moo_files::{Remains, WorldFiles};
+use moo_progress::DiskChanges;
+use moo_run::{Runs, Session, Streams, run_to_end};
+use moo_run_lines::{Failure, report};
+use sqlite::Unknown;
+use std::alloc::{AllocError, Global};
+use std::env::args;
+use std::io;
+use std::io::{Eprint, ErrorKind, Stdin, Stdout, Write};
+use std::marker::PhantomData;
+
+/// The words of a command line, with `moo` in place of the program's path.
+fn named_words(alloc: Global, mut words: Vec<String>) -> io::Result<Vec<String>>
+    ensures { IfOk result (λ named. map string_bytes named.items ≡ codes "moo" ∷ map string_bytes (drop 1 words.items)) }
+{
+    let name = String::from_str(alloc, "moo")?;
+    if words.is_empty() {
+        words.push(name)?;
+    } else {
+        words[0] = name;
+    }
+    Ok(words)
+}
+
+/// The same words, borrowed.
+fn borrowed<'a>(alloc: Global, words: &'a [String]) -> Result<Vec<&'a str>, AllocError>
+    ensures { IfOk result (λ found. map (λ word. word.now) found.items ≡ map string_bytes words.now) }
+{
+    let mut found = Vec::with_capacity(alloc, words.len())?;
+    for word in words {
+        found.push(word.as_str())?;
+    }
+    Ok(found)
+}
+
+/// Why the words can't be read: memory ran out, or one of them isn't UTF-8.
+fn words_failure(error: &io::Error) -> Failure
+    ensures memory { error_kind error.now ≡ ErrorKind.OutOfMemory → result ≡ Failure.NoMemory }
+    ensures other { error_kind error.now ≢ ErrorKind.OutOfMemory → result ≡ Failure.Usage }
+{
+    match error.kind() {
+        ErrorKind::OutOfMemory => Failure::NoMemory,
+        _ => Failure::Usage,
+    }
+}
+
+/// Does what the words say and closes their file, or says why the words can't be read. It sets the exit status, and what is left of
+/// the file is handed back, to be dropped. If no file was opened for them, that is the unspent start.
+pub fn run_given<'s, S: Streams>(
+    session: &mut Session<'s, S>,
+    words: io::Result<Vec<String>>,
+    start: S::File,
+) -> Remains<S::File, <S::Host as WorldFiles<S::File>>::Disk>
+    requires may { IfOk words (λ words. (task : Task) → NamesTask (map string_bytes words.items) task →
+        S.Host.may_open session.old.host task.file.now) }
+    requires read { IfOk words (λ words. (task : Task) (path : List ℕ) → NamesTask (map string_bytes words.items) task →
+        ReadsFile task path → S.Host.may_read session.old.host path) }
+    // The outcome of the words is that of `run_to_end`; or memory runs out before that, and their file isn't opened.
+    ensures read { IfOk words (λ words. let run = ⟦<Session<'s, S> as Runs>⟧.run session.old session.new in
+        (Reports Failure.NoMemory run.before run.after run.status × IsUntouched result × run.given.ports.rests)
+        ⊎ RunsClosed (map string_bytes words.items) (image_at S.File.Start) result run) }
+    ensures input { IfOk words (λ words. KeepsInput (map string_bytes words.items) session.old.input session.new.input) }
+    // If they can't be read, the line says whether memory ran out, no file is opened, and nothing is asked of the ports or read.
+    ensures memory { IfErr words (λ error. error_kind error ≡ ErrorKind.OutOfMemory →
+        Reports Failure.NoMemory (S.Output.contents session.old.output) (S.Output.contents session.new.output) session.new.status) }
+    ensures unread { IfErr words (λ error. error_kind error ≢ ErrorKind.OutOfMemory →
+        Reports Failure.Usage (S.Output.contents session.old.output) (S.Output.contents session.new.output) session.new.status) }
+    ensures unopened { IfErr words (λ _.
+        IsUntouched result × (session.new.host ≡ session.old.host) × (session.new.input ≡ session.old.input)) }
+{
+    let words = match words {
+        Ok(words) => words,
+        Err(error) => {
+            session.status = report(
+                session.alloc,
+                session.console,
+                words_failure(&error),
+                &mut session.output,
+            );
+            return Remains::Untouched(start);
+        }
+    };
+    let Ok(words) = borrowed(session.alloc, &words) else {
+        session.status = report(
+            session.alloc,
+            session.console,
+            Failure::NoMemory,
+            &mut session.output,
+        );
+        return Remains::Untouched(start);
+    };
+    run_to_end(session, &words, start)
+}
+
+/// The words of the command line.
+fn command_words(rt: &HostRuntime) -> io::Result<Vec<String>> {
+    named_words(rt.alloc(), args(rt)?.collect(rt.alloc())?)
+}
+
+/// What the program works with: the files and ports of the system, and the standard streams.
+pub struct Standard<'a> {
+    of: PhantomData<&'a HostRuntime>,
+}
+
+impl<'a> Streams for Standard<'a> {
+    type File = Unknown;
+
+    type Host = System<'a>;
+
+    type Console = HostRuntime;
+
+    type Input = Stdin;
+
+    type Output = Stdout;
+}
+
+/// The whole program: `run_given` over the words of the command line, the files and ports of the system and the standard streams. It has no
+/// type parameter, so that the check of `main` needn't know what streams are.
+pub fn run_command(rt: &HostRuntime) -> u8 {
+    let changes = DiskChanges::new();
+    let mut session: Session<'_, Standard<'_>> = Session {
+        alloc: rt.alloc(),
+        console: rt,
+        host: System::new(rt, &changes),
+        input: rt.stdin(),
+        output: rt.stdout(),
+        status: 0,
+    };
+    let left = run_given(&mut session, command_words(rt), Unknown);
+    left.shut();
+    session.status
+}

@@ -1,8 +1,0 @@
-use Rattle.moo_words.proofs.Adding.{with_arg, stays_local}
-use Rattle.moo_words.proofs.commands.text_command.Goals as goal
-
-pub returns-clause-shape : goal.returns-clause-shape
-returns-clause-shape c = with_arg _ _ c.arg.result _ _ c.arg.ensures c.in_ok-file_command.ensures.shape c.text_arg.ensures.rule c.text_arg.ensures.local
-
-pub returns-clause-local : goal.returns-clause-local
-returns-clause-local c = stays_local c.arg.result _ _ c.arg.ensures c.in_ok-file_command.ensures.local c.text_arg.ensures.local
