@@ -27,11 +27,11 @@ first_is : (w : World) (p : ObjNo) (held : Value) (left : List Value) (o : Outco
 unfolding first_of
 first_is w p held left o e = ap (first_of p left) e
 
-module _ {before : Held} {p : ObjNo} {all : List Value} {now : Held} where
-  pub stepped-one : (held : Value) (left : List Value) (v : Value) (next : Held) → HaveStepped before p all now (held ∷ left)
+module _ {before : Held} {p : ObjNo} {all : List Value} {now : Held} {rest : List Value} where
+  pub stepped-one : (held : Value) (left : List Value) (v : Value) (next : Held) → rest ≡ held ∷ left → HaveStepped before p all now rest
       → held_step (world_in now) p held ≡ Done v (world_in next) → Keeps now next → HaveStepped before p all next left
   unfolding first_of
-  stepped-one held left v next h done kept = record {
+  stepped-one held left v next is was done kept = let h = subst (HaveStepped before p all now) is was in record {
     steps = h.steps ∙ first_is (world_in now) p held left (Done v (world_in next)) done;
     good = kept.good;
     beside = kept.beside ∙ h.beside;
@@ -40,23 +40,23 @@ module _ {before : Held} {p : ObjNo} {all : List Value} {now : Held} where
     fit = (and_parts (fits held) (list_all fits left) h.fit).1;
   }
 
-  pub stepped-fits : (held : Value) (left : List Value) → HaveStepped before p all now (held ∷ left) → fits held ≡ true
-  stepped-fits held left h = (and_parts (fits held) (list_all fits left) h.fit).0
+  pub stepped-fits : (held : Value) (left : List Value) → rest ≡ held ∷ left → HaveStepped before p all now rest → fits held ≡ true
+  stepped-fits held left is h = (and_parts (fits held) (list_all fits left) (subst (HaveStepped before p all now) is h).fit).0
 
-  pub stepped-all : HaveStepped before p all now [] → held_steps (world_in before) p all ≡ Done zero (world_in now)
-  stepped-all h = h.steps
+  pub stepped-all : rest ≡ [] → HaveStepped before p all now rest → held_steps (world_in before) p all ≡ Done zero (world_in now)
+  stepped-all is h = (subst (HaveStepped before p all now) is h).steps
 
-  pub stepped-kept : HaveStepped before p all now [] → KeepInTurn p all before now
-  stepped-kept h = record { good = h.good; beside = h.beside; base = h.base; numbers = h.numbers now.maps refl }
+  pub stepped-kept : rest ≡ [] → HaveStepped before p all now rest → KeepInTurn p all before now
+  stepped-kept is was = let h = subst (HaveStepped before p all now) is was in record { good = h.good; beside = h.beside; base = h.base; numbers = h.numbers now.maps refl }
 
   -- the first that isn't done stops them
-  pub stepped-stopped : (held : Value) (left : List Value) (place : ℕ) (fault : Fault) (new : Held) → HaveStepped before p all now (held ∷ left)
+  pub stepped-stopped : (held : Value) (left : List Value) (place : ℕ) (fault : Fault) (new : Held) → rest ≡ held ∷ left → HaveStepped before p all now rest
       → ComesTo (held_step (world_in now) p held) now new (Err fault) → ComesInTurn (held_steps (world_in before) p all) new (Err (held_at place fault))
   unfolding first_of
-  stepped-stopped held left place (Moo reason) new h comes = h.steps ∙ first_is (world_in now) p held left (Failed (error_of reason)) comes.0
-  stepped-stopped held left place (of_held other reason) new h comes = absurd comes
-  stepped-stopped held left place none_left new h comes = h.steps ∙ first_is (world_in now) p held left Full comes.0
-  stepped-stopped held left place OutOfMemory new h comes = tt
+  stepped-stopped held left place (Moo reason) new is h comes = (subst (HaveStepped before p all now) is h).steps ∙ first_is (world_in now) p held left (Failed (error_of reason)) comes.0
+  stepped-stopped held left place (of_held other reason) new is h comes = absurd comes
+  stepped-stopped held left place none_left new is h comes = (subst (HaveStepped before p all now) is h).steps ∙ first_is (world_in now) p held left Full comes.0
+  stepped-stopped held left place OutOfMemory new is h comes = tt
 
 -- ---- a petition that is granted
 

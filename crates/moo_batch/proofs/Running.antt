@@ -1,5 +1,5 @@
 -- The calls of a batch, one after another.
-use Rattle.std.proofs.Common.{◌≡◌, ◌+◌, List, [], ◌∷◌, ◌++◌, length, refl, sym, ap, ◌∙◌, arith}
+use Rattle.std.proofs.Common.{ℕ, subst, ◌≡◌, ◌+◌, List, [], ◌∷◌, ◌++◌, length, refl, sym, ap, ◌∙◌, arith}
 use Rattle.moo_value.{specs.declared.value.ObjNo.{ObjNo}, specs.declared.value.Value.{Value}, specs.declared.code.Code.{Code}}
 use Rattle.moo_rows.specs.Maps.{Maps, Held}
 use Rattle.moo_world.{specs.declared.call.Call.{Call}, specs.Between.{CallsLead, CallKeepsNumbers}, specs.Rows.{IsGood}, specs.Outcomes.{Outcome, Done, Failed, Full}, specs.Requests.{State, batch_call}, specs.Judge.{Ran, Through, FailedAt, FullAt, after_one, run_calls}, specs.Names.{is_grant}}
@@ -50,11 +50,11 @@ first_is : (s : State) (p : ObjNo) (call : Call) (calls : List Call) (o : Outcom
 unfolding first_of
 first_is s p call calls o e = ap (first_of s p calls) e
 
-module _ {before : Held} {p : ObjNo} {all : List Call} {answers : List Value} {now : Held} where
-  pub run-one_more : (call : Call) (left : List Call) (v : Value) (more : List Value) (next : Held) → more ≡ answers ++ v ∷ [] → HaveRunSoFar before p all answers now (call ∷ left)
+module _ {before : Held} {p : ObjNo} {all : List Call} {answers : List Value} {now : Held} {rest : List Call} where
+  pub run-one_more : (call : Call) (left : List Call) (v : Value) (more : List Value) (next : Held) → more ≡ answers ++ v ∷ [] → rest ≡ call ∷ left → HaveRunSoFar before p all answers now rest
       → batch_call (state_in now) p call ≡ Done v (state_in next) → KeepsGoodRows (CallKeepsNumbers (is_grant call.name) p call.args) now next → HaveRunSoFar before p all more next left
   unfolding first_of
-  run-one_more call left v more next e h done kept = record {
+  run-one_more call left v more next e is was done kept = let h = subst (HaveRunSoFar before p all answers now) is was in record {
     run = h.run ∙ ap (after_all answers) (first_is (state_in now) p call left (Done v (state_in next)) done)
         ∙ sym (ap (λ vs. after_all vs (run_calls (state_in next) p left)) e ∙ after_all-append answers v (run_calls (state_in next) p left));
     kept = record {
@@ -65,18 +65,20 @@ module _ {before : Held} {p : ObjNo} {all : List Call} {answers : List Value} {n
     };
   }
 
-  pub run-kept : HaveRunSoFar before p all answers now [] → HaveKept p all before now
-  run-kept h = record { good = h.kept.good; seq = h.kept.seq; base = h.kept.base; numbers = h.kept.numbers now.maps refl }
+  pub run-kept : rest ≡ [] → HaveRunSoFar before p all answers now rest → HaveKept p all before now
+  run-kept is was = let h = subst (HaveRunSoFar before p all answers now) is was in record { good = h.kept.good; seq = h.kept.seq; base = h.kept.base; numbers = h.kept.numbers now.maps refl }
 
-  pub run-ended : HaveRunSoFar before p all answers now [] → run_calls (state_in before) p all ≡ Through answers (state_in now)
-  run-ended h = h.run ∙ after_all-through answers (state_in now)
+  pub run-ended : rest ≡ [] → HaveRunSoFar before p all answers now rest → run_calls (state_in before) p all ≡ Through answers (state_in now)
+  run-ended is h = (subst (HaveRunSoFar before p all answers now) is h).run ∙ after_all-through answers (state_in now)
 
-  pub run-failed : (call : Call) (left : List Call) (e : Code) → HaveRunSoFar before p all answers now (call ∷ left)
-      → batch_call (state_in now) p call ≡ Failed e → run_calls (state_in before) p all ≡ FailedAt (length answers + 1) e
+  pub run-failed : (call : Call) (left : List Call) (e : Code) (done : ℕ) → done ≡ length answers → rest ≡ call ∷ left → HaveRunSoFar before p all answers now rest
+      → batch_call (state_in now) p call ≡ Failed e → run_calls (state_in before) p all ≡ FailedAt (done + 1) e
   unfolding first_of
-  run-failed call left e h failed = h.run ∙ ap (after_all answers) (first_is (state_in now) p call left (Failed e) failed) ∙ after_all-failed answers e
+  run-failed call left e done many is h failed =
+      (subst (HaveRunSoFar before p all answers now) is h).run ∙ ap (after_all answers) (first_is (state_in now) p call left (Failed e) failed) ∙ after_all-failed answers e ∙ ap (λ n. FailedAt (n + 1) e) (sym many)
 
-  pub run-full : (call : Call) (left : List Call) → HaveRunSoFar before p all answers now (call ∷ left)
-      → batch_call (state_in now) p call ≡ Full → run_calls (state_in before) p all ≡ FullAt (length answers + 1)
+  pub run-full : (call : Call) (left : List Call) (done : ℕ) → done ≡ length answers → rest ≡ call ∷ left → HaveRunSoFar before p all answers now rest
+      → batch_call (state_in now) p call ≡ Full → run_calls (state_in before) p all ≡ FullAt (done + 1)
   unfolding first_of
-  run-full call left h full = h.run ∙ ap (after_all answers) (first_is (state_in now) p call left Full full) ∙ after_all-full answers
+  run-full call left done many is h full =
+      (subst (HaveRunSoFar before p all answers now) is h).run ∙ ap (after_all answers) (first_is (state_in now) p call left Full full) ∙ after_all-full answers ∙ ap (λ n. FullAt (n + 1)) (sym many)

@@ -13,19 +13,19 @@ pub record HaveTold (before : Maps) (p : ObjNo) (all : List Value) (now : Maps) 
 pub told-started : (p : ObjNo) (all : List Value) (now : Maps) → HaveTold now p all now all 0
 told-started p all now = record { told = λ place reason is. subst (λ n. IsTrueInTurn p all n now reason) (omega arith) is }
 
-module _ {before : Maps} {p : ObjNo} {all : List Value} (now : Held) {index : ℕ} where
-  pub told-one : (held : Value) (left : List Value) (v : Value) (next : Held) → HaveTold before p all now.maps (held ∷ left) index
+module _ {before : Maps} {p : ObjNo} {all : List Value} (now : Held) {index : ℕ} {rest : List Value} where
+  pub told-one : (held : Value) (left : List Value) (v : Value) (next : Held) → rest ≡ held ∷ left → HaveTold before p all now.maps rest index
       → held_step (world_in now) p held ≡ Done v (world_in next) → Keeps now next → HaveTold before p all next.maps left (index + 1)
-  told-one held left v next h done kept = record {
-    told = λ place reason is. subst (λ n. IsTrueInTurn p all n before reason) (omega arith) (h.told (suc place) reason (v, next.maps, ap (in_world (state_in now)) done ∙ ap (Done v) (with_world now next kept.beside), is));
+  told-one held left v next first h done kept = record {
+    told = λ place reason is. subst (λ n. IsTrueInTurn p all n before reason) (omega arith) ((subst (λ l. HaveTold before p all now.maps l index) first h).told (suc place) reason (v, next.maps, ap (in_world (state_in now)) done ∙ ap (Done v) (with_world now next kept.beside), is));
   }
 
-  pub told-stopped : (held : Value) (left : List Value) (place : ℕ) (fault : Fault) (new : Held) → HaveTold before p all now.maps (held ∷ left) index → place ≡ index
+  pub told-stopped : (held : Value) (left : List Value) (place : ℕ) (fault : Fault) (new : Held) → rest ≡ held ∷ left → HaveTold before p all now.maps rest index → place ≡ index
       → ComesTo (held_step (world_in now) p held) now new (Err fault) → IsTrueOfFault now.maps p (about_held p held) fault → IsFaultInTurn p all before (held_at place fault)
-  told-stopped held left place (Moo reason) new h at comes is = subst (λ n. IsTrueInTurn p all n before reason) (omega (arith, at)) (h.told 0 reason is)
-  told-stopped held left place (of_held other reason) new h at comes is = absurd comes
-  told-stopped held left place none_left new h at comes is = tt
-  told-stopped held left place OutOfMemory new h at comes is = tt
+  told-stopped held left place (Moo reason) new first h at comes is = subst (λ n. IsTrueInTurn p all n before reason) (omega (arith, at)) ((subst (λ l. HaveTold before p all now.maps l index) first h).told 0 reason is)
+  told-stopped held left place (of_held other reason) new first h at comes is = absurd comes
+  told-stopped held left place none_left new first h at comes is = tt
+  told-stopped held left place OutOfMemory new first h at comes is = tt
 
 -- why a granted petition fails
 pub granted-told : (p : ObjNo) (args : List Value) (n : ℤ) (e : PetitionId × PetitionRow) (old mid new : Held) (o : Outcome World) (about : About) (fault : Fault)

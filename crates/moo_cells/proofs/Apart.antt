@@ -1,11 +1,12 @@
 -- Rows that come in any order, no two of them with one key.
-use Rattle.moo_cells.{proofs.Words.{◌≡◌, List, [], ◌∷◌, Bool, true, false, cond, find, Option, None, Some, IsTrue, refl, sym, ap, subst, ◌∙◌, true≢false, AllByRecursion, ℤ, Row, Value, column, rowid, has_rowid, has_key_pair, IsRowBelow, value_cmp, is_eq, ordering_then, Equal, Ordering, and_parts, FinMap, get, IsRead, ShowsOrNone, HoldsTable}, proofs.Table.{Bears, tied}, proofs.Keys.{rises}, specs.Apart.{is_same_number, is_same_pair, HaveNumbers, HavePairs}}
+use Rattle.moo_cells.{proofs.Words.{◌≡◌, List, [], ◌∷◌, Bool, true, false, cond, find, Option, None, Some, IsTrue, refl, sym, ap, subst, ◌∙◌, true≢false, AllByRecursion, ℤ, Row, Value, column, rowid, has_rowid, has_key_pair, IsRowBelow, value_cmp, is_eq, ordering_then, Equal, and_parts, IsRead, ShowsOrNone}, proofs.Table.{Bears, tied}, proofs.Keys.{rises}, specs.Apart.{is_same_number, is_same_pair, HaveNumbers, HavePairs}, specs.Holding.{HoldsEachRow}}
 use Rattle.std.{specs.Cmp.{IsTotalOrder, eq_by_cmp_equiv}, proofs.lemmas.Cmp.{on_total, then_total}, specs.List.{IsDistinct}, specs.List.Sorted.{IsPermutation}, proofs.lemmas.List.Sorted.{IsPermutation-sym}, proofs.lemmas.Map.Keys.{IsDistinct-IsPermutation}}
 use Rattle.sqlite.specs.declared.types.Value.TheVariants.{Int}
 use Rattle.sqlite_value.proofs.OrderLemmas.{value_cmp_total}
 use Rattle.sqlite_rules.proofs.ListLemmas.{all_has, has_found}
 use Rattle.sqlite_trees.{specs.Tree.{IsAscending}, specs.View.{is_int}, proofs.ListLemmas.{all-permutation}}
-use Rattle.moo_tables.{specs.Tables.{AreKeyed}, specs.Listing.{ArePaired}, specs.Rising.{pair_cmp}, proofs.KeyLemmas.{find_none}}
+use Rattle.moo_tables.{specs.Listing.{ArePaired}, specs.Rising.{pair_cmp}}
+use Rattle.moo_tables_rows.{specs.Tables.{AreKeyed}, proofs.KeyLemmas.{find_none}}
 
 all_then : {X : Type 0} (P Q : X → Type 0) → ((x : X) → P x → Q x) → (xs : List X) → AllByRecursion P xs → AllByRecursion Q xs
 all_then P Q gives [] all = tt
@@ -71,10 +72,10 @@ module _ (e : Row → Row → Bool) (p : Row → Bool) (alike : (r s : Row) → 
       go (Some x) found = found ∙ sym (other x found (find p ys) refl)
 
 -- what was read in one order is read in the other
-pub holds_again : {J K X : Type 0} {cmp : K → K → Ordering} (has : J → Row → Bool) (number : K → J) (reads : K → Row → X → Type 0) (e : Row → Row → Bool) → ((j : J) (r s : Row) → has j r ≡ true → has j s ≡ true → e r s ≡ true)
-    → (xs ys : List Row) → IsPermutation xs ys → IsDistinct e xs → {m : FinMap cmp X} → HoldsTable has number reads ys m → HoldsTable has number reads xs m
-holds_again has number reads e alike xs ys same apart {m} held = record {
-  shown = λ q. subst (λ o. ShowsOrNone (reads q) o (get m q)) (sym (found_again e (has (number q)) (alike (number q)) xs ys same apart)) (held.shown q);
+pub holds_again : {J K X : Type 0} (has : J → Row → Bool) (number : K → J) (reads : K → Row → X → Type 0) (e : Row → Row → Bool) → ((j : J) (r s : Row) → has j r ≡ true → has j s ≡ true → e r s ≡ true)
+    → (xs ys : List Row) → IsPermutation xs ys → IsDistinct e xs → {row_at : K → Option X} → HoldsEachRow has number reads ys row_at → HoldsEachRow has number reads xs row_at
+holds_again has number reads e alike xs ys same apart {row_at} held = record {
+  shown = λ q. subst (λ o. ShowsOrNone (reads q) o (row_at q)) (sym (found_again e (has (number q)) (alike (number q)) xs ys same apart)) (held.shown q);
   read = all-permutation (IsRead reads) ys xs (IsPermutation-sym xs ys same) held.read;
 }
 

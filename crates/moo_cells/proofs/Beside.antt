@@ -1,5 +1,5 @@
 -- Rows that show the entries of a map, one for one, hold it.
-use Rattle.moo_cells.{proofs.Words.{◌≡◌, ℕ, ◌<◌, ◌+◌, suc, length, List, [], ◌∷◌, Bool, true, false, cond, find, drop, get_or, add-one, Option, None, Some, get, refl, sym, ap, subst, ◌∙◌, true≢false, AllByRecursion, is_eq, eq_by_cmp, IsTotalOrder, tied_itself, Ordering, FinMap, entries, get-entries, IsAntisymmetric, Row, ShowEach, HoldsTable, IsRead, ShowsOrNone}, proofs.Table.{Bears, tied}}
+use Rattle.moo_cells.{proofs.Words.{◌≡◌, ℕ, ◌<◌, ◌+◌, suc, length, List, [], ◌∷◌, Bool, true, false, cond, find, drop, get_or, add-one, Some, refl, sym, ap, subst, ◌∙◌, true≢false, AllByRecursion, is_eq, eq_by_cmp, IsTotalOrder, tied_itself, Ordering, FinMap, entries, get-entries, IsAntisymmetric, Row, ShowEach, HoldsTable, IsRead, ShowsOrNone}, proofs.Table.{Bears, tied}}
 use Rattle.std.{specs.FinMap.Entries.{find as entry_at}, proofs.Math.Seq.{drop-cons}}
 
 -- what is left shows what is left, so that all shows all

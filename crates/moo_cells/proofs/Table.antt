@@ -1,5 +1,5 @@
 -- A table read row by row, whatever its keys are.
-use Rattle.moo_cells.{proofs.Words.{◌≡◌, inl, inr, length, List, [], ◌∷◌, ◌++◌, Bool, true, false, cond, find, append_assoc, append-nil, arith, Option, None, Some, refl, sym, ap, subst, ◌∙◌, true≢false, AllByRecursion, option_or, is_eq, eq_by_cmp, IsTotalOrder, tied_itself, Ordering, Less, Equal, Greater, FinMap, empty, get, insert, get-empty, get-insert, IsAntisymmetric, Row, IsRead, ShowsOrNone, HoldsTable, TakesRow}, specs.Unread.{IsUnread, FirstUnread}}
+use Rattle.moo_cells.{proofs.Words.{◌≡◌, inl, inr, length, List, [], ◌∷◌, ◌++◌, Bool, true, false, cond, find, append_assoc, append-nil, arith, Option, None, Some, refl, sym, ap, subst, ◌∙◌, true≢false, AllByRecursion, option_or, is_eq, eq_by_cmp, IsTotalOrder, tied_itself, Ordering, FinMap, empty, get, insert, get-empty, get-insert, IsAntisymmetric, Row, IsRead, ShowsOrNone, HoldsTable, TakesRow}, specs.Holding.{HoldsEachRow}, specs.Unread.{IsUnread, FirstUnread}}
 use Rattle.std.proofs.lemmas.List.Folds.{find-append}
 use Rattle.sqlite_rules.{specs.Lists.{Has}, proofs.ListLemmas.{all_has, has_found}}
 use Rattle.sqlite_trees.specs.Tree.{IsAscending}
@@ -124,7 +124,7 @@ module _ {J K X : Type 0} {has : J → Row → Bool} {number : K → J} {reads :
           read = all_then (IsRead reads) front r held.read (taken.key, taken.row, taken.is_read);
         })
 
-    pub held_first : {cmp : K → K → Ordering} {m : FinMap cmp X} → HoldsTable has number reads front m → ¬ (IsRead reads r) → (k : J) → has k r ≡ true → FirstUnread reads below (λ j. find (has j) cells) k
+    pub held_first : {row_at : K → Option X} → HoldsEachRow has number reads front row_at → ¬ (IsRead reads r) → (k : J) → has k r ≡ true → FirstUnread reads below (λ j. find (has j) cells) k
     held_first held bad k mine =
         let P : List Row → Type 0 = λ c. FirstUnread reads below (λ j. find (has j) c) k in
         subst P (takes_next front whole steps) (first_unread front r rest rises held.read bad k mine)

@@ -1,10 +1,15 @@
 -- What tables show that were read one after another.
-use Rattle.moo_cells.proofs.Words.{◌≡◌, ◌∙◌, ℤ, pos, negsuc, find, Option, Some, sym, ap, subst, get, and_from, Row, has_rowid, has_key_pair, Maps, Tables, Version, version_number, head_cells, HeadIs, ReadsHead, ReadsCounter, ReadsObject, ReadsProp, ReadsSlot, ReadsVerb, ReadsPetition, HoldsTable, object_number, prop_number, slot_number, verb_number, petition_number, ShowsOrNone, ShowsObject, ShowsProp, ShowsSlot, ShowsVerb, ShowsPetition, ShowsCounter, ShowsRows, AreWithin}
+use Rattle.moo_cells.proofs.Words.{◌≡◌, ◌∙◌, ℤ, pos, negsuc, find, Option, None, Some, IfSome, sym, ap, subst, get, and_from, Row, has_rowid, has_key_pair, Maps, Tables, Version, version_number, head_cells, HeadIs, ReadsHead, ReadsCounter, ReadsObject, ReadsProp, ReadsSlot, ReadsVerb, ReadsPetition, HoldsTable, object_number, prop_number, slot_number, verb_number, petition_number, ShowsOrNone, ShowsObject, ShowsProp, ShowsSlot, ShowsVerb, ShowsPetition, ShowsCounter, ShowsRows, AreWithin}
 use Rattle.std.{specs.Prelude.{Vec}, specs.declared.alloc.Global.{Global}}
 use Rattle.sqlite.specs.State.{State, HasCleanDisk}
 use Rattle.moo_rows.specs.declared.row.Head.{Head as HeadRow}
 use Rattle.moo_cells.{specs.Taken.{TakesObjects, TakesProps, TakesSlots, TakesVerbs, TakesTables}, proofs.Apart.{numbered, paired}, proofs.Keys.{props_bear, slots_bear, verbs_bear, petitions_bear}, proofs.Table.{no_other}, proofs.RowsLemmas.{shows_of, read_of, not_negative}}
-use Rattle.moo_tables.{specs.Tables.{schema_of}, specs.Inside.{ReadsTables, Rests}, specs.Listing.{ListsNumbers, ListsPairs}, proofs.ReadLemmas.{rests_read}}
+use Rattle.moo_tables.{specs.Listing.{ListsNumbers, ListsPairs}, proofs.ReadLemmas.{rests_read}}
+use Rattle.moo_tables_rows.{specs.Tables.{schema_of}, specs.Inside.{ReadsTables, Rests}}
+
+pub if_some : {T : Type 0} (P Q : T → Type 0) (o : Option T) → IfSome o P → ((x : T) → P x → Q x) → IfSome o Q
+if_some P Q (Some x) p f = f x p
+if_some P Q None p f = tt
 
 -- the four tables in turn: each query leaves them to the next one
 pub takes_all : {version : Version} {a b c d e : State} {m0 m1 m2 m3 m4 : Maps} → TakesObjects version a b m0 m1 → TakesProps version b c m1 m2 → TakesSlots version c d m2 m3 → TakesVerbs version d e m3 m4

@@ -14,7 +14,7 @@ pub use Rattle.std.specs.declared.cmp.Ordering.{Ordering}
 pub use Rattle.std.specs.declared.cmp.Ordering.TheVariants.{Equal, Greater, Less}
 pub use Rattle.moo_cells.specs.Damage.{Damage, IsBadCell, IsBadHead, IsMet, IsNewer, SaysOfCells}
 pub use Rattle.moo_cells.specs.Each.{ShowEach}
-pub use Rattle.moo_cells_row.specs.Head.{HasCounter, HasHead, HeadFits, HeadIs, IsCounter, IsNewerThan, ReadsCounter, ReadsHead, SaysOfHead, greatest}
+pub use Rattle.moo_cells_row.specs.Head.{HasCounter, HasHead, HeadFits, HeadIs, IsCounter, IsNewerThan, ReadsCounter, ReadsHead, SaysOfHead, greatest_version}
 pub use Rattle.moo_cells.specs.Holding.{HoldsTable, IsLess, IsPairLess, SaysUnread, TakesRow, object_key, object_number, petition_key, petition_number, prop_key, prop_number, slot_key, slot_number, verb_key, verb_number}
 pub use Rattle.moo_cells_row.specs.Reading.{IsRead, ObjectFits, PetitionFits, PropFits, ReadsObject, ReadsPetition, ReadsProp, ReadsSlot, ReadsVerb, SlotFits, VerbFits, calls_fit}
 pub use Rattle.moo_cells.specs.Shows.{ShowsBits, ShowsCounter, ShowsNext, ShowsObject, ShowsOrNone, ShowsPetition, ShowsProp, ShowsRows, ShowsSlot, ShowsSlotState, ShowsVerb}
@@ -30,11 +30,11 @@ pub use Rattle.moo_rows.proofs.Orders.{object_total, petition_total, prop_total,
 pub use Rattle.moo_rows.specs.Exact.{object_exact, petition_exact, prop_exact, slot_exact, verb_exact}
 pub use Rattle.moo_rows.specs.Maps.{Maps}
 pub use Rattle.moo_rows.specs.declared.row.Head.{Head}
-pub use Rattle.moo_tables.specs.Cells.{head_cells, petition_head_cells}
+pub use Rattle.moo_tables_rows.specs.Cells.{head_cells, petition_head_cells}
 pub use Rattle.moo_tables.specs.Listing.{IsRowBelow, has_key_pair, tables_of}
-pub use Rattle.moo_tables.specs.Tables.{Tables}
-pub use Rattle.moo_tables.specs.Version.{has_petitions, version_number}
-pub use Rattle.moo_tables.specs.declared.version.Version.{Version}
+pub use Rattle.moo_tables_rows.specs.Tables.{Tables}
+pub use Rattle.moo_tables_rows.specs.Version.{has_petitions, version_number}
+pub use Rattle.moo_tables_rows.specs.declared.version.Version.{Version}
 pub use Rattle.moo_value.proofs.Printed.{one_spelled}
 pub use Rattle.moo_value.specs.Literal.{Spells}
 pub use Rattle.moo_value.specs.declared.value.ObjNo.{ObjNo}

@@ -1,15 +1,15 @@
 -- What reading the cells of tables comes to: the rows that they show, or the first kind of damage with its least key.
 use Rattle.std.specs.Prelude.{⊤}
 use Rattle.moo_rows.specs.Maps.{Maps}
-use Rattle.moo_tables.specs.Tables.{Tables}
-use Rattle.moo_tables.specs.Version.{version_number}
+use Rattle.moo_tables_rows.specs.Tables.{Tables}
+use Rattle.moo_tables_rows.specs.Version.{version_number}
 use Rattle.moo_damage.specs.declared.kind.Kind.{Kind}
 use Rattle.moo_damage.specs.declared.kind.Kind.TheVariants.{BadHead, BadCell}
 use Rattle.moo_damage.specs.declared.kind.Key.{Key}
 use Rattle.moo_damage.specs.declared.kind.Key.TheVariants.{Head, Object, Prop, Slot, Verb, Petition}
 use Rattle.moo_damage.specs.Kinds.{InRows, IsFirstMet}
 use Rattle.moo_damage.specs.Limits.{AreWithin}
-use Rattle.moo_cells_row.specs.Head.{greatest, IsNewerThan, HasHead, HasCounter}
+use Rattle.moo_cells_row.specs.Head.{greatest_version, IsNewerThan, HasHead, HasCounter}
 use Rattle.moo_cells_row.specs.Reading.{ReadsObject, ReadsProp, ReadsSlot, ReadsVerb, ReadsPetition}
 use Rattle.moo_cells.specs.Shows.{ShowsRows}
 use Rattle.moo_cells.specs.Unread.{IsUnread}
@@ -18,7 +18,7 @@ use Rattle.moo_cells_row.specs.declared.fault.CellFault.TheVariants.{Damaged, Ne
 
 -- the head is that of a version later than the greatest that is known
 abbrev pub IsNewer : Tables → Type 0
-IsNewer t = IsNewerThan greatest t.head
+IsNewer t = IsNewerThan greatest_version t.head
 
 -- there is no head of the version of the tables with a number of the next petition, and it isn't that of a later version either
 abbrev pub IsBadHead : Tables → Key → Type 0

@@ -1,9 +1,11 @@
 -- What is read of a table so far, and the keys of rows as the tables have them.
-use Rattle.std.specs.Prelude.{◌≡◌, ℤ, pos, ◌<ℤ◌, ◌⊎◌, Bool, List, Some, find, ⊤}
+use Rattle.std.specs.Prelude.{◌≡◌, ℤ, pos, ◌<ℤ◌, ◌⊎◌, Bool, true, IsTrue, Option, List, [], ◌∷◌, ◌++◌, Some, find, ⊤}
 use Rattle.std.specs.List.{AllByRecursion}
-use Rattle.std.specs.FinMap.{FinMap, get, insert}
+use Rattle.std.specs.List.Sorted.{IsPermutation}
+use Rattle.std.specs.FinMap.{FinMap, empty, get, insert}
 use Rattle.std.specs.declared.cmp.Ordering.{Ordering}
-use Rattle.sqlite.specs.Order.{Row}
+use Rattle.sqlite.specs.Order.{Row, column}
+use Rattle.sqlite_trees.specs.View.{is_int}
 use Rattle.moo_value.specs.declared.value.ObjNo.{ObjNo}
 use Rattle.moo_rows.specs.declared.row.PetitionId.{PetitionId}
 use Rattle.moo_rows.specs.declared.row.PropId.{PropId}
@@ -55,15 +57,20 @@ IsLess m n = m <ℤ n
 abbrev pub IsPairLess : ℤ × ℤ → ℤ × ℤ → Type 0
 IsPairLess a b = (a.0 <ℤ b.0) ⊎ ((a.0 ≡ b.0) × (a.1 <ℤ b.1))
 
--- the rows are read, each one, and the map has what they show and nothing else
-pub record HoldsTable {J K X : Type 0} {cmp : K → K → Ordering}
-    (has : J → Row → Bool) (number : K → J) (reads : K → Row → X → Type 0) (cells : List Row) (m : FinMap cmp X) : Type 0 where
-  pub shown : (q : K) → ShowsOrNone (reads q) (find (has (number q)) cells) (get m q)
+-- the rows are read, each one, and what is held at each key is what they show of it, and nothing else
+pub record HoldsEachRow {J K X : Type 0} (has : J → Row → Bool) (number : K → J) (reads : K → Row → X → Type 0) (cells : List Row)
+    (row_at : K → Option X) : Type 0 where
+  pub shown : (q : K) → ShowsOrNone (reads q) (find (has (number q)) cells) (row_at q)
   pub read : AllByRecursion (IsRead reads) cells
 
+-- the same of what a map holds
+abbrev pub HoldsTable : {J K X : Type 0} {cmp : K → K → Ordering} → (J → Row → Bool) → (K → J) → (K → Row → X → Type 0) → List Row → FinMap cmp X → Type 0
+HoldsTable has number reads cells m = HoldsEachRow has number reads cells (get m)
+
 -- The rows were put into the map: it has what they show and nothing else, if no two of them have one key. In any case each entry is read.
-pub record FillsTable {J K X : Type 0} {cmp : K → K → Ordering} (Apart : List Row → Type 0) (has : J → Row → Bool) (number : K → J) (reads : K → Row → X → Type 0) (cells : List Row) (m : FinMap cmp X) : Type 0 where
-  pub holds : Apart cells → HoldsTable has number reads cells m
+pub record FillsTable {K X : Type 0} {cmp : K → K → Ordering} (Apart : List Row → Type 0) (Holds : List Row → (K → Option X) → Type 0)
+    (reads : K → Row → X → Type 0) (cells : List Row) (m : FinMap cmp X) : Type 0 where
+  pub holds : Apart cells → Holds cells (get m)
   pub each : (key : K) (row : X) → get m key ≡ Some row → (cells : Row) × reads key cells row
 
 -- one row more is put, which the cells show
@@ -81,3 +88,28 @@ SaysUnread {J} has reads below key_of cells (Damaged kind key) =
     (j : J) × (kind ≡ BadCell) × (key ≡ key_of j) × FirstUnread reads below (λ k. find (has k) cells) j
 SaysUnread has reads below key_of cells NewerVersion = ⊥
 SaysUnread has reads below key_of cells OutOfMemory = ⊤
+
+-- the key is that of the cells
+abbrev pub TellsKey : {J : Type 0} → (J → Row → Bool) → (J → Key) → Row → Key → Type 0
+TellsKey {J} has key_of cells key = (j : J) × (has j cells ≡ true) × (key ≡ key_of j)
+
+-- the cells that are a key of one number, or of two, are whole
+abbrev pub HasWholeNumber : Row → Type 0
+HasWholeNumber cells = IsTrue (is_int (column cells 0))
+
+abbrev pub HasWholePair : Row → Type 0
+HasWholePair cells = IsTrue (is_int (column cells 0)) × IsTrue (is_int (column cells 1))
+
+-- how a map comes to hold what the rows of a table show, a row after another, in any order of the rows
+pub record KeepsTable {K X : Type 0} (cmp : K → K → Ordering) (reads : K → Row → X → Type 0) (apart in_order : List Row → Type 0)
+    (holds : List Row → (K → Option X) → Type 0) (unread : List Row → CellFault → Type 0) (Whole : Row → Type 0) (tells : Row → Key → Type 0) : Type 0 where
+  pub none : (m : FinMap cmp X) → m ≡ empty → holds [] (get m)
+  pub more : (front : List Row) (r : Row) (m n : FinMap cmp X) → apart (front ++ r ∷ []) → holds front (get m) → TakesRow reads r m n
+      → holds (front ++ r ∷ []) (get n)
+  pub front : (xs ys : List Row) → apart (xs ++ ys) → apart xs
+  pub again : (xs ys : List Row) → IsPermutation xs ys → apart xs → apart ys
+  pub held_again : (xs ys : List Row) (m : FinMap cmp X) → IsPermutation xs ys → apart xs → holds ys (get m) → holds xs (get m)
+  pub whole : (rows : List Row) → apart rows → AllByRecursion Whole rows
+  pub first : (front : List Row) (r : Row) (rest : List Row) (m : FinMap cmp X) (key : Key) → in_order (front ++ r ∷ rest) → holds front (get m)
+      → ¬ (IsRead reads r) → tells r key → unread (front ++ r ∷ rest) (Damaged BadCell key)
+  pub memory : (rows : List Row) → unread rows OutOfMemory

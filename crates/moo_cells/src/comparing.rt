@@ -3,9 +3,9 @@
 ghost use Rattle.std.specs.Prelude.{◌≡◌, true, find, IfOk, IfErr, IfSome, IfNone};
 ghost use Rattle.sqlite.specs.Tree.{has_rowid};
 ghost use Rattle.moo_world.specs.Rows.{IsGood};
-ghost use Rattle.moo_tables.specs.Inside.{AreKeyed};
+ghost use Rattle.moo_tables_rows.specs.Inside.{AreKeyed};
 ghost use Rattle.moo_tables.specs.Listing.{AreListed, tables_of};
-ghost use Rattle.moo_tables.specs.Version.{version_number};
+ghost use Rattle.moo_tables_rows.specs.Version.{version_number};
 ghost use Rattle.moo_cells_row.specs.Head.{HeadIs, ReadsHead, ReadsCounter};
 ghost use Rattle.moo_cells.specs.Shows.{ShowsRows};
 ghost use Rattle.moo_cells.specs.Damage.{SaysOfCells};

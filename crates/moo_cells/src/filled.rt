@@ -1,37 +1,29 @@
 //! The rows of a table, put into maps a block after another while the table is read.
 
-ghost use Rattle.std.specs.Prelude.{◌≡◌, List, [], ◌∷◌, ◌++◌, OnOk, true};
+ghost use Rattle.std.specs.Prelude.{◌≡◌, List, ◌++◌, IfSome, true};
 ghost use Rattle.sqlite.specs.Order.{Row as Cells};
 ghost use Rattle.moo_rows.specs.Maps.{Maps};
-ghost use Rattle.moo_tables.specs.declared.version.Version.{Version};
-ghost use Rattle.moo_cells.specs.Filled.{FillsInSomeOrder};
+ghost use Rattle.moo_tables_rows.specs.declared.version.Version.{Version};
+ghost use Rattle.moo_cells.specs.Filled.{FillsInSomeOrder, FillsMap};
+ghost use Rattle.moo_cells.specs.Holding.{KeepsTable};
 
 use crate::filling::in_filling_order;
-use moo_cells_row::RowFault;
+use crate::table_row::{ReadRow, take_row};
 use moo_memory::Flat;
 use moo_tables::{TakeRows, Version};
 use sqlite::Row;
 use std::alloc::Global;
 use std::marker::PhantomData;
 
-/// A row of a large table.
-pub(crate) trait FillRow {
-    /// Rows of its table were put, one after another, into the maps that there were before.
-    ghost fills: { Version → Maps → List Cells → Maps → Type 0 };
-
-    /// Puts the row that these cells show.
-    fn put(alloc: Global, version: Version, cells: &Row, rows: &mut Flat) -> Result<(), RowFault>
-        ensures { (before : Maps) (read : List Cells) → fills version before read rows.old.maps →
-            OnOk result (fills version before (read ++ cells.now ∷ []) rows.new.maps) };
-}
-
 /// Puts what each of these rows shows. False if one shows nothing, or if memory ran out.
-fn put_each<R: FillRow>(alloc: Global, version: Version, cells: &[Row], rows: &mut Flat) -> bool
-    ensures { (before : Maps) (read : List Cells) → R.fills version before read rows.old.maps → result ≡ true →
-        R.fills version before (read ++ cells.now) rows.new.maps }
+fn put_each<R: ReadRow>(alloc: Global, version: Version, cells: &[Row], rows: &mut Flat) -> bool
+    ensures { KeepsTable R.order (R.reads version) R.apart R.in_order (R.holds version) (R.unread version) R.whole R.tells →
+        (before : Maps) (read : List Cells) →
+        FillsMap R.map_of R.with_map R.apart (R.holds version) (R.reads version) before read rows.old.maps → result ≡ true →
+        FillsMap R.map_of R.with_map R.apart (R.holds version) (R.reads version) before (read ++ cells.now) rows.new.maps }
 {
     for row in cells {
-        match R::put(alloc, version, row, rows) {
+        match take_row::<R>(alloc, version, row, rows) {
             Ok(()) => {}
             Err(_) => return false,
         }
@@ -40,9 +32,13 @@ fn put_each<R: FillRow>(alloc: Global, version: Version, cells: &[Row], rows: &m
 }
 
 /// The same of a block, in the order that fills the maps.
-fn put_block<R: FillRow>(alloc: Global, version: Version, block: Vec<Row>, rows: &mut Flat) -> bool
-    ensures { (before : Maps) (read : List Cells) → FillsInSomeOrder R.fills version before read rows.old.maps → result ≡ true →
-        FillsInSomeOrder R.fills version before (read ++ block.items) rows.new.maps }
+fn put_block<R: ReadRow>(alloc: Global, version: Version, block: Vec<Row>, rows: &mut Flat) -> bool
+    ensures { KeepsTable R.order (R.reads version) R.apart R.in_order (R.holds version) (R.unread version) R.whole R.tells →
+        (before : Maps) (read : List Cells) →
+        FillsInSomeOrder (FillsMap R.map_of R.with_map R.apart (R.holds version) (R.reads version)) before read rows.old.maps →
+        result ≡ true →
+        FillsInSomeOrder (FillsMap R.map_of R.with_map R.apart (R.holds version) (R.reads version)) before (read ++ block.items)
+        rows.new.maps }
 {
     let ordered = in_filling_order(block);
     put_each::<R>(alloc, version, &ordered, rows)
@@ -58,7 +54,7 @@ pub(crate) struct Filling<R> {
     of: PhantomData<R>,
 }
 
-impl<R: FillRow> Filling<R> {
+impl<R: ReadRow> Filling<R> {
     pub(crate) fn new(alloc: Global, version: Version, rows: Flat) -> Filling<R>
         ensures version { result.version ≡ version }
         ensures rows { result.rows ≡ rows }
@@ -71,18 +67,20 @@ impl<R: FillRow> Filling<R> {
         }
     }
 
-    /// The rows.
-    pub(crate) fn into_rows(self) -> Flat
-        ensures { result ≡ self.rows }
+    /// The rows, if all of the table were taken.
+    pub(crate) fn into_rows(self, whole: bool) -> Option<Flat>
+        ensures { IfSome result (λ rows. (whole ≡ true) × (rows ≡ self.rows)) }
     {
         let Filling { rows, .. } = self;
-        rows
+        if whole { Some(rows) } else { None }
     }
 }
 
-impl<R: FillRow> TakeRows for Filling<R> {
-    ghost took = { λ first cells now. (now.version ≡ first.version) ×
-        FillsInSomeOrder R.fills first.version first.rows.maps cells now.rows.maps };
+impl<R: ReadRow> TakeRows for Filling<R> {
+    ghost took = { λ first cells now. (now.version ≡ first.version) × (KeepsTable R.order (R.reads first.version) R.apart R.in_order
+        (R.holds first.version) (R.unread first.version) R.whole R.tells →
+        FillsInSomeOrder (FillsMap R.map_of R.with_map R.apart (R.holds first.version) (R.reads first.version)) first.rows.maps cells
+        now.rows.maps) };
 
     fn take(&mut self, block: Vec<Row>) -> bool {
         put_block::<R>(self.alloc, self.version, block, &mut self.rows)

@@ -8,8 +8,8 @@ ghost use Rattle.sqlite.specs.Held.{state};
 ghost use Rattle.sqlite.specs.State.{HasCleanDisk};
 ghost use Rattle.moo_rows.specs.Maps.{Maps, no_maps};
 ghost use Rattle.moo_world.specs.Rows.{IsGood};
-ghost use Rattle.moo_tables.specs.Tables.{Tables, schema_of};
-ghost use Rattle.moo_tables.specs.Inside.{AreKeyed, Rests, ReadsTables, FailsToRead};
+ghost use Rattle.moo_tables_rows.specs.Tables.{Tables, schema_of};
+ghost use Rattle.moo_tables_rows.specs.Inside.{AreKeyed, Rests, ReadsTables, FailsToRead};
 ghost use Rattle.moo_tables.specs.ReadCause.{HasCauseOfReading};
 ghost use Rattle.moo_damage.specs.Limits.{AreWithin};
 ghost use Rattle.moo_cells.specs.Shows.{ShowsRows};
@@ -17,11 +17,11 @@ ghost use Rattle.moo_cells.specs.Taken.{TakesObjects, TakesProps, TakesSlots, Ta
 
 use crate::filled::Filling;
 use crate::rows::under;
-use crate::tables::read_petitions;
+use crate::table_row::read_table;
 use moo_cells_row::read_head;
 use moo_damage::damage_of;
 use moo_memory::Flat;
-use moo_rows::{ObjRow, PropRow, SlotRow, VerbRow};
+use moo_rows::{ObjRow, PetitionRow, PropRow, SlotRow, VerbRow};
 use moo_tables::{
     Version, are_numbered, feed_objects, feed_props, feed_slots, feed_verbs, small_cells_of,
 };
@@ -46,10 +46,7 @@ fn take_objects<S: Alter>(
 {
     let mut filling = Filling::<ObjRow>::new(alloc, version, rows);
     let whole = feed_objects(alloc, conn, version, &mut filling)?;
-    if !whole {
-        return Ok(None);
-    }
-    Ok(Some(filling.into_rows()))
+    Ok(filling.into_rows(whole))
 }
 
 /// The rows with what each row of the table `prop` shows, of which they have none yet; None if some row shows nothing, or if memory ran
@@ -70,10 +67,7 @@ fn take_props<S: Alter>(
 {
     let mut filling = Filling::<PropRow>::new(alloc, version, rows);
     let whole = feed_props(alloc, conn, version, &mut filling)?;
-    if !whole {
-        return Ok(None);
-    }
-    Ok(Some(filling.into_rows()))
+    Ok(filling.into_rows(whole))
 }
 
 /// The rows with what each row of the table `slot` shows, of which they have none yet; None if some row shows nothing, or if memory ran
@@ -94,10 +88,7 @@ fn take_slots<S: Alter>(
 {
     let mut filling = Filling::<SlotRow>::new(alloc, version, rows);
     let whole = feed_slots(alloc, conn, version, &mut filling)?;
-    if !whole {
-        return Ok(None);
-    }
-    Ok(Some(filling.into_rows()))
+    Ok(filling.into_rows(whole))
 }
 
 /// The rows with what each row of the table `verb` shows, of which they have none yet; None if some row shows nothing, or if memory ran
@@ -118,10 +109,7 @@ fn take_verbs<S: Alter>(
 {
     let mut filling = Filling::<VerbRow>::new(alloc, version, rows);
     let whole = feed_verbs(alloc, conn, version, &mut filling)?;
-    if !whole {
-        return Ok(None);
-    }
-    Ok(Some(filling.into_rows()))
+    Ok(filling.into_rows(whole))
 }
 
 /// The rows with what the four large tables show, if they have a head alone before; None if some row shows nothing, or if memory ran out.
@@ -190,7 +178,7 @@ fn take_rows<S: Alter>(
     let Some(mut rows) = all else {
         return Ok(None);
     };
-    match read_petitions(alloc, version, petition, &mut rows) {
+    match read_table::<PetitionRow>(alloc, version, petition, &mut rows) {
         Ok(()) => Ok(Some(rows)),
         Err(_) => Ok(None),
     }

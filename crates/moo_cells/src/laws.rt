@@ -2,7 +2,7 @@
 
 ghost use Rattle.std.specs.Prelude.{◌≡◌};
 ghost use Rattle.moo_rows.specs.Maps.{Maps};
-ghost use Rattle.moo_tables.specs.Tables.{Tables};
+ghost use Rattle.moo_tables_rows.specs.Tables.{Tables};
 ghost use Rattle.moo_damage.specs.Limits.{AreWithin};
 ghost use Rattle.moo_world.specs.Rows.{IsGood};
 ghost use Rattle.moo_damage.specs.declared.kind.Kind.{Kind};

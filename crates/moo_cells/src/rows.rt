@@ -4,17 +4,17 @@ ghost use Rattle.std.specs.Prelude.{◌≡◌, ◌<◌, ◌^◌, find, IfOk, IfE
 ghost use Rattle.sqlite.specs.Tree.{has_rowid};
 ghost use Rattle.moo_rows.specs.Maps.{no_maps};
 ghost use Rattle.moo_tables.specs.Listing.{AreListed, tables_of};
-ghost use Rattle.moo_tables.specs.Version.{version_number};
+ghost use Rattle.moo_tables_rows.specs.Version.{version_number};
 ghost use Rattle.moo_damage.specs.Kinds.{NoneBefore};
 ghost use Rattle.moo_damage.specs.Limits.{AreWithin};
 ghost use Rattle.moo_cells_row.specs.Head.{HeadIs, ReadsHead, ReadsCounter};
 ghost use Rattle.moo_cells.specs.Shows.{ShowsRows};
 ghost use Rattle.moo_cells.specs.Damage.{IsMet, IsNewer, SaysOfCells};
 
-use crate::tables::{read_objects, read_petitions, read_props, read_slots, read_verbs};
+use crate::table_row::read_table;
 use moo_cells_row::{CellFault, read_head};
 use moo_memory::Flat;
-use moo_rows::{Head, Rows};
+use moo_rows::{Head, ObjRow, PetitionRow, PropRow, Rows, SlotRow, VerbRow};
 use moo_tables::CellLists as Cells;
 use std::alloc::Global;
 
@@ -49,11 +49,11 @@ fn read_tables(alloc: Global, lists: Cells, rows: &mut Flat) -> Result<(), CellF
         petition,
         ..
     } = lists;
-    read_objects(alloc, version, object, rows)?;
-    read_props(alloc, version, prop, rows)?;
-    read_slots(alloc, version, slot, rows)?;
-    read_verbs(alloc, version, verb, rows)?;
-    read_petitions(alloc, version, petition, rows)
+    read_table::<ObjRow>(alloc, version, object, rows)?;
+    read_table::<PropRow>(alloc, version, prop, rows)?;
+    read_table::<SlotRow>(alloc, version, slot, rows)?;
+    read_table::<VerbRow>(alloc, version, verb, rows)?;
+    read_table::<PetitionRow>(alloc, version, petition, rows)
 }
 
 /// The rows that the tables show, within their limits; whether they are those of a world isn't tested.

@@ -7,8 +7,8 @@ ghost use Rattle.std.specs.Prelude.{◌≡◌, None, IfOk, OnOk, OnErr, true, fa
 ghost use Rattle.std.specs.FinMap.{entries};
 ghost use Rattle.sqlite.specs.Held.{state};
 ghost use Rattle.sqlite.specs.State.{HasCleanDisk};
-ghost use Rattle.moo_tables.specs.Tables.{Tables, schema_of};
-ghost use Rattle.moo_tables.specs.Inside.{Rests, ReadsTables, FailsToRead};
+ghost use Rattle.moo_tables_rows.specs.Tables.{Tables, schema_of};
+ghost use Rattle.moo_tables_rows.specs.Inside.{Rests, ReadsTables, FailsToRead};
 ghost use Rattle.moo_cells.specs.Each.{ShowEach};
 ghost use Rattle.moo_cells.specs.Shows.{ShowsRows};
 ghost use Rattle.moo_cells.specs.Taken.{TakesObjects, TakesProps, TakesSlots, TakesVerbs, TakesTables};

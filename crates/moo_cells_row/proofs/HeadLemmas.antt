@@ -1,9 +1,9 @@
 -- The head, from the rows of its table, and the number of the next petition, from those of its own.
-use Rattle.moo_cells_row.{proofs.Words.{◌≡◌, ◌≢◌, inl, inr, ℕ, ℤ, pos, ◌<ℤ◌, ◌≤ℤ◌, List, [], ◌∷◌, length, get_or, find, cond, Bool, true, false, true≢false, Option, Some, None, refl, sym, ap, subst, ◌∙◌, arith, IsTrue, ints, Row, column, rowid, has_rowid, Head, Version, First, Second, version_number, petition_head_cells, greatest, head_row, HeadIs, ReadsHead, ReadsNewer, ReadsKnown, IsNewerThan, HasHead, IsCounter, ReadsCounter, HasCounter, SaysOfHead, ShowsCounter, CellFault, Damaged, NewerVersion, OutOfMemory, has_petitions, ShowsNext}, specs.HeadCells.{cells_of, IsHead}, specs.declared.head.HeadCells.{HeadCells}, proofs.Numbers.{self_tied, tied_number, number_apart}, proofs.Texts.{int_inj}, proofs.OneCells.{one_some}}
+use Rattle.moo_cells_row.{proofs.Words.{◌≡◌, ◌≢◌, inl, inr, ℕ, ℤ, pos, ◌<ℤ◌, ◌≤ℤ◌, List, [], ◌∷◌, length, get_or, find, cond, Bool, true, false, true≢false, Option, Some, None, refl, sym, ap, subst, ◌∙◌, arith, IsTrue, ints, Row, column, rowid, has_rowid, Head, Version, First, Second, version_number, petition_head_cells, greatest_version, head_row, HeadIs, ReadsHead, ReadsNewer, ReadsKnown, IsNewerThan, HasHead, IsCounter, ReadsCounter, HasCounter, SaysOfHead, ShowsCounter, CellFault, Damaged, NewerVersion, OutOfMemory, has_petitions, ShowsNext}, specs.HeadCells.{cells_of, IsHead}, specs.declared.head.HeadCells.{HeadCells}, proofs.Numbers.{self_tied, tied_number, number_apart}, proofs.Texts.{int_inj}, proofs.OneCells.{one_some}}
 use Rattle.sqlite.{specs.declared.types.Value.TheVariants.{Int as Number}, specs.Edit.{id_in}}
 use Rattle.sqlite_rules.{specs.Lists.{Has}, proofs.ListLemmas.{all_has}}
 use Rattle.sqlite_trees.specs.View.{is_int}
-use Rattle.moo_tables.{specs.Inside.{AreKeyed}, proofs.KeyLemmas.{int_value}}
+use Rattle.moo_tables_rows.{specs.Inside.{AreKeyed}, proofs.KeyLemmas.{int_value}}
 
 -- ---- the numbers of a head
 
@@ -30,30 +30,30 @@ module _ (cells : Row) (n : HeadCells) (is : cells ≡ cells_of n) (v s t p q : 
   next_verb_is = int_inj n.next_verb q (at_column 5)
 
 -- cells without numbers are none of a head
-pub no_numbers : (v : ℤ) (cells : Row) → ((n : HeadCells) → cells ≡ cells_of n → ⊥) → ¬ (ReadsKnown v cells) × ¬ (ReadsNewer greatest cells)
+pub no_numbers : (v : ℤ) (cells : Row) → ((n : HeadCells) → cells ≡ cells_of n → ⊥) → ¬ (ReadsKnown v cells) × ¬ (ReadsNewer greatest_version cells)
 no_numbers v cells none = (
   (λ k. none (record { id = pos 1; version = v; seq = pos k.0.seq; top = k.0.top; next_prop = pos k.0.next_prop; next_verb = pos k.0.next_verb }) k.1.0),
   (λ k. none (record { id = pos 1; version = k.0; seq = k.1; top = k.2; next_prop = k.3; next_verb = k.4 }) k.5),
 )
 
 -- nor are those of another id
-pub other_id : (v : ℤ) (cells : Row) (n : HeadCells) → cells ≡ cells_of n → n.id ≢ pos 1 → ¬ (ReadsKnown v cells) × ¬ (ReadsNewer greatest cells)
+pub other_id : (v : ℤ) (cells : Row) (n : HeadCells) → cells ≡ cells_of n → n.id ≢ pos 1 → ¬ (ReadsKnown v cells) × ¬ (ReadsNewer greatest_version cells)
 other_id v cells n is other = (
   (λ k. other (id_is cells n is v (pos k.0.seq) k.0.top (pos k.0.next_prop) (pos k.0.next_verb) k.1.0)),
   (λ k. other (id_is cells n is k.0 k.1 k.2 k.3 k.4 k.5)),
 )
 
-pub newer : (cells : Row) (n : HeadCells) → cells ≡ cells_of n → n.id ≡ pos 1 → greatest <ℤ n.version → ReadsNewer greatest cells
+pub newer : (cells : Row) (n : HeadCells) → cells ≡ cells_of n → n.id ≡ pos 1 → greatest_version <ℤ n.version → ReadsNewer greatest_version cells
 newer cells n is id above =
     (n.version, n.seq, n.top, n.next_prop, n.next_verb, is ∙ (λ i. Number (id i) ∷ Number n.version ∷ Number n.seq ∷ Number n.top ∷ Number n.next_prop ∷ Number n.next_verb ∷ []), above)
 
-not_newer : (cells : Row) (n : HeadCells) → cells ≡ cells_of n → n.version ≤ℤ greatest → ¬ (ReadsNewer greatest cells)
+not_newer : (cells : Row) (n : HeadCells) → cells ≡ cells_of n → n.version ≤ℤ greatest_version → ¬ (ReadsNewer greatest_version cells)
 not_newer cells n is low k =
     let same = version_is cells n is k.0 k.1 k.2 k.3 k.4 k.5 in
     let above = k.6 in absurd (omega (arith, ints))
 
 -- the counters are outside their limits
-pub outside : (v : ℤ) (cells : Row) (n : HeadCells) → cells ≡ cells_of n → n.version ≤ℤ greatest → ((head : Head) → ¬ (IsHead n head)) → ¬ (ReadsKnown v cells) × ¬ (ReadsNewer greatest cells)
+pub outside : (v : ℤ) (cells : Row) (n : HeadCells) → cells ≡ cells_of n → n.version ≤ℤ greatest_version → ((head : Head) → ¬ (IsHead n head)) → ¬ (ReadsKnown v cells) × ¬ (ReadsNewer greatest_version cells)
 outside v cells n is low none = (
   (λ k.
       let head = k.0 in
@@ -121,7 +121,7 @@ module _ (v : ℤ) (rows : List Row) (keyed : AreKeyed rows) where
   abbrev table : ℤ → Option Row
   table n = find (has_rowid n) rows
 
-  pub no_head : (length rows ≡ 1 → ⊥) → ¬ (HasHead v table) × ¬ (IsNewerThan greatest table)
+  pub no_head : (length rows ≡ 1 → ⊥) → ¬ (HasHead v table) × ¬ (IsNewerThan greatest_version table)
   no_head many = (
     (λ h. many (ap length (only_head rows keyed h.0 h.1))),
     (λ h. many (ap length (only_head rows keyed h.0 h.1))),
@@ -134,12 +134,12 @@ module _ (v : ℤ) (rows : List Row) (keyed : AreKeyed rows) where
     pub head_is : column r 0 ≡ Number (pos 1) → HeadIs table r
     head_is id = let P : List Row → Type 0 = λ l. HeadIs (λ n. find (has_rowid n) l) r in subst P (sym whole) (head_alone r id)
 
-    pub says_table : (fault : CellFault) → SaysOfHead (ReadsKnown v r) (ReadsNewer greatest r) fault → SaysOfHead (HasHead v table) (IsNewerThan greatest table) fault
+    pub says_table : (fault : CellFault) → SaysOfHead (ReadsKnown v r) (ReadsNewer greatest_version r) fault → SaysOfHead (HasHead v table) (IsNewerThan greatest_version table) fault
     says_table (Damaged kind key) says = (
       says.0,
       says.1,
       (λ h. says.2 (subst (ReadsKnown v) (same_row h.0 h.1) h.2)),
-      (λ h. says.3 (subst (ReadsNewer greatest) (same_row h.0 h.1) h.2)),
+      (λ h. says.3 (subst (ReadsNewer greatest_version) (same_row h.0 h.1) h.2)),
     )
     says_table NewerVersion says = (r, head_is (ap (λ (c : Row). column c 0) says.5), says)
     says_table OutOfMemory says = says
@@ -150,11 +150,11 @@ pub head_known : (v : ℤ) (table : ℤ → Option Row) (cells : Row) (head : He
 head_known v table cells head is reads = (cells, is, (head, reads))
 
 -- the number of a version is none past the greatest
-is_known : (version : Version) (v : ℤ) → greatest <ℤ v → version_number version ≡ v → ⊥
+is_known : (version : Version) (v : ℤ) → greatest_version <ℤ v → version_number version ≡ v → ⊥
 is_known First v above same = absurd (omega (arith, ints))
 is_known Second v above same = absurd (omega (arith, ints))
 
-pub head_not_newer : (version : Version) (table : ℤ → Option Row) (cells : Row) (head : Head) → HeadIs table cells → ReadsHead (version_number version) head cells → ¬ (IsNewerThan greatest table)
+pub head_not_newer : (version : Version) (table : ℤ → Option Row) (cells : Row) (head : Head) → HeadIs table cells → ReadsHead (version_number version) head cells → ¬ (IsNewerThan greatest_version table)
 head_not_newer version table cells head is reads newer =
     let same = one_some cells newer.0 (sym is.row ∙ newer.1.row) in
     let shown = sym reads.0 ∙ same ∙ newer.2.5 in

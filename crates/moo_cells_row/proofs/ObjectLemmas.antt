@@ -2,7 +2,7 @@
 use Rattle.moo_cells_row.{proofs.Words.{◌≡◌, ℕ, true, List, [], ◌∷◌, Option, length, ap, sym, subst, ◌∙◌, and_parts, Row, column, ObjNo, row_fits, IsRead, ReadsObject, Version}, specs.declared.object.Flags.{Flags}, specs.Object.{HasFlags, ShowsAccept, ShowsObject}, proofs.Columns.{all_columns}, proofs.OneCells.{flag_inj, accept_one, text_at}, proofs.Texts.{int_inj}}
 use Rattle.sqlite.specs.declared.types.Value.TheVariants.{Int as Number, Text}
 use Rattle.moo_rows.specs.declared.row.ObjRow.{ObjRow}
-use Rattle.moo_tables.specs.Object.{object_row_cells}
+use Rattle.moo_tables_rows.specs.Object.{object_row_cells}
 
 -- a row with these flags
 abbrev pub row_with : List ℕ → ObjNo → ObjNo → ObjNo → Flags → Option (List ObjNo) → ObjRow

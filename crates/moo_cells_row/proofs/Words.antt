@@ -9,16 +9,16 @@ pub use Rattle.std.specs.Ordering.{int_cmp, is_eq}
 pub use Rattle.std.specs.Prelude.{IfErr, IfOk, IfSome, OnOk, if◌then◌else◌, nat_le, ◌&&◌, ◌==◌}
 pub use Rattle.std.specs.declared.cmp.Ordering.{Ordering}
 pub use Rattle.std.specs.declared.cmp.Ordering.TheVariants.{Equal, Greater, Less}
-pub use Rattle.moo_cells_row.specs.Head.{HasCounter, HasHead, HeadIs, IsCounter, IsNewerThan, ReadsCounter, ReadsHead, ReadsKnown, ReadsNewer, SaysOfHead, greatest, head_row}
+pub use Rattle.moo_cells_row.specs.Head.{HasCounter, HasHead, HeadIs, IsCounter, IsNewerThan, ReadsCounter, ReadsHead, ReadsKnown, ReadsNewer, SaysOfHead, greatest_version, head_row}
 pub use Rattle.moo_cells_row.specs.Reading.{IsRead, ReadsObject, calls_fit}
 pub use Rattle.moo_cells_row.specs.Shows.{ShowsAccept, ShowsBits, ShowsCounter, ShowsNext, ShowsRights, ShowsSlotState}
 pub use Rattle.moo_cells_row.specs.declared.fault.CellFault.{CellFault}
 pub use Rattle.moo_cells_row.specs.declared.fault.CellFault.TheVariants.{Damaged, NewerVersion, OutOfMemory}
 pub use Rattle.moo_rows.specs.declared.row.Head.{Head}
-pub use Rattle.moo_tables.specs.Cells.{flag_cell, petition_head_cells}
-pub use Rattle.moo_tables.specs.Version.{has_lettered_bits, has_petitions, version_number}
-pub use Rattle.moo_tables.specs.declared.version.Version.{Version}
-pub use Rattle.moo_tables.specs.declared.version.Version.TheVariants.{First, Second}
+pub use Rattle.moo_tables_rows.specs.Cells.{flag_cell, petition_head_cells}
+pub use Rattle.moo_tables_rows.specs.Version.{has_lettered_bits, has_petitions, version_number}
+pub use Rattle.moo_tables_rows.specs.declared.version.Version.{Version}
+pub use Rattle.moo_tables_rows.specs.declared.version.Version.TheVariants.{First, Second}
 pub use Rattle.moo_value.proofs.Printed.{one_spelled, whole}
 pub use Rattle.moo_value.specs.Literal.{Fits, HoldInside, InRange, Spells}
 pub use Rattle.moo_value.specs.Value.{gather, nesting, spread}

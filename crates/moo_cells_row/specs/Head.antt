@@ -4,8 +4,8 @@ use Rattle.std.specs.Prelude.{[], ◌∷◌, Option, None, Some}
 use Rattle.sqlite.specs.Order.{Row}
 use Rattle.sqlite.specs.declared.types.Value.TheVariants.{Int as Number}
 use Rattle.moo_rows.specs.declared.row.Head.{Head}
-use Rattle.moo_tables.specs.declared.version.Version.{Version}
-use Rattle.moo_tables.specs.Version.{present, version_number}
+use Rattle.moo_tables_rows.specs.declared.version.Version.{Version}
+use Rattle.moo_tables_rows.specs.Version.{present, version_number}
 use Rattle.moo_damage.specs.declared.kind.Kind.TheVariants.{BadHead}
 use Rattle.moo_damage.specs.declared.kind.Key.TheVariants.{Head as the_head}
 use Rattle.moo_cells_row.specs.Shows.{ShowsCounter}
@@ -13,8 +13,8 @@ use Rattle.moo_cells_row.specs.declared.fault.CellFault.{CellFault}
 use Rattle.moo_cells_row.specs.declared.fault.CellFault.TheVariants.{Damaged, NewerVersion, OutOfMemory}
 
 -- the greatest version of tables that is known
-abbrev pub greatest : ℤ
-greatest = version_number present
+abbrev pub greatest_version : ℤ
+greatest_version = version_number present
 
 -- the cells of a head, in the order of the columns
 abbrev pub head_row : (version seq top next_prop next_verb : ℤ) → Row

@@ -5,9 +5,9 @@ use Rattle.moo_value.specs.declared.value.ObjNo.{ObjNo}
 use Rattle.moo_value.specs.Literal.{Spells}
 use Rattle.moo_rows.specs.declared.row.ObjRow.{ObjRow}
 use Rattle.moo_world.specs.Answers.{object_list}
-use Rattle.moo_tables.specs.Cells.{flag_cell}
-use Rattle.moo_tables.specs.declared.version.Version.{Version}
-use Rattle.moo_tables.specs.Object.{object_row_cells}
+use Rattle.moo_tables_rows.specs.Cells.{flag_cell}
+use Rattle.moo_tables_rows.specs.declared.version.Version.{Version}
+use Rattle.moo_tables_rows.specs.Object.{object_row_cells}
 use Rattle.moo_cells_row.specs.declared.object.Flags.{Flags}
 
 -- the cell of an accept list: empty for none, else a literal of the list

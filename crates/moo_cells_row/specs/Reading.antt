@@ -16,7 +16,7 @@ use Rattle.moo_rows.specs.declared.row.VerbRow.{VerbRow}
 use Rattle.moo_world.specs.Arguments.{is_number, all_within_limits}
 use Rattle.moo_world.specs.Petitions.{is_named, are_few, are_shallow, petition_fits}
 use Rattle.moo_world.specs.World.{row_fits, is_property_name, state_fits, verb_fits}
-use Rattle.moo_tables.specs.declared.version.Version.{Version}
+use Rattle.moo_tables_rows.specs.declared.version.Version.{Version}
 use Rattle.moo_cells_row.specs.Shows.{ShowsObject, ShowsProp, ShowsSlot, ShowsVerb, ShowsPetition}
 
 -- a number that a property, a verb or a petition may have: it is below the greatest counter

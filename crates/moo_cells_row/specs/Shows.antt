@@ -18,9 +18,9 @@ use Rattle.moo_rows.specs.declared.row.VerbId.{VerbId}
 use Rattle.moo_rows.specs.declared.row.VerbRow.{VerbRow}
 use Rattle.moo_rows.specs.Bits.{bits_of, bits_number, verb_bits_of}
 use Rattle.moo_world.specs.Prepositions.{prep_text, object_spec_text}
-use Rattle.moo_tables.specs.declared.version.Version.{Version}
-use Rattle.moo_tables.specs.Version.{has_petitions, has_lettered_bits}
-use Rattle.moo_tables.specs.Cells.{petition_head_cells}
+use Rattle.moo_tables_rows.specs.declared.version.Version.{Version}
+use Rattle.moo_tables_rows.specs.Version.{has_petitions, has_lettered_bits}
+use Rattle.moo_tables_rows.specs.Cells.{petition_head_cells}
 pub use Rattle.moo_cells_row.specs.Object.{ShowsAccept, ShowsObject}
 
 -- the cell of a value: empty if the slot is clear, else a literal of the value

@@ -13,7 +13,7 @@ ghost use Rattle.moo_rows.specs.declared.row.Preposition.{Preposition};
 ghost use Rattle.moo_rows.specs.Bits.{verb_bits_of};
 ghost use Rattle.moo_world.specs.Arguments.{is_number, is_text};
 ghost use Rattle.moo_world.specs.Prepositions.{prep_text, object_spec_text};
-ghost use Rattle.moo_tables.specs.Cells.{flag_cell};
+ghost use Rattle.moo_tables_rows.specs.Cells.{flag_cell};
 ghost use Rattle.moo_cells_row.specs.Reading.{IsId};
 ghost use Rattle.moo_cells_row.specs.Shows.{ShowsBits, ShowsRights};
 ghost use Rattle.moo_cells_row.specs.declared.fault.RowFault.TheVariants.{Unreadable};

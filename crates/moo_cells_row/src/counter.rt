@@ -2,8 +2,8 @@
 
 ghost use Rattle.std.specs.Prelude.{◌≡◌, ◌≢◌, ℕ, pos, find, IfSome, IfNone};
 ghost use Rattle.sqlite.specs.Tree.{has_rowid};
-ghost use Rattle.moo_tables.specs.Cells.{petition_head_cells};
-ghost use Rattle.moo_tables.specs.Inside.{AreKeyed};
+ghost use Rattle.moo_tables_rows.specs.Cells.{petition_head_cells};
+ghost use Rattle.moo_tables_rows.specs.Inside.{AreKeyed};
 ghost use Rattle.moo_cells_row.specs.Head.{IsCounter, ReadsCounter, HasCounter};
 
 use crate::cell::int_at;

@@ -4,9 +4,9 @@ ghost use Rattle.std.specs.Prelude.{◌≡◌, ◌≢◌, ℕ, ◌<◌, ◌≤�
 ghost use Rattle.std.specs.Int.{w32};
 ghost use Rattle.sqlite.specs.Tree.{has_rowid};
 ghost use Rattle.moo_rows.specs.declared.row.Head.{Head};
-ghost use Rattle.moo_tables.specs.Inside.{AreKeyed};
-ghost use Rattle.moo_tables.specs.Version.{version_number};
-ghost use Rattle.moo_cells_row.specs.Head.{greatest, HeadIs, ReadsHead, ReadsNewer, ReadsKnown, IsNewerThan, HasHead, ReadsCounter, HasCounter, SaysOfHead};
+ghost use Rattle.moo_tables_rows.specs.Inside.{AreKeyed};
+ghost use Rattle.moo_tables_rows.specs.Version.{version_number};
+ghost use Rattle.moo_cells_row.specs.Head.{greatest_version, HeadIs, ReadsHead, ReadsNewer, ReadsKnown, IsNewerThan, HasHead, ReadsCounter, HasCounter, SaysOfHead};
 ghost use Rattle.moo_cells_row.specs.HeadCells.{cells_of, AreWords, IsHead};
 ghost use Rattle.moo_cells_row.specs.declared.head.HeadCells.{HeadCells};
 
@@ -106,7 +106,7 @@ fn head_within(numbers: HeadCells) -> Option<Head>
 fn head_of(version: Version, cells: &Row) -> Result<Head, CellFault>
     ensures ok { IfOk result (λ head. ReadsHead (version_number version) head cells.now) }
     ensures limit { IfOk result (λ head. head.seq < 2 ^ 63) }
-    ensures err { IfErr result (SaysOfHead (ReadsKnown (version_number version) cells.now) (ReadsNewer greatest cells.now)) }
+    ensures err { IfErr result (SaysOfHead (ReadsKnown (version_number version) cells.now) (ReadsNewer greatest_version cells.now)) }
 {
     let Ok(numbers) = numbers_of(cells) else {
         return Err(BAD_HEAD);
@@ -131,7 +131,7 @@ fn head_in(version: Version, rows: &[Row]) -> Result<Head, CellFault>
     requires { AreKeyed rows.now }
     ensures ok { IfOk result (λ head. (cells : _) × HeadIs (λ n. find (has_rowid n) rows.now) cells × ReadsHead (version_number version) head cells) }
     ensures limit { IfOk result (λ head. head.seq < 2 ^ 63) }
-    ensures err { IfErr result (SaysOfHead (HasHead (version_number version) (λ n. find (has_rowid n) rows.now)) (IsNewerThan greatest (λ n. find (has_rowid n) rows.now))) }
+    ensures err { IfErr result (SaysOfHead (HasHead (version_number version) (λ n. find (has_rowid n) rows.now)) (IsNewerThan greatest_version (λ n. find (has_rowid n) rows.now))) }
 {
     if rows.len() != 1 {
         return Err(BAD_HEAD);
@@ -151,7 +151,7 @@ pub fn read_head(version: Version, rows: &[Row], counters: &[Row]) -> Result<Hea
     ensures ok { IfOk result (λ head. (cells : _) × HeadIs (λ n. find (has_rowid n) rows.now) cells × ReadsHead (version_number version) head cells) }
     ensures counter { IfOk result (λ head. ReadsCounter version (λ n. find (has_rowid n) counters.now) head.next_petition) }
     ensures limit { IfOk result (λ head. head.seq < 2 ^ 63) }
-    ensures err { IfErr result (SaysOfHead (HasHead (version_number version) (λ n. find (has_rowid n) rows.now) × HasCounter version (λ n. find (has_rowid n) counters.now)) (IsNewerThan greatest (λ n. find (has_rowid n) rows.now))) }
+    ensures err { IfErr result (SaysOfHead (HasHead (version_number version) (λ n. find (has_rowid n) rows.now) × HasCounter version (λ n. find (has_rowid n) counters.now)) (IsNewerThan greatest_version (λ n. find (has_rowid n) rows.now))) }
 {
     let mut head = head_in(version, rows)?;
     match read_counter(version, counters) {

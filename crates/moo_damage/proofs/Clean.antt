@@ -1,5 +1,5 @@
 -- With good rows nothing is wrong.
-use Rattle.moo_damage.{proofs.Words.{◌≡◌, ℕ, ◌<◌, ℤ, pos, Bool, true, false, ◌||◌, ◌&&◌, Option, None, Some, List, [], ◌∷◌, refl, sym, ap, ◌∙◌, subst, inl, inr, arith, ◌≤ℤ◌, int_lt, nat_lt, nat_le, not, is_some, unwrap_or, option_map, get, entries, false≢true, and_parts, or_cases, nat_tests, ints, none-some, same_Some, ObjNo, ObjRow, PropId, PropRow, SlotRow, Clear, Maps, Property, same_object, same_text, folded, is_among, same_object-Decides, same_text-Decides, IsGood, look_ups, world_of, world_shown, prop_id, World, Climbs, Chain, is_object, chain, defined_by_any, property_named, some_of, is_object_seen, Chain-chain, chain_of_none, nothing_is_no_object, entries_held, is_clear, share_name, is_double, is_owed, IsClean, defines, Set, slot_seen, named_owed, definer_among, slot_shown, slot_on_heir}, proofs.Apart.{one_passing}, proofs.Good.{parents_seen, places_seen}}
+use Rattle.moo_damage.{proofs.Words.{◌≡◌, ℕ, ◌<◌, ℤ, pos, Bool, true, false, ◌||◌, ◌&&◌, Option, None, Some, List, [], ◌∷◌, refl, sym, ap, ◌∙◌, subst, inl, inr, arith, ◌≤ℤ◌, int_lt, nat_lt, nat_le, not, is_some, unwrap_or, option_map, get, entries, false≢true, and_parts, or_cases, nat_tests, ints, none-some, same_Some, ObjNo, ObjRow, PropId, PropRow, SlotRow, Clear, Maps, Property, same_object, same_text, folded, is_among, same_object-Decides, same_text-Decides, IsGood, look_ups, world_of, world_shown, prop_id, World, Climbs, Chain, is_object, chain, defined_by_any, property_named, some_of, is_object_seen, Chain-chain, nothing_is_no_object, entries_held, is_clear, share_name, is_double, is_owed, IsClean, defines, Set, slot_seen, named_owed, definer_among, slot_shown, slot_on_heir}, proofs.Apart.{one_passing}, proofs.Good.{parents_seen, places_seen}, proofs.Chained.{chain_object}}
 use Rattle.moo_rows.specs.declared.row.SlotState.{SlotState}
 use Rattle.moo_world.specs.World.{Slot}
 
@@ -25,13 +25,6 @@ module _ (m : Maps) (g : IsGood m) where
   object_there : (x : ObjNo) (row : ObjRow) → get m.objects x ≡ Some row → is_object w x ≡ true
   object_there x row e = is_object_seen (look_ups m) x ∙ ap is_some e
 
-  chain_object : (x d : ObjNo) → is_among d (chain w x) ≡ true → is_object w x ≡ true
-  chain_object x d a = by (is_object w x) refl
-    where
-      by : (b : Bool) → is_object w x ≡ b → b ≡ true
-      by true e = refl
-      by false e = absurd (false≢true (sym (ap (is_among d) (chain_of_none w x e)) ∙ a))
-
   -- a slot's property is owed
   among_chain : (x : ObjNo) (id : ℕ) (s : SlotRow) → get m.slots (x, prop_id id) ≡ Some s → (p : PropRow) × (get m.props (prop_id id) ≡ Some p) × (is_among p.definer (chain w x) ≡ true)
   among_chain x id s e =
@@ -52,7 +45,7 @@ module _ (m : Maps) (g : IsGood m) where
   -- two properties of one name that are owed to one object are one
   one_owed : (x : ObjNo) (i j : ℕ) (p q : PropRow) → get m.props (prop_id i) ≡ Some p → get m.props (prop_id j) ≡ Some q → is_among p.definer (chain w x) ≡ true → is_among q.definer (chain w x) ≡ true → folded p.name ≡ folded q.name → i ≡ j
   one_owed x i j p q e f a b n =
-      let o = chain_object x p.definer a in
+      let o = chain_object w x p.definer a in
       g.sound.one_name x i j p q (slot_on_heir m g.sound g.formed x o i p e a) (slot_on_heir m g.sound g.formed x o j q f b) e f n
 
   own : (d : ObjNo) → is_object w d ≡ true → is_among d (chain w d) ≡ true
@@ -83,7 +76,7 @@ module _ (m : Maps) (g : IsGood m) where
 
   not_missing : (x : ObjNo) (id : PropId) (p : PropRow) → get m.props id ≡ Some p → (b : Bool) → is_among p.definer (chain w x) ≡ b → (b && not (is_some (get m.slots (x, id)))) ≡ false
   not_missing x id p e false h = refl
-  not_missing x id p e true h = ap not (slot_on_heir m g.sound g.formed x (chain_object x p.definer h) id.0 p e h)
+  not_missing x id p e true h = ap not (slot_on_heir m g.sound g.formed x (chain_object w x p.definer h) id.0 p e h)
 
   not_clear : (x : ObjNo) (id : ℕ) (s : SlotRow) → get m.slots (x, prop_id id) ≡ Some s → (st : SlotState) → s.state ≡ st → (b : Bool) → defines m x (prop_id id) ≡ b → (is_clear st && b) ≡ false
   not_clear x id s e (Set v) h b k = refl

@@ -1,10 +1,6 @@
 -- Rows within the limits that nothing is wrong with are sound, their world is well formed, and petitions stand as they may.
-use Rattle.moo_damage.{proofs.Words.{◌≡◌, ◌≢◌, ℕ, ◌<◌, ◌≤◌, ℤ, pos, negsuc, Bool, true, false, ◌||◌, ◌&&◌, Option, None, Some, List, [], ◌∷◌, refl, sym, ap, ◌∙◌, subst, ◌⊎◌, inl, inr, arith, ◌≤ℤ◌, int_lt, nat_lt, nat_le, not, is_some, unwrap_or, if◌then◌else◌, option_map, filter_map, list_any, list_all, IsDistinct, AllByRecursion, get, entries, get-entries, false≢true, both_ways, and_parts, or_parts, or_cases, or_left, or_right, cases_lt, nat_tests, ints, none-some, same_Some, ObjNo, ObjRow, PropRow, SlotRow, Clear, prop_exact, Maps, prop_cmp, prop_total, Name, Property, nothing, same_object, same_text, folded, is_among, same_object-Decides, same_text-Decides, IsGood, look_ups, world_of, world_shown, numbers_below, prop_id, World, Climbs, IsTree, Chain, is_object, parent_of, chain, defined_by_any, property_named, Climbs-once, some_of, is_object_seen, chain_is, Chain-chain, chain_of_none, no_parent, entries_held, any_held, TreeLink, Parent, Location, is_clear, next_of, link_of, share_name, is_double, is_clear_definer, is_lost, LinksEnd, LinksHold, IsClean, option_and_then, LookUps, AreSound, object_shown, name_on, verb_id, WorldObject, KeepsLimits, NamesDiffer, location_of, property_names_of, defined_by, slot_of, slot_fits, row_fits, verb_fits, is_property_name, without_slots, named_so, found_among, names_shown, defines_pair, any_owed, NumbersGiven}, specs.Limits.{AreWithin}, proofs.Apart.{both_true, all_map, none_any, one_passing, all_made, distinct_append, all_numbers, distinct_numbers, distinct_mapped}}
+use Rattle.moo_damage.{proofs.Words.{◌≡◌, ◌≢◌, ℕ, ◌<◌, ◌≤◌, ℤ, pos, negsuc, Bool, true, false, ◌||◌, ◌&&◌, Option, None, Some, List, [], ◌∷◌, refl, sym, ap, ◌∙◌, subst, ◌⊎◌, inl, inr, arith, ◌≤ℤ◌, int_lt, nat_lt, nat_le, not, is_some, unwrap_or, if◌then◌else◌, option_map, filter_map, list_any, list_all, IsDistinct, AllByRecursion, get, entries, get-entries, false≢true, both_ways, and_parts, or_parts, or_cases, or_left, or_right, cases_lt, nat_tests, ints, none-some, same_Some, ObjNo, ObjRow, PropRow, SlotRow, Clear, prop_exact, Maps, prop_cmp, prop_total, Name, Property, nothing, same_object, same_text, folded, is_among, same_object-Decides, same_text-Decides, IsGood, look_ups, world_of, world_shown, numbers_below, prop_id, World, Climbs, IsTree, Chain, is_object, parent_of, chain, defined_by_any, property_named, Climbs-once, some_of, is_object_seen, chain_is, Chain-chain, no_parent, entries_held, any_held, TreeLink, Parent, Location, is_clear, next_of, link_of, share_name, is_double, is_clear_definer, is_lost, LinksEnd, LinksHold, IsClean, option_and_then, LookUps, AreSound, object_shown, name_on, verb_id, WorldObject, KeepsLimits, NamesDiffer, location_of, property_names_of, defined_by, slot_of, slot_fits, row_fits, verb_fits, is_property_name, without_slots, named_so, found_among, names_shown, defines_pair, any_owed, NumbersGiven}, specs.Limits.{AreWithin}, proofs.Apart.{both_true, all_map, none_any, one_passing, all_made, distinct_append, all_numbers, distinct_numbers, distinct_mapped}, proofs.Chained.{chain_object, not_false}}
 use Rattle.moo_world.{specs.Petitions.{PetitionsStand}, specs.World.{Slot}, proofs.Inheritance.Keeping.{named_is}, proofs.Shown.Slots.{SlotHere, slot_from, no_slot_from}, proofs.Ancestry.Subtrees.{owed_listed}}
-
-not_false : (b : Bool) → not b ≡ false → b ≡ true
-not_false true e = refl
-not_false false e = absurd (false≢true (sym e))
 
 or_swap : (a b : Bool) → (a || b) ≡ true → (b || a) ≡ true
 or_swap a b e = elim (or_cases a b e) [ inl k ↦ or_right b a k | inr k ↦ or_left b a k ]
@@ -127,13 +123,6 @@ module _ (m : Maps) (fit : AreWithin m) (clean : IsClean m) where
       by None g k = absurd (false≢true k)
       by (Some p) g k = (p, g, k)
 
-  chain_object : (x d : ObjNo) → is_among d (chain w x) ≡ true → is_object w x ≡ true
-  chain_object x d a = by (is_object w x) refl
-    where
-      by : (b : Bool) → is_object w x ≡ b → b ≡ true
-      by true e = refl
-      by false e = absurd (false≢true (sym (ap (is_among d) (chain_of_none w x e)) ∙ a))
-
   -- of two objects of one chain one stands in the other's
   comparable : (l : List ObjNo) (x d e : ObjNo) → Chain w x l → is_among d l ≡ true → is_among e l ≡ true → (is_among e (chain w d) || is_among d (chain w e)) ≡ true
   comparable [] x d e p f g = absurd (false≢true f)
@@ -169,7 +158,7 @@ module _ (m : Maps) (fit : AreWithin m) (clean : IsClean m) where
     slots = λ x id e.
         let k = some_of (get m.slots (x, prop_id id)) e in
         let o = owed_row x id k.0 k.1 in
-        (sym (is_object_seen r x) ∙ chain_object x o.0.definer o.2, ap is_some o.1);
+        (sym (is_object_seen r x) ∙ chain_object w x o.0.definer o.2, ap is_some o.1);
     one_name = λ x i j p q a b f g n.
         let s = some_of (get m.slots (x, prop_id i)) a in
         let t = some_of (get m.slots (x, prop_id j)) b in
@@ -177,7 +166,7 @@ module _ (m : Maps) (fit : AreWithin m) (clean : IsClean m) where
         let u = owed_row x j t.0 t.1 in
         let here = subst (λ k. is_among k.definer (chain w x) ≡ true) (same_Some o.0 p (sym o.1 ∙ f)) o.2 in
         let there = subst (λ k. is_among k.definer (chain w x) ≡ true) (same_Some u.0 q (sym u.1 ∙ g)) u.2 in
-        one_property i j p q f g n (comparable (chain w x) x p.definer q.definer (Chain-chain w tree x (chain_object x p.definer here)) here there);
+        one_property i j p q f g n (comparable (chain w x) x p.definer q.definer (Chain-chain w tree x (chain_object w x p.definer here)) here there);
     verbs = λ x id e.
         let k = some_of (get m.verbs (x, verb_id id)) e in
         (sym (is_object_seen r x) ∙ not_false _ (clean.slots.verbs (x, verb_id id) k.0 k.1), (fit.verbs (x, verb_id id) k.0 k.1).0, below id m.head.next_verb (clean.numbers.verbs (x, verb_id id) k.0 k.1));
@@ -210,7 +199,7 @@ module _ (m : Maps) (fit : AreWithin m) (clean : IsClean m) where
     not_again = Climbs-once (parent_of w) (no_parent w tree) l d d c
 
     there : is_object w d ≡ true
-    there = chain_object d d (ap (is_among d) chain_d ∙ or_left (same_object d d) (is_among d l) ((same_object-Decides d d).1 refl))
+    there = chain_object w d d (ap (is_among d) chain_d ∙ or_left (same_object d d) (is_among d l) ((same_object-Decides d d).1 refl))
 
     listed : property_names_of w d ≡ filter_map (name_on r d) (numbers_below m.head.next_prop)
     listed = let k = row_there d there in names_shown r d k.0 k.1

@@ -1,9 +1,5 @@
 -- Slots that are just those that are owed, with names apart, hold locally.
-use Rattle.moo_damage.{proofs.Words.{◌≡◌, ◌<◌, ◌≤◌, Bool, true, false, ◌||◌, ◌&&◌, Option, None, Some, List, [], ◌∷◌, refl, sym, ap, ◌∙◌, subst, ◌⊎◌, inl, inr, arith, nat_lt, not, is_some, unwrap_or, option_map, get, entries, get-entries, false≢true, both_ways, or_cases, or_left, or_right, cases_lt, nat_tests, none-some, same_Some, ObjNo, ObjRow, PropId, PropRow, prop_exact, Maps, prop_cmp, prop_total, same_object, folded, is_among, same_object-Decides, same_text-Decides, look_ups, world_of, World, IsTree, Chain, is_object, parent_of, chain, some_of, is_object_seen, Chain-chain, chain_is, chain_of_none, no_parent, defines, any_held, Parent, link_of, lacks_definer, share_name, is_double, has_slot, comes_down, AreLocal, SlotsHold}, proofs.Apart.{both_true}, proofs.Good.{parents_seen}}
-
-not_false : (b : Bool) → not b ≡ false → b ≡ true
-not_false true e = refl
-not_false false e = absurd (false≢true (sym e))
+use Rattle.moo_damage.{proofs.Words.{◌≡◌, ◌<◌, ◌≤◌, true, false, ◌||◌, ◌&&◌, Option, None, Some, List, [], ◌∷◌, refl, sym, ap, ◌∙◌, subst, ◌⊎◌, inl, inr, arith, nat_lt, not, is_some, unwrap_or, option_map, get, entries, get-entries, false≢true, both_ways, or_cases, or_left, or_right, cases_lt, nat_tests, none-some, same_Some, ObjNo, ObjRow, PropId, PropRow, prop_exact, Maps, prop_cmp, prop_total, same_object, folded, is_among, same_object-Decides, same_text-Decides, look_ups, world_of, World, IsTree, Chain, is_object, parent_of, chain, some_of, is_object_seen, Chain-chain, chain_is, no_parent, defines, any_held, Parent, link_of, lacks_definer, share_name, is_double, has_slot, comes_down, AreLocal, SlotsHold}, proofs.Apart.{both_true}, proofs.Good.{parents_seen}, proofs.Chained.{chain_object, not_false}}
 
 module _ (m : Maps) (t : IsTree (world_of m)) (ids : (id : PropId) (p : PropRow) → get m.props id ≡ Some p → 0 < id.0) (definers : (id : PropId) (p : PropRow) → get m.props id ≡ Some p → lacks_definer m p ≡ false) (h : SlotsHold m) where
   abbrev w : World
@@ -12,17 +8,10 @@ module _ (m : Maps) (t : IsTree (world_of m)) (ids : (id : PropId) (p : PropRow)
   row_at : (x : ObjNo) → is_object w x ≡ true → (row : ObjRow) × (get m.objects x ≡ Some row)
   row_at x o = some_of (get m.objects x) (sym (is_object_seen (look_ups m) x) ∙ o)
 
-  chain_object : (x d : ObjNo) → is_among d (chain w x) ≡ true → is_object w x ≡ true
-  chain_object x d a = by (is_object w x) refl
-    where
-      by : (b : Bool) → is_object w x ≡ b → b ≡ true
-      by true e = refl
-      by false e = absurd (false≢true (sym (ap (is_among d) (chain_of_none w x e)) ∙ a))
-
   -- what is owed is there
   owed_there : (x : ObjNo) (id : PropId) (p : PropRow) → get m.props id ≡ Some p → is_among p.definer (chain w x) ≡ true → has_slot m x id ≡ true
   owed_there x id p e a =
-      let row = row_at x (chain_object x p.definer a) in
+      let row = row_at x (chain_object w x p.definer a) in
       let owed : unwrap_or (option_map (λ (p : PropRow). is_among p.definer (chain w x)) (get m.props id)) false ≡ true = ap (λ o. unwrap_or (option_map (λ (p : PropRow). is_among p.definer (chain w x)) o) false) e ∙ a in
       not_false (has_slot m x id) (ap (λ b. b && not (has_slot m x id)) (sym owed) ∙ h.there x row.0 row.1 id p e)
 
@@ -56,7 +45,7 @@ module _ (m : Maps) (t : IsTree (world_of m)) (ids : (id : PropId) (p : PropRow)
   from_slot : (x : ObjNo) (id : PropId) → has_slot m x id ≡ true → comes_down m (x, id) ≡ true
   from_slot x id e =
       let k = there_owed x id e in
-      let r = row_at x (chain_object x k.0.definer k.2) in
+      let r = row_at x (chain_object w x k.0.definer k.2) in
       ap (λ o. unwrap_or (option_map (λ (row : ObjRow). defines m x id || has_slot m row.parent id) o) false) r.1
       ∙ by k.0 k.1 r.0 (or_cases (same_object k.0.definer x) (is_among k.0.definer (chain w r.0.parent)) (sym (ap (is_among k.0.definer) (step x r.0 r.1)) ∙ k.2))
     where

@@ -24,6 +24,13 @@ one_place : (k l : Kind) → rank k ≡ rank l → k ≡ l
 one_place k l e = sym (at_place k) ∙ ap (λ n. get_or kinds n BadHead) e ∙ at_place l
 
 module _ (meets : Kind → Key → Type 0) where
+  -- no kind is before the first
+  pub none_yet : NoneBefore meets (rank BadHead)
+  none_yet k l key =
+      let none : rank k ≡ 0 = omega (arith, l) in
+      let one : rank k ≡ 1 = ap rank (sym (at_place k) ∙ ap (λ n. get_or kinds n BadHead) none) in
+      absurd (omega (arith, none, one))
+
   -- after a kind that isn't met, the next
   pub none_more : (kind : Kind) → NoneBefore meets (rank kind) → IsLeast (meets kind) None → NoneBefore meets (suc (rank kind))
   none_more kind before none k l key = by (nat_lt (rank k) (rank kind)) refl

@@ -1,10 +1,10 @@
 pub mod Words
 pub mod Firsts
 pub mod Descending
-pub mod Found
 pub mod Ending
 pub mod Apart
 pub mod Naming
+pub mod Chained
 pub mod Good
 pub mod Clean
 pub mod Locally

@@ -1,5 +1,5 @@
 -- Slots that hold locally are just those that are owed, and their names are apart.
-use Rattle.moo_damage.{proofs.Words.{◌≡◌, ◌<◌, Bool, true, false, ◌||◌, ◌&&◌, Option, None, Some, List, [], ◌∷◌, refl, sym, ap, ◌∙◌, subst, ◌⊎◌, inl, inr, arith, nat_lt, not, is_some, unwrap_or, option_map, get, entries, false≢true, and_parts, or_cases, or_left, or_right, nat_tests, none-some, same_Some, ObjNo, ObjRow, PropId, PropRow, prop_exact, Maps, prop_total, same_object, same_text, folded, is_among, same_object-Decides, same_text-Decides, look_ups, world_of, World, IsTree, Chain, is_object, parent_of, chain, some_of, is_object_seen, Chain-chain, chain_of_none, nothing_is_no_object, defines, Parent, link_of, share_name, is_double, has_slot, AreLocal, SlotsHold}, proofs.Apart.{one_passing}, proofs.Firsts.{held_entries}, proofs.Good.{parents_seen}}
+use Rattle.moo_damage.{proofs.Words.{◌≡◌, ◌<◌, Bool, true, false, ◌||◌, ◌&&◌, Option, None, Some, List, [], ◌∷◌, refl, sym, ap, ◌∙◌, subst, ◌⊎◌, inl, inr, arith, nat_lt, not, is_some, unwrap_or, option_map, get, entries, false≢true, and_parts, or_cases, or_left, or_right, nat_tests, none-some, same_Some, ObjNo, ObjRow, PropId, PropRow, prop_exact, Maps, prop_total, same_object, same_text, folded, is_among, same_object-Decides, same_text-Decides, look_ups, world_of, World, IsTree, Chain, is_object, parent_of, chain, some_of, is_object_seen, Chain-chain, nothing_is_no_object, defines, Parent, link_of, share_name, is_double, has_slot, AreLocal, SlotsHold}, proofs.Apart.{one_passing}, proofs.Firsts.{held_entries}, proofs.Good.{parents_seen}, proofs.Chained.{chain_object}}
 
 module _ (m : Maps) (t : IsTree (world_of m)) (h : AreLocal m) where
   abbrev w : World
@@ -18,13 +18,6 @@ module _ (m : Maps) (t : IsTree (world_of m)) (h : AreLocal m) where
       by : (o : Option ObjRow) → get m.objects x ≡ o → option_map (link_of Parent) o ≡ Some p → (row : ObjRow) × (get m.objects x ≡ Some row) × (row.parent ≡ p)
       by None g k = absurd (none-some p k)
       by (Some row) g k = (row, g, same_Some row.parent p k)
-
-  chain_object : (x d : ObjNo) → is_among d (chain w x) ≡ true → is_object w x ≡ true
-  chain_object x d a = by (is_object w x) refl
-    where
-      by : (b : Bool) → is_object w x ≡ b → b ≡ true
-      by true e = refl
-      by false e = absurd (false≢true (sym (ap (is_among d) (chain_of_none w x e)) ∙ a))
 
   abbrev Owed : List ObjNo → PropId → Type 0
   Owed l id = (p : PropRow) × (get m.props id ≡ Some p) × (is_among p.definer l ≡ true)
@@ -76,7 +69,7 @@ module _ (m : Maps) (t : IsTree (world_of m)) (h : AreLocal m) where
           h.down x r.0 r.1 id (h.numbered id p f) (subst (λ z. has_slot m z id ≡ true) (sym r.2) (rec k))
 
   in_chain : (x : ObjNo) (id : PropId) (p : PropRow) → get m.props id ≡ Some p → is_among p.definer (chain w x) ≡ true → has_slot m x id ≡ true
-  in_chain x id p f a = owed_slot (chain w x) x id p f (Chain-chain w t x (chain_object x p.definer a)) a
+  in_chain x id p f a = owed_slot (chain w x) x id p f (Chain-chain w t x (chain_object w x p.definer a)) a
 
   not_double : (id : PropId) (p : PropRow) → get m.props id ≡ Some p → (b : Bool) → is_double m id p ≡ b → b ≡ false
   not_double id p e false g = refl

@@ -1,9 +1,6 @@
 -- What the tests of all rows say of each.
-use Rattle.moo_damage.proofs.Words.{◌≡◌, ◌<◌, Bool, true, false, ◌&&◌, ◌||◌, cond, Some, List, [], ◌∷◌, Ordering, Less, refl, sym, ap, ◌∙◌, not, IsTotalOrder, tied_itself, nat_cmp_is, int_eq, ordering_then, list_any, FinMap, get, entries, get-entries, false≢true, both_ways, Decides-int_eq, CmpEqualImpliesEq, ObjNo, PropId, PropRow, SlotRow, object_exact, prop_exact, slot_exact, Maps, prop_cmp, slot_cmp, slots_of_left, is_past, object_total, prop_total, slot_total, some_of, any_held, NamesApart, has_slot, comes_down, lacks_one_of, AreLocal, is_lt, filter}
-
-not_false : (b : Bool) → not b ≡ false → b ≡ true
-not_false true e = refl
-not_false false e = absurd (false≢true (sym e))
+use Rattle.moo_damage.proofs.Words.{◌≡◌, ◌<◌, Bool, true, false, ◌&&◌, ◌||◌, cond, Some, List, [], ◌∷◌, Ordering, Less, refl, sym, ap, ◌∙◌, not, IsTotalOrder, tied_itself, nat_cmp_is, int_eq, ordering_then, list_any, FinMap, get, entries, get-entries, both_ways, Decides-int_eq, CmpEqualImpliesEq, ObjNo, PropId, PropRow, SlotRow, object_exact, prop_exact, slot_exact, Maps, prop_cmp, slot_cmp, slots_of_left, is_past, object_total, prop_total, slot_total, some_of, any_held, NamesApart, has_slot, comes_down, lacks_one_of, AreLocal, is_lt, filter}
+use Rattle.moo_damage.proofs.Chained.{not_false}
 
 -- where none passes, no row does
 pub none_held : {K X : Type 0} (cmp : K → K → Ordering) (total : IsTotalOrder cmp) (exact : CmpEqualImpliesEq cmp) (rows : FinMap cmp X) (test : K × X → Bool) (k : K) (v : X) → get rows k ≡ Some v → list_any test (entries rows) ≡ false → test (k, v) ≡ false

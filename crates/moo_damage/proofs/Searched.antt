@@ -1,5 +1,5 @@
 -- What each search found, as the least key at which its kind is met.
-use Rattle.moo_damage.{proofs.Words.{◌≡◌, pos, Bool, true, false, Option, None, Some, sym, subst, option_map, both_ways, arith, ObjNo, PetitionId, PropId, VerbId, Maps, Kind, BadHead, BadCell, PastHead, NoParent, ParentLoop, NoPlace, PlaceLoop, NoDefiner, DoubleName, StrangeSlot, MissingSlot, ClearDefiner, StrangeVerb, Mismatch, Key, Object, Prop, Verb, Petition, TreeLink, Parent, Location, HasEnd, Loops, is_object_past, is_prop_past, is_verb_past, is_petition_past, is_lost, lacks_definer, is_strange, is_clear_definer, is_strange_verb, IsLeastBad, rank, lost_kind, loop_kind, InRows, NoneBefore, IsLeast, IsFirstMet, IsFirstMissing, Slot}, proofs.InTurn.{none_more}, proofs.Lacking.{none_missing, missing_first}, proofs.Least.{no_bad, none_met, object_first, prop_first, slot_first, verb_first, petition_first}}
+use Rattle.moo_damage.{proofs.Words.{◌≡◌, pos, Bool, true, false, Option, None, Some, sym, subst, option_map, both_ways, ObjNo, PetitionId, PropId, VerbId, Maps, Kind, BadHead, BadCell, PastHead, NoParent, ParentLoop, NoPlace, PlaceLoop, NoDefiner, StrangeSlot, MissingSlot, ClearDefiner, StrangeVerb, Key, Object, Prop, Verb, Petition, TreeLink, Parent, Location, HasEnd, Loops, is_object_past, is_prop_past, is_verb_past, is_petition_past, is_lost, lacks_definer, is_strange, is_clear_definer, is_strange_verb, IsLeastBad, rank, lost_kind, loop_kind, InRows, NoneBefore, IsLeast, IsFirstMet, IsFirstMissing, Slot}, proofs.InTurn.{none_more, none_yet}, proofs.Lacking.{none_missing, missing_first}, proofs.Least.{no_bad, none_met, object_first, prop_first, slot_first, verb_first, petition_first}}
 
 abbrev pub of_object : Option ObjNo → Option Key
 of_object o = option_map (λ x. Object x.0) o
@@ -56,20 +56,9 @@ module _ (m : Maps) where
 
   -- the kinds before are of cells
   pub none_of_cells : NoneBefore (InRows m) (rank PastHead)
-  none_of_cells BadHead l = none_met m BadHead (λ x h. h) (λ id h. h) (λ key h. h) (λ key h. h) (λ id h. h)
-  none_of_cells BadCell l = none_met m BadCell (λ x h. h) (λ id h. h) (λ key h. h) (λ key h. h) (λ id h. h)
-  none_of_cells PastHead l = absurd (omega (arith, l))
-  none_of_cells NoParent l = absurd (omega (arith, l))
-  none_of_cells ParentLoop l = absurd (omega (arith, l))
-  none_of_cells NoPlace l = absurd (omega (arith, l))
-  none_of_cells PlaceLoop l = absurd (omega (arith, l))
-  none_of_cells NoDefiner l = absurd (omega (arith, l))
-  none_of_cells DoubleName l = absurd (omega (arith, l))
-  none_of_cells StrangeSlot l = absurd (omega (arith, l))
-  none_of_cells MissingSlot l = absurd (omega (arith, l))
-  none_of_cells ClearDefiner l = absurd (omega (arith, l))
-  none_of_cells StrangeVerb l = absurd (omega (arith, l))
-  none_of_cells Mismatch l = absurd (omega (arith, l))
+  none_of_cells =
+      none_more (InRows m) BadCell (none_more (InRows m) BadHead (none_yet (InRows m)) (none_met m BadHead (λ x h. h) (λ id h. h) (λ key h. h) (λ key h. h) (λ id h. h)))
+      (none_met m BadCell (λ x h. h) (λ id h. h) (λ key h. h) (λ key h. h) (λ id h. h))
 
   pub object_past : (x : ObjNo) → IsLeastBad m.objects (λ k r. is_object_past m.head k ≡ false) (λ k r. is_object_past m.head k ≡ true) (Some x) → IsLeast (InRows m PastHead) (Some (Object x.0))
   object_past x f = object_first m PastHead (λ k r. is_object_past m.head k ≡ false) (λ k r. is_object_past m.head k ≡ true) (λ x h. h) (λ x h. h) (λ k r. apart (is_object_past m.head k)) x f

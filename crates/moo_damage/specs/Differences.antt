@@ -1,11 +1,12 @@
 -- The first row in which two lots of rows differ.
-use Rattle.std.specs.Prelude.{◌≡◌, ◌≢◌, pos, negsuc, Option, None, Some, ⊤}
+use Rattle.std.specs.Prelude.{◌≡◌, ◌≢◌, Bool, true, false, pos, negsuc, Option, None, Some, ⊤}
 use Rattle.std.specs.declared.cmp.Ordering.{Ordering}
 use Rattle.std.specs.declared.cmp.Ordering.TheVariants.{Less}
 use Rattle.std.specs.FinMap.{FinMap, get}
 use Rattle.moo_rows.specs.Maps.{Maps}
 use Rattle.moo_damage.specs.declared.kind.Key.{Key}
 use Rattle.moo_damage.specs.declared.kind.Key.TheVariants.{Head, Object, Prop, Slot, Verb, Petition}
+use Rattle.moo_damage.specs.First.{IsLeastBad}
 use Rattle.moo_damage.specs.Kinds.{IsBelow}
 
 -- both have one row at this key, or none
@@ -31,3 +32,12 @@ IsFirstDifference a b key = ¬ (AgreeAt a b key) × ((other : Key) → IsBelow o
 abbrev pub IsFirstUnlike : {K X : Type 0} {cmp : K → K → Ordering} → FinMap cmp X → FinMap cmp X → Option K → Type 0
 IsFirstUnlike {K = K} a b None = (k : K) → get a k ≡ get b k
 IsFirstUnlike {K = K} {cmp = cmp} a b (Some key) = (get a key ≢ get b key) × ((k : K) → cmp k key ≡ Less → get a k ≡ get b k)
+
+-- whether the row of a key isn't its row there
+abbrev pub IsUnlike : {K X : Type 0} {cmp : K → K → Ordering} → FinMap cmp X → Bool → K → X → Type 0
+IsUnlike there true key row = get there key ≢ Some row
+IsUnlike there false key row = get there key ≡ Some row
+
+-- the least key of a map whose row isn't its row there, or none
+abbrev pub IsLeastUnlike : {K X : Type 0} {cmp : K → K → Ordering} → FinMap cmp X → FinMap cmp X → Option K → Type 0
+IsLeastUnlike rows there o = IsLeastBad rows (IsUnlike there false) (IsUnlike there true) o

@@ -1,14 +1,14 @@
 -- The first slot that is owed and isn't there.
-use Rattle.std.specs.Prelude.{◌≡◌, true, false, Option, None, Some}
+use Rattle.std.specs.Prelude.{Option, None, Some}
 use Rattle.moo_value.specs.declared.value.ObjNo.{ObjNo}
 use Rattle.moo_rows.specs.declared.row.PropId.{PropId}
 use Rattle.moo_rows.specs.Maps.{Maps}
-use Rattle.moo_damage.specs.First.{IsLeastBad}
+use Rattle.moo_damage.specs.First.{IsLeastBad, IsLeastPassing}
 use Rattle.moo_damage.specs.Damage.{is_missing}
 
 -- the first property whose slot x misses, or none
 abbrev pub Misses : Maps → ObjNo → Option PropId → Type 0
-Misses m x o = IsLeastBad m.props (λ id _. is_missing m (x, id) ≡ false) (λ id _. is_missing m (x, id) ≡ true) o
+Misses m x o = IsLeastPassing m.props (λ id _. is_missing m (x, id)) o
 
 abbrev pub IsFirstMissing : Maps → Option (ObjNo × PropId) → Type 0
 IsFirstMissing m None = IsLeastBad m.objects (λ x _. Misses m x None) (λ x _. ⊥) None

@@ -1,48 +1,73 @@
 //! Tests of each row of a map: the first one that fails.
 
-ghost use Rattle.std.specs.Prelude.{◌≡◌, true, false, not};
+ghost use Rattle.std.specs.Prelude.{◌≡◌, Bool};
 ghost use Rattle.std.specs.List.{list_any};
 ghost use Rattle.std.specs.FinMap.{entries};
+ghost use Rattle.moo_rows.specs.declared.row.Head.{Head};
 ghost use Rattle.moo_world.specs.PropertyCalls.{is_clear};
 ghost use Rattle.moo_world.specs.Rows.{world_of};
 ghost use Rattle.moo_world.specs.World.{IsTree};
 ghost use Rattle.moo_props.specs.Names.{defines};
-ghost use Rattle.moo_damage.specs.First.{IsLeastBad};
+ghost use Rattle.moo_damage.specs.First.{IsLeastPassing};
 ghost use Rattle.moo_damage.specs.Damage.{is_object_past, is_prop_past, is_verb_past, is_petition_past, is_lost, lacks_definer, share_name, is_double, is_owed, is_strange, is_missing, is_clear_definer, is_strange_verb};
 ghost use Rattle.moo_damage.specs.OwnClear.{has_clear};
-ghost use Rattle.moo_damage.specs.Missing.{IsFirstMissing};
+ghost use Rattle.moo_damage.specs.Missing.{IsFirstMissing, Misses};
 
-use crate::first::first_bad;
+use crate::first::{any_bad, first_bad};
 use crate::trees::TreeLink;
 use moo_rows::{
-    Head, ObjRow, PetitionId, PropId, PropRow, Rows, SlotRow, SlotState, VerbId, each_object,
-    each_petition, each_prop, each_slot, each_verb,
+    Head, KeyedRow, ObjRow, PetitionId, PetitionRow, PropId, PropRow, Rows, SlotRow, SlotState,
+    VerbId, VerbRow, each_object,
 };
 use moo_tree::{is_nothing, is_under, valid};
 use moo_value::{ObjNo, same_name};
 
-fn is_object_past(head: Head, x: ObjNo) -> bool
-    ensures { result ≡ is_object_past head x }
-{
-    x.0 < 0 || head.top < x.0
+/// A kind of row whose numbers the head counts.
+pub(crate) trait NumberedRow: KeyedRow {
+    /// Whether the number of a key was never given.
+    ghost is_past: { Head → Self.Key → Bool };
+
+    fn is_past(head: Head, key: Self::Key) -> bool
+        ensures { result ≡ is_past head key };
 }
 
-fn is_prop_past(head: Head, id: PropId) -> bool
-    ensures { result ≡ is_prop_past head id }
-{
-    head.next_prop <= id.0
+impl NumberedRow for ObjRow {
+    ghost is_past = { is_object_past };
+
+    fn is_past(head: Head, x: ObjNo) -> bool {
+        x.0 < 0 || head.top < x.0
+    }
 }
 
-fn is_verb_past(head: Head, key: (ObjNo, VerbId)) -> bool
-    ensures { result ≡ is_verb_past head key }
-{
-    head.next_verb <= key.1.0
+impl NumberedRow for PropRow {
+    ghost is_past = { is_prop_past };
+
+    fn is_past(head: Head, id: PropId) -> bool {
+        head.next_prop <= id.0
+    }
 }
 
-fn is_petition_past(head: Head, id: PetitionId) -> bool
-    ensures { result ≡ is_petition_past head id }
+impl NumberedRow for VerbRow {
+    ghost is_past = { is_verb_past };
+
+    fn is_past(head: Head, key: (ObjNo, VerbId)) -> bool {
+        head.next_verb <= key.1.0
+    }
+}
+
+impl NumberedRow for PetitionRow {
+    ghost is_past = { is_petition_past };
+
+    fn is_past(head: Head, id: PetitionId) -> bool {
+        head.next_petition <= id.0
+    }
+}
+
+/// The least key whose number was never given, or none.
+pub(crate) fn first_past<T: NumberedRow, R: Rows>(rows: &R) -> Option<T::Key>
+    ensures { IsLeastPassing (T.map_of (R.held rows.now).maps) (λ key _. T.is_past (R.held rows.now).maps.head key) result }
 {
-    head.next_petition <= id.0
+    first_bad::<T, R, _>(rows, |key, _row| T::is_past(rows.head(), key))
 }
 
 /// Whether the link of a row names neither an object nor `#-1`.
@@ -56,10 +81,25 @@ fn is_lost<R: Rows>(rows: &R, link: TreeLink, row: &ObjRow) -> bool
     !valid(rows, next)
 }
 
-fn lacks_definer<R: Rows>(rows: &R, row: &PropRow) -> bool
-    ensures { result ≡ lacks_definer (R.held rows.now).maps row.now }
+/// The least object whose link names neither an object nor `#-1`, or none.
+pub(crate) fn first_lost<R: Rows>(rows: &R, link: TreeLink) -> Option<ObjNo>
+    ensures { IsLeastPassing (R.held rows.now).maps.objects (λ _ row. is_lost link (R.held rows.now).maps row) result }
 {
-    !valid(rows, row.definer)
+    first_bad::<ObjRow, R, _>(rows, |_x, row| is_lost(rows, link, row))
+}
+
+/// The least property whose definer isn't an object, or none.
+pub(crate) fn first_undefined<R: Rows>(rows: &R) -> Option<PropId>
+    ensures { IsLeastPassing (R.held rows.now).maps.props (λ _ row. lacks_definer (R.held rows.now).maps row) result }
+{
+    first_bad::<PropRow, R, _>(rows, |_id, row| !valid(rows, row.definer))
+}
+
+/// The least verb of what isn't an object, or none.
+pub(crate) fn first_strange_verb<R: Rows>(rows: &R) -> Option<(ObjNo, VerbId)>
+    ensures { IsLeastPassing (R.held rows.now).maps.verbs (λ key _. is_strange_verb (R.held rows.now).maps key) result }
+{
+    first_bad::<VerbRow, R, _>(rows, |key, _row| !valid(rows, key.0))
 }
 
 /// Whether two properties have one name, on one object or on an object and its ancestor.
@@ -77,18 +117,13 @@ fn share_name<R: Rows>(rows: &R, one: &PropRow, other: &PropRow) -> bool
 }
 
 /// Whether a property of lesser number has the name already.
-fn is_double<R: Rows>(rows: &R, id: PropId, row: &PropRow) -> bool
+pub(crate) fn is_double<R: Rows>(rows: &R, id: PropId, row: &PropRow) -> bool
     requires { IsTree (world_of (R.held rows.now).maps) }
     ensures { result ≡ is_double (R.held rows.now).maps id row.now }
 {
-    for (other, other_row) in each_prop(rows) {
-        if other.0 < id.0 {
-            if share_name(rows, row, other_row) {
-                return true;
-            }
-        }
-    }
-    false
+    any_bad::<PropRow, R, _>(rows, |other, other_row| {
+        other.0 < id.0 && share_name(rows, row, other_row)
+    })
 }
 
 /// Whether an object of the chain of x defines the property.
@@ -102,7 +137,7 @@ fn is_owed<R: Rows>(rows: &R, key: (ObjNo, PropId)) -> bool
     }
 }
 
-fn is_strange<R: Rows>(rows: &R, key: (ObjNo, PropId)) -> bool
+pub(crate) fn is_strange<R: Rows>(rows: &R, key: (ObjNo, PropId)) -> bool
     requires { IsTree (world_of (R.held rows.now).maps) }
     ensures { result ≡ is_strange (R.held rows.now).maps key }
 {
@@ -146,76 +181,6 @@ fn is_clear_definer<R: Rows>(rows: &R, key: (ObjNo, PropId), row: &SlotRow) -> b
     defines(rows, key)
 }
 
-fn is_strange_verb<R: Rows>(rows: &R, key: (ObjNo, VerbId)) -> bool
-    ensures { result ≡ is_strange_verb (R.held rows.now).maps key }
-{
-    !valid(rows, key.0)
-}
-
-/// The least object whose number was never given, or none.
-pub(crate) fn first_object_past<R: Rows>(rows: &R) -> Option<ObjNo>
-    ensures { IsLeastBad (R.held rows.now).maps.objects (λ k r. is_object_past (R.held rows.now).maps.head k ≡ false) (λ k r. is_object_past (R.held rows.now).maps.head k ≡ true) result }
-{
-    first_bad(
-        each_object(rows),
-        |key, _row| is_object_past(rows.head(), key),
-    )
-}
-
-/// The least property whose number was never given, or none.
-pub(crate) fn first_prop_past<R: Rows>(rows: &R) -> Option<PropId>
-    ensures { IsLeastBad (R.held rows.now).maps.props (λ k r. is_prop_past (R.held rows.now).maps.head k ≡ false) (λ k r. is_prop_past (R.held rows.now).maps.head k ≡ true) result }
-{
-    first_bad(each_prop(rows), |key, _row| is_prop_past(rows.head(), key))
-}
-
-/// The least verb whose number was never given, or none.
-pub(crate) fn first_verb_past<R: Rows>(rows: &R) -> Option<(ObjNo, VerbId)>
-    ensures { IsLeastBad (R.held rows.now).maps.verbs (λ k r. is_verb_past (R.held rows.now).maps.head k ≡ false) (λ k r. is_verb_past (R.held rows.now).maps.head k ≡ true) result }
-{
-    first_bad(each_verb(rows), |key, _row| is_verb_past(rows.head(), key))
-}
-
-/// The least petition whose number was never given, or none.
-pub(crate) fn first_petition_past<R: Rows>(rows: &R) -> Option<PetitionId>
-    ensures { IsLeastBad (R.held rows.now).maps.petitions (λ k r. is_petition_past (R.held rows.now).maps.head k ≡ false) (λ k r. is_petition_past (R.held rows.now).maps.head k ≡ true) result }
-{
-    first_bad(
-        each_petition(rows),
-        |key, _row| is_petition_past(rows.head(), key),
-    )
-}
-
-/// The least object whose link names neither an object nor `#-1`, or none.
-pub(crate) fn first_lost<R: Rows>(rows: &R, link: TreeLink) -> Option<ObjNo>
-    ensures { IsLeastBad (R.held rows.now).maps.objects (λ k r. is_lost link (R.held rows.now).maps r ≡ false) (λ k r. is_lost link (R.held rows.now).maps r ≡ true) result }
-{
-    first_bad(each_object(rows), |_key, row| is_lost(rows, link, row))
-}
-
-/// The least property whose definer isn't an object, or none.
-pub(crate) fn first_undefined<R: Rows>(rows: &R) -> Option<PropId>
-    ensures { IsLeastBad (R.held rows.now).maps.props (λ k r. lacks_definer (R.held rows.now).maps r ≡ false) (λ k r. lacks_definer (R.held rows.now).maps r ≡ true) result }
-{
-    first_bad(each_prop(rows), |_key, row| lacks_definer(rows, row))
-}
-
-/// The least property whose name one of lesser number has on its definer, an ancestor or a descendant of it, or none.
-pub(crate) fn first_double<R: Rows>(rows: &R) -> Option<PropId>
-    requires { IsTree (world_of (R.held rows.now).maps) }
-    ensures { IsLeastBad (R.held rows.now).maps.props (λ k r. is_double (R.held rows.now).maps k r ≡ false) (λ k r. is_double (R.held rows.now).maps k r ≡ true) result }
-{
-    first_bad(each_prop(rows), |key, row| is_double(rows, key, row))
-}
-
-/// The least slot of a property that its object is not owed, or none.
-pub(crate) fn first_strange<R: Rows>(rows: &R) -> Option<(ObjNo, PropId)>
-    requires { IsTree (world_of (R.held rows.now).maps) }
-    ensures { IsLeastBad (R.held rows.now).maps.slots (λ k r. is_strange (R.held rows.now).maps k ≡ false) (λ k r. is_strange (R.held rows.now).maps k ≡ true) result }
-{
-    first_bad(each_slot(rows), |key, _row| is_strange(rows, key))
-}
-
 /// Whether an object has a clear slot of a property.
 fn has_clear<R: Rows>(rows: &R, key: (ObjNo, PropId)) -> bool
     ensures { result ≡ has_clear (R.held rows.now).maps key.0 key.1 }
@@ -230,44 +195,25 @@ fn has_clear<R: Rows>(rows: &R, key: (ObjNo, PropId)) -> bool
 fn any_clear_own<R: Rows>(rows: &R) -> bool
     ensures { result ≡ list_any (λ e. has_clear (R.held rows.now).maps e.1.definer e.0) (entries (R.held rows.now).maps.props) }
 {
-    for (id, row) in each_prop(rows) {
-        if has_clear(rows, (row.definer, id)) {
-            return true;
-        }
-    }
-    false
-}
-
-/// The least slot on its definer that is clear, or none, by a look at each slot.
-fn search_clear<R: Rows>(rows: &R) -> Option<(ObjNo, PropId)>
-    ensures { IsLeastBad (R.held rows.now).maps.slots (λ k r. is_clear_definer (R.held rows.now).maps k r ≡ false) (λ k r. is_clear_definer (R.held rows.now).maps k r ≡ true) result }
-{
-    first_bad(each_slot(rows), |key, row| is_clear_definer(rows, key, row))
+    any_bad::<PropRow, R, _>(rows, |id, row| has_clear(rows, (row.definer, id)))
 }
 
 /// The least slot on its definer that is clear, or none: slots are looked at only if a property has such a one.
 pub(crate) fn first_clear<R: Rows>(rows: &R) -> Option<(ObjNo, PropId)>
-    ensures { IsLeastBad (R.held rows.now).maps.slots (λ k r. is_clear_definer (R.held rows.now).maps k r ≡ false) (λ k r. is_clear_definer (R.held rows.now).maps k r ≡ true) result }
+    ensures { IsLeastPassing (R.held rows.now).maps.slots (is_clear_definer (R.held rows.now).maps) result }
 {
     if !any_clear_own(rows) {
         return None;
     }
-    search_clear(rows)
-}
-
-/// The least verb of what isn't an object, or none.
-pub(crate) fn first_strange_verb<R: Rows>(rows: &R) -> Option<(ObjNo, VerbId)>
-    ensures { IsLeastBad (R.held rows.now).maps.verbs (λ k r. is_strange_verb (R.held rows.now).maps k ≡ false) (λ k r. is_strange_verb (R.held rows.now).maps k ≡ true) result }
-{
-    first_bad(each_verb(rows), |key, _row| is_strange_verb(rows, key))
+    first_bad::<SlotRow, R, _>(rows, |key, row| is_clear_definer(rows, key, row))
 }
 
 /// The least property that x is owed and has no slot of, or none.
-pub(crate) fn first_missing_of<R: Rows>(rows: &R, x: ObjNo) -> Option<PropId>
+fn first_missing_of<R: Rows>(rows: &R, x: ObjNo) -> Option<PropId>
     requires { IsTree (world_of (R.held rows.now).maps) }
-    ensures { IsLeastBad (R.held rows.now).maps.props (λ k r. is_missing (R.held rows.now).maps (x, k) ≡ false) (λ k r. is_missing (R.held rows.now).maps (x, k) ≡ true) result }
+    ensures { Misses (R.held rows.now).maps x result }
 {
-    first_bad(each_prop(rows), |key, _row| is_missing(rows, (x, key)))
+    first_bad::<PropRow, R, _>(rows, |key, _row| is_missing(rows, (x, key)))
 }
 
 /// The least slot that is owed and isn't there, or none.

@@ -8,14 +8,11 @@ ghost use Rattle.moo_damage.specs.Kinds.{rank, lost_kind, loop_kind, InRows, Non
 ghost use Rattle.moo_damage.specs.Limits.{AreWithin};
 ghost use Rattle.moo_damage.specs.Local.{SlotsHold};
 
-use crate::checks::{
-    first_clear, first_lost, first_object_past, first_petition_past, first_prop_past,
-    first_strange_verb, first_undefined, first_verb_past,
-};
+use crate::checks::{first_clear, first_lost, first_past, first_strange_verb, first_undefined};
 use crate::kind::{Key, Kind, object_key, petition_key, prop_key, slot_key, verb_key};
 use crate::local::{double_name, missing_slot, slots_hold, strange_slot};
 use crate::trees::{TreeLink, first_loop};
-use moo_rows::Rows;
+use moo_rows::{ObjRow, PetitionRow, PropRow, Rows, VerbRow};
 use std::alloc::{AllocError, Global};
 
 /// Numbers past those of the head.
@@ -23,16 +20,16 @@ fn wrong_number<R: Rows>(rows: &R) -> Option<(Kind, Key)>
     ensures first { IsFirstBefore (InRows (R.held rows.now).maps) 4 result }
     ensures given { IfNone result (NumbersGiven (R.held rows.now).maps) }
 {
-    if let Some(x) = first_object_past(rows) {
+    if let Some(x) = first_past::<ObjRow, R>(rows) {
         return Some((Kind::PastHead, object_key(x)));
     }
-    if let Some(id) = first_prop_past(rows) {
+    if let Some(id) = first_past::<PropRow, R>(rows) {
         return Some((Kind::PastHead, prop_key(id)));
     }
-    if let Some(key) = first_verb_past(rows) {
+    if let Some(key) = first_past::<VerbRow, R>(rows) {
         return Some((Kind::PastHead, verb_key(key)));
     }
-    if let Some(id) = first_petition_past(rows) {
+    if let Some(id) = first_past::<PetitionRow, R>(rows) {
         return Some((Kind::PastHead, petition_key(id)));
     }
     None

@@ -1,24 +1,35 @@
-//! The first row of a walk that a test finds.
+//! The first row of a kind that a test finds.
 
-ghost use Rattle.std.specs.Prelude.{List, true, false};
-ghost use Rattle.std.specs.Iterator.{AlwaysYields, IsFinite};
-ghost use Rattle.moo_damage.specs.First.{FirstIn, MaySay};
+ghost use Rattle.std.specs.Prelude.{◌≡◌, Bool, true, false};
+ghost use Rattle.std.specs.List.{list_any};
+ghost use Rattle.std.specs.FinMap.{entries};
+ghost use Rattle.moo_damage.specs.First.{IsLeastBad, MaySay, SaysOfRow};
 
-/// The key of the first row of a walk that the test finds, or none. Takes no memory of its own.
-pub(crate) fn first_bad<'a, K: Copy, V: 'a, W: Iterator<Item = (K, &'a V)>, F: Fn(K, &V) -> bool>(
-    walk: W,
+use moo_rows::{KeyedRow, Rows};
+
+/// The key of the least row that the test finds, or none. Takes no memory of its own.
+pub(crate) fn first_bad<T: KeyedRow, R: Rows, F: Fn(T::Key, &T) -> bool>(
+    rows: &R,
     is_bad: F,
-) -> Option<K>
-    requires next { W.can_next walk }
-    requires ends { IsFinite (W.remaining walk) }
-    requires callable { F.IsAlwaysCallable is_bad }
-    ensures { (all : List (K × V)) → AlwaysYields W.next_gives (λ p. (p.0, p.1.now)) walk all →
-        FirstIn (MaySay F.Fn is_bad false) (MaySay F.Fn is_bad true) all result }
+) -> Option<T::Key>
+    requires { F.IsAlwaysCallable is_bad }
+    ensures { IsLeastBad (T.map_of (R.held rows.now).maps) (MaySay F.Fn is_bad false) (MaySay F.Fn is_bad true) result }
 {
-    for (key, row) in walk {
-        if is_bad(key, row) {
-            return Some(key);
+    let mut last = None;
+    while let Some(next) = T::next_row(rows, last) {
+        if is_bad(next.0, next.1) {
+            return Some(next.0);
         }
+        last = Some(next.0);
     }
     None
+}
+
+/// Whether the test finds a row.
+pub(crate) fn any_bad<T: KeyedRow, R: Rows, F: Fn(T::Key, &T) -> bool>(rows: &R, is_bad: F) -> bool
+    requires { F.IsAlwaysCallable is_bad }
+    ensures { (test : T.Key → T → Bool) → SaysOfRow F.Fn is_bad (λ b k r. test k r ≡ b) →
+        result ≡ list_any (λ e. test e.0 e.1) (entries (T.map_of (R.held rows.now).maps)) }
+{
+    first_bad::<T, R, F>(rows, is_bad).is_some()
 }

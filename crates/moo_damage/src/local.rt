@@ -6,14 +6,15 @@ ghost use Rattle.std.specs.FinMap.{entries, get};
 ghost use Rattle.moo_rows.specs.declared.row.PropRow.{PropRow};
 ghost use Rattle.moo_world.specs.Rows.{world_of, IsGood};
 ghost use Rattle.moo_world.specs.World.{IsTree};
-ghost use Rattle.moo_damage.specs.First.{IsLeastBad};
+ghost use Rattle.moo_damage.specs.First.{IsLeastPassing};
 ghost use Rattle.moo_damage.specs.Damage.{is_double, is_strange};
 ghost use Rattle.moo_damage.specs.Missing.{IsFirstMissing};
 ghost use Rattle.moo_damage.specs.Local.{SlotsHold, has_slot, comes_down, lacks_one_of};
 
-use crate::checks::{defines, first_double, first_missing, first_strange};
+use crate::checks::{defines, first_missing, is_double, is_strange};
+use crate::first::{any_bad, first_bad};
 use crate::names::names_apart;
-use moo_rows::{PropId, Rows, each_object, each_prop, each_slot, each_slot_of};
+use moo_rows::{ObjRow, PropId, PropRow, Rows, SlotRow, each_slot_of};
 use moo_value::ObjNo;
 use std::alloc::{AllocError, Global};
 
@@ -27,12 +28,7 @@ fn has_slot<R: Rows>(rows: &R, x: ObjNo, id: PropId) -> bool
 fn any_lacks_own<R: Rows>(rows: &R) -> bool
     ensures { result ≡ list_any (λ e. not (has_slot (R.held rows.now).maps e.1.definer e.0)) (entries (R.held rows.now).maps.props) }
 {
-    for (id, row) in each_prop(rows) {
-        if !has_slot(rows, row.definer, id) {
-            return true;
-        }
-    }
-    false
+    any_bad::<PropRow, R, _>(rows, |id, row| !has_slot(rows, row.definer, id))
 }
 
 /// Whether a slot is on an object that defines its property, or whose parent has a slot of it.
@@ -54,12 +50,7 @@ fn comes_down<R: Rows>(rows: &R, key: (ObjNo, PropId)) -> bool
 fn any_from_nowhere<R: Rows>(rows: &R) -> bool
     ensures { result ≡ list_any (λ e. not (comes_down (R.held rows.now).maps e.0)) (entries (R.held rows.now).maps.slots) }
 {
-    for (key, _row) in each_slot(rows) {
-        if !comes_down(rows, key) {
-            return true;
-        }
-    }
-    false
+    any_bad::<SlotRow, R, _>(rows, |key, _row| !comes_down(rows, key))
 }
 
 /// Whether x has no slot of a property that y has a slot of.
@@ -78,12 +69,7 @@ fn lacks_one_of<R: Rows>(rows: &R, x: ObjNo, y: ObjNo) -> bool
 fn any_lacks_one<R: Rows>(rows: &R) -> bool
     ensures { result ≡ list_any (λ e. lacks_one_of (R.held rows.now).maps e.0 e.1.parent) (entries (R.held rows.now).maps.objects) }
 {
-    for (x, row) in each_object(rows) {
-        if lacks_one_of(rows, x, row.parent) {
-            return true;
-        }
-    }
-    false
+    any_bad::<ObjRow, R, _>(rows, |x, row| lacks_one_of(rows, x, row.parent))
 }
 
 /// Whether the slots are seen to be just those that are owed, by a look at each slot, its object and the parent's slots. Those of good rows always are.
@@ -111,24 +97,24 @@ pub(crate) fn slots_hold<R: Rows>(alloc: Global, rows: &R) -> Result<bool, Alloc
 pub(crate) fn double_name<R: Rows>(rows: &R, hold: bool) -> Option<PropId>
     requires tree { IsTree (world_of (R.held rows.now).maps) }
     requires hold { hold ≡ true → SlotsHold (R.held rows.now).maps }
-    ensures { IsLeastBad (R.held rows.now).maps.props (λ k r. is_double (R.held rows.now).maps k r ≡ false) (λ k r. is_double (R.held rows.now).maps k r ≡ true) result }
+    ensures { IsLeastPassing (R.held rows.now).maps.props (is_double (R.held rows.now).maps) result }
 {
     if hold {
         return None;
     }
-    first_double(rows)
+    first_bad::<PropRow, R, _>(rows, |id, row| is_double(rows, id, row))
 }
 
 /// The least slot that its object is not owed, or None. It isn't looked for if the slots are known to hold.
 pub(crate) fn strange_slot<R: Rows>(rows: &R, hold: bool) -> Option<(ObjNo, PropId)>
     requires tree { IsTree (world_of (R.held rows.now).maps) }
     requires hold { hold ≡ true → SlotsHold (R.held rows.now).maps }
-    ensures { IsLeastBad (R.held rows.now).maps.slots (λ k r. is_strange (R.held rows.now).maps k ≡ false) (λ k r. is_strange (R.held rows.now).maps k ≡ true) result }
+    ensures { IsLeastPassing (R.held rows.now).maps.slots (λ key _. is_strange (R.held rows.now).maps key) result }
 {
     if hold {
         return None;
     }
-    first_strange(rows)
+    first_bad::<SlotRow, R, _>(rows, |key, _row| is_strange(rows, key))
 }
 
 /// The least slot that is owed and isn't there, or None. It isn't looked for if the slots are known to hold.

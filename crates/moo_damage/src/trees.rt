@@ -11,6 +11,7 @@ ghost use Rattle.moo_damage.specs.Kinds.{lost_kind, loop_kind};
 ghost use Rattle.moo_damage.specs.Noted.{AreEnding};
 ghost use Rattle.moo_damage.specs.declared.trees.TreeLink.{TreeLink};
 
+use crate::first::first_bad;
 use crate::kind::Kind;
 use moo_rows::{ObjRow, Rows, each_object, ordered};
 use moo_value::ObjNo;
@@ -60,12 +61,7 @@ impl TreeLink {
 fn links_descend<R: Rows>(rows: &R, link: TreeLink) -> bool
     ensures { IsTrue result → LinksDescend link (R.held rows.now).maps }
 {
-    for (x, row) in each_object(rows) {
-        if link.of(row) >= x {
-            return false;
-        }
-    }
-    true
+    first_bad::<ObjRow, R, _>(rows, |x, row| link.of(row) >= x).is_none()
 }
 
 /// How many objects there are. An `Err` is a lack of memory.

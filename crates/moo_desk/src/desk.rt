@@ -83,10 +83,7 @@ impl<'a, G: Gate + Drop, C: Clock> Desk<'a, G, C> {
     }
 
     fn now(&self) -> Duration {
-        match self.clock.monotonic() {
-            Ok(now) => now,
-            Err(_) => Duration::from_secs(0),
-        }
+        self.clock.monotonic().unwrap_or(Duration::from_secs(0))
     }
 
     fn is_full(&self) -> bool {

@@ -28,11 +28,9 @@ pub fn gather_all<R: Read, W>(slots: &mut [Slot<R, W>], routes: &Routes, now: Du
 
 /// How many bytes were gathered.
 fn gathered<R, W>(slots: &[Slot<R, W>]) -> usize {
-    let mut sum: usize = 0;
-    for slot in slots {
-        sum = sum.saturating_add(slot.reader.bytes.len());
-    }
-    sum
+    slots.iter().fold(0, |sum: usize, slot| {
+        sum.saturating_add(slot.reader.bytes.len())
+    })
 }
 
 /// Steps each that is due; whether anything went or came.

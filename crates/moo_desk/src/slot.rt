@@ -143,10 +143,7 @@ impl<R, W> Slot<R, W> {
 
     /// How many bytes are taken of it by now: of a head none beyond its limit, of a request none beyond its end.
     fn limit(&self) -> usize {
-        match self.total {
-            Some(total) => total,
-            None => MAX_HEAD,
-        }
+        self.total.unwrap_or(MAX_HEAD)
     }
 
     /// Whether as many bytes came as the request has.

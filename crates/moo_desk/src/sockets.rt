@@ -58,10 +58,9 @@ fn register_anew<S: AsRawFd>(
 
 /// Whether the system has no room for another open file.
 fn is_no_file(error: &Error) -> bool {
-    match error.raw_os_error() {
-        Some(number) => NO_FILES.contains(&number),
-        None => false,
-    }
+    error
+        .raw_os_error()
+        .is_some_and(|number| NO_FILES.contains(&number))
 }
 
 impl SocketGate {

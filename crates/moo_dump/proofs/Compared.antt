@@ -1,6 +1,6 @@
 -- A text that is compared with what it is to be, piece by piece.
 use Rattle.moo_dump.proofs.Words.{◌≡◌, ℕ, ◌+◌, ◌<◌, ◌≤◌, List, ◌++◌, length, take, drop, get_or, Some, refl, sym, ap, subst, ◌∙◌, append_assoc, arith, slice_get, codes, take-append-le, take-append-drop, take-take, CompareFault, PartAt, TellsDifference, heading, dump, objects_text, petitions_text, Maps, state_of}
-use Rattle.std.{proofs.Common.{◌≢◌, inl, inr}, proofs.Math.Seq.{take-append-add}, proofs.lemmas.Bool.{cases_lt}, proofs.lemmas.List.{length-take-le, length-append, get_or-append-add, get_or_append_left}, proofs.lemmas.Option.{slice_get_past, slice_get-get_or, none-some}}
+use Rattle.std.{proofs.Common.{◌≢◌, inl, inr}, proofs.Math.Seq.{take-add, take-append-add}, proofs.lemmas.Bool.{cases_lt}, proofs.lemmas.List.{length-take-le, length-append, get_or-append-add, get_or_append_left}, proofs.lemmas.Option.{slice_get_past, slice_get-get_or, none-some}}
 
 get_first : (xs ys : List ℕ) (n : ℕ) → n < length xs → slice_get (xs ++ ys) n ≡ slice_get xs n
 get_first xs ys n less =
@@ -11,12 +11,6 @@ get_second xs ys n = elim (cases_lt n (length ys)) [
   | inl less ↦ slice_get-get_or (xs ++ ys) (length xs + n) 0 (omega (arith, length-append xs ys)) ∙ ap (λ (x : ℕ). Some x) (get_or-append-add xs ys n 0) ∙ sym (slice_get-get_or ys n 0 less)
   | inr past ↦ slice_get_past (xs ++ ys) (length xs + n) (omega (arith, length-append xs ys)) ∙ sym (slice_get_past ys n past)
 ]
-
--- the first bytes of a text end with those after a place
-pub taken_to : (text : List ℕ) (at n : ℕ) → at ≤ length text → take (at + n) text ≡ take at text ++ take n (drop at text)
-taken_to text at n within =
-    let e : length (take at text) ≡ at = length-take-le at text within in
-    (λ i. take (sym e i + n) (sym (take-append-drop at text) i)) ∙ take-append-add (take at text) (drop at text) n
 
 get_after : (text : List ℕ) (at n : ℕ) → at ≤ length text → slice_get text (at + n) ≡ slice_get (drop at text) n
 get_after text at n within =
@@ -34,7 +28,7 @@ departs text piece at count within short shared differ rest =
       same =
           ap (λ (n : ℕ). take (n + count) (take at text ++ (piece ++ rest))) (sym e) ∙ take-append-add (take at text) (piece ++ rest) count
           ∙ ap (λ (t : List ℕ). take at text ++ t) (take-append-le count piece rest (omega arith) ∙ sym shared)
-          ∙ sym (taken_to text at count low);
+          ∙ sym (take-add at count text);
       next = λ same. differ
           (sym (ap (λ (n : ℕ). slice_get (take at text ++ (piece ++ rest)) (n + count)) (sym e) ∙ get_second (take at text) (piece ++ rest) count ∙ get_first piece rest count short)
           ∙ same ∙ get_after text at count low);

@@ -1,23 +1,6 @@
 -- What is written, piece by piece.
-use Rattle.moo_dump.{proofs.Words.{◌≡◌, ℕ, ◌+◌, List, [], ◌++◌, length, take, drop, Option, Some, None, refl, sym, ap, subst, ◌∙◌, append_assoc, arith, Appends, append-nil, take-take, take-append-drop, AppendsFront, Maps, codes, dump, heading, objects_text, petitions_text, state_of, take_at}, proofs.Compared.{parts}}
-use Rattle.std.{specs.Prelude.{Result, Ok, Err, OnErr}, proofs.lemmas.List.{drop-take}}
-
-pub Appends-then : (a b c : Option (List ℕ)) (xs ys : List ℕ) → Appends a b xs → Appends b c ys → Appends a c (xs ++ ys)
-Appends-then None b c xs ys p q = tt
-Appends-then (Some a) None c xs ys p q = absurd p
-Appends-then (Some a) (Some b) None xs ys p q = absurd q
-Appends-then (Some a) (Some b) (Some c) xs ys p q = q ∙ ap (λ (t : List ℕ). t ++ ys) p ∙ append_assoc a xs ys
-
-pub Appends-nothing : (a : Option (List ℕ)) → Appends a a []
-Appends-nothing None = tt
-Appends-nothing (Some a) = sym (append-nil a)
-
--- a write more of the same bytes
-pub take_then : (a b c : Option (List ℕ)) (at n : ℕ) (bytes : List ℕ) → Appends a b (take at bytes) → Appends b c (take n (drop at bytes)) → Appends a c (take (at + n) bytes)
-take_then a b c at n bytes p q =
-    let joined : take at bytes ++ take n (drop at bytes) ≡ take (at + n) bytes =
-    ap (λ (t : List ℕ). t ++ take n (drop at bytes)) (sym (take-take at (at + n) bytes (omega arith))) ∙ ap (λ (t : List ℕ). take at (take (at + n) bytes) ++ t) (sym (drop-take at n bytes)) ∙ take-append-drop at (take (at + n) bytes) in
-    subst (Appends a c) joined (Appends-then a b c (take at bytes) (take n (drop at bytes)) p q)
+use Rattle.moo_dump.{proofs.Words.{◌≡◌, ℕ, ◌+◌, List, [], ◌++◌, length, take, drop, Option, refl, sym, ap, subst, ◌∙◌, append_assoc, Appends, append-nil, take-append-drop, AppendsFront, Maps, codes, dump, heading, objects_text, petitions_text, state_of, take_at}, proofs.Compared.{parts}}
+use Rattle.std.{specs.Prelude.{Result, Ok, Err, OnErr}, proofs.KnownBytes.{Appends-nil, Appends-trans}}
 
 -- ---- fronts of a text
 
@@ -39,7 +22,7 @@ front_then a b c xs ys p h = record {
   front = xs ++ h.front;
   rest = h.rest;
   whole = ap (λ (t : List ℕ). xs ++ t) h.whole ∙ sym (append_assoc xs h.front h.rest);
-  wrote = Appends-then a b c xs h.front p h.wrote;
+  wrote = Appends-trans a b c xs h.front p h.wrote;
 }
 
 -- ---- a text that is written in parts
@@ -51,10 +34,10 @@ pub record HasWritten (old new : Option (List ℕ)) (left text : List ℕ) : Typ
   pub wrote : Appends old new done
 
 pub written_none : (a : Option (List ℕ)) (text : List ℕ) → HasWritten a a text text
-written_none a text = record { done = []; whole = refl; wrote = Appends-nothing a }
+written_none a text = record { done = []; whole = refl; wrote = Appends-nil a }
 
 pub written_more : (a b c : Option (List ℕ)) (xs left text : List ℕ) → HasWritten a b (xs ++ left) text → Appends b c xs → HasWritten a c left text
-written_more a b c xs left text h p = record { done = h.done ++ xs; whole = h.whole ∙ sym (append_assoc h.done xs left); wrote = Appends-then a b c h.done xs h.wrote p }
+written_more a b c xs left text h p = record { done = h.done ++ xs; whole = h.whole ∙ sym (append_assoc h.done xs left); wrote = Appends-trans a b c h.done xs h.wrote p }
 
 pub written_all : (a b : Option (List ℕ)) (text : List ℕ) → HasWritten a b [] text → Appends a b text
 written_all a b text h = subst (Appends a b) (sym (h.whole ∙ append-nil h.done)) h.wrote

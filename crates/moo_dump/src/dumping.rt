@@ -13,8 +13,8 @@ use crate::fault::RowsDumpFault;
 use crate::lines::petition_text;
 use crate::objects::object_text;
 use crate::outline::{Outline, outline_of};
-use crate::output::put_all;
 use moo_rows::{Rows, each_object, each_petition};
+use moo_text::put_all;
 use std::alloc::{AllocError, Global};
 use std::io::Write;
 
@@ -86,5 +86,5 @@ pub fn dump<R: Rows, W: Write>(alloc: Global, rows: &R, output: &mut W) -> Resul
     put_all(output, &heading)?;
     put_objects(alloc, rows, &outline, output)?;
     put_petitions(alloc, rows, output)?;
-    put_all(output, b"end\n")
+    Ok(put_all(output, b"end\n")?)
 }

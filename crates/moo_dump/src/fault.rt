@@ -1,8 +1,9 @@
 //! Why a dump stopped.
 
 ghost use Rattle.std.specs.Prelude.{◌≡◌};
-ghost use Rattle.moo_dump.specs.declared.fault.RowsDumpFault.TheVariants.{OutOfMemory};
+ghost use Rattle.moo_dump.specs.declared.fault.RowsDumpFault.TheVariants.{Write, OutOfMemory};
 
+use moo_text::WriteFault;
 use std::alloc::AllocError;
 
 /// Why a dump stopped.
@@ -19,5 +20,13 @@ impl From<AllocError> for RowsDumpFault {
 
     fn from(_e: AllocError) -> RowsDumpFault {
         RowsDumpFault::OutOfMemory
+    }
+}
+
+impl From<WriteFault> for RowsDumpFault {
+    ghost from_gives = { λ _ e. e ≡ Write };
+
+    fn from(_e: WriteFault) -> RowsDumpFault {
+        RowsDumpFault::Write
     }
 }

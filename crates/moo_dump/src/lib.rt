@@ -9,7 +9,6 @@ mod lines;
 mod looking;
 mod objects;
 mod outline;
-mod output;
 mod seen;
 mod skips;
 
@@ -17,5 +16,4 @@ pub use comparing::{CompareFault, compare};
 pub use dumping::dump;
 pub use fault::RowsDumpFault;
 pub use looking::look;
-pub use output::put_all;
 pub use seen::Look;

@@ -1,5 +1,5 @@
 -- What refused a database that was to be made or opened.
-use Rattle.moo_files.proofs.Words.{◌≡◌, ◌⊎◌, inl, inr, ℕ, ◌<◌, refl, sym, subst, arith, ∥∥₁_elim, Image, Trees, Error, HoldsDatabase, IsNothing, store_error}
+use Rattle.moo_files.proofs.Words.{◌≡◌, ◌⊎◌, inl, inr, ℕ, ◌<◌, refl, arith, ∥∥₁_elim, Image, Trees, Error, HoldsDatabase, IsNothing}
 use Rattle.moo_files.specs.Causes.{IsOpenable}
 use Rattle.sqlite_catalog.specs.Listing.{IsSound}
 use Rattle.sqlite_disk.specs.Disk.{MoreFaults}

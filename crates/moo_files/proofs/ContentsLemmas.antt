@@ -1,11 +1,11 @@
 -- From what the files hold to what a connection to them keeps.
-use Rattle.moo_files.{proofs.Words.{◌≡◌, ◌≢◌, ◌⊎◌, inl, inr, ℕ, ◌≤◌, Result, Ok, Err, IfErr, [], ap, arith, sym, subst, subst₂, ◌∙◌, ∥∥₁_elim, ∥∥₁_map, Trees-set, Trees, HasCleanDisk, Survives, Opens, IsLive, Held, IsEmpty, IsNothing, file_state, empty_is_sound, Ghosts, FileStore, Error, State, Tables, schema_of, no_schema, ShowsState, LeavesState, Left, IsOfStore, Adopts, StoreFault, IsBlank, HoldsTrees, HoldsTables, HoldsState, HasOtherTables, HasAnyTable, HoldsEarlier, IsMigrated, IsKept, ReadsAs, ReadsAsOurs, HoldsNoTable}, specs.Connected.{IsNewOrFound, OnlyLeaves}, proofs.BlankLemmas.{holds_none}, proofs.RemainsLemmas.{found_empty, begun_empty}}
+use Rattle.moo_files.{proofs.Words.{◌≡◌, ◌≢◌, ◌⊎◌, inl, inr, ℕ, ◌≤◌, [], ap, arith, sym, subst, subst₂, ◌∙◌, ∥∥₁_elim, ∥∥₁_map, Trees-set, Trees, HasCleanDisk, Survives, Opens, IsLive, Held, IsEmpty, IsNothing, file_state, empty_is_sound, Ghosts, FileStore, State, Tables, schema_of, no_schema, ShowsState, LeavesState, Left, Adopts, IsBlank, HoldsTrees, HoldsTables, HoldsState, HasOtherTables, HasAnyTable, HoldsEarlier, IsMigrated, IsKept, ReadsAs, ReadsAsOurs, HoldsNoTable}, specs.Connected.{IsNewOrFound, OnlyLeaves}, proofs.BlankLemmas.{holds_none}, proofs.RemainsLemmas.{found_empty, begun_empty}}
 use Rattle.sqlite.{specs.Recovery.{Image}, specs.Schema.{Schema}, specs.State.{State as Database}, specs.Start.{FindsIn}, specs.Effect.{Database as Content, IsDatabase}}
 use Rattle.sqlite_trees.specs.Objects.{catalog_tree}
 use Rattle.sqlite_catalog.specs.Listing.{IsSound}
-use Rattle.moo_tables.{proofs.SchemaLemmas.{some_tables, one_schema}, specs.declared.version.Version.{Version}, specs.Inside.{Rests, Leaves}, proofs.ReopenLemmas.{opened}}
-use Rattle.moo_store.specs.Opening.{HasEarlier}
-use Rattle.moo_store.specs.declared.fault.StoreFault.TheVariants.{Store, OutOfMemory}
+use Rattle.moo_tables.{proofs.SchemaLemmas.{some_tables, one_schema}, proofs.ReopenLemmas.{opened}}
+use Rattle.moo_tables_rows.{specs.declared.version.Version.{Version}, specs.Inside.{Rests, Leaves}}
+use Rattle.moo_store_rows.specs.Opening.{HasEarlier}
 
 pub none_below : (n m : ℕ) → n ≤ m → m ≡ 0 → n ≡ 0
 none_below n m le e = omega (arith, le, e)

@@ -1,10 +1,11 @@
 -- What follows of what making a world does, whatever that is; and how it is made and refused.
-use Rattle.moo_files.proofs.Words.{◌≡◌, ◌≢◌, ◌⊎◌, inl, inr, List, [], ◌∷◌, Result, Ok, Err, IfOk, IfErr, refl, sym, ap, subst, ◌∙◌, true, Trees, HasCleanDisk, Survives, Opens, IsLive, Held, IsEmpty, IsNothing, over_files, file_state, Ghosts, FileStore, Files, Image, outcomes, image_of, Leftover, Maps, State, LeavesState, Left, store_of, no_schema, Error, IsOfStore, StoreFault, IsBlank, SparesFiles, HoldsTrees, HoldsState, HasAnyTable, HoldsNoTable, IsCleanRemains, IsUnopened, KeepsSuch, KeepsNothingBut, Spares, Remains}
+use Rattle.moo_files.proofs.Words.{◌≡◌, ◌≢◌, ◌⊎◌, inl, inr, List, [], ◌∷◌, Result, Ok, Err, IfOk, IfErr, refl, sym, ap, subst, ◌∙◌, Trees, HasCleanDisk, Survives, Opens, IsLive, Held, IsEmpty, over_files, file_state, Ghosts, FileStore, Files, Image, outcomes, image_of, Leftover, Maps, State, LeavesState, store_of, no_schema, Error, IsOfStore, StoreFault, SparesFiles, HoldsTrees, HoldsState, HasAnyTable, IsCleanRemains, IsUnopened, KeepsSuch, Remains}
 use Rattle.sqlite.specs.Schema.{Schema}
 use Rattle.moo_world.specs.Judge.{state_of}
 use Rattle.moo_tables.proofs.SchemaLemmas.{some_tables, one_schema}
-use Rattle.moo_store.{specs.Kept.{World}, specs.World.{StandsFor}, specs.declared.fault.StoreFault.TheVariants.{Store, OutOfMemory}}
-use Rattle.moo_files.{specs.Connected.{IsNewOrFound, OnlyLeaves}, specs.Making.{Site, Empty, HalfMade, Filled, IsSite, TakesWorld, KeepsSite, IsMadeIn, IsUnmadeIn, Makes}, specs.Remains.{MayStopAs, StillHolds}, proofs.OpenedLemmas.{ok_map, err_map}, proofs.RemainsLemmas.{keeps_more, blank_more, spared_keeps, spared_blank, spared_begun, unopened_keeps, unopened_blank}, proofs.ContentsLemmas.{finds_held, any_table, left_only, left_new, left_begun, or_committed}}
+use Rattle.moo_store.specs.Kept.{World}
+use Rattle.moo_store_rows.specs.declared.fault.StoreFault.TheVariants.{Store, OutOfMemory}
+use Rattle.moo_files.{specs.Connected.{IsNewOrFound, OnlyLeaves}, specs.Making.{Site, Empty, HalfMade, Filled, IsSite, TakesWorld, KeepsSite, IsMadeIn, IsUnmadeIn, Makes}, specs.Remains.{StillHolds}, proofs.OpenedLemmas.{ok_map, err_map}, proofs.RemainsLemmas.{keeps_more, blank_more, spared_keeps, spared_blank, spared_begun, unopened_keeps, unopened_blank}, proofs.ContentsLemmas.{finds_held, any_table, left_only, left_new, left_begun, or_committed}}
 use Rattle.moo_files.specs.declared.remains.Remains.TheVariants as remains
 
 -- ---- what is left of files in which no world was begun
@@ -131,38 +132,11 @@ module _ {T D : Type 0} {g : Ghosts D} (rows : Maps) (image : Image) where
   is_unmade (Err e) it = it
 
 module _ {T D : Type 0} {g : Ghosts D} (rows : Maps) (image : Image) (r : Result (World (FileStore D g)) (StoreFault × Remains T D g)) (it : Makes rows image r) where
-  pub made_stands : IfOk r (λ world. StandsFor over_files true world (state_of rows))
-  made_stands = ok_map r _ _ (λ world made. made.stands) (is_made rows image r it)
-
-  pub made_rows : IfOk r (λ world. world.rows.maps ≡ rows)
-  made_rows = ok_map r _ _ (λ world made. made.same) (is_made rows image r it)
-
-  pub made_crash : IfOk r (λ world. HasCleanDisk (store_of over_files world) → Left (store_of over_files world) (state_of rows))
-  made_crash = ok_map r _ _ (λ world made. made.left) (is_made rows image r it)
-
-  pub made_room : IfOk r (λ world. HasCleanDisk (store_of over_files world) → HoldsNoTable image)
-  made_room = ok_map r _ _ (λ world made. made.room) (is_made rows image r it)
-
   pub made_occupied : (trees : Trees) → HoldsTrees image trees → HasAnyTable trees → IfOk r (λ world. HasCleanDisk (store_of over_files world) → ⊥)
   made_occupied trees holds any = ok_map r _ _ (λ world made. occupied_never rows image world made trees holds any) (is_made rows image r it)
 
   pub made_taken : (s : State) → HoldsState image s → IfOk r (λ world. HasCleanDisk (store_of over_files world) → ⊥)
   made_taken s holds = ok_map r _ _ (λ world made. taken_never rows image world made s holds) (is_made rows image r it)
-
-  pub unmade_fault : IfErr r (λ e. IsOfStore e.0)
-  unmade_fault = err_map r _ _ (λ e unmade. unmade.of_store) (is_unmade rows image r it)
-
-  pub unmade_stopped : IfErr r (λ e. MayStopAs e.0 e.1)
-  unmade_stopped = err_map r _ _ (λ e unmade. unmade.stopped) (is_unmade rows image r it)
-
-  pub unmade_spared : ¬ IsNothing image → ¬ IsBlank image → IfErr r (λ e. IsCleanRemains e.1 → Spares image e.1)
-  unmade_spared some begun = err_map r _ _ (λ e unmade. unmade.spared some begun) (is_unmade rows image r it)
-
-  pub unmade_blank : IsNothing image → IfErr r (λ e. IsCleanRemains e.1 → KeepsNothingBut (λ found. LeavesState found (state_of rows)) image e.1)
-  unmade_blank nothing = err_map r _ _ (λ e unmade. unmade.kept Empty nothing) (is_unmade rows image r it)
-
-  pub unmade_begun : IsBlank image → IfErr r (λ e. IsCleanRemains e.1 → KeepsNothingBut (λ found. LeavesState found (state_of rows)) image e.1)
-  unmade_begun begun = err_map r _ _ (λ e unmade. unmade.kept HalfMade begun) (is_unmade rows image r it)
 
   pub unmade_trees : (trees : Trees) → HoldsTrees image trees → IfErr r (λ e. IsCleanRemains e.1 → KeepsSuch (λ found. (found ≡ trees) ⊎ LeavesState found (state_of rows)) image e.1)
   unmade_trees trees holds = err_map r _ _ (λ e unmade. trees_or_made (λ found. LeavesState found (state_of rows)) image e.0 e.1 unmade trees holds) (is_unmade rows image r it)

@@ -2,8 +2,9 @@
 use Rattle.moo_files.proofs.Words.{◌≡◌, ◌≢◌, ◌⊎◌, inl, inr, ℕ, ◌<◌, IsTrue, refl, arith, ap, Held, FileStore, file_state, sym, subst, ◌∙◌, ∥∥₁_elim, Ghosts, Files, Image, tally_of_files, Trees, store_error, FailsToOpenFiles, HoldsDatabase, faults_left, image_of, tally_left, Error, Leftover, not_ours, IsOfStore, Tables, StoreFault, HoldsTrees, ExcusesMalformed, IsUnopened, TakesForOurs, cannot_open, malformed, Remains, IsKept}
 use Rattle.moo_files.{specs.Causes.{HasCauseOr, IsRefusedByDisk, StopsOver}, specs.Opened.{Contents, Nothing, Database, Unfit, Refuses}, specs.Connected.{Unconnects}, proofs.RemainsLemmas.{keeps_more}}
 use Rattle.moo_files.specs.declared.remains.Remains.TheVariants as remains
-use Rattle.moo_store.specs.Opening.{Says, HasEarlier, StopsOpening}
-use Rattle.moo_tables.{specs.Cause.{StopsChange}, specs.ReadCause.{StopsQuery}}
+use Rattle.moo_store_rows.specs.Opening.{Says, HasEarlier, StopsOpening}
+use Rattle.moo_tables.specs.ReadCause.{StopsQuery}
+use Rattle.moo_tables_rows.specs.Cause.{StopsChange}
 use Rattle.std.specs.Prelude.{None, IsSome}
 use Rattle.std.proofs.lemmas.Bool.{true≢false}
 use Rattle.sqlite.specs.State.{State, HasCause as StoreCause}
@@ -13,7 +14,7 @@ use Rattle.sqlite_trees.specs.declared.error.StoreError.TheVariants as kinds
 use Rattle.sqlite_store.specs.Report.{named}
 use Rattle.sqlite.{specs.declared.error.Error.TheVariants.{SqliteFailure}, specs.declared.error.ErrorCode.{ErrorCode}}
 use Rattle.sqlite.specs.declared.error.ErrorCode.TheVariants as codes
-use Rattle.moo_store.specs.declared.fault.StoreFault.TheVariants as faults
+use Rattle.moo_store_rows.specs.declared.fault.StoreFault.TheVariants as faults
 
 abbrev code_of : Error → ErrorCode
 code_of (SqliteFailure code) = code

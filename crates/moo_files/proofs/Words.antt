@@ -1,15 +1,15 @@
 -- The words that most proofs of this crate share.
-pub use Rattle.std.proofs.Common.{Bool, Err, IfErr, IfOk, IsTrue, List, Ok, Option, Result, Some, [], ap, ap₂, arith, cond, false, get_or-take, inl, inr, length, length-take, refl, rules, slice_index, subst, subst₂, suc, sym, take, true, unwrap_or, zero, ℕ, ◌&&◌, ◌++◌, ◌+◌, ◌<◌, ◌∙◌, ◌∷◌, ◌≡◌, ◌≢◌, ◌≤◌, ◌⊎◌}
+pub use Rattle.std.proofs.Common.{Bool, Err, IfErr, IfOk, IsTrue, List, Ok, Option, Result, Some, [], ap, ap₂, arith, cond, false, get_or-take, inl, inr, length, length-take, refl, rules, slice_index, subst, subst₂, sym, take, true, unwrap_or, ℕ, ◌&&◌, ◌++◌, ◌+◌, ◌<◌, ◌∙◌, ◌∷◌, ◌≡◌, ◌≢◌, ◌≤◌, ◌⊎◌}
 pub use Rattle.std.proofs.Math.Logic.{∥∥₁_elim, ∥∥₁_map}
 pub use Rattle.std.proofs.lemmas.Bool.{cases_Bool, cases_eq}
 pub use Rattle.moo_cells.specs.Shows.{ShowsRows}
 pub use Rattle.moo_rows.specs.Maps.{Maps}
-pub use Rattle.moo_store.specs.Opening.{Adopts, IsOfStore, not_ours}
-pub use Rattle.moo_store.specs.Stand.{MayLeave, Stand, Works}
-pub use Rattle.moo_store.specs.States.{LeavesState, ShowsState}
+pub use Rattle.moo_store_rows.specs.Opening.{Adopts, IsOfStore, not_ours}
+pub use Rattle.moo_store.specs.Stand.{MayLeave, Stand}
+pub use Rattle.moo_store_rows.specs.States.{LeavesState, ShowsState}
 pub use Rattle.moo_store.specs.World.{CrashLeaves, Left, store_of}
-pub use Rattle.moo_store.specs.declared.fault.StoreFault.{StoreFault}
-pub use Rattle.moo_tables.specs.Tables.{Tables, first_schema, no_schema, schema_of}
+pub use Rattle.moo_store_rows.specs.declared.fault.StoreFault.{StoreFault}
+pub use Rattle.moo_tables_rows.specs.Tables.{Tables, no_schema, schema_of}
 pub use Rattle.moo_world.specs.Judge.{State}
 pub use Rattle.sqlite.proofs.FileLemmas.{is_something, same_image, stored_used}
 pub use Rattle.sqlite.proofs.ListingLemmas.{empty_is_sound}

@@ -10,12 +10,12 @@ use Rattle.sqlite.specs.Effect.{IsDatabase}
 use Rattle.moo_rows.specs.Maps.{Maps}
 use Rattle.moo_world.specs.Judge.{State}
 use Rattle.moo_world.specs.Rows.{IsGood}
-use Rattle.moo_tables.specs.declared.version.Version.{Version}
-use Rattle.moo_tables.specs.Tables.{Tables, schema_of, no_schema}
-use Rattle.moo_tables.specs.Inside.{Leaves}
-use Rattle.moo_tables.specs.Version.{IsEarlier}
+use Rattle.moo_tables_rows.specs.declared.version.Version.{Version}
+use Rattle.moo_tables_rows.specs.Tables.{Tables, schema_of, no_schema}
+use Rattle.moo_tables_rows.specs.Inside.{Leaves}
+use Rattle.moo_tables_rows.specs.Version.{IsEarlier}
 use Rattle.moo_cells.specs.Shows.{ShowsRows}
-use Rattle.moo_store.specs.States.{LeavesRows, LeavesState}
+use Rattle.moo_store_rows.specs.States.{LeavesRows, LeavesState}
 use Rattle.moo_files.specs.Blank.{IsBlank}
 
 -- a log and its file hold this database

@@ -10,10 +10,10 @@ use Rattle.moo_rows.specs.Maps.{Maps, Held}
 use Rattle.moo_rows.specs.Opening.{opening_maps}
 use Rattle.moo_world.specs.Judge.{state_of}
 use Rattle.moo_store.specs.Kept.{World}
-use Rattle.moo_store.specs.Opening.{IsOfStore}
-use Rattle.moo_store.specs.States.{LeavesState}
+use Rattle.moo_store_rows.specs.Opening.{IsOfStore}
+use Rattle.moo_store_rows.specs.States.{LeavesState}
 use Rattle.moo_store.specs.World.{store_of, StandsFor, Left}
-use Rattle.moo_store.specs.declared.fault.StoreFault.{StoreFault}
+use Rattle.moo_store_rows.specs.declared.fault.StoreFault.{StoreFault}
 use Rattle.moo_files.specs.Blank.{IsBlank}
 use Rattle.moo_files.specs.Contents.{HoldsTrees, HasAnyTable, HoldsNoTable}
 use Rattle.moo_files.specs.Opened.{Attempt}

@@ -8,15 +8,15 @@ use Rattle.sqlite.specs.Files.{over_files, IsNothing}
 use Rattle.sqlite.specs.Tree.{Trees}
 use Rattle.moo_world.specs.Judge.{State, state_of}
 use Rattle.moo_world.specs.Rows.{IsGood}
-use Rattle.moo_tables.specs.Tables.{Tables}
-use Rattle.moo_tables.specs.Inside.{Leaves}
+use Rattle.moo_tables_rows.specs.Tables.{Tables}
+use Rattle.moo_tables_rows.specs.Inside.{Leaves}
 use Rattle.moo_cells.specs.Shows.{ShowsRows}
 use Rattle.moo_store.specs.Kept.{World}
-use Rattle.moo_store.specs.Opening.{IsOfStore, Says}
-use Rattle.moo_store.specs.States.{LeavesState}
-use Rattle.moo_store.specs.Current.{RestsCurrent}
+use Rattle.moo_store_rows.specs.Opening.{IsOfStore, Says}
+use Rattle.moo_store_rows.specs.States.{LeavesState}
+use Rattle.moo_store_rows.specs.Current.{RestsCurrent}
 use Rattle.moo_store.specs.World.{store_of, StandsFor, Left}
-use Rattle.moo_store.specs.declared.fault.StoreFault.{StoreFault}
+use Rattle.moo_store_rows.specs.declared.fault.StoreFault.{StoreFault}
 use Rattle.moo_files.specs.Contents.{HoldsTrees, HoldsTables, HoldsState, HasOtherTables, ReadsAsOurs, IsKept}
 use Rattle.moo_files.specs.Remains.{IsCleanRemains, MayStopAs, TakesForOurs, ExcusesMalformed, KeepsNothingBut, Spares, StillHoldsTrees}
 use Rattle.moo_files.specs.declared.remains.Remains.{Remains}

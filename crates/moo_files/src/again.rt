@@ -11,7 +11,7 @@ ghost use Rattle.moo_world.specs.Judge.{State};
 ghost use Rattle.moo_store.specs.Kept.{World};
 ghost use Rattle.moo_store.specs.Stand.{Stand, MayLeave};
 ghost use Rattle.moo_store.specs.Led.{BatchesLead, LeavesLed};
-ghost use Rattle.moo_store.specs.Opening.{IsOfStore};
+ghost use Rattle.moo_store_rows.specs.Opening.{IsOfStore};
 ghost use Rattle.moo_store.specs.World.{store_of, StandsFor, CrashLeaves};
 ghost use Rattle.moo_files.specs.Contents.{IsLeftBy};
 ghost use Rattle.moo_files.specs.Opened.{Attempt, OpensHeld, RefusesHeld, OpensTables, OpensGood};

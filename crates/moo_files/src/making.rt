@@ -10,7 +10,7 @@ ghost use Rattle.moo_rows.specs.Opening.{opening_maps};
 ghost use Rattle.moo_world.specs.Judge.{state_of};
 ghost use Rattle.moo_world.specs.Rows.{IsGood};
 ghost use Rattle.moo_store.specs.Loading.{Loads};
-ghost use Rattle.moo_store.specs.Opening.{IsOfStore};
+ghost use Rattle.moo_store_rows.specs.Opening.{IsOfStore};
 ghost use Rattle.moo_store.specs.World.{store_of, StandsFor, Left};
 ghost use Rattle.moo_files.specs.Causes.{HasCause, IsDenied, IsOpenable};
 ghost use Rattle.moo_files.specs.Making.{rows_made, Makes};

@@ -1,14 +1,15 @@
 -- What comes of calls that are asked each alone.
-use Rattle.moo_http.{proofs.Words.{◌≡◌, inl, inr, ℕ, List, Option, ap, sym, refl, ◌∙◌, Bool, true, false, Result, Ok, Err, IsTrue, IsErrOf, Ghosts, State, Stand, Works, Failed, StoreFailed, World, StandsFor, StandsAt, Outcome, MayAnswer}, specs.Answers.{each_outcome}, specs.Settled.{lost_by}}
+use Rattle.moo_http.{proofs.Words.{◌≡◌, inl, inr, ℕ, List, Option, ap, sym, refl, ◌∙◌, Bool, true, false, Result, Ok, Err, IsTrue, IsErrOf, Ghosts, State, Stand, Works, Failed, StoreFailed, World, StandsFor, StandsAt, RequestOutcome, MayAnswer}, specs.Answers.{each_outcome}, specs.Settled.{lost_by}}
 use Rattle.std.specs.Prelude.{if◌then◌else◌}
 use Rattle.moo_world.specs.Judge.{is_due}
 use Rattle.moo_text.{specs.declared.reply.Reply.{Reply}, specs.declared.reply.Reply.TheVariants.{Stale}}
-use Rattle.moo_store.{specs.Answered.{answers_alone}, specs.declared.fault.StoreFault.{StoreFault}, specs.declared.fault.StoreFault.TheVariants.{OutOfMemory, Closed}}
+use Rattle.moo_store.specs.Answered.{answers_alone}
+use Rattle.moo_store_rows.{specs.declared.fault.StoreFault.{StoreFault}, specs.declared.fault.StoreFault.TheVariants.{OutOfMemory, Closed}}
 use Rattle.moo_http_request.{specs.declared.asked.Asked.TheVariants.{Each as Asks}, specs.declared.each.Each.{Each}}
-use Rattle.moo_http_response.specs.declared.outcome.Outcome.TheVariants as outcome
+use Rattle.moo_http_response.specs.declared.outcome.RequestOutcome.TheVariants as outcome
 
 -- by whether they are meant for the present number
-chosen : Each → State → Bool → Outcome
+chosen : Each → State → Bool → RequestOutcome
 chosen each s due = if due then outcome.Each (answers_alone s each.batches) s.seq else outcome.Replied (Stale s.seq)
 
 chosen-is : (each : Each) (s : State) (seq : ℕ) (due : Bool) → is_due each.at seq ≡ due → s.seq ≡ seq → each_outcome each s ≡ chosen each s due
@@ -31,7 +32,7 @@ pub each_lost : (each : Each) (s : State) (fault : StoreFault) → fault ≡ Out
 each_lost each s fault e = inr (tt, ap lost_by e, refl)
 
 -- a World that tells this number is one that works
-pub each_at : {S : Type 0} (g : Ghosts S) (known : Bool) (world : World S) (each : Each) (o : Outcome) (r : Result ℕ StoreFault) (seq : ℕ) → r ≡ Ok seq
+pub each_at : {S : Type 0} (g : Ghosts S) (known : Bool) (world : World S) (each : Each) (o : RequestOutcome) (r : Result ℕ StoreFault) (seq : ℕ) → r ≡ Ok seq
     → ((known : Bool) (s : State) → StandsFor g known world s → r ≡ Ok s.seq) → (IsTrue world.failed → IsErrOf r Closed)
     → ((known : Bool) (s : State) → StandsFor g known world s → s.seq ≡ seq → MayAnswer (Works s) (Asks each) o (Works s))
     → (stand : Stand) → StandsAt g known world stand → MayAnswer stand (Asks each) o stand

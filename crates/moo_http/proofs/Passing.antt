@@ -1,5 +1,5 @@
 -- From what the judge sees through a desk to what the peer sees.
-use Rattle.moo_http.{proofs.Words.{◌≡◌, inl, inr, ℕ, zero, suc, List, [], ◌∷◌, ◌++◌, length, take, Option, Some, None, refl, sym, ap, subst, ◌∙◌, append_assoc, append-nil, Result, Ok, Err, Stand, Keeps, Appends, Consumes, Takes, Yields, Exchanged, ServeFault, Read, Write, OutOfMemory, Traffic, Ledger}, specs.Through.{Passes, FailedThrough}}
+use Rattle.moo_http.{proofs.Words.{◌≡◌, inl, inr, ℕ, zero, suc, List, [], ◌∷◌, ◌++◌, length, take, Option, Some, None, refl, sym, ap, subst, ◌∙◌, append_assoc, append-nil, Ok, Err, Stand, Keeps, Appends, Consumes, Takes, Yields, Exchanged, ServeFault, Read, Write, OutOfMemory, Traffic, Ledger}, specs.Through.{Passes, FailedThrough}}
 use Rattle.std.specs.Io.KnownBytes.{append_known, prepend_known}
 use Rattle.std.proofs.KnownBytes.{Appends-nil}
 use Rattle.std.proofs.lemmas.List.{append_cancel_left}

@@ -1,5 +1,5 @@
 -- What serving a request comes to.
-use Rattle.moo_http.{proofs.Words.{◌≡◌, ◌≢◌, inl, inr, ℕ, Bool, List, [], ◌++◌, Option, Some, None, refl, sym, subst, ap, ◌∙◌, append_assoc, append-nil, Result, Ok, Err, IfErr, IsErrAnd, Appends, Ghosts, Stand, World, IsMovedAs, StandsAt, Takes, Asked, Nothing, Request, ServeFault, Read, Write, OutOfMemory, Outcome, Consulted, response_with, response_text, IsWhyOf, Serves, StandsStill, Written, Served, Traffic, ledger_by, no_batches}, specs.Faults.{fault_of}, specs.Serves.{AnswersTo}}
+use Rattle.moo_http.{proofs.Words.{◌≡◌, ◌≢◌, inl, inr, ℕ, Bool, List, [], ◌++◌, Option, Some, None, refl, sym, subst, ap, ◌∙◌, append_assoc, append-nil, Result, Ok, Err, IfErr, IsErrAnd, Appends, Ghosts, Stand, World, IsMovedAs, StandsAt, Takes, Asked, Nothing, Request, ServeFault, Read, Write, OutOfMemory, RequestOutcome, Consulted, response_with, response_text, IsWhyOf, Serves, StandsStill, Written, Served, Traffic, ledger_by, no_batches}, specs.Faults.{fault_of}, specs.Serves.{AnswersTo}}
 use Rattle.moo_http_request.specs.declared.fault.ReadFault.{ReadFault}
 use Rattle.moo_http_request.specs.declared.fault.ReadFault.TheVariants as read
 
@@ -49,7 +49,7 @@ nothing g known old was bytes done unwritten takes at stays =
 
 -- ---- a request came
 
-answered : {S : Type 0} (g : Ghosts S) (known : Bool) (old : Stand) (was world : World S) (bytes : Traffic) (is_head asks_why : Bool) (asked : Asked) (o : Outcome) (whys : List (Option (List ℕ))) → Takes bytes.left bytes.rest (Request is_head asks_why asked) → IsWhyOf asks_why whys → Consulted g known old world asked o
+answered : {S : Type 0} (g : Ghosts S) (known : Bool) (old : Stand) (was world : World S) (bytes : Traffic) (is_head asks_why : Bool) (asked : Asked) (o : RequestOutcome) (whys : List (Option (List ℕ))) → Takes bytes.left bytes.rest (Request is_head asks_why asked) → IsWhyOf asks_why whys → Consulted g known old world asked o
     → IsMovedAs g was world asked o → Serves g known old was world bytes (response_text is_head (response_with whys o))
 answered g known old was world bytes is_head asks_why asked o whys takes wanted consulted moved = record {
   received = Request is_head asks_why asked;

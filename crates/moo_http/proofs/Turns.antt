@@ -1,10 +1,10 @@
 -- The connections that a source hands out, served one after another.
-use Rattle.moo_http.{proofs.Words.{◌≡◌, inl, inr, ℕ, suc, ◌+◌, Bool, true, false, List, [], ◌∷◌, Option, Some, refl, sym, ap, subst, arith, ◌∙◌, ◌≢◌, Result, Ok, Err, is_ok, IfErr, ◌⊎◌, IsTrue, HasCleanDisk, Ghosts, Stand, World, IsMovedBy, store_of, CrashLeaves, StandsAt, Nothing, Request, ServeFault, Read, Write, OutOfMemory, ServiceFault, Moves, AfterConnections, StandsAtEnd, ConveysBy, Serves, StandsStill, Served, Yields, Exchanged, Visited, IsLeftUnread, Visit, AfterTurns, Attended, ServesFrom, attended_between, ServesOn, answered_in, failed_in, lost_in, ledger_in, Happening, visit, settle, Loss, None, zero, TellsLoss, TellsLosses, Traffic, traffic_of, Ledger, IsMovedIn, and_then, no_batches, moved_then, written_none}, specs.Serves.{Gets, Moved}}
+use Rattle.moo_http.{proofs.Words.{◌≡◌, inl, inr, ℕ, suc, ◌+◌, Bool, true, false, List, [], ◌∷◌, Option, Some, refl, sym, ap, subst, arith, ◌∙◌, ◌≢◌, Result, Ok, Err, is_ok, IfErr, ◌⊎◌, IsTrue, HasCleanDisk, Ghosts, Stand, World, IsMovedBy, store_of, CrashLeaves, StandsAt, Nothing, Request, ServeFault, Read, Write, OutOfMemory, ServiceFault, Moves, AfterConnections, StandsAtEnd, ConveysBy, Serves, StandsStill, Served, Yields, Exchanged, Visited, IsLeftUnread, Visit, AfterTurns, Attended, ServesFrom, attended_between, ServesOn, answered_in, failed_in, Happening, visit, settle, Loss, None, zero, TellsLoss, TellsLosses, Traffic, traffic_of, Ledger, IsMovedIn, and_then, no_batches, moved_then, written_none}, specs.Serves.{Gets, Moved}}
 use Rattle.std.specs.declared.io.Read as Reading
 use Rattle.std.specs.declared.io.Write as Writing
 use Rattle.moo_arrivals.specs.declared.arrivals.Arrivals as Arrivals
 use Rattle.moo_http_request.specs.declared.request.Received.{Received}
-use Rattle.moo_store.proofs.Crashes.{IsSettled}
+use Rattle.moo_store_rows.proofs.Committed.{IsSettled}
 use Rattle.moo_http.specs.declared.ports.Ports as Ports
 use Rattle.moo_http.specs.declared.service.ServiceFault.TheVariants as service
 

@@ -1,7 +1,7 @@
 -- The words that most proofs of this crate share.
-pub use Rattle.std.proofs.Common.{Bool, IsTrue, List, None, Option, Some, [], ap, append-nil, append_assoc, arith, false, inl, inr, length, refl, rules, subst, suc, sym, take, true, true≢false, zero, ℕ, ◌++◌, ◌+◌, ◌-◌, ◌<◌, ◌∙◌, ◌∷◌, ◌≡◌, ◌≢◌, ◌≤◌}
+pub use Rattle.std.proofs.Common.{Bool, IsTrue, List, None, Option, Some, [], ap, append-nil, append_assoc, arith, false, inl, inr, length, refl, rules, subst, suc, sym, take, true, true≢false, zero, ℕ, ◌++◌, ◌+◌, ◌∙◌, ◌∷◌, ◌≡◌, ◌≢◌}
 pub use Rattle.std.specs.Io.KnownBytes.{Appends, Consumes, Keeps}
-pub use Rattle.std.specs.Prelude.{Err, IfErr, IfOk, IsErrAnd, IsErrOf, Ok, OnErr, OnOk, Result, is_ok, ⊤, ◌⊎◌}
+pub use Rattle.std.specs.Prelude.{Err, IfErr, IfOk, IsErrAnd, IsErrOf, Ok, OnErr, OnOk, Result, is_ok, ◌⊎◌}
 pub use Rattle.moo_http_request.specs.Given.{HasFailed}
 pub use Rattle.moo_http_request.specs.Request.{Takes}
 pub use Rattle.moo_http_request.specs.declared.asked.Asked.{Asked}
@@ -9,23 +9,23 @@ pub use Rattle.moo_http_request.specs.declared.asked.Asked.TheVariants.{Calls, R
 pub use Rattle.moo_http_request.specs.declared.asked.Mode.TheVariants.{Ask, Run}
 pub use Rattle.moo_http_request.specs.declared.request.Received.TheVariants.{Nothing, Request}
 pub use Rattle.moo_http_response.specs.Responses.{response_of, response_text, response_with}
-pub use Rattle.moo_http_response.specs.declared.outcome.Outcome.{Outcome}
+pub use Rattle.moo_http_response.specs.declared.outcome.RequestOutcome.{RequestOutcome}
 pub use Rattle.moo_store.proofs.Untouched.{moved_then, written_none}
 pub use Rattle.moo_store.specs.Kept.{World}
 pub use Rattle.moo_store.specs.Stand.{AsksBatch, Failed, RunsBatch, Stand, StoreFailed, VerdictLeaves, Works, state_at}
-pub use Rattle.moo_store.specs.Untouched.{HasWritten, IsKnown, IsMovedBy, StandsOver}
-pub use Rattle.moo_store.specs.World.{CrashLeaves, IsAt, IsOfRun, MatchStore, ShowsItsRows, StandsAt, StandsFor, store_of}
+pub use Rattle.moo_store.specs.Untouched.{IsMovedBy}
+pub use Rattle.moo_store.specs.World.{CrashLeaves, StandsAt, StandsFor, store_of}
 pub use Rattle.moo_world.specs.Judge.{State, judge, left_by, state_of}
 pub use Rattle.moo_world.specs.declared.call.Batch.{Batch}
 pub use Rattle.sqlite.specs.State.{HasCleanDisk}
 pub use Rattle.sqlite.specs.Store.{Ghosts}
 pub use Rattle.moo_http.specs.Answers.{Comes, Consulted, IsMovedAs, MayAnswer, answer, failed_by, ledger_by, taken_by}
-pub use Rattle.moo_http.specs.Connections.{AfterConnections, Connected, Conveys, ConveysBy, Moves, SaysByResult, ServesPort, StandsAtEnd, WritesFront}
+pub use Rattle.moo_http.specs.Connections.{AfterConnections, Connected, ConveysBy, Moves, SaysByResult, ServesPort, StandsAtEnd, WritesFront}
 pub use Rattle.moo_http.specs.Lines.{listening_line, served_line}
 pub use Rattle.moo_http.specs.Ledger.{IsMovedIn, Ledger, and_then, no_batches}
 pub use Rattle.moo_http.specs.Traffic.{Traffic, traffic, traffic_of}
 pub use Rattle.moo_http.specs.Serves.{IsWhyOf, Served, Serves, StandsStill, Written}
-pub use Rattle.moo_http.specs.Turns.{AfterTurns, Attended, Exchanged, ServesFrom, ServesOn, Step, Happening, IsLeftUnread, Visit, Visited, Yields, answered_in, attended_between, failed_in, ledger_in, lost_in, settle, visit}
+pub use Rattle.moo_http.specs.Turns.{AfterTurns, Attended, Exchanged, ServesFrom, ServesOn, Happening, IsLeftUnread, Visit, Visited, Yields, answered_in, attended_between, failed_in, settle, visit}
 pub use Rattle.moo_http.specs.Settling.{TellsLoss, TellsLosses}
 pub use Rattle.moo_http.specs.declared.fault.ServeFault.{ServeFault}
 pub use Rattle.moo_http.specs.declared.fault.ServeFault.TheVariants.{OutOfMemory, Read, Write}

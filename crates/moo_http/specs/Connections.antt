@@ -8,7 +8,7 @@ use Rattle.moo_store.specs.Stand.{Stand}
 use Rattle.moo_store.specs.Kept.{World}
 use Rattle.moo_store.specs.World.{store_of, CrashLeaves, StandsAt}
 use Rattle.moo_http_request.specs.declared.asked.Asked.{Asked}
-use Rattle.moo_http_response.specs.declared.outcome.Outcome.{Outcome}
+use Rattle.moo_http_response.specs.declared.outcome.RequestOutcome.{RequestOutcome}
 use Rattle.moo_http.specs.declared.service.ServiceFault.{ServiceFault}
 use Rattle.moo_http.specs.declared.service.ServiceFault.TheVariants.{Port}
 use Rattle.moo_http.specs.declared.fault.ServeFault.{ServeFault}
@@ -21,7 +21,7 @@ use Rattle.moo_http.specs.Lines.{listening_line, served_line}
 
 -- One connection leaves the World where it stood, or where what it asked leaves it.
 abbrev pub Moves : Stand → Stand → Type 0
-Moves old new = (new ≡ old) ⊎ ((asked : Asked) × (o : Outcome) × MayAnswer old asked o new)
+Moves old new = (new ≡ old) ⊎ ((asked : Asked) × (o : RequestOutcome) × MayAnswer old asked o new)
 
 -- What came of a connection, by whether it was answered: its request is served, and the whole answer written; or it met a fault. If its
 -- reader is said to have failed, this holds.

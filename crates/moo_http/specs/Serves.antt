@@ -12,7 +12,7 @@ use Rattle.moo_http_request.specs.declared.request.Received.{Received}
 use Rattle.moo_http_request.specs.declared.request.Received.TheVariants.{Nothing, Request}
 use Rattle.moo_http.specs.declared.fault.ServeFault.{ServeFault}
 use Rattle.moo_http.specs.declared.fault.ServeFault.TheVariants.{Read, Write, OutOfMemory}
-use Rattle.moo_http_response.specs.declared.outcome.Outcome.{Outcome}
+use Rattle.moo_http_response.specs.declared.outcome.RequestOutcome.{RequestOutcome}
 use Rattle.moo_http_response.specs.Responses.{response_with, response_text}
 use Rattle.moo_http.specs.Traffic.{Traffic}
 use Rattle.moo_http.specs.Ledger.{Ledger, no_batches, IsMovedIn}
@@ -26,7 +26,7 @@ IsWhyOf asks_why whys = asks_why ≡ false → whys ≡ []
 abbrev pub Gets : Stand → Received → List ℕ → Ledger → Stand → Type 0
 Gets old Nothing output ledger new = (output ≡ []) × (ledger ≡ no_batches) × (new ≡ old)
 Gets old (Request is_head asks_why asked) output ledger new =
-    (o : Outcome) × (whys : List (Option (List ℕ))) × IsWhyOf asks_why whys × MayAnswer old asked o new
+    (o : RequestOutcome) × (whys : List (Option (List ℕ))) × IsWhyOf asks_why whys × MayAnswer old asked o new
     × (ledger ≡ ledger_by asked o) × (output ≡ response_text is_head (response_with whys o))
 
 -- the World was moved by the batch that was asked to be run, if it is acknowledged, and by nothing else
@@ -63,7 +63,7 @@ Written (Err OutOfMemory) before behind output = behind ≡ before
 abbrev pub AnswersTo : {S : Type 0} → Ghosts S → Bool → Stand → World S → World S → (is_head asks_why : Bool) → Asked
     → Result (Unit {0}) ServeFault → Option (List ℕ) → Option (List ℕ) → Type 0
 AnswersTo g known old was world is_head asks_why asked result before behind =
-    (o : Outcome) × (whys : List (Option (List ℕ))) × IsWhyOf asks_why whys × Consulted g known old world asked o
+    (o : RequestOutcome) × (whys : List (Option (List ℕ))) × IsWhyOf asks_why whys × Consulted g known old world asked o
     × IsMovedAs g was world asked o × Written result before behind (response_text is_head (response_with whys o))
 
 -- What came of a connection, by the result: its request is served, and the answer written; or a front of the answer; or, if the reader

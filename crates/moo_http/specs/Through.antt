@@ -1,5 +1,5 @@
 -- What passes between a peer and the service through a desk, which gathers a request before it is judged and sends the answer after that.
-use Rattle.std.specs.Prelude.{◌≡◌, ◌⊎◌, ℕ, List, [], Result, Ok, Err}
+use Rattle.std.specs.Prelude.{◌≡◌, ◌⊎◌, ℕ, List, [], Ok, Err}
 use Rattle.std.specs.Io.KnownBytes.{Keeps, Appends, append_known, prepend_known}
 use Rattle.moo_store.specs.Stand.{Stand}
 use Rattle.moo_http.specs.Traffic.{Traffic}

@@ -10,7 +10,7 @@ ghost use Rattle.moo_http.specs.Answers.{MayAnswer, IsAnswered, Consulted, IsMov
 ghost use Rattle.moo_http.specs.Settled.{lost_by, came_of};
 
 use moo_http_request::{Asked, Each, Mode, Question};
-use moo_http_response::{Outcome, Replies, tell};
+use moo_http_response::{Replies, RequestOutcome, tell};
 use moo_reasons::Whys;
 use moo_rows::Rows;
 use moo_store::{StoreFault, World};
@@ -20,29 +20,33 @@ use sqlite::Alter;
 use std::alloc::Global;
 
 /// What comes of what the World refused.
-fn lost(fault: StoreFault) -> Outcome
+fn lost(fault: StoreFault) -> RequestOutcome
     ensures { result ≡ lost_by fault }
 {
     match fault {
-        StoreFault::OutOfMemory => Outcome::NoMemory,
-        StoreFault::Closed => Outcome::Closed,
+        StoreFault::OutOfMemory => RequestOutcome::NoMemory,
+        StoreFault::Closed => RequestOutcome::Closed,
         StoreFault::Store(_) | StoreFault::Damaged(_, _) | StoreFault::NewerVersion => {
-            Outcome::Fault
+            RequestOutcome::Fault
         }
     }
 }
 
 /// What comes of a batch that was run or asked.
-fn came(reply: Result<Reply, StoreFault>) -> Outcome
+fn came(reply: Result<Reply, StoreFault>) -> RequestOutcome
     ensures { result ≡ came_of reply }
 {
     match reply {
-        Ok(reply) => Outcome::Replied(reply),
+        Ok(reply) => RequestOutcome::Replied(reply),
         Err(fault) => lost(fault),
     }
 }
 
-fn run_batch<S: Alter + Drop>(world: &mut World<S>, batch: &Batch, whys: &mut Whys) -> Outcome
+fn run_batch<S: Alter + Drop>(
+    world: &mut World<S>,
+    batch: &Batch,
+    whys: &mut Whys,
+) -> RequestOutcome
     ensures clean { HasCleanDisk (store_of S.Store world.new) → HasCleanDisk (store_of S.Store world.old) }
     ensures comes { IsAnswered S.Store world.old world.new (Asked.Calls Mode.Run batch.now) result }
     ensures moved { IsMovedAs S.Store world.old world.new (Asked.Calls Mode.Run batch.now) result }
@@ -50,7 +54,7 @@ fn run_batch<S: Alter + Drop>(world: &mut World<S>, batch: &Batch, whys: &mut Wh
     came(world.run_one(batch, whys))
 }
 
-fn ask_batch<S: Alter + Drop>(world: &World<S>, batch: &Batch, whys: &mut Whys) -> Outcome
+fn ask_batch<S: Alter + Drop>(world: &World<S>, batch: &Batch, whys: &mut Whys) -> RequestOutcome
     ensures { (known : Bool) (stand : Stand) → StandsAt S.Store known world.now stand →
         MayAnswer stand (Asked.Calls Mode.Ask batch.now) result stand }
 {
@@ -68,21 +72,26 @@ fn is_due(at: Option<u64>, seq: u64) -> bool
 }
 
 /// What comes of calls that are asked each alone, at this present number.
-fn ask_each_at<S: Alter + Drop>(world: &World<S>, each: &Each, seq: u64, whys: &mut Whys) -> Outcome
+fn ask_each_at<S: Alter + Drop>(
+    world: &World<S>,
+    each: &Each,
+    seq: u64,
+    whys: &mut Whys,
+) -> RequestOutcome
     ensures { (known : Bool) (s : State) → StandsFor S.Store known world.now s → s.seq ≡ seq →
         MayAnswer (Works s) (Asked.Each each.now) result (Works s) }
 {
     if !is_due(each.at, seq) {
-        return Outcome::Replied(Reply::Stale { seq });
+        return RequestOutcome::Replied(Reply::Stale { seq });
     }
     match world.ask_each(each.batches.items(), whys) {
-        Ok(replies) => Outcome::Each(Replies::from_vec(replies), seq),
+        Ok(replies) => RequestOutcome::Each(Replies::from_vec(replies), seq),
         Err(fault) => lost(fault),
     }
 }
 
 /// What comes of calls that are asked each alone.
-fn ask_each<S: Alter + Drop>(world: &World<S>, each: &Each, whys: &mut Whys) -> Outcome
+fn ask_each<S: Alter + Drop>(world: &World<S>, each: &Each, whys: &mut Whys) -> RequestOutcome
     ensures { (known : Bool) (stand : Stand) → StandsAt S.Store known world.now stand →
         MayAnswer stand (Asked.Each each.now) result stand }
 {
@@ -93,24 +102,28 @@ fn ask_each<S: Alter + Drop>(world: &World<S>, each: &Each, whys: &mut Whys) -> 
 }
 
 /// What comes of a question to a World of these rows that works.
-fn ask_rows<R: Rows>(alloc: Global, rows: &R, question: Question) -> Outcome
+fn ask_rows<R: Rows>(alloc: Global, rows: &R, question: Question) -> RequestOutcome
     requires { IsGood (R.held rows.now).maps }
     ensures { let stand = Works (state_of (R.held rows.now).maps) in MayAnswer stand (Asked.Question question) result stand }
 {
     match tell(alloc, rows, question) {
-        Ok(told) => Outcome::Told(told),
-        Err(_) => Outcome::NoMemory,
+        Ok(told) => RequestOutcome::Told(told),
+        Err(_) => RequestOutcome::NoMemory,
     }
 }
 
 /// What comes of a question.
-fn ask_question<S: Alter + Drop>(alloc: Global, world: &World<S>, question: Question) -> Outcome
+fn ask_question<S: Alter + Drop>(
+    alloc: Global,
+    world: &World<S>,
+    question: Question,
+) -> RequestOutcome
     ensures { (known : Bool) (stand : Stand) → StandsAt S.Store known world.now stand →
         MayAnswer stand (Asked.Question question) result stand }
 {
     match world.good_rows() {
         Some(rows) => ask_rows(alloc, rows, question),
-        None => Outcome::Closed,
+        None => RequestOutcome::Closed,
     }
 }
 
@@ -120,7 +133,7 @@ fn take_batch<S: Alter + Drop>(
     mode: Mode,
     batch: &Batch,
     whys: &mut Whys,
-) -> Outcome
+) -> RequestOutcome
     ensures clean { HasCleanDisk (store_of S.Store world.new) → HasCleanDisk (store_of S.Store world.old) }
     ensures comes { IsAnswered S.Store world.old world.new (Asked.Calls mode batch.now) result }
     ensures moved { IsMovedAs S.Store world.old world.new (Asked.Calls mode batch.now) result }
@@ -136,13 +149,13 @@ fn answer<S: Alter + Drop>(
     world: &mut World<S>,
     asked: &Asked,
     whys: &mut Whys,
-) -> Outcome
+) -> RequestOutcome
     ensures clean { HasCleanDisk (store_of S.Store world.new) → HasCleanDisk (store_of S.Store world.old) }
     ensures comes { IsAnswered S.Store world.old world.new asked.now result }
     ensures moved { IsMovedAs S.Store world.old world.new asked.now result }
 {
     match asked {
-        Asked::Refused(refusal) => Outcome::Refused(*refusal),
+        Asked::Refused(refusal) => RequestOutcome::Refused(*refusal),
         Asked::Calls(mode, batch) => take_batch(world, *mode, batch, whys),
         Asked::Each(each) => ask_each(world, each, whys),
         Asked::Question(question) => ask_question(alloc, world, *question),
@@ -155,7 +168,7 @@ pub(crate) fn consult<S: Alter + Drop>(
     world: &mut World<S>,
     asked: &Asked,
     whys: &mut Whys,
-) -> Outcome
+) -> RequestOutcome
     ensures clean { HasCleanDisk (store_of S.Store world.new) → HasCleanDisk (store_of S.Store world.old) }
     ensures comes { (known : Bool) (stand : Stand) → StandsAt S.Store known world.old stand →
         Consulted S.Store known stand world.new asked.now result }

@@ -6,7 +6,7 @@ ghost use Rattle.moo_http_response.specs.Responses.{response_of, reply_response}
 use crate::fault::ServeFault;
 use moo_arrivals::{Cause, Closing, Loss, Route};
 use moo_http_request::{Asked, Mode};
-use moo_http_response::Outcome;
+use moo_http_response::RequestOutcome;
 use moo_text::Reply;
 use std::fmt::{self, Display, Formatter};
 
@@ -103,15 +103,15 @@ fn trouble_of_reply(reply: &Reply) -> Option<Trouble>
 }
 
 /// Why an outcome is answered 503, if it is.
-fn trouble_of(outcome: &Outcome) -> Option<Trouble>
+fn trouble_of(outcome: &RequestOutcome) -> Option<Trouble>
     ensures some { IfSome result (λ _. (response_of outcome.now).status ≡ 503) }
     ensures none { IfNone result ((response_of outcome.now).status ≢ 503) }
 {
     match outcome {
-        Outcome::Closed => Some(Trouble::Closed),
-        Outcome::Fault => Some(Trouble::Store),
-        Outcome::NoMemory => Some(Trouble::NoMemory),
-        Outcome::Replied(reply) => trouble_of_reply(reply),
+        RequestOutcome::Closed => Some(Trouble::Closed),
+        RequestOutcome::Fault => Some(Trouble::Store),
+        RequestOutcome::NoMemory => Some(Trouble::NoMemory),
+        RequestOutcome::Replied(reply) => trouble_of_reply(reply),
         _ => None,
     }
 }
@@ -144,7 +144,7 @@ impl Note {
     }
 
     /// Notes what comes of it.
-    pub(crate) fn comes_to(&mut self, outcome: &Outcome) {
+    pub(crate) fn comes_to(&mut self, outcome: &RequestOutcome) {
         self.trouble = trouble_of(outcome);
     }
 

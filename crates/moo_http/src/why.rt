@@ -6,7 +6,7 @@ ghost use Rattle.moo_http.specs.Serves.{IsWhyOf};
 
 use crate::serve::Inquiry;
 use moo_http_request::BodyFault;
-use moo_http_response::{Outcome, Replies, answer_text};
+use moo_http_response::{Replies, RequestOutcome, answer_text};
 use moo_reasons::{Whys, call_why};
 use moo_text::Reply;
 use std::alloc::{AllocError, Global};
@@ -75,13 +75,13 @@ fn bad_texts(wrong: Option<&BodyFault>) -> &[Option<String>] {
 fn find_whys(
     alloc: Global,
     seen: &mut Whys,
-    outcome: &Outcome,
+    outcome: &RequestOutcome,
     wrong: Option<&BodyFault>,
 ) -> Result<Vec<Option<String>>, AllocError> {
     match outcome {
-        Outcome::Refused(_) => body_why(alloc, wrong),
-        Outcome::Replied(reply) => one_of(alloc, seen.next(reply)?),
-        Outcome::Each(replies, _) => each_whys(alloc, seen, replies, bad_texts(wrong)),
+        RequestOutcome::Refused(_) => body_why(alloc, wrong),
+        RequestOutcome::Replied(reply) => one_of(alloc, seen.next(reply)?),
+        RequestOutcome::Each(replies, _) => each_whys(alloc, seen, replies, bad_texts(wrong)),
         _ => Ok(Vec::new(alloc)),
     }
 }
@@ -92,7 +92,7 @@ pub(crate) fn told_answer(
     alloc: Global,
     seen: &mut Whys,
     inquiry: &Inquiry,
-    outcome: Outcome,
+    outcome: RequestOutcome,
 ) -> Result<Vec<u8>, AllocError>
     ensures { IfOk result (λ bytes. (whys : List (Option (List ℕ))) × IsWhyOf inquiry.now.asks_why whys
         × (bytes.items ≡ response_text inquiry.now.is_head (response_with whys outcome))) }

@@ -4,7 +4,7 @@ ghost use Rattle.std.specs.Prelude.{◌≡◌, IfErr};
 ghost use Rattle.moo_http.specs.Serves.{Written};
 
 use crate::fault::ServeFault;
-use moo_dump::put_all;
+use moo_text::put_all;
 use std::io::Write;
 
 /// Writes the bytes. If the writer fails or takes none, a front of them is written.

@@ -8,10 +8,6 @@ front_size n xs ys within =
     let long = length-append xs ys in
     sym (length-take-le n (xs ++ ys) (omega (arith, long, within)))
 
-Consumes-none : (a : Option (List ℕ)) → Consumes a a []
-Consumes-none None = tt
-Consumes-none (Some xs) = refl
-
 pub Consumes-then : (a b c : Option (List ℕ)) (xs ys : List ℕ) → Consumes a b xs → Consumes b c ys → Consumes a c (xs ++ ys)
 Consumes-then None b c xs ys p q = tt
 Consumes-then (Some us) None c xs ys p q = absurd p

@@ -47,7 +47,6 @@ receives_of bytes more found plan h w asked s p e f asks =
 sparing_of : (bytes more : List ℕ) (found : HeadSpans) (plan : Plan) (s : HeadStands bytes found) → plan ≡ plan_by s.head → length bytes ≤ 8192
     → length (bytes ++ more) ≤ max (length bytes) (found.spans.len + body_size plan) → IsSparing (bytes ++ more)
 sparing_of bytes more found plan s p few most =
-    let size : body_size plan ≡ body_size (plan_by s.head) = ap body_size p in
     by (max_cases (length (bytes ++ more)) (length bytes) (found.spans.len + body_size plan) most)
   where
     max_cases : (k m n : ℕ) → k ≤ max m n → (k ≤ m) ⊎ (k ≤ n)

@@ -1,5 +1,5 @@
 -- When a request is whole.
-use Rattle.moo_http_request.{proofs.Words.{◌≡◌, inl, inr, ◌+◌, ◌<◌, ◌≤◌, ℕ, List, [], ◌++◌, length, take, drop, arith, refl, sym, ap, subst, ◌∙◌, append_assoc, append-nil, length-append, length-drop, drop-append-le, take-append-le, RequestHead, ReadsRequest, request_unique, Asked, Form, HeadSpans, Plan, Decided, Body, Request, HeadStands, Lacks, BodyAsks, plan_by, body_size, is_head, asks_why, PlanAsks, Receives, request, no_head, nothing}, specs.declared.asked.Asked.TheVariants.{Refused}, specs.declared.asked.Refusal.TheVariants.{BadRequest}, specs.declared.request.Received.{Received}, specs.Whole.{IsWhole, IsCutOff, IsWholeFrom}, proofs.HeadLemmas.{no_empty_head}}
+use Rattle.moo_http_request.{proofs.Words.{◌≡◌, inl, inr, ◌+◌, ◌<◌, ◌≤◌, ℕ, List, ◌++◌, length, drop, arith, sym, ap, subst, ◌∙◌, append_assoc, length-append, length-drop, take-append-le, RequestHead, ReadsRequest, request_unique, Asked, HeadSpans, Plan, Decided, Body, Request, HeadStands, Lacks, BodyAsks, plan_by, body_size, is_head, asks_why, PlanAsks, Receives, request, no_head, nothing}, specs.declared.asked.Asked.TheVariants.{Refused}, specs.declared.asked.Refusal.TheVariants.{BadRequest}, specs.declared.request.Received.{Received}, specs.Whole.{IsWhole, IsCutOff, IsWholeFrom}, proofs.HeadLemmas.{no_empty_head}}
 
 -- what a plan asks of what follows the head, once that is long enough
 plan_more : (plan : Plan) (rest more : List ℕ) (asked : Asked) → body_size plan ≤ length rest → PlanAsks plan rest asked → PlanAsks plan (rest ++ more) asked

@@ -1,5 +1,5 @@
 -- What was found of a head.
-use Rattle.std.specs.Prelude.{◌≡◌, ◌≢◌, ◌<◌, ◌+◌, ℕ, List, [], ◌∷◌, ◌++◌, length, drop, Option, ⊤}
+use Rattle.std.specs.Prelude.{◌≡◌, ◌≢◌, ◌<◌, ◌+◌, ℕ, List, [], ◌++◌, length, drop, Option, ⊤}
 use Rattle.std.specs.Io.KnownBytes.{IsAtEnd}
 use Rattle.httparse.specs.Grammar.{RequestHead}
 use Rattle.httparse.specs.Spans.{IsRequestAt, IsRequestWithin}
@@ -8,14 +8,6 @@ use Rattle.moo_http_request.specs.Settled.{Settles}
 use Rattle.moo_http_request.specs.declared.head.HeadSpans.{HeadSpans}
 use Rattle.moo_http_request.specs.declared.head.HeadRead.{HeadRead}
 use Rattle.moo_http_request.specs.declared.head.HeadRead.TheVariants.{Whole, Refused, Empty}
-use Rattle.moo_http_request.specs.declared.lines.FoundLine.{FoundLine}
-use Rattle.moo_http_request.specs.declared.lines.FoundLine.TheVariants as line
-
--- the values of the lines of a name
-abbrev pub IsFoundAmong : List (List ℕ) → FoundLine → Type 0
-IsFoundAmong values line.Nothing = values ≡ []
-IsFoundAmong values (line.One value) = values ≡ value.now ∷ []
-IsFoundAmong values line.Several = 1 < length values
 
 -- a head is at the front of the bytes, whatever follows, and its parts are where they were found
 pub record HeadStands (bytes : List ℕ) (found : HeadSpans) : Type 0 where

@@ -4,9 +4,6 @@ pub mod Calls
 pub mod Found
 pub mod Given
 pub mod Head
-pub mod Hosts
-pub mod Lengths
-pub mod Numbers
 pub mod Plan
 pub mod Planned
 pub mod Questions

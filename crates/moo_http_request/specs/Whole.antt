@@ -1,5 +1,5 @@
 -- When a request is whole.
-use Rattle.std.specs.Prelude.{◌≡◌, ◌≤◌, ◌<◌, ℕ, Bool, List, ◌++◌, length, ⊤}
+use Rattle.std.specs.Prelude.{◌≡◌, ◌≤◌, ◌<◌, ℕ, Bool, List, ◌++◌, length}
 use Rattle.moo_http_request.specs.declared.asked.Asked.TheVariants.{Refused}
 use Rattle.moo_http_request.specs.declared.asked.Refusal.TheVariants.{BadRequest}
 use Rattle.moo_http_request.specs.declared.request.Received.{Received}

@@ -6,12 +6,10 @@ ghost use Rattle.moo_http_request.specs.Plan.{path_of, is_why, method_of, method
 ghost use Rattle.moo_http_request.specs.Planned.{IsBounded};
 
 use crate::asked::{Asked, Form, Method, Refusal};
-use crate::host::is_for_us;
-use crate::lines::{is_from_page, stated_length};
-use crate::numbers::bounded;
 use crate::question::{Question, Topic};
 use crate::routes::{Endpoint, Routes};
 use httparse::spans::HeaderSpan;
+use moo_http_lines::{bounded, is_for_us, is_from_page, stated_length};
 use std::str;
 
 const MAX_BODY: u64 = 1_048_576;
@@ -27,20 +25,16 @@ pub enum Plan {
 fn path(target: &str) -> &str
     ensures { result.now ≡ path_of target.now }
 {
-    match target.split_once('?') {
-        Some((path, _)) => path,
-        None => target,
-    }
+    target.split_once('?').map_or(target, |(path, _)| path)
 }
 
 /// Whether what follows the first question mark of a target is `why`.
 fn is_why_query(target: &str) -> bool
     ensures { result ≡ is_why target.now }
 {
-    match target.split_once('?') {
-        Some((_, query)) => query == "why",
-        None => false,
-    }
+    target
+        .split_once('?')
+        .is_some_and(|(_, query)| query == "why")
 }
 
 /// Whether a target asks why it is refused, if it is.
@@ -48,10 +42,7 @@ pub(crate) fn asks_why(target: &[u8]) -> bool
     requires text { IsUtf8 target.now }
     ensures { result ≡ is_why target.now }
 {
-    match str::from_utf8(target) {
-        Ok(target) => is_why_query(target),
-        Err(_) => unreachable!(),
-    }
+    str::from_utf8(target).is_ok_and(is_why_query)
 }
 
 /// The method of a route.
@@ -79,15 +70,11 @@ fn body_length(bytes: &[u8], lines: &[HeaderSpan]) -> Option<u64>
     requires within { All (IsHeaderWithin (length bytes.now)) lines.now }
     ensures { result ≡ length_of (map (header_bytes bytes.now) lines.now) }
 {
-    match stated_length(bytes, lines) {
-        Some(text) => {
-            if text.len() <= 10 {
-                bounded(text, 9_999_999_999)
-            } else {
-                None
-            }
-        }
-        None => None,
+    let text = stated_length(bytes, lines)?;
+    if text.len() <= 10 {
+        bounded(text, 9_999_999_999)
+    } else {
+        None
     }
 }
 

@@ -1,10 +1,10 @@
 //! What a GET asks: the topics, each with its route, and the questions about them.
 
 ghost use Rattle.std.specs.Prelude.{◌≡◌, drop};
-ghost use Rattle.moo_http_request.specs.Numbers.{number_of};
+ghost use Rattle.moo_http_lines.specs.Numbers.{number_of};
 ghost use Rattle.moo_http_request.specs.Questions.{all_topics, pattern as pattern_of, question_of};
 
-use crate::numbers::number_in;
+use moo_http_lines::number_in;
 use moo_value::ObjNo;
 use std::fmt::{self, Display, Formatter};
 
@@ -37,11 +37,7 @@ const ALL: [Topic; 4] = [Topic::Seq, Topic::Object, Topic::Objects, Topic::Dump]
 fn number_after(path: &[u8], start: usize) -> Option<i32>
     ensures { result ≡ number_of (drop start path.now) }
 {
-    if path.len() < start {
-        None
-    } else {
-        number_in(&path[start..])
-    }
+    number_in(path.get(start..)?)
 }
 
 impl Topic {
@@ -70,14 +66,8 @@ impl Topic {
     {
         match self {
             Topic::Seq => Some(Question::Seq),
-            Topic::Object => match number_after(path, 8) {
-                Some(number) => Some(Question::Object(ObjNo(number))),
-                None => None,
-            },
-            Topic::Objects => match number_after(path, 9) {
-                Some(number) => Some(Question::Objects(ObjNo(number))),
-                None => None,
-            },
+            Topic::Object => number_after(path, 8).map(|n| Question::Object(ObjNo(n))),
+            Topic::Objects => number_after(path, 9).map(|n| Question::Objects(ObjNo(n))),
             Topic::Dump => Some(Question::Dump),
         }
     }

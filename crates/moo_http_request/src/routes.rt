@@ -37,10 +37,7 @@ fn add_route(
 ) -> Result<(), AllocError>
     ensures { OnOk result (router.new ≡ with_route text.now endpoint router.old) }
 {
-    match router.insert(text, endpoint) {
-        Ok(()) => Ok(()),
-        Err(_) => Err(AllocError),
-    }
+    router.insert(text, endpoint).map_err(|_| AllocError)
 }
 
 /// Adds the route of each topic. AllocError if memory runs out.
@@ -75,9 +72,6 @@ impl Routes {
     pub(crate) fn find(&self, path: &str) -> Option<Endpoint>
         ensures { result ≡ endpoint_of path.now }
     {
-        match self.router.at(path) {
-            Ok(found) => Some(*found.value),
-            Err(_) => None,
-        }
+        Some(*self.router.at(path).ok()?.value)
     }
 }

@@ -53,15 +53,9 @@ fn texts_in<'a>(alloc: Global, items: &'a [Value]) -> Result<Option<Vec<&'a str>
 fn at_in(found: Option<&Value>) -> Option<Option<u64>>
     ensures { result ≡ stated_at (option_map (λ value. view value.now) found.entry) }
 {
-    let Some(value) = found else {
-        return Some(None);
-    };
-    if value.is_null() {
-        return Some(None);
-    }
-    match value.as_u64() {
-        Some(seq) if seq < 1 << 63 => Some(Some(seq)),
-        _ => None,
+    match found {
+        Some(value) if !value.is_null() => value.as_u64().filter(|seq| *seq < 1 << 63).map(Some),
+        _ => Some(None),
     }
 }
 

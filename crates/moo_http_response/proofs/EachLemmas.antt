@@ -1,5 +1,5 @@
 -- What calls are answered, each alone, one after another.
-use Rattle.moo_http_response.proofs.Words.{◌≡◌, ◌+◌, ◌<◌, ◌≤◌, ℕ, List, [], ◌∷◌, ◌++◌, ◌∙◌, false, drop, get_or, length, map, ap, sym, refl, zero, suc, arith, codes, Value, view, has_float, items_have_float}
+use Rattle.moo_http_response.proofs.Words.{◌≡◌, ◌+◌, ◌<◌, ◌≤◌, ℕ, List, [], ◌∷◌, ◌++◌, ◌∙◌, false, drop, get_or, length, map, ap, sym, refl, zero, suc, arith, view, has_float, items_have_float}
 use Rattle.std.specs.{Prelude.{String, string_bytes, option_map}, declared.alloc.Global.{Global}}
 use Rattle.std.{proofs.Common.{Option, Some, None, add-one, append-nil, append_assoc, drop-cons}, proofs.lemmas.List.{drop_all, drop-drop, map-append}}
 use Rattle.serde_json.{specs.Data.{Data}, specs.View.{items_of}, specs.declared.value.Value.{Value as Json}}

@@ -2,11 +2,11 @@
 use Rattle.moo_text.specs.declared.reply.Answer.{Answer}
 use Rattle.moo_text.specs.declared.reply.Answer.TheVariants as answered
 use Rattle.moo_http_request.specs.declared.asked.Refusal.TheVariants.{BadRequest, Malformed}
-use Rattle.moo_http_response.specs.declared.outcome.Outcome.{Outcome}
-use Rattle.moo_http_response.specs.declared.outcome.Outcome.TheVariants as outcome
+use Rattle.moo_http_response.specs.declared.outcome.RequestOutcome.{RequestOutcome}
+use Rattle.moo_http_response.specs.declared.outcome.RequestOutcome.TheVariants as outcome
 
 -- what comes of a batch by its answer
-abbrev pub outcome_of : Answer → Outcome
+abbrev pub outcome_of : Answer → RequestOutcome
 outcome_of (answered.Replied reply) = outcome.Replied reply
 outcome_of answered.Fault = outcome.Fault
 outcome_of answered.Closed = outcome.Closed

@@ -9,8 +9,8 @@ use Rattle.moo_http_request.specs.declared.asked.Method.{Method}
 use Rattle.moo_http_request.specs.declared.asked.Method.TheVariants.{Get, Post}
 use Rattle.moo_http_request.specs.declared.asked.Refusal.{Refusal}
 use Rattle.moo_http_request.specs.declared.asked.Refusal.TheVariants.{BadRequest, Forbidden, NotFound, NotAllowed, TooLarge, Malformed}
-use Rattle.moo_http_response.specs.declared.outcome.Outcome.{Outcome}
-use Rattle.moo_http_response.specs.declared.outcome.Outcome.TheVariants.{Refused, Closed, Fault, NoMemory, Replied, Each, Told}
+use Rattle.moo_http_response.specs.declared.outcome.RequestOutcome.{RequestOutcome}
+use Rattle.moo_http_response.specs.declared.outcome.RequestOutcome.TheVariants.{Refused, Closed, Fault, NoMemory, Replied, Each, Told}
 use Rattle.moo_http_response.specs.Bodies.{error_body, call_body, told_error_body, told_call_body, stale_body, accepted_body}
 use Rattle.moo_http_response.specs.EachBodies.{each_body}
 use Rattle.moo_http_response.specs.Whys.{first_why}
@@ -61,7 +61,7 @@ told_reply why (reply.Refused call code) = plain 409 (told_call_body why call (n
 told_reply why (reply.Full call) = plain 409 (told_call_body why call (codes "full"))
 told_reply why other = reply_response other
 
-abbrev pub response_of : Outcome → Response
+abbrev pub response_of : RequestOutcome → Response
 response_of (Refused refusal) = refusal_response refusal
 response_of Closed = plain 503 (error_body (codes "closed"))
 response_of Fault = plain 503 (error_body (codes "fault"))
@@ -75,7 +75,7 @@ abbrev pub response_text : Bool → Response → List ℕ
 response_text is_head r = text_of is_head r.status r.kind r.allow r.body
 
 -- the same, with why what was asked is refused, as far as that is told
-abbrev pub response_with : List (Option (List ℕ)) → Outcome → Response
+abbrev pub response_with : List (Option (List ℕ)) → RequestOutcome → Response
 response_with whys (Refused refusal) = told_refusal (first_why whys) refusal
 response_with whys (Replied reply) = told_reply (first_why whys) reply
 response_with whys (Each replies seq) = plain 200 (each_body whys replies seq)

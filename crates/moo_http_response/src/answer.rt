@@ -4,7 +4,7 @@ ghost use Rattle.std.specs.Prelude.{◌≡◌, IfOk};
 ghost use Rattle.moo_http_response.specs.Responses.{response_with, response_text};
 ghost use Rattle.moo_http_response.specs.Whys.{whys_shown};
 
-use crate::outcome::Outcome;
+use crate::outcome::RequestOutcome;
 use crate::respond::respond;
 use crate::response::print_response;
 use std::alloc::{AllocError, Global};
@@ -14,7 +14,7 @@ use std::alloc::{AllocError, Global};
 /// `AllocError` if memory is refused.
 pub fn answer_text(
     alloc: Global,
-    outcome: Outcome,
+    outcome: RequestOutcome,
     whys: &[Option<String>],
     is_head: bool,
 ) -> Result<Vec<u8>, AllocError>

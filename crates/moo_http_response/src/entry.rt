@@ -89,11 +89,8 @@ pub(crate) fn list_object<R: Rows>(
 ) -> Result<(), AllocError>
     ensures { OnOk result (list.new.items ≡ list.old.items ++ entries_of (world_of (R.held rows.now).maps) (x ∷ [])) }
 {
-    match find_entry(alloc, rows, x)? {
-        Some(entry) => {
-            list.push(entry)?;
-            Ok(())
-        }
-        None => Ok(()),
+    if let Some(entry) = find_entry(alloc, rows, x)? {
+        list.push(entry)?;
     }
+    Ok(())
 }

@@ -19,7 +19,7 @@ mod whys;
 
 pub use answer::answer_text;
 pub use entry::{Entries, Entry};
-pub use outcome::Outcome;
+pub use outcome::RequestOutcome;
 pub use page::Page;
 pub use replies::Replies;
 pub use text::Text;

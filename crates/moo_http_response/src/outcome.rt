@@ -7,7 +7,7 @@ use moo_text::Reply;
 
 /// What came of a request; what refuses it is first, in the order of the answers' table.
 #[derive(Drop)]
-pub enum Outcome {
+pub enum RequestOutcome {
     /// It was refused before the World was asked.
     Refused(Refusal),
     /// The World had failed before.

@@ -9,7 +9,7 @@ ghost use Rattle.moo_http_response.specs.Shown.{Shows};
 
 use crate::bodies::{accepted_text, error_text, stale_text, told_call_text, told_error_text};
 use crate::each_body::each_text;
-use crate::outcome::Outcome;
+use crate::outcome::RequestOutcome;
 use crate::replies::Replies;
 use crate::response::Response;
 use crate::told::{Told, kind_of, status_of, told_bytes};
@@ -106,7 +106,7 @@ fn each(
 }
 
 fn say(alloc: Global, told: Told) -> Result<Response, AllocError>
-    ensures { IfOk result (λ r. Shows r (response_of (Outcome.Told told))) }
+    ensures { IfOk result (λ r. Shows r (response_of (RequestOutcome.Told told))) }
 {
     let status = status_of(&told);
     let kind = kind_of(&told);
@@ -163,18 +163,18 @@ fn reply_to(alloc: Global, reply: &Reply, why: Option<&str>) -> Result<Response,
 /// The response to what came of a request.
 pub(crate) fn respond(
     alloc: Global,
-    outcome: Outcome,
+    outcome: RequestOutcome,
     whys: &[Option<String>],
 ) -> Result<Response, AllocError>
     ensures { IfOk result (λ r. Shows r (response_with (whys_shown whys.now) outcome)) }
 {
     match outcome {
-        Outcome::Refused(refusal) => refuse(alloc, refusal, why_of(whys, 0)),
-        Outcome::Closed => error(alloc, StatusCode::SERVICE_UNAVAILABLE, "closed"),
-        Outcome::Fault => error(alloc, StatusCode::SERVICE_UNAVAILABLE, "fault"),
-        Outcome::NoMemory => error(alloc, StatusCode::SERVICE_UNAVAILABLE, "nomemory"),
-        Outcome::Replied(reply) => reply_to(alloc, &reply, why_of(whys, 0)),
-        Outcome::Each(replies, seq) => each(alloc, &replies, seq, whys),
-        Outcome::Told(told) => say(alloc, told),
+        RequestOutcome::Refused(refusal) => refuse(alloc, refusal, why_of(whys, 0)),
+        RequestOutcome::Closed => error(alloc, StatusCode::SERVICE_UNAVAILABLE, "closed"),
+        RequestOutcome::Fault => error(alloc, StatusCode::SERVICE_UNAVAILABLE, "fault"),
+        RequestOutcome::NoMemory => error(alloc, StatusCode::SERVICE_UNAVAILABLE, "nomemory"),
+        RequestOutcome::Replied(reply) => reply_to(alloc, &reply, why_of(whys, 0)),
+        RequestOutcome::Each(replies, seq) => each(alloc, &replies, seq, whys),
+        RequestOutcome::Told(told) => say(alloc, told),
     }
 }

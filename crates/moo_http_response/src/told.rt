@@ -39,10 +39,7 @@ pub enum Told {
 fn seen(look: Option<Look>) -> Told
     ensures { result ≡ looked look }
 {
-    match look {
-        Some(look) => Told::Object(look),
-        None => Told::NoObject,
-    }
+    look.map_or(Told::NoObject, Told::Object)
 }
 
 /// All that the rows hold, as text, in memory that has room for a head. The only error is a lack of memory.

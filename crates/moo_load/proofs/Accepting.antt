@@ -1,5 +1,6 @@
 -- Accept lists as values.
 use Rattle.moo_load.proofs.Words.{◌≡◌, ◌≤◌, ◌<◌, ℕ, zero, suc, ◌+◌, List, [], ◌∷◌, ◌++◌, map, take, length, true, Option, Some, None, get_or, refl, sym, ap, subst, ◌∙◌, arith, and_parts, both_true, le-leb, leb-true, list_all, take_all, length-map, map-append, ObjNo, Value, Obj, a_list, gather, spread, Values, no_values, is_number, accept_value, accept_fits}
+use Rattle.moo_load.proofs.One.Values.{values_in}
 use Rattle.std.{proofs.lemmas.List.{take_more}, proofs.lemmas.List.Folds.{list_all-append}}
 
 obj_at : (objects : List ObjNo) (i : ℕ) (v : Value) → i < length (map Obj objects) → (x : ObjNo) × (get_or (map Obj objects) i v ≡ Obj x)
@@ -36,10 +37,6 @@ too_many values objects long short is = omega (arith, length-map objects Obj, ap
 spread_objects : (objects : List ObjNo) → spread (gather (map Obj objects)) ≡ map Obj objects
 spread_objects [] = refl
 spread_objects (x ∷ objects) = ap (λ l. Obj x ∷ l) (spread_objects objects)
-
-abbrev values_in : Value → Values
-values_in (a_list vs) = vs
-values_in v = no_values
 
 -- a list whose values aren't objects, or too many, is no accept list
 pub not_accept : (vs : Values) (items : List Value) → items ≡ spread vs → ((objects : List ObjNo) → length objects ≤ 1000 → items ≡ map Obj objects → ⊥) → (accept : Option (List ObjNo)) → accept_fits accept ≡ true → a_list vs ≡ accept_value accept → ⊥

@@ -21,7 +21,7 @@ pub nothing_needed : {T : Type 0} (step : Entry → T → T) (es : List Entry) (
 nothing_needed step [] t = tt
 nothing_needed step (e ∷ es) t = (tt, nothing_needed step es (step e t))
 
-held_inside : (vs : List Value) → AllByRecursion Fits vs → HoldInside InRange IsText (gather vs)
+pub held_inside : (vs : List Value) → AllByRecursion Fits vs → HoldInside InRange IsText (gather vs)
 held_inside [] a = tt
 held_inside (Int n ∷ vs) a = (a.0.0, held_inside vs a.1)
 held_inside (Obj o ∷ vs) a = (a.0.0, held_inside vs a.1)

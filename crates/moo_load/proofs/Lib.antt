@@ -13,3 +13,4 @@ pub mod OneLine
 pub mod ReadBack
 pub mod Taken
 pub mod Within
+pub mod Failing

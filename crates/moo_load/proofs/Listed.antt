@@ -1,6 +1,6 @@
 -- The printed values of a list, read one after another.
 use Rattle.moo_load.proofs.Words.{◌≡◌, ℕ, true, false, Result, List, [], ◌∷◌, ◌++◌, length, drop, Ok, Err, ◌≢◌, refl, sym, ap, subst, ◌∙◌, append_assoc, AllByRecursion, drop_at, LiteralFault, Value, Str, a_list, gather, Fits, Ends, Front, print, print_items, printed, prepend_printed, ArePrinted, append-nil}
-use Rattle.moo_value.{specs.declared.fault.LiteralFault.TheVariants.{OutOfMemory}, specs.Reading.{Fails}}
+use Rattle.moo_value.{proofs.Results.{is_ok}, specs.declared.fault.LiteralFault.TheVariants.{OutOfMemory}, specs.Reading.{Fails}}
 
 -- what is printed after a value of a list
 abbrev pub after_value : List Value → List ℕ
@@ -35,14 +35,6 @@ next_front {rest = rest} l = subst (λ (b : List ℕ). Front b l.next (length (p
 abbrev Read : Value → ℕ → Result (Value × ℕ) LiteralFault
 Read v n = Ok (v, n)
 
-abbrev value_in : Value → Result (Value × ℕ) LiteralFault → Value
-value_in v (Ok r) = r.0
-value_in v (Err e) = v
-
-abbrev count_in : ℕ → Result (Value × ℕ) LiteralFault → ℕ
-count_in n (Ok r) = r.1
-count_in n (Err e) = n
-
 -- what gives a value has no fault
 pub refused : {Y : Type 0} (f : LiteralFault) (y : Y) → Fails f (Ok y) → f ≢ OutOfMemory → ⊥
 refused OutOfMemory y is some = some refl
@@ -51,9 +43,9 @@ refused f y is some = let h : Ok y ≡ Err f = is in cc
 -- the next value is what was read, and the text after it is that of the others
 pub next_read : {values done : List Value} {rest : List ℕ} (l : Left values done rest) (value : Value) (used : ℕ) → Read l.next (length (print l.next)) ≡ Read value used → (l.next ≡ value) × (drop used rest ≡ after_value l.more)
 next_read {rest = rest} l value used read =
-    let same : l.next ≡ value = ap (value_in l.next) read in
-    let count : length (print l.next) ≡ used = ap (count_in 0) read in
-    (same, ap (λ (n : ℕ). drop n rest) (sym count) ∙ ap (drop (length (print l.next))) l.printed ∙ drop_at (print l.next) (after_value l.more) (length (print l.next)) refl)
+    let same = is_ok (l.next, length (print l.next)) (value, used) read in
+    let count : length (print l.next) ≡ used = ap (λ (x : Value × ℕ). x.1) same in
+    (ap (λ (x : Value × ℕ). x.0) same, ap (λ (n : ℕ). drop n rest) (sym count) ∙ ap (drop (length (print l.next))) l.printed ∙ drop_at (print l.next) (after_value l.more) (length (print l.next)) refl)
 
 -- it was the last one
 pub last_read : {values done : List Value} {rest : List ℕ} (l : Left values done rest) (value : Value) (used : ℕ) → Read l.next (length (print l.next)) ≡ Read value used → drop used rest ≡ 125 ∷ [] → done ++ (value ∷ []) ≡ values

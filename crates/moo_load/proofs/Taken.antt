@@ -21,7 +21,7 @@ pub line_is : (line : List ℕ) (e : Entry) → line ++ 10 ∷ [] ≡ entry_text
 line_is line e same = append_cancel_right line (line_of e) (10 ∷ []) (same ∙ text_is e)
 
 -- a number that tells the words of lines, and the end, from one another
-abbrev pub mark : List ℕ → ℕ
+abbrev mark : List ℕ → ℕ
 mark text = get_or text 0 0 + get_or text 1 0
 
 pub no_end : (e : Entry) (r : List ℕ) → entry_text e ++ r ≡ codes "end\n" → ⊥
@@ -29,7 +29,7 @@ no_end (an_object x a) r same = false≢true ((Decides-eqb 209 211).1 (ap mark s
 no_end e r same = false≢true ((Decides-eqb (mark (entry_text e ++ r)) 211).1 (ap mark same))
 
 -- the words of lines tell one another apart
-one_word : (v w : Word) (r q : List ℕ) → word_text v ++ 32 ∷ r ≡ word_text w ++ 32 ∷ q → (v ≡ w) × (r ≡ q)
+pub one_word : (v w : Word) (r q : List ℕ) → word_text v ++ 32 ∷ r ≡ word_text w ++ 32 ∷ q → (v ≡ w) × (r ≡ q)
 one_word Object Object r q e = (refl, ap (drop 7) e)
 one_word PropertyWord PropertyWord r q e = (refl, ap (drop 9) e)
 one_word Slot Slot r q e = (refl, ap (drop 5) e)
@@ -50,7 +50,7 @@ pub of_values : (Q : List Value → Type 0) (literal : List ℕ) → ((v : Value
 of_values Q literal h (an_object x row) are = h _ _ are
 of_values Q literal h e are = h _ _ are
 
-abbrev kind : Word → ℕ
+abbrev pub kind : Word → ℕ
 kind Object = 0
 kind PropertyWord = 1
 kind Slot = 2

@@ -9,7 +9,7 @@ pub use Rattle.std.proofs.lemmas.List.Concat.{flat_map-append}
 pub use Rattle.std.proofs.lemmas.List.Elements.{filter_map-append, filter_passes, recursion_from_All}
 pub use Rattle.std.proofs.lemmas.Map.Lookups.{CmpEqualImpliesEq}
 pub use Rattle.std.proofs.lemmas.Option.{none-some, same_Some}
-pub use Rattle.std.proofs.lemmas.Result.{IfErr-weaker, IfOk-weaker, err_from_is_err_and, on_ok_weaker}
+pub use Rattle.std.proofs.lemmas.Result.{IfErr-weaker, IfOk-weaker, on_ok_weaker}
 pub use Rattle.std.proofs.lemmas.Slice.Eq.{bytes_eq-Decides}
 pub use Rattle.std.specs.Cmp.{IsTotalOrder, nat_cmp_is, ranked}
 pub use Rattle.std.specs.FinMap.{FinMap, empty, entries, entries_sorted, find as find_key, get, get-empty, get-entries, get-insert, insert, same_map}
@@ -23,13 +23,13 @@ pub use Rattle.std.specs.Str.{bytes_eq}
 pub use Rattle.std.specs.declared.cmp.Ordering.{Ordering}
 pub use Rattle.std.specs.declared.cmp.Ordering.TheVariants.{Equal, Greater, Less}
 pub use Rattle.moo_damage.proofs.Apart.{all_append, all_map, both_true, distinct_append, distinct_numbers, none_any}
-pub use Rattle.moo_dump.specs.Dump.{heading, line, object_line, object_lines, object_values, owed_line, petition_line, property_line, record_lines, slot_line, state_values, verb_line, verb_values}
+pub use Rattle.moo_dump.specs.Dump.{heading, object_line, object_lines, object_values, owed_line, petition_line, property_line, record_lines, slot_line, state_values, verb_line, verb_values}
 unfoldable pub use Rattle.moo_dump.specs.Dump.{dump}
 pub use Rattle.moo_rows.proofs.Orders.{object_total, petition_total, prop_total, slot_total, verb_total}
 pub use Rattle.moo_rows.specs.Bits.{bits_of, letters_of, verb_bits_of, verb_letters_of}
 pub use Rattle.moo_rows.specs.Exact.{object_exact, petition_exact, prop_exact, slot_exact, verb_exact}
 pub use Rattle.moo_rows.specs.Links.{IsFirst, is_definer, row_defined}
-pub use Rattle.moo_rows.specs.Maps.{Held, Maps, no_maps, object_cmp, petition_cmp, prop_cmp, slot_cmp, verb_cmp, with_object, with_petition, with_prop, with_slot, with_verb}
+pub use Rattle.moo_rows.specs.Maps.{Held, Maps, no_maps, object_cmp, petition_cmp, prop_cmp, slot_cmp, verb_cmp, with_object, with_slot}
 pub use Rattle.moo_rows.specs.declared.row.Bits.{Bits}
 pub use Rattle.moo_rows.specs.declared.row.Head.{Head}
 pub use Rattle.moo_rows.specs.declared.row.ObjRow.{ObjRow}
@@ -46,7 +46,7 @@ pub use Rattle.moo_rows.specs.declared.row.SlotState.TheVariants.{Clear, Set}
 pub use Rattle.moo_rows.specs.declared.row.VerbBits.{VerbBits}
 pub use Rattle.moo_rows.specs.declared.row.VerbId.{VerbId}
 pub use Rattle.moo_rows.specs.declared.row.VerbRow.{VerbRow}
-pub use Rattle.moo_value.proofs.Printed.{one, prepend_printed, printed, spelled}
+pub use Rattle.moo_value.proofs.Printed.{prepend_printed, printed, spelled}
 pub use Rattle.moo_value.specs.Literal.{AreBlanks, AreDigits, Ends, Fits, Front, HoldInside, InRange, Spaced, Spells, SpellsNumber, SpellsObject, an_integer, escape, is_blank, is_digit, name, print, print_comma, print_items, print_string}
 pub use Rattle.moo_value.specs.Text.{IsText, is_allowed}
 pub use Rattle.moo_value.specs.Value.{gather, nesting, spread}
@@ -77,6 +77,7 @@ pub use Rattle.moo_world.specs.Rows.{IsGood, IsSound, look_ups, name_on, numbers
 unfoldable pub use Rattle.moo_world.specs.Rows.{world_shown}
 pub use Rattle.moo_world.specs.World.{Climbs, IsWellFormed, NamesDiffer, WorldObject, Slot, World, accept_fits, defined_by, directory_of, has_word, is_object, is_property_name, property_names_of, numbers_to, defined_by_any, property_named, parent_of, row_fits, row_of, slot_of, state_fits, verb_fits, with_slots}
 unfoldable pub use Rattle.moo_world.specs.World.{chain}
+pub use Rattle.moo_load.proofs.Failing.{from_err}
 pub use Rattle.moo_load.specs.Entries.{EachHas, Entry, EntryFits, NumberIsLeft, NumbersAreLeft, a_petition, a_property, a_slot, a_verb, an_object, carried, entries_taken, entry_lines, entry_taken, entry_text, entry_values}
 pub use Rattle.moo_load.specs.Lines.{line_ends}
 pub use Rattle.moo_load.specs.OneState.{AreTheSame, IsHeld}

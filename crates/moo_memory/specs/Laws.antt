@@ -1,8 +1,8 @@
 -- The laws of the definitions that functions of this crate promise.
-use Rattle.std.specs.Prelude.{◌≡◌, []}
+use Rattle.std.specs.Prelude.{◌≡◌}
 use Rattle.moo_rows.specs.Maps.{Maps}
 use Rattle.moo_memory.specs.declared.changes.Changes.{Changes}
-use Rattle.moo_memory.specs.Changes.{AreChanges}
+use Rattle.moo_memory.specs.Changes.{AreChanges, only_head}
 
 -- from some rows to others there are no two lists of changes
 abbrev pub ChangesAreUnique : Type 0
@@ -15,4 +15,4 @@ ChangesGiveTheRows = (base new other : Maps) (changes : Changes) → AreChanges 
 -- if every row is as it was, only the head is among the changes
 abbrev pub UndoneIsNoChange : Type 0
 UndoneIsNoChange = (base new : Maps) (changes : Changes) → new ≡ record base { head = new.head } → AreChanges base new changes
-    → changes ≡ record { head = new.head; objects = []; props = []; slots = []; verbs = []; petitions = [] }
+    → changes ≡ only_head new.head

@@ -8,8 +8,6 @@ ghost use Rattle.moo_memory.specs.Overlay.{row_over};
 ghost use Rattle.moo_memory.specs.Changes.{IsChanges, AreChanges, changed_each};
 
 use crate::flat::Flat;
-use crate::overlay::Base;
-use moo_rows::ordered::OrderedKey;
 use moo_rows::{
     Head, KeyedRow, ObjRow, PetitionId, PetitionRow, PropId, PropRow, Row, Rows, SlotRow, VerbId,
     VerbRow,
@@ -79,16 +77,17 @@ fn has_row<V: Row>(held: Option<&V>, row: &Option<V>) -> bool
 }
 
 /// The keys of these changes whose rows differ from the base, with their new rows. The only error is that memory runs out.
-fn differing_rows<'a, K: OrderedKey, V: Row + 'a, B: Base<'a, K, V>>(
+fn differing_rows<R: Rows, V: KeyedRow>(
     alloc: Global,
-    base: B,
-    changes: BTreeMap<K, Option<V>>,
-) -> Result<ChangeList<K, V>, AllocError>
-    ensures { IfOk result (λ list. IsChanges K.cmp (B.row_at base) (row_over (B.row_at base) (contents K.cmp changes)) list) }
+    base: &R,
+    changes: BTreeMap<V::Key, Option<V>>,
+) -> Result<ChangeList<V::Key, V>, AllocError>
+    ensures { IfOk result (λ list. IsChanges V.Key.cmp (map.get (V.map_of (R.held base.now).maps))
+        (row_over (map.get (V.map_of (R.held base.now).maps)) (contents V.Key.cmp changes)) list) }
 {
     let mut changed = Vec::new(alloc);
     for (key, row) in changes {
-        if !has_row(base.get(key), &row) {
+        if !has_row(V::find(base, key), &row) {
             changed.push((key, row))?;
         }
     }
@@ -97,12 +96,13 @@ fn differing_rows<'a, K: OrderedKey, V: Row + 'a, B: Base<'a, K, V>>(
 
 /// The keys whose rows differ from the base, with their new rows. The only error is that memory runs out. Most drafts change rows of one
 /// map or two, so that a map without changes isn't gone over.
-pub(crate) fn changed_rows<'a, K: OrderedKey, V: Row + 'a, B: Base<'a, K, V>>(
+pub(crate) fn changed_rows<R: Rows, V: KeyedRow>(
     alloc: Global,
-    base: B,
-    changes: BTreeMap<K, Option<V>>,
-) -> Result<ChangeList<K, V>, AllocError>
-    ensures { IfOk result (λ list. IsChanges K.cmp (B.row_at base) (row_over (B.row_at base) (contents K.cmp changes)) list) }
+    base: &R,
+    changes: BTreeMap<V::Key, Option<V>>,
+) -> Result<ChangeList<V::Key, V>, AllocError>
+    ensures { IfOk result (λ list. IsChanges V.Key.cmp (map.get (V.map_of (R.held base.now).maps))
+        (row_over (map.get (V.map_of (R.held base.now).maps)) (contents V.Key.cmp changes)) list) }
 {
     if changes.is_empty() {
         return Ok(ChangeList::from_vec(Vec::new(alloc)));

@@ -1,8 +1,6 @@
 //! Drafts: rows changed over others that stay as they are.
 
 ghost use Rattle.std.specs.Prelude.{◌≡◌, IfOk};
-ghost use Rattle.std.specs.FinMap as map;
-ghost use Rattle.moo_rows.specs.Ordered.{IsNext};
 ghost use Rattle.moo_memory.specs.Changes.{AreChanges};
 
 use crate::changes::{Changes, changed_rows};
@@ -10,7 +8,6 @@ use crate::either::{next_defined_of_either, next_linked_of_either, next_named_of
 use crate::links::{definer_of, forget_defined, row_defined, row_has};
 use crate::names::{forget_tagged, row_named, tag_if, tag_of};
 use crate::overlay;
-use crate::overlay::Base;
 use crate::own::OwnLinks;
 use moo_rows::{
     Head, Link, ObjRow, PetitionId, PetitionRow, PropId, PropRow, Rows, SlotRow, VerbId, VerbRow,
@@ -101,93 +98,14 @@ impl<'a, R: Rows> Draft<'a, R> {
     pub fn into_changes(self) -> Result<Changes, AllocError>
         ensures { IfOk result (λ changes. AreChanges self.entry.base self.entry.maps changes) }
     {
-        match (
-            changed_rows(self.alloc, self.base, self.objects),
-            changed_rows(self.alloc, self.base, self.props),
-            changed_rows(self.alloc, self.base, self.slots),
-            changed_rows(self.alloc, self.base, self.verbs),
-            changed_rows(self.alloc, self.base, self.petitions),
-        ) {
-            (Ok(objects), Ok(props), Ok(slots), Ok(verbs), Ok(petitions)) => Ok(Changes {
-                head: self.head,
-                objects,
-                props,
-                slots,
-                verbs,
-                petitions,
-            }),
-            _ => Err(AllocError),
-        }
-    }
-}
-
-impl<'a, R: Rows> Base<'a, ObjNo, ObjRow> for &'a R {
-    ghost row_at = { λ s. map.get (R.held s.now).maps.objects };
-
-    fn get(self, key: ObjNo) -> Option<&'a ObjRow> {
-        self.object(key)
-    }
-
-    fn next(self, from: Option<ObjNo>) -> Option<ObjNo>
-        ensures { IsNext (R.held self.entry.now).maps.objects from result }
-    {
-        self.next_object(from)
-    }
-}
-
-impl<'a, R: Rows> Base<'a, PropId, PropRow> for &'a R {
-    ghost row_at = { λ s. map.get (R.held s.now).maps.props };
-
-    fn get(self, key: PropId) -> Option<&'a PropRow> {
-        self.prop(key)
-    }
-
-    fn next(self, from: Option<PropId>) -> Option<PropId>
-        ensures { IsNext (R.held self.entry.now).maps.props from result }
-    {
-        self.next_prop(from)
-    }
-}
-
-impl<'a, R: Rows> Base<'a, (ObjNo, PropId), SlotRow> for &'a R {
-    ghost row_at = { λ s. map.get (R.held s.now).maps.slots };
-
-    fn get(self, key: (ObjNo, PropId)) -> Option<&'a SlotRow> {
-        self.slot(key)
-    }
-
-    fn next(self, from: Option<(ObjNo, PropId)>) -> Option<(ObjNo, PropId)>
-        ensures { IsNext (R.held self.entry.now).maps.slots from result }
-    {
-        self.next_slot(from)
-    }
-}
-
-impl<'a, R: Rows> Base<'a, (ObjNo, VerbId), VerbRow> for &'a R {
-    ghost row_at = { λ s. map.get (R.held s.now).maps.verbs };
-
-    fn get(self, key: (ObjNo, VerbId)) -> Option<&'a VerbRow> {
-        self.verb(key)
-    }
-
-    fn next(self, from: Option<(ObjNo, VerbId)>) -> Option<(ObjNo, VerbId)>
-        ensures { IsNext (R.held self.entry.now).maps.verbs from result }
-    {
-        self.next_verb(from)
-    }
-}
-
-impl<'a, R: Rows> Base<'a, PetitionId, PetitionRow> for &'a R {
-    ghost row_at = { λ s. map.get (R.held s.now).maps.petitions };
-
-    fn get(self, key: PetitionId) -> Option<&'a PetitionRow> {
-        self.petition(key)
-    }
-
-    fn next(self, from: Option<PetitionId>) -> Option<PetitionId>
-        ensures { IsNext (R.held self.entry.now).maps.petitions from result }
-    {
-        self.next_petition(from)
+        Ok(Changes {
+            head: self.head,
+            objects: changed_rows(self.alloc, self.base, self.objects)?,
+            props: changed_rows(self.alloc, self.base, self.props)?,
+            slots: changed_rows(self.alloc, self.base, self.slots)?,
+            verbs: changed_rows(self.alloc, self.base, self.verbs)?,
+            petitions: changed_rows(self.alloc, self.base, self.petitions)?,
+        })
     }
 }
 

@@ -1,4 +1,4 @@
-//! Changes over a map that stays as it is.
+//! Changes over a map of rows that stays as it is.
 
 ghost use Rattle.std.specs.Prelude.{◌≡◌, ◌↔◌, ◌+◌, IsTrue, OnErr, OnOk, option_map, Some, None};
 ghost use Rattle.std.specs.FinMap as map;
@@ -6,61 +6,44 @@ ghost use Rattle.moo_rows.specs.Ordered.{contents, IsNextAt};
 ghost use Rattle.moo_memory.specs.Overlay.{row_over, IsNextOfEither};
 
 use moo_rows::ordered::OrderedKey;
-use moo_rows::{Writes, ordered};
+use moo_rows::{KeyedRow, Rows, Writes, ordered};
 use std::alloc::AllocError;
 use std::collections::BTreeMap;
 
-/// The map below the changes.
-pub trait Base<'a, K: OrderedKey, V>: Copy + Drop {
-    ghost use Rattle.std.specs.Prelude.{◌≡◌, Option, option_map};
-    ghost use Rattle.moo_rows.specs.Ordered.{IsNextAt};
-
-    /// The row of each key that has one.
-    ghost row_at: { Self → K → Option V };
-
-    /// The row of a key.
-    fn get(self, key: K) -> Option<&'a V>
-        ensures { option_map (λ row. row.now) result ≡ row_at self key };
-
-    /// The next held key.
-    fn next(self, from: Option<K>) -> Option<K>
-        ensures { IsNextAt K.cmp (row_at self) from result };
-}
-
 /// The row of a key.
-pub fn get<'a, K: OrderedKey, V, B: Base<'a, K, V>>(
-    base: B,
-    changes: &'a BTreeMap<K, Option<V>>,
-    key: K,
+pub fn get<'a, R: Rows, V: KeyedRow>(
+    base: &'a R,
+    changes: &'a BTreeMap<V::Key, Option<V>>,
+    key: V::Key,
 ) -> Option<&'a V>
     ensures { option_map (λ row. row.now) result
-        ≡ row_over (B.row_at base) (contents K.cmp changes.now) key }
+        ≡ row_over (map.get (V.map_of (R.held base.now).maps)) (contents V.Key.cmp changes.now) key }
 {
     match ordered::get(changes, key) {
         Some(Some(row)) => Some(row),
         Some(None) => None,
-        None => base.get(key),
+        None => V::find(base, key),
     }
 }
 
 /// The next key that is in the base or changed.
-fn next_of_either<'a, K: OrderedKey, V, B: Base<'a, K, V>>(
-    base: B,
-    changes: &BTreeMap<K, Option<V>>,
-    from: Option<K>,
-) -> Option<K>
-    ensures { IsNextOfEither (B.row_at base) (contents K.cmp changes.now) from result }
+fn next_of_either<R: Rows, V: KeyedRow>(
+    base: &R,
+    changes: &BTreeMap<V::Key, Option<V>>,
+    from: Option<V::Key>,
+) -> Option<V::Key>
+    ensures { IsNextOfEither (map.get (V.map_of (R.held base.now).maps)) (contents V.Key.cmp changes.now) from result }
 {
-    ordered::least(base.next(from), ordered::next(changes, from))
+    ordered::least(V::next(base, from), ordered::next(changes, from))
 }
 
 /// The next held key.
-pub fn next<'a, K: OrderedKey, V, B: Base<'a, K, V>>(
-    base: B,
-    changes: &BTreeMap<K, Option<V>>,
-    from: Option<K>,
-) -> Option<K>
-    ensures { IsNextAt K.cmp (row_over (B.row_at base) (contents K.cmp changes.now)) from result }
+pub fn next<R: Rows, V: KeyedRow>(
+    base: &R,
+    changes: &BTreeMap<V::Key, Option<V>>,
+    from: Option<V::Key>,
+) -> Option<V::Key>
+    ensures { IsNextAt V.Key.cmp (row_over (map.get (V.map_of (R.held base.now).maps)) (contents V.Key.cmp changes.now)) from result }
 {
     let mut last = from;
     loop {

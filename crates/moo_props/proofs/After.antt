@@ -1,5 +1,5 @@
 -- Rows in which the objects and slots are as after a change of parent show the reparented world.
-use Rattle.moo_props.{proofs.Words.{◌≡◌, ℕ, ◌<◌, Bool, true, false, Option, None, Some, List, ◌++◌, refl, sym, ap, ◌∙◌, subst, is_some, unwrap_or, if◌then◌else◌, option_map, option_or, FinMap, get, false≢true, both_ways, none-some, same_Some, ObjNo, ObjRow, PropRow, PropId, SlotRow, Maps, object_cmp, slot_cmp, Name, Property, same_object, folded, is_among, World, WorldObject, Slot, IsWellFormed, NamesDiffer, is_object, chain, defined_by_any, property_named, slot_of, owner_of, fresh, with_slots, without_slots, reparented, LookUps, IsSound, look_ups, world_of, prop_id, object_shown, slot_seen, world_shown, MayReparent, lost, gained, unless_defined_by, new_split, lost_is, gained_is, definer_among, named_owed, no_slot, objects_same, SameButSlots-rebuilt, same_world, is_object_seen, owed_listed, Chain-chain, is_defined_among, slot_after, row_after, fresh_row, some_of, SlotHere, slot_from, true_from_ne_false}, proofs.Definers.{new_is, no_clash, leaving, arriving, staying}, proofs.Cases.{none_of, some_map}, proofs.Gains.{object_of_chain, object_row, defines_pair, new_object, slot_of_owed}, proofs.Walked.{seen_at}}
+use Rattle.moo_props.{proofs.Words.{◌≡◌, ℕ, ◌<◌, Bool, true, false, Option, None, Some, List, ◌++◌, refl, sym, ap, ◌∙◌, subst, is_some, unwrap_or, if◌then◌else◌, option_map, option_or, FinMap, get, false≢true, both_ways, none-some, same_Some, ObjNo, ObjRow, PropRow, PropId, SlotRow, Maps, object_cmp, slot_cmp, Name, Property, same_object, folded, is_among, World, WorldObject, Slot, IsWellFormed, NamesDiffer, is_object, chain, defined_by_any, property_named, slot_of, owner_of, fresh, with_slots, without_slots, reparented, LookUps, IsSound, look_ups, world_of, prop_id, object_shown, slot_seen, world_shown, MayReparent, lost, gained, unless_defined_by, new_split, lost_is, gained_is, definer_among, named_owed, SameButSlots-rebuilt, is_object_seen, owed_listed, Chain-chain, is_defined_among, slot_after, row_after, fresh_row, some_of, SlotHere, slot_from, true_from_ne_false}, proofs.Definers.{new_is, no_clash, leaving, arriving, staying}, proofs.Cases.{none_of, some_map}, proofs.Gains.{object_of_chain, object_row, defines_pair, new_object, slot_of_owed}, proofs.KeptSlots.{same_by_objects}, proofs.Walked.{seen_at}}
 use Rattle.moo_world.{specs.World.{with_parent}, specs.Manual.{manual_slot}, proofs.Inheritance.ManualLaw.{below as below_of, no_new, definer_of_slot, manual_law}, proofs.Inheritance.Owed.{named_so, named_once, some_named, defined_by_any-append, named-append}, proofs.Shown.Slots.{no_slot_from}}
 
 module _ (t : Maps) (sound : IsSound t) (x q : ObjNo) (may : MayReparent (world_of t) x q) where
@@ -181,22 +181,12 @@ module _ (t : Maps) (sound : IsSound t) (x q : ObjNo) (may : MayReparent (world_
           by None e = lacked e
           by (Some s) e = let r = row2 y row here in let k = slot_from m2 y n r.0 r.1 s e in found s k.0 k.1 k.2
 
-    same_slots : (y : ObjNo) (n : Name) → slot_of (world_of t2) y n ≡ slot_of (reparented w x q) y n
-    same_slots y n = by (is_object w y) refl
-      where
-        still : is_object (world_of t2) y ≡ is_object (reparented w x q) y
-        still = objects_same (world_of t2) (reparented w x q) same_links y
-
-        no_object : is_object w y ≡ false → is_object (world_of t2) y ≡ false
-        no_object e = is_object_seen m2 y ∙ ap is_some (objects y) ∙ some_map (λ (row : ObjRow). if same_object x y then record row { parent = q } else row) (m.object y) ∙ sym (is_object_seen m y) ∙ e
-
-        by : (b : Bool) → is_object w y ≡ b → slot_of (world_of t2) y n ≡ slot_of (reparented w x q) y n
-        by true e = let r = object_row t sound y e in slot_here y n r.0 r.1 ∙ sym (manual_law w x q wf may.object (new_is w x q may) may.outside (no_clash w x q may) y n e)
-        by false e = no_slot ((world_of t2).object y) n (no_object e) ∙ sym (no_slot ((reparented w x q).object y) n (sym still ∙ no_object e))
-
     -- such rows show the reparented world
     pub world_after : world_of t2 ≡ reparented w x q
-    world_after = same_world (world_of t2) (reparented w x q) same_links same_slots
+    world_after = same_by_objects (world_of t2) (reparented w x q) same_links (λ y n e.
+        let was = is_object_seen m y ∙ sym (some_map (λ (row : ObjRow). if same_object x y then record row { parent = q } else row) (m.object y)) ∙ sym (is_object_seen m2 y ∙ ap is_some (objects y)) ∙ e in
+        let row = object_row t sound y was in
+        slot_here y n row.0 row.1 ∙ sym (manual_law w x q wf may.object (new_is w x q may) may.outside (no_clash w x q may) y n was))
 
     -- ---- such rows are sound
 

@@ -43,8 +43,7 @@ module _ (t : Maps) (good : IsGood t) (y : ObjNo) (these others : List ObjNo) (w
       ∙ decided_alike _ _ (is_defined_only these others t j ≡ true) (property_added j (walk t y), met j) (λ e. e, λ e. e)
 
   pub slots_are_props : by_slots ≡ by_props
-  slots_are_props = unique prop_cmp prop_total prop_exact by_slots by_props
+  slots_are_props = unique prop_total prop_exact by_slots by_props
       (ascend prop_cmp by_slots (passing_ids_rise t y passes))
       (ascend prop_cmp by_props (rises_made prop_cmp (λ j. j) (λ e. is_only_of these others e.1.definer) (λ e. e.0) (λ e. refl) (entries t.props) (entries_sorted t.props)))
-      (λ j h. in_props j ∙ sym (in_slots j) ∙ h)
-      (λ j h. in_slots j ∙ sym (in_props j) ∙ h)
+      (λ j. in_slots j ∙ sym (in_props j))

@@ -1,5 +1,5 @@
 -- The keys that a change touches are in order.
-use Rattle.moo_props.proofs.Words.{◌≡◌, Bool, T, List, [], ◌∷◌, ◌++◌, map, Ordering, Less, refl, sym, ap, ◌∙◌, subst, tied_itself, int_eq, ordering_then, filter, AllByRecursion, entries, is_sorted, entries_sorted, ObjNo, PropId, Maps, object_cmp, prop_cmp, slot_cmp, verb_cmp, object_total, first_of, chain, is_among, world_of, lost, gained, links_to, linked_among, verbs_among, AreAscending, owners_under, props_of, removed_keys, added_keys, keys_on, keys_over, cond_both}
+use Rattle.moo_props.proofs.Words.{◌≡◌, Bool, T, List, [], ◌∷◌, ◌++◌, map, Ordering, Less, refl, sym, ap, ◌∙◌, subst, tied_itself, int_eq, ordering_then, filter, AllByRecursion, entries, is_sorted, entries_sorted, ObjNo, PropId, Maps, object_cmp, prop_cmp, slot_cmp, verb_cmp, object_total, first_of, chain, is_among, world_of, lost, gained, links_to, linked_among, verbs_among, AreAscending, owners_under, props_of, removed_keys, added_keys, keys_on, keys_over, cond_both, keys_by}
 use Rattle.std.specs.FinMap.Entries.{below_all}
 use Rattle.moo_rows.proofs.Walking.{second_of, less_of}
 
@@ -38,11 +38,6 @@ all_append : {A : Type 0} (P : A → Type 0) (l m : List A) → AllByRecursion P
 all_append P [] m h k = k
 all_append P (x ∷ l) m h k = (h.0, all_append P l m h.1 k)
 
--- the keys of properties of each of these objects
-abbrev pub keys_by : (ObjNo → List PropId) → List (ObjNo × ObjNo) → List (ObjNo × PropId)
-keys_by ids [] = []
-keys_by ids (e ∷ es) = keys_on e.0 (ids e.0) ++ keys_by ids es
-
 module _ (ids : ObjNo → List PropId) (rises : (y : ObjNo) → Rises prop_cmp (λ j. j) (ids y)) where
   later_object : (y : ObjNo) (i : PropId) (es : List (ObjNo × ObjNo)) → AllByRecursion (λ e. object_cmp y e.0 ≡ Less) es → AllByRecursion (λ other. slot_cmp (y, i) other ≡ Less) (keys_by ids es)
   later_object y i [] h = tt
@@ -60,10 +55,6 @@ module _ (ids : ObjNo → List PropId) (rises : (y : ObjNo) → Rises prop_cmp (
       front [] r k = k
       front (i ∷ l) r k = (all_append (λ other. slot_cmp (e.0, i) other ≡ Less) (keys_on e.0 l) (keys_by ids es) (on_one e.0 i l r.0) (later_object e.0 i es h.0), front l r.1 k)
 
-over_by : (ids : List PropId) (es : List (ObjNo × ObjNo)) → keys_over ids es ≡ keys_by (λ y. ids) es
-over_by ids [] = refl
-over_by ids (e ∷ es) = ap (λ l. keys_on e.0 ids ++ l) (over_by ids es)
-
 pub props_rise : (t : Maps) (definers : List ObjNo) → Rises prop_cmp (λ j. j) (props_of definers t.props)
 props_rise t definers = rises_made prop_cmp (λ j. j) (λ e. is_among e.1.definer definers) (λ e. e.0) (λ e. refl) (entries t.props) (entries_sorted t.props)
 
@@ -76,7 +67,7 @@ ascend cmp [] r = tt
 ascend cmp (k ∷ l) r = (r.0, ascend cmp l r.1)
 
 keys_ascend : (t : Maps) (x : ObjNo) (definers : List ObjNo) → AreAscending slot_cmp (keys_over (props_of definers t.props) (owners_under t x))
-keys_ascend t x definers = subst (AreAscending slot_cmp) (sym (over_by (props_of definers t.props) (owners_under t x))) (keys_rise (λ y. props_of definers t.props) (λ y. props_rise t definers) (owners_under t x) (under_rise t x))
+keys_ascend t x definers = keys_rise (λ y. props_of definers t.props) (λ y. props_rise t definers) (owners_under t x) (under_rise t x)
 
 pub removed_ascend : (t : Maps) (x q : ObjNo) → AreAscending slot_cmp (removed_keys t x q)
 removed_ascend t x q = keys_ascend t x (lost (world_of t) x q)

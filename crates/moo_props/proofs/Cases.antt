@@ -56,11 +56,6 @@ pub cond_alike : {A : Type 0} (b : Bool) (u v g : A) → (b ≡ true → u ≡ v
 cond_alike true u v g h = h refl
 cond_alike false u v g h = refl
 
--- two tests in one, the first of which may decide what the second is
-pub cond_under : {A : Type 0} (a b c : Bool) (v g : A) → (a ≡ true → b ≡ c) → cond (a && b) v g ≡ cond a (cond c v g) g
-cond_under true b c v g h = ap (λ d. cond d v g) (h refl)
-cond_under false b c v g h = refl
-
 pub cond_and : {A : Type 0} (a b : Bool) (v g : A) → cond (a && b) v g ≡ cond b (cond a v g) g
 cond_and true b v g = refl
 cond_and false b v g = sym (cond_same b g)

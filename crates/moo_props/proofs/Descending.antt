@@ -1,5 +1,5 @@
 -- The walk down from an object meets what is under it, and nothing else.
-use Rattle.moo_props.{proofs.Words.{◌≡◌, ℕ, zero, suc, ◌+◌, ◌≤◌, Bool, true, false, cond, ◌||◌, None, Some, List, [], ◌∷◌, ◌++◌, map, length, drop, refl, sym, ap, ◌∙◌, subst, inl, inr, arith, append_assoc, append-nil, is_some, list_any, get, true≢false, or_left, or_right, or_cases, ObjNo, ObjRow, ChildOf, IsFirst, is_linked, Maps, object_cmp, nothing, same_object, is_among, same_object-Decides, same_object-eq, subtree_of, look_ups, world_of, World, IsTree, Chain, is_object, parent_of, chain, numbers_to, Chain-chain, no_parent, is_among-append, decided_alike, chain_of_row, is_object_seen, after_below, walk_after, from_here, false_from_ne_true, some_of}, proofs.Cases.{passing}, proofs.Gains.{object_of_chain}, specs.Descent.{children_past, below, levels_below, descendants, branches, after_branch}}
+use Rattle.moo_props.{proofs.Words.{◌||◌, ◌≡◌, ℕ, zero, suc, ◌+◌, ◌≤◌, Bool, true, false, cond, None, Some, List, [], ◌∷◌, ◌++◌, map, length, drop, refl, sym, ap, ◌∙◌, subst, inl, inr, arith, append_assoc, append-nil, is_some, list_any, get, true≢false, or_left, or_right, or_cases, ObjNo, ObjRow, ChildOf, IsFirst, is_linked, Maps, object_cmp, nothing, same_object, is_among, same_object-Decides, same_object-eq, subtree_of, look_ups, world_of, World, IsTree, Chain, is_object, parent_of, chain, numbers_to, Chain-chain, no_parent, is_among-append, decided_alike, chain_of_row, is_object_seen, after_below, walk_after, from_here, false_from_ne_true, some_of}, proofs.Cases.{passing}, proofs.Gains.{object_of_chain}, specs.Descent.{children_past, below, levels_below, descendants, branches, after_branch}}
 use Rattle.std.specs.List.{flat_map}
 use Rattle.moo_rows.{specs.Links.{has_link, ties_of}, proofs.Linking.{linked-end, linked-step}}
 use Rattle.moo_world.{specs.ObjectLists.{objects_of}, proofs.Ancestry.Ancestors.{same_object-self}, proofs.Ancestry.Chains.{Climbs-bound, Climbs-once}, proofs.Ancestry.Subtrees.{among_filter, object_listed}, proofs.Ancestry.Trees.{parents_below}, proofs.Ancestry.Upward.{filter_passes}}

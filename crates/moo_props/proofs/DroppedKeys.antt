@@ -1,34 +1,22 @@
 -- The slots that are removed with an object are those that go with it.
-use Rattle.moo_props.{proofs.Words.{◌≡◌, Bool, true, false, ◌||◌, Option, None, Some, List, [], ◌∷◌, ◌++◌, refl, sym, ap, ◌∙◌, subst, inl, inr, ◌&&◌, is_some, unwrap_or, if◌then◌else◌, option_map, eq_by_cmp, int_eq, list_any, AllByRecursion, get, entries, get-entries, entries_sorted, false≢true, or_cases, ObjNo, ObjRow, PropId, PropRow, SlotRow, slot_exact, Maps, prop_cmp, slot_cmp, slot_total, same_object, is_among, same_object-Decides, chain, IsGood, LookUps, look_ups, world_of, decided_alike, any-append, goes_with, dropped_keys, ids_for, ids_among, dropped_over, defines, ArePresent, AreAscending, owners_under, props_of, keys_on, some_of, listed, own_entries, all_made, is_object_seen, and-false, and-true}, proofs.Shared.{Entry, has_id, is_id, is_id-Decides, key_parts, object_of_chain, own_among, passing, slot_on_heir, under_is, walk, walk_held}, proofs.Ascending.{Rises, rises_made, keys_by, keys_rise, props_rise, under_rise, ascend}, proofs.LessRows.{is_own_id}, proofs.NewSlots.{has_all}, proofs.SameKeys.{holds, unique}, proofs.WalkOrder.{walk_own, walk_ids_rise}}
+use Rattle.moo_props.{proofs.Words.{arith, ◌||◌, ◌≡◌, Bool, true, false, Option, None, Some, List, [], ◌∷◌, refl, sym, ap, ◌∙◌, inl, inr, ◌&&◌, is_some, unwrap_or, if◌then◌else◌, option_map, eq_by_cmp, int_eq, list_any, AllByRecursion, get, entries, get-entries, entries_sorted, false≢true, or_cases, ObjNo, ObjRow, PropId, PropRow, SlotRow, slot_exact, Maps, prop_cmp, slot_cmp, slot_total, same_object, is_among, same_object-Decides, chain, IsGood, LookUps, look_ups, world_of, decided_alike, any-append, goes_with, dropped_keys, ids_for, ids_among, defines, ArePresent, AreAscending, owners_under, props_of, keys_on, some_of, listed, own_entries, all_made, is_object_seen, and-false, and-true, keys_by}, proofs.Shared.{Entry, has_id, is_id, is_id-Decides, key_parts, object_of_chain, own_among, passing, slot_on_heir, under_is, walk, walk_held}, proofs.Ascending.{Rises, rises_made, keys_rise, props_rise, under_rise, ascend}, proofs.LessRows.{is_own_id}, proofs.NewSlots.{has_all}, proofs.SameKeys.{holds, unique}, proofs.WalkOrder.{walk_own, walk_ids_rise}}
 use Rattle.std.specs.FinMap.{find}
 
 -- ---- what the code lists
 
-over_is : (x : ObjNo) (all own : List PropId) (es : List (ObjNo × ObjNo)) → dropped_over x all own es ≡ keys_by (ids_for x all own) es
-over_is x all own [] = refl
-over_is x all own (e ∷ es) = ap (λ l. keys_on e.0 (ids_for x all own e.0) ++ l) (over_is x all own es)
-
-held_on : (y z : ObjNo) (j : PropId) (ids : List PropId) → holds slot_cmp slot_total slot_exact (keys_on y ids) (z, j) ≡ (same_object y z && has_id j ids)
+held_on : (y z : ObjNo) (j : PropId) (ids : List PropId) → holds slot_cmp (keys_on y ids) (z, j) ≡ (same_object y z && has_id j ids)
 held_on y z j [] = sym (and-false (same_object y z))
-held_on y z j (id ∷ ids) = (λ i. key_parts y z id j i || held_on y z j ids i) ∙ by (same_object y z)
-  where
-    by : (b : Bool) → ((b && is_id j id) || (b && has_id j ids)) ≡ (b && (is_id j id || has_id j ids))
-    by true = refl
-    by false = refl
+held_on y z j (id ∷ ids) = grind (arith, key_parts y z id j, held_on y z j ids)
 
-held_by : (ids : ObjNo → List PropId) (z : ObjNo) (j : PropId) (es : List (ObjNo × ObjNo)) → holds slot_cmp slot_total slot_exact (keys_by ids es) (z, j) ≡ (list_any (λ e. same_object e.0 z) es && has_id j (ids z))
+held_by : (ids : ObjNo → List PropId) (z : ObjNo) (j : PropId) (es : List (ObjNo × ObjNo)) → holds slot_cmp (keys_by ids es) (z, j) ≡ (list_any (λ e. same_object e.0 z) es && has_id j (ids z))
 held_by ids z j [] = refl
 held_by ids z j (e ∷ es) =
     any-append (eq_by_cmp slot_cmp (z, j)) (keys_on e.0 (ids e.0)) (keys_by ids es)
     ∙ (λ i. held_on e.0 z j (ids e.0) i || held_by ids z j es i)
     ∙ by (same_object e.0 z) refl (list_any (λ e. same_object e.0 z) es)
   where
-    twice : (c d : Bool) → (c || (d && c)) ≡ c
-    twice true d = refl
-    twice false d = and-false d
-
     by : (a : Bool) → same_object e.0 z ≡ a → (d : Bool) → ((a && has_id j (ids e.0)) || (d && has_id j (ids z))) ≡ ((a || d) && has_id j (ids z))
-    by true g d = ap (λ y. has_id j (ids y) || (d && has_id j (ids z))) ((same_object-Decides e.0 z).0 g) ∙ twice (has_id j (ids z)) d
+    by true g d = ap (λ y. has_id j (ids y) || (d && has_id j (ids z))) ((same_object-Decides e.0 z).0 g) ∙ grind arith
     by false g d = refl
 
 module _ (t : Maps) (good : IsGood t) (x : ObjNo) (row : ObjRow) (here : get t.objects x ≡ Some row) where
@@ -41,8 +29,8 @@ module _ (t : Maps) (good : IsGood t) (x : ObjNo) (row : ObjRow) (here : get t.o
   abbrev own : List PropId
   own = props_of (x ∷ []) t.props
 
-  listed_ascend : AreAscending slot_cmp (dropped_over x all own (owners_under t x))
-  listed_ascend = subst (AreAscending slot_cmp) (sym (over_is x all own (owners_under t x))) (keys_rise (ids_for x all own) (λ y. each (same_object x y)) (owners_under t x) (under_rise t x))
+  listed_ascend : AreAscending slot_cmp (keys_by (ids_for x all own) (owners_under t x))
+  listed_ascend = keys_rise (ids_for x all own) (λ y. each (same_object x y)) (owners_under t x) (under_rise t x)
     where
       each : (b : Bool) → Rises prop_cmp (λ j. j) (if b then all else own)
       each true = walk_ids_rise t x
@@ -62,13 +50,12 @@ module _ (t : Maps) (good : IsGood t) (x : ObjNo) (row : ObjRow) (here : get t.o
       let p = passing (λ (p : PropRow). same_object p.definer x) (get t.props j) d in
       slot_on_heir t good.sound good.formed z (object_of_chain (world_of t) x z u) j.0 p.0 p.1 (ap (λ k. is_among k (chain (world_of t) z)) ((same_object-Decides p.0.definer x).0 p.2) ∙ u)
 
-  listed_has : (z : ObjNo) (j : PropId) → holds slot_cmp slot_total slot_exact (dropped_over x all own (owners_under t x)) (z, j) ≡ (is_among x (chain (world_of t) z) && has_id j (ids_for x all own z))
+  listed_has : (z : ObjNo) (j : PropId) → holds slot_cmp (keys_by (ids_for x all own) (owners_under t x)) (z, j) ≡ (is_among x (chain (world_of t) z) && has_id j (ids_for x all own z))
   listed_has z j =
-      ap (λ l. holds slot_cmp slot_total slot_exact l (z, j)) (over_is x all own (owners_under t x))
-      ∙ held_by (ids_for x all own) z j (owners_under t x)
+      held_by (ids_for x all own) z j (owners_under t x)
       ∙ ap (λ b. b && has_id j (ids_for x all own z)) (under_is t x z)
 
-  keys_have : (z : ObjNo) (j : PropId) → holds slot_cmp slot_total slot_exact (dropped_keys t x) (z, j) ≡ (is_some (get t.slots (z, j)) && goes_with t x (z, j))
+  keys_have : (z : ObjNo) (j : PropId) → holds slot_cmp (dropped_keys t x) (z, j) ≡ (is_some (get t.slots (z, j)) && goes_with t x (z, j))
   keys_have z j =
       listed slot_cmp slot_total slot_exact (z, j) (λ e. goes_with t x e.0) (λ e. e.0) (eq_by_cmp slot_cmp (z, j)) (λ e. refl) (entries t.slots) (entries_sorted t.slots)
       ∙ ap (λ o. unwrap_or (option_map (λ v. goes_with t x (z, j)) o) false) (sym (get-entries t.slots (z, j)))
@@ -109,13 +96,9 @@ module _ (t : Maps) (good : IsGood t) (x : ObjNo) (row : ObjRow) (here : get t.o
           (λ i. (ap (λ k. is_among x (chain (world_of t) k)) (sym same) ∙ own_chain) i && (walked j ∙ ap (λ k. is_some (get t.slots (k, j))) same) i) ∙ sym (and-true (is_some (get t.slots (z, j))))
       by false e = ap (λ b. is_among x (chain (world_of t) z) && b) (is_own_id t good x row here (record { maps = t; writes = 0; base = t }) refl j) ∙ beside (is_among x (chain (world_of t) z)) (defines t x j) refl refl
 
-  pub dropped_list : dropped_over x all own (owners_under t x) ≡ dropped_keys t x
-  dropped_list = unique slot_cmp slot_total slot_exact (dropped_over x all own (owners_under t x)) (dropped_keys t x) listed_ascend dropped_ascend
-      (λ k h. sym (alike k) ∙ h)
-      (λ k h. alike k ∙ h)
-    where
-      alike : (k : ObjNo × PropId) → holds slot_cmp slot_total slot_exact (dropped_over x all own (owners_under t x)) k ≡ holds slot_cmp slot_total slot_exact (dropped_keys t x) k
-      alike k = listed_has k.0 k.1 ∙ same_keys k.0 k.1 ∙ sym (keys_have k.0 k.1)
+  pub dropped_list : keys_by (ids_for x all own) (owners_under t x) ≡ dropped_keys t x
+  dropped_list = unique slot_total slot_exact (keys_by (ids_for x all own) (owners_under t x)) (dropped_keys t x) listed_ascend dropped_ascend
+      (λ k. listed_has k.0 k.1 ∙ same_keys k.0 k.1 ∙ sym (keys_have k.0 k.1))
 
   pub dropped_had : ArePresent t.slots (dropped_keys t x)
   dropped_had = all_made (λ e. find slot_cmp e.0 (entries t.slots) ≡ Some e.1) (λ key. is_some (get t.slots key) ≡ true) (λ e. goes_with t x e.0) (λ e. e.0)

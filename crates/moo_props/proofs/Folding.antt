@@ -1,5 +1,5 @@
 -- What the slots are after they are removed and put one by one.
-use Rattle.moo_props.{proofs.Cases.{cond_again, cond_and, cond_same, cond_twice}, proofs.Folds.{all_change, all_of_change}, proofs.Words.{◌≡◌, Bool, true, false, cond, ◌||◌, Option, None, Some, List, [], ◌∷◌, refl, sym, ap, ◌∙◌, ◌&&◌, is_some, option_map, Decides, eq_by_cmp, list_any, cons_option, AllByRecursion, FinMap, get, get-insert, get-remove, and_parts, none-some, same_Some, ObjNo, PropId, SlotRow, Held, prop_cmp, slot_cmp, prop_exact, slot_exact, prop_total, slot_total, same_object, same_object-Decides, key-Decides, decided_alike, Origin, slots_moved, origin_of, origins, fresh_of, slot_removed, slot_put, without_on, with_fresh, fresh_row}}
+use Rattle.moo_props.{proofs.Cases.{cond_again, cond_and, cond_same, cond_twice}, proofs.Folds.{all_change, all_of_change}, proofs.Words.{◌||◌, ◌≡◌, Bool, true, false, cond, Option, None, Some, List, [], ◌∷◌, refl, sym, ap, ◌∙◌, ◌&&◌, is_some, option_map, Decides, eq_by_cmp, list_any, cons_option, AllByRecursion, FinMap, get, get-insert, get-remove, and_parts, none-some, same_Some, ObjNo, PropId, SlotRow, Held, prop_cmp, slot_cmp, prop_exact, slot_exact, prop_total, slot_total, same_object, same_object-Decides, key-Decides, decided_alike, Origin, slots_moved, origin_of, origins, fresh_of, slot_removed, slot_put, without_on, with_fresh, fresh_row, ids_for, and-false}}
 
 abbrev pub is_id : PropId → PropId → Bool
 is_id j id = eq_by_cmp prop_cmp j id
@@ -22,7 +22,7 @@ slot_at held z j = get held.maps.slots (z, j)
 
 pub slot_at-without : (y z : ObjNo) (j : PropId) (ids : List PropId) (held : Held) → slot_at (without_on y ids held) z j ≡ cond (same_object y z && has_id j ids) None (slot_at held z j)
 slot_at-without y z j ids held =
-    all_change (without_on y) (slot_removed y) (λ h. refl) (λ id ids h. refl) (λ h. slot_at h z j) (is_id j) (cond (same_object y z) None) (cond_again (same_object y z) None)
+    all_change (slot_removed y) (λ h. slot_at h z j) (is_id j) (cond (same_object y z) None) (cond_again (same_object y z) None)
     (λ id h. get-remove slot_total h.maps.slots (y, id) (z, j) ∙ ap (λ b. cond b None (slot_at h z j)) (key_parts y z id j) ∙ cond_and (same_object y z) (is_id j id) None (slot_at h z j))
     ids held
     ∙ sym (cond_and (same_object y z) (has_id j ids) None (slot_at held z j))
@@ -53,11 +53,7 @@ module _ (slots : FinMap slot_cmp SlotRow) (q : ObjNo) where
 
       by : ((o : Option SlotRow) → get slots (q, j) ≡ o → (g : Option SlotRow) → fresh_in owner (origins slots q ids) j g ≡ cond (has_id j ids && is_some o) (option_map (fresh_row owner) o) g) → (p : Option SlotRow) → get slots (q, id) ≡ p → (b : Bool) → is_id j id ≡ b → (o : Option SlotRow) → get slots (q, j) ≡ o
           → fresh_in owner (cons_option (option_map (origin_of id) p) (origins slots q ids)) j g ≡ cond ((b || has_id j ids) && is_some o) (option_map (fresh_row owner) o) g
-      by r None h true k None e = r None e g ∙ ap (λ v. cond v None g) (none (has_id j ids))
-        where
-          none : (b : Bool) → (b && false) ≡ false
-          none true = refl
-          none false = refl
+      by r None h true k None e = r None e g ∙ ap (λ v. cond v None g) (and-false (has_id j ids))
       by r None h true k (Some s) e = absurd (none-some s (sym h ∙ same_slot k ∙ e))
       by r None h false k o e = r o e g
       by r (Some p) h true k None e = absurd (none-some p (sym e ∙ sym (same_slot k) ∙ h))
@@ -70,31 +66,43 @@ module _ (slots : FinMap slot_cmp SlotRow) (q : ObjNo) where
           r o e (cond (is_id j id) (Some (fresh_row owner p)) g)
           ∙ ap (λ b. cond (has_id j ids && is_some o) (option_map (fresh_row owner) o) (cond b (Some (fresh_row owner p)) g)) k
 
-  -- what becomes of a slot on an object of this owner
-  abbrev pub moved_slot : List PropId → List PropId → ObjNo → PropId → Option SlotRow → Option SlotRow
-  moved_slot lost coming owner j g = cond (has_id j coming && is_some (get slots (q, j))) (option_map (fresh_row owner) (get slots (q, j))) (cond (has_id j lost) None g)
+-- the fresh ones of one property are there whatever was
+fresh_alike : (owner : ObjNo) (j : PropId) (os : List Origin) (g : Option SlotRow) → fresh_in owner os j g ≡ cond (list_any (λ o. is_id j o.id) os) (fresh_in owner os j None) g
+fresh_alike owner j [] g = refl
+fresh_alike owner j (o ∷ os) g = by (is_id j o.id) (fresh_alike owner j os g)
+  where
+    by : (b : Bool) → fresh_in owner os j g ≡ cond (list_any (λ o. is_id j o.id) os) (fresh_in owner os j None) g
+        → fresh_in owner os j (cond b (Some (fresh_of owner o)) g) ≡ cond (b || list_any (λ o. is_id j o.id) os) (fresh_in owner os j (cond b (Some (fresh_of owner o)) None)) g
+    by true r = refl
+    by false r = r
 
-  module _ (lost coming : List PropId) (owner : ObjNo → ObjNo) (z : ObjNo) (j : PropId) where
-    abbrev step : Option SlotRow → Option SlotRow
-    step g = moved_slot lost coming (owner z) j g
+module _ (lost : ObjNo → List PropId) (os : List Origin) (owner : ObjNo → ObjNo) (z : ObjNo) (j : PropId) where
+  -- what becomes of a slot
+  abbrev step : Option SlotRow → Option SlotRow
+  step g = fresh_in (owner z) os j (cond (has_id j (lost z)) None g)
 
-    twice : (g : Option SlotRow) → step (step g) ≡ step g
-    twice g = cond_twice (has_id j coming && is_some (get slots (q, j))) (has_id j lost) (option_map (fresh_row (owner z)) (get slots (q, j))) None g
+  twice : (g : Option SlotRow) → step (step g) ≡ step g
+  twice g =
+      let put = list_any (λ o. is_id j o.id) os in
+      let made = fresh_in (owner z) os j None in
+      let gone = has_id j (lost z) in
+      let once = fresh_alike (owner z) j os (cond gone None g) in
+      fresh_alike (owner z) j os (cond gone None (step g)) ∙ ap (λ v. cond put made (cond gone None v)) once ∙ cond_twice put gone made None g ∙ sym once
 
-    one_moved : (e : ObjNo × ObjNo) (held : Held) → e.1 ≡ owner e.0 → slot_at (with_fresh e.0 e.1 (origins slots q coming) (without_on e.0 lost held)) z j ≡ cond (same_object e.0 z) (step (slot_at held z j)) (slot_at held z j)
-    one_moved e held h =
-        slot_at-fresh e.0 z e.1 j (origins slots q coming) (without_on e.0 lost held)
-        ∙ ap (λ g. cond (same_object e.0 z) (fresh_in e.1 (origins slots q coming) j g) g) (slot_at-without e.0 z j lost held)
-        ∙ by (same_object e.0 z) refl
-      where
-        by : (a : Bool) → same_object e.0 z ≡ a → cond a (fresh_in e.1 (origins slots q coming) j (cond (a && has_id j lost) None (slot_at held z j))) (cond (a && has_id j lost) None (slot_at held z j)) ≡ cond a (step (slot_at held z j)) (slot_at held z j)
-        by true k =
-            fresh_in-origins e.1 j (get slots (q, j)) refl coming (cond (has_id j lost) None (slot_at held z j))
-            ∙ ap (λ o. moved_slot lost coming o j (slot_at held z j)) (h ∙ ap owner ((same_object-Decides e.0 z).0 k))
-        by false k = refl
+  one_moved : (e : ObjNo × ObjNo) (held : Held) → e.1 ≡ owner e.0 → slot_at (with_fresh e.0 e.1 os (without_on e.0 (lost e.0) held)) z j ≡ cond (same_object e.0 z) (step (slot_at held z j)) (slot_at held z j)
+  one_moved e held h =
+      slot_at-fresh e.0 z e.1 j os (without_on e.0 (lost e.0) held)
+      ∙ ap (λ g. cond (same_object e.0 z) (fresh_in e.1 os j g) g) (slot_at-without e.0 z j (lost e.0) held)
+      ∙ by (same_object e.0 z) refl
+    where
+      by : (a : Bool) → same_object e.0 z ≡ a → cond a (fresh_in e.1 os j (cond (a && has_id j (lost e.0)) None (slot_at held z j))) (cond (a && has_id j (lost e.0)) None (slot_at held z j)) ≡ cond a (step (slot_at held z j)) (slot_at held z j)
+      by true k = let same = (same_object-Decides e.0 z).0 k in λ i. fresh_in ((h ∙ ap owner same) i) os j (cond (has_id j (lost (same i))) None (slot_at held z j))
+      by false k = refl
 
-    pub all_moved : (es : List (ObjNo × ObjNo)) (held : Held) → AllByRecursion (λ e. e.1 ≡ owner e.0) es
-        → slot_at (slots_moved lost (origins slots q coming) es held) z j ≡ cond (list_any (λ e. same_object e.0 z) es) (step (slot_at held z j)) (slot_at held z j)
-    all_moved =
-        all_of_change (slots_moved lost (origins slots q coming)) (λ e held. with_fresh e.0 e.1 (origins slots q coming) (without_on e.0 lost held)) (λ held. refl) (λ e es held. refl)
-        (λ held. slot_at held z j) (λ e. same_object e.0 z) step twice (λ e. e.1 ≡ owner e.0) one_moved
+  pub all_moved : (es : List (ObjNo × ObjNo)) (held : Held) → AllByRecursion (λ e. e.1 ≡ owner e.0) es
+      → slot_at (slots_moved lost os es held) z j ≡ cond (list_any (λ e. same_object e.0 z) es) (step (slot_at held z j)) (slot_at held z j)
+  all_moved = all_of_change (λ e held. with_fresh e.0 e.1 os (without_on e.0 (lost e.0) held)) (λ held. slot_at held z j) (λ e. same_object e.0 z) step twice (λ e. e.1 ≡ owner e.0) one_moved
+
+-- where the object itself loses what all lose
+pub ids_same : (x : ObjNo) (ids : List PropId) → ids_for x ids ids ≡ (λ y. ids)
+ids_same x ids = λ i y. cond_same (same_object x y) ids i

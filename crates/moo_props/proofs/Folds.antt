@@ -1,5 +1,5 @@
 -- What one step for each element of a list changes, and what it leaves as it was.
-use Rattle.moo_props.proofs.Words.{◌≡◌, Bool, true, false, cond, List, [], ◌∷◌, refl, ap, ◌∙◌, ◌||◌, list_any, AllByRecursion, FinMap, Held, Maps, object_cmp, prop_cmp, slot_cmp, verb_cmp, ObjRow, PropRow, SlotRow, VerbRow}
+use Rattle.moo_props.proofs.Words.{◌||◌, ◌≡◌, Bool, true, false, cond, List, [], ◌∷◌, refl, ap, ◌∙◌, list_any, AllByRecursion, FinMap, Held, Maps, object_cmp, prop_cmp, slot_cmp, verb_cmp, ObjRow, PropRow, SlotRow, VerbRow, after_each, ◌+◌, ◌≤◌, arith, length}
 use Rattle.std.specs.Prelude.{⊤}
 
 -- ---- all but one map
@@ -37,15 +37,25 @@ changed_or change twice true true v = twice v
 changed_or change twice true false v = refl
 changed_or change twice false b v = refl
 
-module _ {Y : Type 0} (fold : List Y → Held → Held) (step : Y → Held → Held) (over : (held : Held) → fold [] held ≡ held) (more : (y : Y) (ys : List Y) (held : Held) → fold (y ∷ ys) held ≡ fold ys (step y held)) where
+module _ {Y : Type 0} (step : Y → Held → Held) where
+  -- what no step changes
+  pub all_keep : {Z : Type 0} (see : Held → Z) → ((y : Y) (held : Held) → see (step y held) ≡ see held) → (ys : List Y) (held : Held) → see (after_each step ys held) ≡ see held
+  all_keep see keeps [] held = refl
+  all_keep see keeps (y ∷ ys) held = all_keep see keeps ys (step y held) ∙ keeps y held
+
+  -- each step writes a row at most
+  pub all_write : ((y : Y) (held : Held) → (step y held).writes ≤ held.writes + 1) → (ys : List Y) (held : Held) → (after_each step ys held).writes ≤ held.writes + length ys
+  all_write one [] held = omega arith
+  all_write one (y ∷ ys) held = omega (arith, all_write one ys (step y held), one y held)
+
   -- a value that each step changes for what passes a test is changed once if one passes, if a second change does nothing
   module _ {Z : Type 0} (see : Held → Z) (test : Y → Bool) (change : Z → Z) (twice : (v : Z) → change (change v) ≡ change v) where
-    pub all_of_change : (P : Y → Type 0) → ((y : Y) (held : Held) → P y → see (step y held) ≡ cond (test y) (change (see held)) (see held)) → (ys : List Y) (held : Held) → AllByRecursion P ys → see (fold ys held) ≡ cond (list_any test ys) (change (see held)) (see held)
-    all_of_change P one [] held h = ap see (over held)
+    pub all_of_change : (P : Y → Type 0) → ((y : Y) (held : Held) → P y → see (step y held) ≡ cond (test y) (change (see held)) (see held)) → (ys : List Y) (held : Held) → AllByRecursion P ys → see (after_each step ys held) ≡ cond (list_any test ys) (change (see held)) (see held)
+    all_of_change P one [] held h = refl
     all_of_change P one (y ∷ ys) held h =
-        ap see (more y ys held) ∙ all_of_change P one ys (step y held) h.1
+        all_of_change P one ys (step y held) h.1
         ∙ ap (λ v. cond (list_any test ys) (change v) v) (one y held h.0)
         ∙ changed_or change twice (test y) (list_any test ys) (see held)
 
-    pub all_change : ((y : Y) (held : Held) → see (step y held) ≡ cond (test y) (change (see held)) (see held)) → (ys : List Y) (held : Held) → see (fold ys held) ≡ cond (list_any test ys) (change (see held)) (see held)
+    pub all_change : ((y : Y) (held : Held) → see (step y held) ≡ cond (test y) (change (see held)) (see held)) → (ys : List Y) (held : Held) → see (after_each step ys held) ≡ cond (list_any test ys) (change (see held)) (see held)
     all_change one ys held = all_of_change (λ y. ⊤) (λ y held h. one y held) ys held (all_any ys)

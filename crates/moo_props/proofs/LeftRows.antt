@@ -1,36 +1,13 @@
 -- The rows once an object is dropped, key by key, and how many were written.
-use Rattle.moo_props.{proofs.Words.{◌≡◌, ◌≤◌, ◌+◌, Bool, true, false, Option, None, Some, List, [], ◌∷◌, length, refl, sym, ap, ◌∙◌, arith, length-append, ◌&&◌, ◌||◌, is_some, unwrap_or, if◌then◌else◌, option_map, get, remove, entries, get-entries, entries_sorted, both_ways, same_Some, ObjNo, ObjRow, PropId, PropRow, SlotRow, VerbId, object_exact, slot_exact, Maps, Held, wrote, object_cmp, slot_cmp, object_total, slot_total, nothing, same_object, is_among, same_object-Decides, WorldObject, chain, is_object, parent_of, IsGood, look_ups, world_of, object_shown, object_seen, no_parent, goes_with, dropped_keys, links_to, released_row, ids_for, ids_among, verbs_among, linked_among, dropped_over, slots_dropped, props_removed, verbs_removed, with_released, row_released, rows_released, defines, ArePresent, AreAbsent, owners_under, props_of, keys_on, without_on, own_entries, all_made, false_from_ne_true}, proofs.Shared.{none_of, own_under, walk}, specs.Dropped.{slot_left, prop_left, verb_left, heir, row_left}, proofs.LessRows.{held1, held2, held3, held5, only5, slots5, props5, verbs5, objects5}, proofs.Moved.{writes-without, length-made}}
+use Rattle.moo_props.{proofs.Words.{◌||◌, ◌≡◌, ◌≤◌, ◌+◌, Bool, true, false, Option, None, Some, List, [], ◌∷◌, length, refl, sym, ap, ◌∙◌, arith, ◌&&◌, is_some, unwrap_or, if◌then◌else◌, option_map, get, entries, get-entries, entries_sorted, both_ways, same_Some, ObjNo, ObjRow, PropId, SlotRow, VerbId, object_exact, slot_exact, Maps, Held, object_cmp, slot_cmp, object_total, slot_total, nothing, same_object, is_among, same_object-Decides, WorldObject, chain, is_object, parent_of, IsGood, look_ups, world_of, object_shown, object_seen, no_parent, goes_with, dropped_keys, links_to, released_row, ids_for, ids_among, verbs_among, linked_among, with_released, row_released, defines, ArePresent, AreAbsent, owners_under, props_of, own_entries, all_made, false_from_ne_true, keys_by, without_prop, without_verb}, proofs.Shared.{none_of, own_under, walk}, specs.Dropped.{slot_left, prop_left, verb_left, heir, row_left}, proofs.LessRows.{held1, held2, held3, held5, only5, slots5, props5, verbs5, objects5}, proofs.Folds.{all_write}, proofs.Moved.{no_keys, writes-moved}}
 use Rattle.std.specs.FinMap.{find}
 use Rattle.moo_world.{specs.Numbers.{not_of}, specs.World.{Climbs, location_of}, proofs.Ancestry.Chains.{Climbs-unique}, proofs.Ancestry.Trees.{nothing_is_no_object}}
 
 -- a property is left unless x defines it
 pub left_is : (t : Maps) (x : ObjNo) (id : PropId) → prop_left t x id ≡ not_of x (get t.props id)
-left_is t x id = by (get t.props id)
-  where
-    by : (o : Option PropRow) → (if unwrap_or (option_map (λ (p : PropRow). same_object p.definer x) o) false then None else o) ≡ not_of x o
-    by None = refl
-    by (Some p) = refl
+left_is t x id = grind arith
 
 -- ---- counts
-
-writes-dropped : (x : ObjNo) (all own : List PropId) (es : List (ObjNo × ObjNo)) (held : Held) → (slots_dropped x all own es held).writes ≡ held.writes + length (dropped_over x all own es)
-writes-dropped x all own [] held = omega arith
-writes-dropped x all own (e ∷ es) held =
-    omega (
-      arith,
-      writes-dropped x all own es (without_on e.0 (ids_for x all own e.0) held),
-      writes-without e.0 (ids_for x all own e.0) held,
-      length-append (keys_on e.0 (ids_for x all own e.0)) (dropped_over x all own es),
-      length-made {B = ObjNo × PropId} (λ (id : PropId). (e.0, id)) (ids_for x all own e.0),
-    )
-
-writes-props : (ids : List PropId) (held : Held) → (props_removed ids held).writes ≡ held.writes + length ids
-writes-props [] held = omega arith
-writes-props (id ∷ ids) held = omega (arith, writes-props ids (wrote held (record (held.maps) { props = remove held.maps.props id })))
-
-writes-verbs : (keys : List (ObjNo × VerbId)) (held : Held) → (verbs_removed keys held).writes ≡ held.writes + length keys
-writes-verbs [] held = omega arith
-writes-verbs (key ∷ keys) held = omega (arith, writes-verbs keys (wrote held (record (held.maps) { verbs = remove held.maps.verbs key })))
 
 writes-one : (x q y : ObjNo) (held : Held) → (row_released x q y held).writes ≤ held.writes + 1
 writes-one x q y held = by (get held.maps.objects y)
@@ -39,22 +16,19 @@ writes-one x q y held = by (get held.maps.objects y)
     by None = omega arith
     by (Some r) = omega arith
 
-writes-released : (x q : ObjNo) (ys : List ObjNo) (held : Held) → (rows_released x q ys held).writes ≤ held.writes + length ys
-writes-released x q [] held = omega arith
-writes-released x q (y ∷ ys) held = omega (arith, writes-released x q ys (row_released x q y held), writes-one x q y held)
-
 module _ (t : Maps) (good : IsGood t) (x : ObjNo) (row : ObjRow) (here : get t.objects x ≡ Some row) (held : Held) (same : held.maps ≡ t) where
   abbrev after : Held
   after = held5 t good x row here held same
 
-  pub writes5 : after.writes ≤ held.writes + (length (dropped_over x (ids_among (walk t x)) (props_of (x ∷ []) t.props) (owners_under t x)) + length (props_of (x ∷ []) t.props) + length (verbs_among x (entries t.verbs)) + length (linked_among x (entries t.objects)) + 1)
+  pub writes5 : after.writes ≤ held.writes + (length (keys_by (ids_for x (ids_among (walk t x)) (props_of (x ∷ []) t.props)) (owners_under t x)) + length (props_of (x ∷ []) t.props) + length (verbs_among x (entries t.verbs)) + length (linked_among x (entries t.objects)) + 1)
   writes5 =
       omega (
         arith,
-        writes-dropped x (ids_among (walk t x)) (props_of (x ∷ []) t.props) (owners_under t x) held,
-        writes-props (props_of (x ∷ []) t.props) (held1 t good x row here held same),
-        writes-verbs (verbs_among x (entries t.verbs)) (held2 t good x row here held same),
-        writes-released x row.parent (linked_among x (entries t.objects)) (held3 t good x row here held same),
+        writes-moved (ids_for x (ids_among (walk t x)) (props_of (x ∷ []) t.props)) [] [] (omega arith) (owners_under t x) held,
+        ap length (no_keys (owners_under t x)),
+        all_write (λ id h. without_prop h id) (λ id h. omega arith) (props_of (x ∷ []) t.props) (held1 t good x row here held same),
+        all_write (λ key h. without_verb h key) (λ key h. omega arith) (verbs_among x (entries t.verbs)) (held2 t good x row here held same),
+        all_write (row_released x row.parent) (writes-one x row.parent) (linked_among x (entries t.objects)) (held3 t good x row here held same),
       )
 
   -- ---- key by key

@@ -1,44 +1,22 @@
 -- The rows once an object is dropped, by their look-ups.
-use Rattle.moo_props.{proofs.Words.{◌≡◌, ℕ, Bool, true, false, cond, Option, None, Some, List, [], ◌∷◌, refl, sym, ap, ◌∙◌, ◌&&◌, is_some, unwrap_or, if◌then◌else◌, option_map, eq_by_cmp, int_eq, list_any, get, remove, entries, get-insert, get-remove, get-entries, entries_sorted, both_ways, ObjNo, ObjRow, PropId, PropRow, SlotRow, VerbId, VerbRow, object_exact, Maps, Held, wrote, object_cmp, verb_cmp, object_total, prop_total, nothing, same_object, is_among, same_object-Decides, same_object-eq, is_object, chain, IsGood, LookUps, look_ups, world_of, prop_id, verb_id, object_key, is_object_seen, links_to, released_row, ids_for, ids_among, verbs_among, linked_among, slots_dropped, props_removed, verbs_removed, with_released, row_released, rows_released, owners_under, props_of, without_on, listed, or_parts, or-false}, proofs.Shared.{all_change, but_slots, cond_again, cond_alike, cond_same, cond_under, has_id, is_id, own_among, own_under, same_base, same_maps, under_is, walk}, proofs.Folding.{slot_at-without}, proofs.Lessened.{is_own, less_object}, proofs.Moved.{keeps-without, has}, proofs.Folds.{but_objects, but_props, but_verbs}, proofs.NewSlots.{has_all}}
-use Rattle.moo_rows.{specs.Exact.{verb_exact}, specs.Maps.{without_prop, without_verb}, proofs.Orders.{verb_total}}
+use Rattle.moo_props.{proofs.Words.{◌≡◌, ℕ, Bool, true, false, cond, Option, None, Some, List, [], ◌∷◌, refl, sym, ap, ◌∙◌, is_some, unwrap_or, if◌then◌else◌, option_map, eq_by_cmp, int_eq, list_any, get, remove, entries, get-insert, get-remove, get-entries, entries_sorted, both_ways, ObjNo, ObjRow, PropId, PropRow, SlotRow, VerbId, VerbRow, object_exact, Maps, Held, wrote, object_cmp, verb_cmp, object_total, prop_total, nothing, same_object, is_among, same_object-Decides, same_object-eq, is_object, chain, IsGood, LookUps, look_ups, world_of, prop_id, verb_id, object_key, is_object_seen, links_to, released_row, ids_for, ids_among, verbs_among, linked_among, props_removed, verbs_removed, with_released, row_released, rows_released, owners_under, props_of, listed, or_parts, or-false, slots_moved, without_prop, without_verb}, proofs.Shared.{all_change, cond_alike, cond_same, has_id, is_id, own_among, own_under, same_base, same_maps, walk}, proofs.Lessened.{is_own, less_object}, proofs.Moved.{keeps-moved, slots_of_moved, has}, proofs.Folds.{all_keep, but_objects, but_props, but_verbs}, proofs.NewSlots.{has_all}}
+use Rattle.moo_rows.{specs.Exact.{verb_exact}, proofs.Orders.{verb_total}}
 
 -- ---- what the steps leave as it was
 
-module _ (x : ObjNo) (all own : List PropId) where
-  keeps-dropped : (es : List (ObjNo × ObjNo)) (held : Held) → but_slots (slots_dropped x all own es held) ≡ but_slots held
-  keeps-dropped [] held = refl
-  keeps-dropped (e ∷ es) held = keeps-dropped es (without_on e.0 (ids_for x all own e.0) held) ∙ keeps-without e.0 (ids_for x all own e.0) held
-
-  slots-dropped : (z : ObjNo) (j : PropId) (es : List (ObjNo × ObjNo)) (held : Held) → get (slots_dropped x all own es held).maps.slots (z, j) ≡ cond (list_any (λ e. same_object e.0 z) es && has_id j (ids_for x all own z)) None (get held.maps.slots (z, j))
-  slots-dropped z j es held =
-      let has = has_id j (ids_for x all own z) in
-      all_change (slots_dropped x all own) (λ e h. without_on e.0 (ids_for x all own e.0) h) (λ h. refl) (λ e es h. refl) (λ h. get h.maps.slots (z, j)) (λ e. same_object e.0 z) (cond has None) (cond_again has None)
-      (λ e h. slot_at-without e.0 z j (ids_for x all own e.0) h ∙ cond_under (same_object e.0 z) (has_id j (ids_for x all own e.0)) has None (get h.maps.slots (z, j)) (λ k. ap (λ y. has_id j (ids_for x all own y)) ((same_object-Decides e.0 z).0 k)))
-      es held
-      ∙ sym (cond_under (list_any (λ e. same_object e.0 z) es) has has None (get held.maps.slots (z, j)) (λ k. refl))
-
-keeps-props : (ids : List PropId) (held : Held) → but_props (props_removed ids held) ≡ but_props held
-keeps-props [] held = refl
-keeps-props (id ∷ ids) held = keeps-props ids (without_prop held id)
-
 props-removed : (j : PropId) (ids : List PropId) (held : Held) → get (props_removed ids held).maps.props j ≡ cond (has_id j ids) None (get held.maps.props j)
-props-removed j = all_change props_removed (λ id held. without_prop held id) (λ h. refl) (λ id ids h. refl) (λ h. get h.maps.props j) (is_id j) (λ o. None) (λ o. refl) (λ id h. get-remove prop_total h.maps.props id j)
-
-keeps-verbs : (keys : List (ObjNo × VerbId)) (held : Held) → but_verbs (verbs_removed keys held) ≡ but_verbs held
-keeps-verbs [] held = refl
-keeps-verbs (key ∷ keys) held = keeps-verbs keys (without_verb held key)
+props-removed j = all_change (λ id held. without_prop held id) (λ h. get h.maps.props j) (is_id j) (λ o. None) (λ o. refl) (λ id h. get-remove prop_total h.maps.props id j)
 
 verbs-removed : (k : ObjNo × VerbId) (keys : List (ObjNo × VerbId)) (held : Held) → get (verbs_removed keys held).maps.verbs k ≡ cond (list_any (eq_by_cmp verb_cmp k) keys) None (get held.maps.verbs k)
-verbs-removed k = all_change verbs_removed (λ key held. without_verb held key) (λ h. refl) (λ key keys h. refl) (λ h. get h.maps.verbs k) (eq_by_cmp verb_cmp k) (λ o. None) (λ o. refl) (λ key h. get-remove verb_total h.maps.verbs key k)
+verbs-removed k = all_change (λ key held. without_verb held key) (λ h. get h.maps.verbs k) (eq_by_cmp verb_cmp k) (λ o. None) (λ o. refl) (λ key h. get-remove verb_total h.maps.verbs key k)
 
 module _ (x q : ObjNo) where
   keeps-released : (ys : List ObjNo) (held : Held) → but_objects (rows_released x q ys held) ≡ but_objects held
-  keeps-released [] held = refl
-  keeps-released (y ∷ ys) held = keeps-released ys (row_released x q y held) ∙ by (get held.maps.objects y)
+  keeps-released = all_keep (row_released x q) but_objects (λ y held. by y held (get held.maps.objects y))
     where
-      by : (o : Option ObjRow) → but_objects (with_released x q y held o) ≡ but_objects held
-      by None = refl
-      by (Some r) = refl
+      by : (y : ObjNo) (held : Held) (o : Option ObjRow) → but_objects (with_released x q y held o) ≡ but_objects held
+      by y held None = refl
+      by y held (Some r) = refl
 
   abbrev rel : ObjRow → ObjRow
   rel = released_row x q
@@ -63,7 +41,7 @@ module _ (x q : ObjNo) where
           ∙ cond_alike (same_object y z) (Some (rel r)) (option_map rel (get held.maps.objects z)) (get held.maps.objects z) (λ e. sym (ap (option_map rel) (at_y e ∙ h)))
 
   rows-released : (z : ObjNo) (ys : List ObjNo) (held : Held) → get (rows_released x q ys held).maps.objects z ≡ cond (list_any (λ y. same_object y z) ys) (option_map rel (get held.maps.objects z)) (get held.maps.objects z)
-  rows-released z = all_change (rows_released x q) (row_released x q) (λ h. refl) (λ y ys h. refl) (λ h. get h.maps.objects z) (λ y. same_object y z) (option_map rel) again (λ y h. one_released y z h)
+  rows-released z = all_change (row_released x q) (λ h. get h.maps.objects z) (λ y. same_object y z) (option_map rel) again (λ y h. one_released y z h)
     where
       again : (o : Option ObjRow) → option_map rel (option_map rel o) ≡ option_map rel o
       again None = refl
@@ -86,7 +64,7 @@ module _ (t : Maps) (good : IsGood t) (x : ObjNo) (row : ObjRow) (here : get t.o
   own = props_of (x ∷ []) t.props
 
   abbrev pub held1 : Held
-  held1 = slots_dropped x all own (owners_under t x) held
+  held1 = slots_moved (ids_for x all own) [] (owners_under t x) held
 
   abbrev pub held2 : Held
   held2 = props_removed own held1
@@ -101,13 +79,13 @@ module _ (t : Maps) (good : IsGood t) (x : ObjNo) (row : ObjRow) (here : get t.o
   held5 = wrote held4 (record (held4.maps) { objects = remove held4.maps.objects x })
 
   pub only1 : held1.maps ≡ record t { slots = held1.maps.slots }
-  only1 = same_maps (keeps-dropped x all own (owners_under t x) held) held1.maps.slots ∙ ap (λ (k : Maps). record k { slots = held1.maps.slots }) same
+  only1 = same_maps (keeps-moved (ids_for x all own) [] (owners_under t x) held) held1.maps.slots ∙ ap (λ (k : Maps). record k { slots = held1.maps.slots }) same
 
   only2 : held2.maps ≡ record t { slots = held1.maps.slots; props = held2.maps.props }
-  only2 = same_maps (keeps-props own held1) held2.maps.props ∙ ap (λ (k : Maps). record k { props = held2.maps.props }) only1
+  only2 = same_maps (all_keep (λ id h. without_prop h id) but_props (λ id h. refl) own held1) held2.maps.props ∙ ap (λ (k : Maps). record k { props = held2.maps.props }) only1
 
   only3 : held3.maps ≡ record t { slots = held1.maps.slots; props = held2.maps.props; verbs = held3.maps.verbs }
-  only3 = same_maps (keeps-verbs (verbs_among x (entries t.verbs)) held2) held3.maps.verbs ∙ ap (λ (k : Maps). record k { verbs = held3.maps.verbs }) only2
+  only3 = same_maps (all_keep (λ key h. without_verb h key) but_verbs (λ key h. refl) (verbs_among x (entries t.verbs)) held2) held3.maps.verbs ∙ ap (λ (k : Maps). record k { verbs = held3.maps.verbs }) only2
 
   pub only5 : held5.maps ≡ record t { slots = held1.maps.slots; props = held2.maps.props; verbs = held3.maps.verbs; objects = remove held4.maps.objects x }
   only5 = same_maps (keeps-released x row.parent (linked_among x (entries t.objects)) held3) (remove held4.maps.objects x) ∙ ap (λ (k : Maps). record k { objects = remove held4.maps.objects x }) only3
@@ -115,7 +93,7 @@ module _ (t : Maps) (good : IsGood t) (x : ObjNo) (row : ObjRow) (here : get t.o
   pub base5 : held5.base ≡ held.base
   base5 =
       same_base (keeps-released x row.parent (linked_among x (entries t.objects)) held3)
-      ∙ same_base (keeps-verbs (verbs_among x (entries t.verbs)) held2) ∙ same_base (keeps-props own held1) ∙ same_base (keeps-dropped x all own (owners_under t x) held)
+      ∙ same_base (all_keep (λ key h. without_verb h key) but_verbs (λ key h. refl) (verbs_among x (entries t.verbs)) held2) ∙ same_base (all_keep (λ id h. without_prop h id) but_props (λ id h. refl) own held1) ∙ same_base (keeps-moved (ids_for x all own) [] (owners_under t x) held)
 
   -- ---- the properties of x
 
@@ -131,26 +109,26 @@ module _ (t : Maps) (good : IsGood t) (x : ObjNo) (row : ObjRow) (here : get t.o
 
   pub slots5 : (z : ObjNo) (j : PropId) → get held1.maps.slots (z, j) ≡ (if same_object x z then None else (if is_own m x j.0 then None else get t.slots (z, j)))
   slots5 z j =
-      slots-dropped x all own z j (owners_under t x) held
-      ∙ (λ i. cond (under_is t x z i && has_id j (ids_for x all own z)) None (get (same i).slots (z, j)))
+      slots_of_moved t x (ids_for x all own) [] z j held
+      ∙ (λ i. cond (is_among x (chain (world_of t) z)) (cond (has_id j (ids_for x all own z)) None (get (same i).slots (z, j))) (get (same i).slots (z, j)))
       ∙ by (same_object x z) refl
     where
-      at_x : x ≡ z → (o : Option SlotRow) → get t.slots (z, j) ≡ o → cond (is_among x (chain (world_of t) z) && has_id j all) None o ≡ None
-      at_x e None h = cond_same (is_among x (chain (world_of t) z) && has_id j all) None
+      at_x : x ≡ z → (o : Option SlotRow) → get t.slots (z, j) ≡ o → cond (is_among x (chain (world_of t) z)) (cond (has_id j all) None o) o ≡ None
+      at_x e None h = ap (λ g. cond (is_among x (chain (world_of t) z)) g None) (cond_same (has_id j all) None) ∙ cond_same (is_among x (chain (world_of t) z)) None
       at_x e (Some k) h =
           let there : is_object (world_of t) x ≡ true = is_object_seen m x ∙ ap is_some here in
-          (λ i. cond ((ap (λ y. is_among x (chain (world_of t) y)) (sym e) ∙ own_among t good.formed.tree x there) i && has_all t x good.sound j k (ap (λ y. get t.slots (y, j)) e ∙ h) i) None (Some k))
+          (λ i. cond ((ap (λ y. is_among x (chain (world_of t) y)) (sym e) ∙ own_among t good.formed.tree x there) i) (cond (has_all t x good.sound j k (ap (λ y. get t.slots (y, j)) e ∙ h) i) None (Some k)) (Some k))
 
-      beside : (u c : Bool) → is_among x (chain (world_of t) z) ≡ u → is_own m x j.0 ≡ c → (o : Option SlotRow) → get t.slots (z, j) ≡ o → cond (u && c) None o ≡ (if c then None else o)
+      beside : (u c : Bool) → is_among x (chain (world_of t) z) ≡ u → is_own m x j.0 ≡ c → (o : Option SlotRow) → get t.slots (z, j) ≡ o → cond u (cond c None o) o ≡ (if c then None else o)
       beside true c f g o h = refl
       beside false false f g o h = refl
       beside false true f g None h = refl
       beside false true f g (Some k) h = absurd (both_ways (is_among x (chain (world_of t) z)) f (own_under t good x z j k h g))
 
-      by : (b : Bool) → same_object x z ≡ b → cond (is_among x (chain (world_of t) z) && has_id j (if b then all else own)) None (get t.slots (z, j)) ≡ (if b then None else (if is_own m x j.0 then None else get t.slots (z, j)))
+      by : (b : Bool) → same_object x z ≡ b → cond (is_among x (chain (world_of t) z)) (cond (has_id j (if b then all else own)) None (get t.slots (z, j))) (get t.slots (z, j)) ≡ (if b then None else (if is_own m x j.0 then None else get t.slots (z, j)))
       by true e = at_x ((same_object-Decides x z).0 e) (get t.slots (z, j)) refl
       by false e =
-          ap (λ c. cond (is_among x (chain (world_of t) z) && c) None (get t.slots (z, j))) (is_own_id j)
+          ap (λ c. cond (is_among x (chain (world_of t) z)) (cond c None (get t.slots (z, j))) (get t.slots (z, j))) (is_own_id j)
           ∙ beside (is_among x (chain (world_of t) z)) (is_own m x j.0) refl refl (get t.slots (z, j)) refl
 
   -- ---- verbs

@@ -1,5 +1,5 @@
 -- Rows without an object show the world without it, and are sound.
-use Rattle.moo_props.{proofs.Words.{◌≡◌, ℕ, Bool, true, false, ◌||◌, Option, None, Some, [], ◌∷◌, refl, sym, ap, ◌∙◌, is_some, unwrap_or, if◌then◌else◌, option_map, option_and_then, filter_map, ObjNo, ObjRow, PropRow, unless_defined_by, Name, nothing, same_object, same_object-Decides, recycled, World, WorldObject, IsWellFormed, is_object, parent_of, slot_of, with_slots, without_slots, LookUps, AreSound, numbers_below, name_on, slot_seen, object_shown, world_shown, SameButSlots-rebuilt, same_world, no_slot, objects_same, is_object_seen, object_seen, released_row, SlotHere, is_among, or_parts}, proofs.Shared.{kept_slots, left_some, left_value, some_map}}
+use Rattle.moo_props.{proofs.Words.{◌||◌, ◌≡◌, ℕ, Bool, true, false, Option, None, Some, [], ◌∷◌, refl, sym, ap, ◌∙◌, is_some, unwrap_or, if◌then◌else◌, option_map, option_and_then, filter_map, ObjNo, ObjRow, PropRow, unless_defined_by, Name, nothing, same_object, same_object-Decides, recycled, World, WorldObject, IsWellFormed, is_object, parent_of, slot_of, with_slots, without_slots, LookUps, AreSound, numbers_below, name_on, slot_seen, object_shown, world_shown, SameButSlots-rebuilt, objects_same, is_object_seen, object_seen, released_row, SlotHere, is_among, or_parts}, proofs.Shared.{kept_slots, left_some, left_value, some_map, same_by_objects}}
 use Rattle.moo_world.{proofs.Shown.ObjectEntries.{same_object-symm}, specs.Recycling.{released, object_removed}, proofs.Inheritance.Recycling.{IsWellFormed-recycled, recycle_law}}
 
 -- x defines the property under a number
@@ -28,9 +28,6 @@ module _ (m : LookUps) (sound : AreSound m) (wf : IsWellFormed (world_shown m)) 
 
   xo : is_object w x ≡ true
   xo = is_object_seen m x ∙ ap is_some here
-
-  is_x : same_object x x ≡ true
-  is_x = (same_object-Decides x x).1 refl
 
   own_of : (j : ℕ) (p : PropRow) → m.prop j ≡ Some p → is_own m x j ≡ same_object p.definer x
   own_of j p e = ap (λ o. unwrap_or (option_map (λ (p : PropRow). same_object p.definer x) o) false) e
@@ -120,25 +117,11 @@ module _ (m : LookUps) (sound : AreSound m) (wf : IsWellFormed (world_shown m)) 
       let there : is_some (m.object y) ≡ true = sym (is_object_seen m y) ∙ o in
       kept_slots m m2 sound sound_less y n there (still y e there) (λ s. is_among s.definer (x ∷ [])) (unless_defined_by (x ∷ [])) refl (λ s. refl) (λ j. before y n j e) (λ j. after y n j e)
 
-  same_slots : (y : ObjNo) (n : Name) → slot_of (world_shown m2) y n ≡ slot_of (recycled w x) y n
-  same_slots y n = by (same_object x y) refl (is_object w y) refl
-    where
-      alike : is_object (world_shown m2) y ≡ is_object (recycled w x) y
-      alike = objects_same (world_shown m2) s links y ∙ sym (objects_same (recycled w x) s (SameButSlots-rebuilt w s nothing) y)
-
-      none_both : is_object (world_shown m2) y ≡ false → slot_of (world_shown m2) y n ≡ slot_of (recycled w x) y n
-      none_both h = no_slot ((world_shown m2).object y) n h ∙ sym (no_slot ((recycled w x).object y) n (sym alike ∙ h))
-
-      by : (b : Bool) → same_object x y ≡ b → (o : Bool) → is_object w y ≡ o → slot_of (world_shown m2) y n ≡ slot_of (recycled w x) y n
-      by true e o f = none_both (is_object_seen m2 y ∙ ap (λ b. is_some (if b then None else option_map (released_row x row.parent) (m.object y))) e)
-      by false e false f = none_both (is_object_seen m2 y ∙ ap (λ b. is_some (if b then None else option_map (released_row x row.parent) (m.object y))) e ∙ some_map (released_row x row.parent) (m.object y) ∙ sym (is_object_seen m y) ∙ f)
-      by false e true f = kept y n e f ∙ sym (recycle_law w x wf xo y n there)
-        where
-          there : is_object s y ≡ true
-          there = ap (λ b. is_some (if b then None else option_map (released x (unwrap_or (parent_of w x) nothing)) (w.object y))) e ∙ some_map (released x (unwrap_or (parent_of w x) nothing)) (w.object y) ∙ f
-
   pub world_less : world_shown m2 ≡ recycled w x
-  world_less = same_world (world_shown m2) (recycled w x) (links ∙ sym (SameButSlots-rebuilt w s nothing)) same_slots
+  world_less = same_by_objects (world_shown m2) (recycled w x) (links ∙ sym (SameButSlots-rebuilt w s nothing)) (λ y n e.
+      let left = left_some (same_object x y) (option_map (released_row x row.parent) (m.object y)) (sym (is_object_seen m2 y) ∙ e) in
+      let here = is_object_seen m y ∙ sym (some_map (released_row x row.parent) (m.object y)) ∙ left.1 in
+      kept y n left.0 here ∙ sym (recycle_law w x wf xo y n (sym (objects_same (world_shown m2) s links y) ∙ e)))
 
   pub formed_less : IsWellFormed (recycled w x)
   formed_less = IsWellFormed-recycled w x wf xo

@@ -1,56 +1,50 @@
 -- What the steps of a change of parent come to.
-use Rattle.moo_props.{proofs.Words.{◌≡◌, ◌+◌, Bool, true, false, cond, Option, None, Some, List, [], ◌∷◌, map, length, refl, sym, ap, ◌∙◌, subst, arith, length-append, ◌&&◌, is_some, unwrap_or, drop, if◌then◌else◌, option_map, filter, list_any, cons_option, AllByRecursion, FinMap, get, insert, entries, get-entries, get-insert, entries_sorted, ObjNo, ObjRow, PropId, PropRow, SlotRow, Maps, Held, wrote, object_cmp, prop_cmp, slot_cmp, object_exact, prop_exact, object_total, prop_total, same_object, is_among, nothing, same_object-Decides, World, WorldObject, chain, owner_of, reparented, IsSound, look_ups, world_of, MayReparent, ancestors, lost, gained, chain_of_row, chain_of_no_row, object_seen, object_key, Origin, owners_under, props_only_of, slots_moved, relinked, relinked_list, props_of, is_defined_among, slot_after, row_after, IsSameButSlotsAndObjects, id_of, origin_of, origins, fresh_of, slot_removed, slot_put, without_on, with_fresh, keys_on, keys_over, fresh_row, listed, own_entries, all_made, cond_both, some_of}, proofs.Cases.{passing}, proofs.Folding.{has_id, is_id, all_moved}, proofs.Folds.{but_slots, same_base, same_maps}, proofs.Definers.{only_lost, only_gained}, proofs.Gains.{slot_on_new}, proofs.After.{world_after, sound_after}}
+use Rattle.moo_props.{proofs.Words.{suc, ◌≡◌, ◌+◌, Bool, true, false, cond, Option, None, Some, List, [], ◌∷◌, map, length, refl, sym, ap, ◌∙◌, subst, arith, length-append, ◌&&◌, is_some, unwrap_or, drop, if◌then◌else◌, option_map, filter, list_any, cons_option, AllByRecursion, FinMap, get, insert, entries, get-entries, get-insert, entries_sorted, ObjNo, ObjRow, PropId, PropRow, SlotRow, Maps, Held, wrote, object_cmp, prop_cmp, slot_cmp, object_exact, prop_exact, object_total, prop_total, same_object, is_among, nothing, same_object-Decides, World, WorldObject, chain, owner_of, reparented, IsSound, look_ups, world_of, MayReparent, ancestors, lost, gained, chain_of_row, chain_of_no_row, object_seen, object_key, Origin, owners_under, props_only_of, slots_moved, relinked, relinked_list, props_of, is_defined_among, slot_after, row_after, IsSameButSlotsAndObjects, origin_of, origins, fresh_of, slot_removed, slot_put, without_on, with_fresh, keys_on, keys_over, fresh_row, listed, own_entries, all_made, cond_both, ◌≤◌, keys_by}, proofs.Cases.{passing}, proofs.Folding.{has_id, is_id, all_moved, fresh_in, fresh_in-origins}, proofs.Folds.{all_keep, all_write, but_slots, same_base, same_maps}, proofs.Definers.{only_lost, only_gained}, proofs.Gains.{slot_on_new}, proofs.After.{world_after, sound_after}}
 use Rattle.std.specs.FinMap.{find}
 
 -- ---- only slots change, and each change is counted
 
-pub keeps-without : (y : ObjNo) (ids : List PropId) (held : Held) → but_slots (without_on y ids held) ≡ but_slots held
-keeps-without y [] held = refl
-keeps-without y (id ∷ ids) held = keeps-without y ids (slot_removed y id held)
-
 pub keeps-fresh : (y owner : ObjNo) (os : List Origin) (held : Held) → but_slots (with_fresh y owner os held) ≡ but_slots held
-keeps-fresh y owner [] held = refl
-keeps-fresh y owner (o ∷ os) held = keeps-fresh y owner os (slot_put y o.id (fresh_of owner o) held)
+keeps-fresh y owner os held = all_keep (λ o. slot_put y o.id (fresh_of owner o)) but_slots (λ o h. refl) os held
 
-keeps-moved : (lost : List PropId) (gained : List Origin) (es : List (ObjNo × ObjNo)) (held : Held) → but_slots (slots_moved lost gained es held) ≡ but_slots held
-keeps-moved lost gained [] held = refl
-keeps-moved lost gained (e ∷ es) held =
-    keeps-moved lost gained es (with_fresh e.0 e.1 gained (without_on e.0 lost held)) ∙ keeps-fresh e.0 e.1 gained (without_on e.0 lost held) ∙ keeps-without e.0 lost held
+pub keeps-moved : (lost : ObjNo → List PropId) (os : List Origin) (es : List (ObjNo × ObjNo)) (held : Held) → but_slots (slots_moved lost os es held) ≡ but_slots held
+keeps-moved lost os es held =
+    all_keep (λ e h. with_fresh e.0 e.1 os (without_on e.0 (lost e.0) h)) but_slots
+    (λ e h. keeps-fresh e.0 e.1 os (without_on e.0 (lost e.0) h) ∙ all_keep (slot_removed e.0) but_slots (λ id h. refl) (lost e.0) h) es held
 
-pub writes-without : (y : ObjNo) (ids : List PropId) (held : Held) → (without_on y ids held).writes ≡ held.writes + length ids
-writes-without y [] held = omega arith
-writes-without y (id ∷ ids) held = omega (arith, writes-without y ids (slot_removed y id held))
-
-pub writes-fresh : (y owner : ObjNo) (os : List Origin) (held : Held) → (with_fresh y owner os held).writes ≡ held.writes + length os
-writes-fresh y owner [] held = omega arith
-writes-fresh y owner (o ∷ os) held = omega (arith, writes-fresh y owner os (slot_put y o.id (fresh_of owner o) held))
-
-pub length-made : {A B : Type 0} (f : A → B) (l : List A) → length (map f l) ≡ length l
+length-made : {A B : Type 0} (f : A → B) (l : List A) → length (map f l) ≡ length l
 length-made f [] = refl
 length-made f (x ∷ l) = omega (arith, length-made f l)
 
-pub writes-moved : (lost : List PropId) (gained : List Origin) (es : List (ObjNo × ObjNo)) (held : Held) → (slots_moved lost gained es held).writes ≡ held.writes + (length (keys_over lost es) + length (keys_over (map id_of gained) es))
-writes-moved lost gained [] held = omega arith
-writes-moved lost gained (e ∷ es) held =
+pub writes-moved : (lost : ObjNo → List PropId) (os : List Origin) (ids : List PropId) → length os ≤ length ids → (es : List (ObjNo × ObjNo)) (held : Held) → (slots_moved lost os es held).writes ≤ held.writes + (length (keys_by lost es) + length (keys_over ids es))
+writes-moved lost os ids few [] held = omega arith
+writes-moved lost os ids few (e ∷ es) held =
     omega (
       arith,
-      writes-moved lost gained es (with_fresh e.0 e.1 gained (without_on e.0 lost held)),
-      writes-fresh e.0 e.1 gained (without_on e.0 lost held),
-      writes-without e.0 lost held,
-      length-append (keys_on e.0 lost) (keys_over lost es),
-      length-append (keys_on e.0 (map id_of gained)) (keys_over (map id_of gained) es),
-      length-made {B = ObjNo × PropId} (λ (id : PropId). (e.0, id)) lost,
-      length-made {B = ObjNo × PropId} (λ (id : PropId). (e.0, id)) (map id_of gained),
-      length-made id_of gained,
+      few,
+      writes-moved lost os ids few es (with_fresh e.0 e.1 os (without_on e.0 (lost e.0) held)),
+      all_write (λ o. slot_put e.0 o.id (fresh_of e.1 o)) (λ o h. omega arith) os (without_on e.0 (lost e.0) held),
+      all_write (slot_removed e.0) (λ id h. omega arith) (lost e.0) held,
+      length-append (keys_on e.0 (lost e.0)) (keys_by lost es),
+      length-append (keys_on e.0 ids) (keys_over ids es),
+      length-made {B = ObjNo × PropId} (λ (id : PropId). (e.0, id)) (lost e.0),
+      length-made {B = ObjNo × PropId} (λ (id : PropId). (e.0, id)) ids,
     )
+
+pub no_keys : (es : List (ObjNo × ObjNo)) → keys_over [] es ≡ []
+no_keys [] = refl
+no_keys (e ∷ es) = no_keys es
 
 -- ---- the lists of the code are those of the definitions
 
-ids_of-origins : (slots : FinMap slot_cmp SlotRow) (q : ObjNo) (ids : List PropId) → AllByRecursion (λ id. is_some (get slots (q, id)) ≡ true) ids → map id_of (origins slots q ids) ≡ ids
-ids_of-origins slots q [] a = refl
-ids_of-origins slots q (id ∷ ids) a =
-    let s = some_of (get slots (q, id)) a.0 in
-    ap (λ o. map id_of (cons_option (option_map (origin_of id) o) (origins slots q ids))) s.1 ∙ ap (λ l. id ∷ l) (ids_of-origins slots q ids a.1)
+-- a slot is made from each property at most
+few_origins : (slots : FinMap slot_cmp SlotRow) (q : ObjNo) (ids : List PropId) → length (origins slots q ids) ≤ length ids
+few_origins slots q [] = omega arith
+few_origins slots q (id ∷ ids) = by (option_map (origin_of id) (get slots (q, id))) (few_origins slots q ids)
+  where
+    by : (o : Option Origin) → length (origins slots q ids) ≤ length ids → length (cons_option o (origins slots q ids)) ≤ suc (length ids)
+    by None h = omega (arith, h)
+    by (Some o) h = omega (arith, h)
 
 -- the objects under x are those that have x in their chains
 pub under_is : (t : Maps) (x z : ObjNo) → list_any (λ e. same_object e.0 z) (owners_under t x) ≡ is_among x (chain (world_of t) z)
@@ -67,6 +61,12 @@ pub owners_are : (t : Maps) (x : ObjNo) → AllByRecursion (λ e. e.1 ≡ owner_
 owners_are t x = all_made (λ e. find object_cmp e.0 (entries t.objects) ≡ Some e.1) (λ e. e.1 ≡ owner_of (world_of t) e.0) (λ e. is_among x (chain (world_of t) e.0)) (λ e. (e.0, e.1.owner))
     (λ e h k. sym (ap (λ o. unwrap_or (option_map (λ (r : WorldObject). r.row.owner) o) nothing) (object_seen (look_ups t) e.0 e.1 (get-entries t.objects e.0 ∙ h))))
     (entries t.objects) (own_entries object_cmp object_total object_exact (entries t.objects) (entries_sorted t.objects))
+
+-- a slot once those of x and of all under it are moved
+pub slots_of_moved : (t : Maps) (x : ObjNo) (lost : ObjNo → List PropId) (os : List Origin) (z : ObjNo) (j : PropId) (held : Held) → get (slots_moved lost os (owners_under t x) held).maps.slots (z, j) ≡ cond (is_among x (chain (world_of t) z)) (fresh_in (owner_of (world_of t) z) os j (cond (has_id j (lost z)) None (get held.maps.slots (z, j)))) (get held.maps.slots (z, j))
+slots_of_moved t x lost os z j held =
+    all_moved lost os (owner_of (world_of t)) z j (owners_under t x) held (owners_are t x)
+    ∙ ap (λ u. cond u (fresh_in (owner_of (world_of t) z) os j (cond (has_id j (lost z)) None (get held.maps.slots (z, j)))) (get held.maps.slots (z, j))) (under_is t x z)
 
 -- the properties that objects of a list define
 pub has : (t : Maps) (definers : List ObjNo) (j : PropId) → has_id j (props_of definers t.props) ≡ is_defined_among definers t j
@@ -97,22 +97,18 @@ module _ (t : Maps) (sound : IsSound t) (x q : ObjNo) (may : MayReparent (world_
       ap (λ above. props_only_of (chain w q) above (entries t.props)) above_is
       ∙ ap (λ (test : ObjNo → Bool). map (λ e. e.0) (filter (λ e. test e.1.definer) (entries t.props))) (λ i d. only_gained w x q may d i)
 
-  pub all_on_new : map id_of (origins t.slots q gained_ids) ≡ gained_ids
-  all_on_new = ids_of-origins t.slots q gained_ids
-      (all_made (λ e. find prop_cmp e.0 (entries t.props) ≡ Some e.1) (λ id. is_some (get t.slots (q, id)) ≡ true) (λ e. is_among e.1.definer (gained w x q)) (λ e. e.0)
-      (λ e h k. slot_on_new t sound x q may e.0.0 e.1 (get-entries t.props e.0 ∙ h) k) (entries t.props) (own_entries prop_cmp prop_total prop_exact (entries t.props) (entries_sorted t.props)))
-
   module _ (held : Held) (at : held.maps ≡ t) where
     abbrev pub held1 : Held
-    held1 = slots_moved lost_ids (origins t.slots q gained_ids) (owners_under t x) held
+    held1 = slots_moved (λ y. lost_ids) (origins t.slots q gained_ids) (owners_under t x) held
 
     abbrev pub held2 : Held
     held2 = relinked x row q held1
 
     slots1 : (key : ObjNo × PropId) → get held1.maps.slots key ≡ slot_after t x q key
     slots1 key =
-        all_moved t.slots q lost_ids gained_ids (owner_of w) key.0 key.1 (owners_under t x) held (owners_are t x)
-        ∙ (λ i. settle (under_is t x key.0 i) (has t (gained w x q) key.1 i) (has t (lost w x q) key.1 i) (get (at i).slots key))
+        slots_of_moved t x (λ y. lost_ids) (origins t.slots q gained_ids) key.0 key.1 held
+        ∙ ap (λ g. cond (is_among x (chain w key.0)) g (get held.maps.slots key)) (fresh_in-origins t.slots q (owner_of w key.0) key.1 (get t.slots (q, key.1)) refl gained_ids (cond (has_id key.1 lost_ids) None (get held.maps.slots key)))
+        ∙ (λ i. settle (is_among x (chain w key.0)) (has t (gained w x q) key.1 i) (has t (lost w x q) key.1 i) (get (at i).slots key))
         ∙ by (is_defined_among (gained w x q) t key.1) refl
       where
         settle : Bool → Bool → Bool → Option SlotRow → Option SlotRow
@@ -127,10 +123,10 @@ module _ (t : Maps) (sound : IsSound t) (x q : ObjNo) (may : MayReparent (world_
         by false e = refl
 
     only1 : held1.maps ≡ record t { slots = held1.maps.slots }
-    only1 = same_maps (keeps-moved lost_ids (origins t.slots q gained_ids) (owners_under t x) held) held1.maps.slots ∙ ap (λ (z : Maps). record z { slots = held1.maps.slots }) at
+    only1 = same_maps (keeps-moved (λ y. lost_ids) (origins t.slots q gained_ids) (owners_under t x) held) held1.maps.slots ∙ ap (λ (z : Maps). record z { slots = held1.maps.slots }) at
 
     base1 : held1.base ≡ held.base
-    base1 = same_base (keeps-moved lost_ids (origins t.slots q gained_ids) (owners_under t x) held)
+    base1 = same_base (keeps-moved (λ y. lost_ids) (origins t.slots q gained_ids) (owners_under t x) held)
 
     abbrev changed : ObjRow → ObjRow
     changed r = record r { parent = q }
@@ -175,12 +171,12 @@ module _ (t : Maps) (sound : IsSound t) (x q : ObjNo) (may : MayReparent (world_
     pub base2 : held2.base ≡ held.base
     base2 = either (λ h. h.base ≡ held.base) (λ e. base1) (λ e. base1)
 
-    pub writes2 : held2.writes ≡ held.writes + (length (keys_over lost_ids (owners_under t x)) + length (keys_over gained_ids (owners_under t x)) + length (relinked_list x row q))
+    pub writes2 : held2.writes ≤ held.writes + (length (keys_over lost_ids (owners_under t x)) + length (keys_over gained_ids (owners_under t x)) + length (relinked_list x row q))
     writes2 = by (same_object row.parent q)
       where
-        moved : held1.writes ≡ held.writes + (length (keys_over lost_ids (owners_under t x)) + length (keys_over gained_ids (owners_under t x)))
-        moved = writes-moved lost_ids (origins t.slots q gained_ids) (owners_under t x) held ∙ ap (λ ids. held.writes + (length (keys_over lost_ids (owners_under t x)) + length (keys_over ids (owners_under t x)))) all_on_new
+        moved : held1.writes ≤ held.writes + (length (keys_over lost_ids (owners_under t x)) + length (keys_over gained_ids (owners_under t x)))
+        moved = writes-moved (λ y. lost_ids) (origins t.slots q gained_ids) gained_ids (few_origins t.slots q gained_ids) (owners_under t x) held
 
-        by : (b : Bool) → (if b then held1 else wrote held1 (record (held1.maps) { objects = insert held1.maps.objects x (changed row) })).writes ≡ held.writes + (length (keys_over lost_ids (owners_under t x)) + length (keys_over gained_ids (owners_under t x)) + length (if b then [] else x ∷ []))
+        by : (b : Bool) → (if b then held1 else wrote held1 (record (held1.maps) { objects = insert held1.maps.objects x (changed row) })).writes ≤ held.writes + (length (keys_over lost_ids (owners_under t x)) + length (keys_over gained_ids (owners_under t x)) + length (if b then [] else x ∷ []))
         by true = omega (arith, moved)
         by false = omega (arith, moved)

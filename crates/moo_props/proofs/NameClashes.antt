@@ -1,5 +1,5 @@
 -- Clashes of names, by what each object defines itself.
-use Rattle.moo_props.{proofs.Words.{◌≡◌, Bool, true, ◌||◌, Option, None, Some, IfSome, List, [], ◌∷◌, refl, sym, ap, ◌∙◌, is_some, int_eq, filter, list_any, AllByRecursion, get, entries, or_left, or_right, Decides-int_eq, prop_cmp, prop_exact, prop_total, is_past, is_object_seen, look_ups, IsGood, PropId, PropRow, is_among, Slot, is_object, ObjNo, defined_left, Maps, clashes, subtree_of, Name, Property, same_object, same_text, folded, defines_name, World, IsWellFormed, chain, property_names_of, defined_by, defined_by_any, property_named, slot_of, IsSound, world_of, prop_id, any-append, any_map, meets_on}, specs.Clashes.{IsTaken}, proofs.Shared.{has_owed}, proofs.DefinedNames.{names_listed}, proofs.Owing.{definer_in, definer_defines}, proofs.Walked.{found_any, all_filter, all_held, all_pass}, proofs.WholeWalks.{props_all}}
+use Rattle.moo_props.{proofs.Words.{◌||◌, ◌≡◌, Bool, true, Some, List, [], ◌∷◌, refl, sym, ap, ◌∙◌, is_some, int_eq, filter, list_any, AllByRecursion, get, entries, or_left, Decides-int_eq, prop_cmp, prop_exact, prop_total, is_past, is_object_seen, look_ups, IsGood, PropId, PropRow, is_among, Slot, is_object, ObjNo, defined_left, Maps, clashes, subtree_of, Name, Property, same_object, same_text, folded, defines_name, World, IsWellFormed, chain, property_names_of, defined_by, defined_by_any, property_named, slot_of, IsSound, world_of, prop_id, any-append, any_map, meets_on}, specs.Clashes.{IsTaken}, proofs.Shared.{has_owed}, proofs.DefinedNames.{names_listed}, proofs.Owing.{definer_in, definer_defines}, proofs.Walked.{found_any, all_filter, all_held, all_pass}, proofs.WholeWalks.{props_all}}
 use Rattle.moo_world.specs.ObjectLists.{shares_property_name}
 
 -- ---- what the objects of a list define
@@ -58,8 +58,3 @@ taken_above t good x n id s held e =
     let w = world_of t in
     let here : is_object w x ≡ true = is_object_seen (look_ups t) x ∙ (good.sound.slots x id.0 held).0 in
     (definer_defines w good.formed x here (folded n) s e, or_left (is_among s.definer (chain w x)) (is_among x (chain w s.definer)) (definer_in w good.formed x here (folded n) s e))
-
--- one under x that defines the name, if there is one
-pub taken_under : (w : World) (x : ObjNo) (n : Name) (o : Option ObjNo) → IfSome o (λ y. is_among x (chain w y) ≡ true) → IfSome o (λ y. defines_name w y n ≡ true) → IfSome o (IsTaken w x n)
-taken_under w x n None under defines = tt
-taken_under w x n (Some y) under defines = (defines, or_right (is_among y (chain w x)) (is_among x (chain w y)) under)

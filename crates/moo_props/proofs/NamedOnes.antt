@@ -1,5 +1,5 @@
 -- The first property that an object defines under a name, and what that says of its slots and of those below it.
-use Rattle.moo_props.{proofs.Words.{◌≡◌, Bool, true, false, Option, None, Some, IfSome, some_of, [], ◌∷◌, refl, sym, ap, ◌∙◌, ◌&&◌, ◌||◌, and-true, and_parts, or_left, or_right, is_some, unwrap_or, option_map, int_eq, list_any, get, entries, ObjNo, ObjRow, PropId, PropRow, prop_cmp, prop_exact, prop_total, IsFirst, defined_left, Maps, Name, is_among, same_object-Decides, chain, World, IsGood, IsSound, look_ups, world_of, prop_id, slot_of, defines_name, defines, name_of}, proofs.Cases.{passing}, proofs.NameClashes.{any_defined, any_defines}, proofs.Shared.{has_owed, slot_on_heir, object_of_chain}, proofs.Walked.{any_filter}}
+use Rattle.moo_props.{proofs.Words.{◌||◌, ◌≡◌, Bool, true, false, Option, None, Some, IfSome, some_of, [], ◌∷◌, refl, sym, ap, ◌∙◌, ◌&&◌, and-true, and_parts, or_left, or_right, is_some, unwrap_or, option_map, int_eq, list_any, get, entries, ObjNo, ObjRow, PropId, PropRow, prop_cmp, prop_exact, prop_total, IsFirst, defined_left, Maps, Name, is_among, same_object-Decides, chain, World, IsGood, IsSound, look_ups, world_of, prop_id, slot_of, defines_name, defines, name_of}, proofs.Cases.{passing}, proofs.NameClashes.{any_defined, any_defines}, proofs.Shared.{has_owed, slot_on_heir, object_of_chain}, proofs.Walked.{any_filter}}
 use Rattle.moo_rows.{specs.Named.{is_alike, in_lower_case, is_named_by}, specs.Walk.{props_left}, proofs.Firsts.{first-end, first-step, those_past}}
 use Rattle.moo_world.{proofs.Ancestry.Chains.{is_among_here}, proofs.Shown.Seen.{chain_of_row, chain_of_no_row}, specs.Objects.{same_text, folded, same_object}}
 use lib.Pointwise.{bytes_decides}

@@ -1,5 +1,5 @@
 -- Rows with a new object show the world with that object, and are good ones.
-use Rattle.moo_props.{proofs.Words.{◌≡◌, ℕ, Bool, true, false, ◌||◌, Option, None, Some, List, [], ◌∷◌, refl, sym, ap, ◌∙◌, subst, ◌⊎◌, inl, inr, pos, arith, is_some, unwrap_or, slice_get, ◌+ℤ◌, int_lt, if◌then◌else◌, option_map, option_and_then, filter_map, list_any, false≢true, or_cases, ints, none-some, same_Some, ObjNo, ObjRow, PropRow, SlotRow, created, Name, Property, nothing, same_object, same_text, same_property, folded, same_object-Decides, World, WorldObject, Slot, IsWellFormed, Chain, is_object, chain, defined_by_any, owner_of, property_named, slot_of, fresh, with_slots, without_slots, numbers_to, read_in, read_along, read_of, LookUps, AreSound, numbers_below, name_on, slot_on, slot_seen, object_shown, world_shown, named_owed, SameButSlots-rebuilt, same_world, no_slot, objects_same, is_object_seen, Chain-chain, chain_of_none, new_row, fresh_row, slots_shown, false_from_ne_true, slice_get-map}, proofs.Shared.{changed, none_of, put_some, some_map}, proofs.Cases.{none_map}, proofs.Numbers.{no_names, nothing_below}, proofs.NewSlots.{with_new}}
+use Rattle.moo_props.{proofs.Words.{◌||◌, ◌≡◌, ℕ, Bool, true, false, Option, None, Some, List, [], ◌∷◌, refl, sym, ap, ◌∙◌, subst, ◌⊎◌, inl, inr, pos, arith, is_some, unwrap_or, slice_get, ◌+ℤ◌, int_lt, if◌then◌else◌, option_map, option_and_then, filter_map, list_any, false≢true, or_cases, ints, none-some, same_Some, ObjNo, ObjRow, PropRow, SlotRow, created, Name, Property, nothing, same_object, same_text, same_property, folded, same_object-Decides, World, WorldObject, Slot, IsWellFormed, Chain, is_object, chain, defined_by_any, owner_of, property_named, slot_of, fresh, with_slots, without_slots, numbers_to, read_in, read_along, read_of, LookUps, AreSound, numbers_below, name_on, slot_on, slot_seen, object_shown, world_shown, named_owed, SameButSlots-rebuilt, no_slot, is_object_seen, Chain-chain, chain_of_none, new_row, fresh_row, slots_shown, false_from_ne_true, slice_get-map}, proofs.Shared.{changed, none_of, put_some, some_map, same_by_objects}, proofs.Cases.{none_map}, proofs.Numbers.{no_names, nothing_below}, proofs.NewSlots.{with_new}}
 use Rattle.std.specs.Prelude.{◌<ℤ◌}
 use Rattle.moo_world.{specs.Creation.{plain_object, object_added, next_object}, specs.Arguments.{is_number}, specs.World.{has_property, slot_for, SameButSlots, climb}, proofs.Inheritance.Creating.{IsWellFormed-created, chain_x, chain_other, owed_still, owed_x}, proofs.Inheritance.Rebuilding.{slot_of-rebuilt, parents_same}, proofs.Ancestry.Trees.{linked}, proofs.Shown.Slots.{here-slot_on}}
 
@@ -135,19 +135,12 @@ module _ (m : LookUps) (sound : AreSound m) (wf : IsWellFormed (world_shown m)) 
       by None e = sym (none_map (λ (k : Slot). k.definer) (slot_of w y n) (wf.slots y (chain w y) n o (Chain-chain w wf.tree y o) ∙ ap (option_map (λ p. p.0)) e))
       by (Some p) e = ap (λ b. if b then slot_of w y n else option_map (fresh (owner_of s y)) (slot_of w q n)) (named_owed w (chain w y) n p e)
 
-  same_slots : (y : ObjNo) (n : Name) → slot_of (world_shown m2) y n ≡ slot_of (created w x q owner) y n
-  same_slots y n = by (same_object x y) refl (is_object w y) refl
-    where
-      by : (b : Bool) → same_object x y ≡ b → (o : Bool) → is_object w y ≡ o → slot_of (world_shown m2) y n ≡ slot_of (created w x q owner) y n
-      by true e o h = subst (λ z. slot_of (world_shown m2) z n ≡ slot_of (created w x q owner) z n) ((same_object-Decides x y).0 e) (slots_of_new n ∙ sym (rebuilt_new n))
-      by false e true h = slots_of_other y n e ∙ sym (rebuilt_other y n h)
-      by false e false h =
-          let none : is_object s y ≡ false = ap (λ b. is_some (if b then Some (plain_object q owner) else w.object y)) e ∙ h in
-          slots_of_other y n e ∙ no_slot (w.object y) n h
-          ∙ sym (no_slot ((created w x q owner).object y) n (objects_same (created w x q owner) s (SameButSlots-rebuilt w s q) y ∙ none))
-
   pub world_new : world_shown m2 ≡ created w x q owner
-  world_new = same_world (world_shown m2) (created w x q owner) (links ∙ sym (SameButSlots-rebuilt w s q)) same_slots
+  world_new = same_by_objects (world_shown m2) (created w x q owner) (links ∙ sym (SameButSlots-rebuilt w s q)) (λ y n e. by y n e (same_object x y) refl)
+    where
+      by : (y : ObjNo) (n : Name) → is_object (world_shown m2) y ≡ true → (b : Bool) → same_object x y ≡ b → slot_of (world_shown m2) y n ≡ slot_of (created w x q owner) y n
+      by y n e true f = subst (λ z. slot_of (world_shown m2) z n ≡ slot_of (created w x q owner) z n) ((same_object-Decides x y).0 f) (slots_of_new n ∙ sym (rebuilt_new n))
+      by y n e false f = slots_of_other y n f ∙ sym (rebuilt_other y n (is_object_seen m y ∙ ap (λ b. is_some (if b then Some (new_row q owner) else m.object y)) (sym f) ∙ sym (is_object_seen m2 y) ∙ e))
 
   pub formed_new : is_number owner ≡ true → IsWellFormed (world_shown m2)
   formed_new numbered = subst IsWellFormed (sym world_new) (IsWellFormed-created w x q owner wf free next_is.1 next_is.0 parent_is numbered)

@@ -1,5 +1,5 @@
 -- The rows once a new object has its slots.
-use Rattle.moo_props.{proofs.Words.{◌≡◌, Bool, true, false, cond, Option, None, Some, List, [], ◌∷◌, map, refl, sym, ap, ◌∙◌, ◌&&◌, is_some, if◌then◌else◌, option_map, int_eq, cons_option, AllByRecursion, get, insert, get-insert, false≢true, Decides-int_eq, ObjNo, PropId, SlotRow, Maps, Held, object_total, same_object, same_object-Decides, LookUps, IsSound, look_ups, prop_id, object_key, new_row, with_new_row, origins_among, origin_of, origins, with_fresh, fresh_row, any_map}, proofs.Shared.{Entry, has_id, is_id, is_id-Decides, keeps-fresh, no_value, same_maps, walk, walk_held, walk_meets}, proofs.Folding.{slot_at-fresh, fresh_in, fresh_in-origins}}
+use Rattle.moo_props.{proofs.Words.{◌≡◌, Bool, true, false, cond, Option, None, Some, List, [], ◌∷◌, map, refl, sym, ap, ◌∙◌, ◌&&◌, is_some, if◌then◌else◌, option_map, int_eq, cons_option, AllByRecursion, get, insert, get-insert, false≢true, Decides-int_eq, ObjNo, PropId, SlotRow, Maps, Held, object_total, same_object, same_object-Decides, LookUps, IsSound, look_ups, prop_id, object_key, new_row, with_new_row, origins_among, origin_of, origins, with_fresh, fresh_row, any_map}, proofs.Shared.{Entry, has_id, is_id, is_id-Decides, keeps-fresh, no_value, same_maps, walk, walk_held, walk_meets, cond_same}, proofs.Folding.{slot_at-fresh, fresh_in, fresh_in-origins}}
 
 -- ---- the origins that the walk gives are those of the properties of q
 
@@ -49,11 +49,7 @@ module _ (t : Maps) (sound : IsSound t) (x q owner : ObjNo) (free : get t.object
       ∙ by (same_object x z) refl
     where
       all_here : (o : Option SlotRow) → get t.slots (q, j) ≡ o → cond (has_id j (ids_on t q) && is_some o) (option_map (fresh_row owner) o) None ≡ option_map (fresh_row owner) o
-      all_here None e = none (has_id j (ids_on t q))
-        where
-          none : (b : Bool) → cond (b && false) (option_map (fresh_row owner) None) None ≡ None
-          none true = refl
-          none false = refl
+      all_here None e = cond_same (has_id j (ids_on t q) && false) None
       all_here (Some s) e = ap (λ b. cond (b && true) (Some (fresh_row owner s)) None) (has_all t q sound j s e)
 
       by : (b : Bool) → same_object x z ≡ b → cond b (fresh_in owner (origins t.slots q (ids_on t q)) j (get t.slots (z, j))) (get t.slots (z, j)) ≡ (if b then option_map (fresh_row owner) (get t.slots (q, j)) else get t.slots (z, j))

@@ -1,5 +1,5 @@
 -- What an object reads as its quota.
-use Rattle.moo_props.{proofs.Words.{◌≡◌, true, [], FitsSigned, w64, pos, negsuc, arith, Option, Some, None, refl, sym, ap, ◌∙◌, is_some, unwrap_or, ◌+ℤ◌, int_lt, option_map, get, ints, ObjNo, Value, Int, PropId, PropRow, Set, Maps, with_slot_of, Name, folded, quota_in, quota_of, World, WorldObject, IsTree, object_changed, read_in, read_along, read_of, slot_of, chain-step, chain_of_none, name_of, spelling_of}, specs.Quotas.{HasRoom}}
+use Rattle.moo_props.proofs.Words.{◌≡◌, [], Option, Some, None, refl, sym, ap, ◌∙◌, is_some, unwrap_or, ◌+ℤ◌, option_map, get, ObjNo, Value, Int, PropId, PropRow, Set, Maps, with_slot_of, Name, folded, quota_in, quota_of, World, WorldObject, IsTree, object_changed, read_in, read_along, read_of, slot_of, chain-step, chain_of_none, name_of, spelling_of}
 use Rattle.std.proofs.Common.{ℤ}
 use Rattle.moo_world.specs.Quota.{quota_name, quota_changed, set_slot}
 
@@ -35,11 +35,3 @@ pub moved : (w : World) (o : ObjNo) (n : Name) (had by : ℤ) → folded n ≡ q
 moved w o n had by e h =
     ap (λ k. object_changed w o (set_slot k (Set (Int (had +ℤ by))))) e
     ∙ sym (ap (λ q. elim q [ None ↦ w | Some k ↦ object_changed w o (set_slot quota_name (Set (Int (k +ℤ by)))) ]) h)
-
-fits_less : (k : ℤ) → FitsSigned w64 k → int_lt (pos 0) k ≡ true → FitsSigned w64 (k +ℤ negsuc 0)
-fits_less k f h = grind (arith, ints)
-
--- where one is left there is room for one less
-pub room_below : (q : Option ℤ) → unwrap_or (option_map (λ k. int_lt (pos 0) k) q) true ≡ true → HasRoom q (negsuc 0)
-room_below None h = tt
-room_below (Some k) h = λ f. fits_less k f h

@@ -1,5 +1,5 @@
 -- Rows whose property has another name show the world with that name, and are sound.
-use Rattle.moo_props.{proofs.Words.{◌≡◌, ℕ, Bool, true, false, cond, eqb, Option, None, Some, map, refl, sym, ap, ◌∙◌, is_some, unwrap_or, slice_get, if◌then◌else◌, unsigned_tied, option_map, option_and_then, filter_map, list_any, get, insert, get-insert, both_ways, eqb-true, eq-eqb, none-some, same_Some, ObjNo, ObjRow, PropRow, Maps, prop_total, clashes, property_renamed, Name, same_object, same_text, same_property, folded, is_among, same_object-Decides, same_text-Decides, World, WorldObject, Slot, IsWellFormed, is_object, is_property_name, chain, defined_by, slot_of, LookUps, AreSound, IsGood, look_ups, world_of, world_shown, numbers_below, name_on, slot_on, slot_seen, object_shown, prop_id, is_object_seen, Chain-chain, some_of, SlotHere, slots_shown, slot_from, false_from_ne_true}, proofs.Shared.{changed, cond_same, has_owed, no_value, none_of, one_prop, own_under, put_some, same_below, seen_at, slot_on_heir}, proofs.Gains.{defines_pair}}
+use Rattle.moo_props.{proofs.Words.{◌≡◌, ℕ, Bool, true, false, cond, eqb, Option, None, Some, map, refl, sym, ap, ◌∙◌, is_some, unwrap_or, slice_get, if◌then◌else◌, unsigned_tied, option_map, option_and_then, filter_map, list_any, get, insert, get-insert, both_ways, eqb-true, eq-eqb, none-some, same_Some, ObjNo, ObjRow, PropRow, Maps, prop_total, clashes, property_renamed, Name, same_object, same_text, same_property, folded, is_among, same_object-Decides, same_text-Decides, World, WorldObject, Slot, IsWellFormed, is_object, is_property_name, chain, defined_by, slot_of, LookUps, AreSound, IsGood, look_ups, world_of, world_shown, numbers_below, name_on, slot_on, slot_seen, object_shown, prop_id, is_object_seen, Chain-chain, some_of, SlotHere, slots_shown, slot_from}, proofs.Shared.{changed, cond_same, has_owed, no_value, none_of, own_under, put_some, same_below, seen_at, slot_on_heir}, proofs.Gains.{defines_pair}, proofs.OtherRow.{own_names, other_names}}
 use Rattle.moo_world.proofs.Inheritance.Replacement.{renames, none_of_name, IsWellFormed-property_renamed}
 
 -- the look-ups with a property of x under another name
@@ -36,10 +36,6 @@ module _ (t : Maps) (good : IsGood t) (x : ObjNo) (id : ℕ) (p : PropRow) (ther
 
   mine : list_any (same_property (x, p.name)) (defined_by w x) ≡ true
   mine = ap (λ d. list_any (same_property (d, p.name)) (defined_by w d)) (sym own) ∙ defines_pair t good.sound id p there
-
-  -- x defines no other property of the name
-  only : (j : ℕ) (r : PropRow) → m.prop j ≡ Some r → r.definer ≡ x → folded r.name ≡ folded p.name → eqb j id ≡ true
-  only j r e d n = eq-eqb j id (one_prop t good.sound good.formed j id r p e there (d ∙ sym own) n)
 
   -- an object has a slot of the property just where it is under x
   slot_under : (y : ObjNo) → is_some (m.slot y id) ≡ true → under y ≡ true
@@ -103,35 +99,14 @@ module _ (t : Maps) (good : IsGood t) (x : ObjNo) (id : ℕ) (p : PropRow) (ther
 
   -- ---- names
 
-  abbrev name_in : ObjNo → Option PropRow → Option Name
-  name_in y o = option_and_then (λ (r : PropRow). if same_object r.definer y then Some r.name else None) o
-
   names_of_x : filter_map (name_on m2 x) (numbers_below m.head.next_prop) ≡ map (renames p.name new) (filter_map (name_on m x) (numbers_below m.head.next_prop))
-  names_of_x = changed (renames p.name new) (name_on m x) (name_on m2 x) (numbers_below m.head.next_prop) (λ j. by j (eqb j id) refl (m.prop j) refl)
-    where
-      here : name_in x (Some put) ≡ option_map (renames p.name new) (name_in x (Some p))
-      here =
-          ap (λ b. if b then Some new else None) ((same_object-Decides x x).1 refl)
-          ∙ sym (ap (λ b. option_map (renames p.name new) (if b then Some p.name else None)) ((same_object-Decides p.definer x).1 own) ∙ ap (λ b. Some (if b then new else p.name)) ((same_text-Decides (folded p.name) (folded p.name)).1 refl))
-
-      stays : (j : ℕ) (r : PropRow) → m.prop j ≡ Some r → eqb j id ≡ false → (c : Bool) → same_object r.definer x ≡ c → (if c then Some r.name else None) ≡ option_map (renames p.name new) (if c then Some r.name else None)
-      stays j r e f false g = refl
-      stays j r e f true g = sym (ap (λ b. Some (if b then new else r.name)) (false_from_ne_true (same_text (folded r.name) (folded p.name)) (λ h.
-          both_ways (eqb j id) f (only j r e ((same_object-Decides r.definer x).0 g) ((same_text-Decides (folded r.name) (folded p.name)).0 h)))))
-
-      by : (j : ℕ) (b : Bool) → eqb j id ≡ b → (o : Option PropRow) → m.prop j ≡ o → name_in x (if b then Some put else o) ≡ option_map (renames p.name new) (name_in x o)
-      by j true f o e = here ∙ sym (ap (λ o. option_map (renames p.name new) (name_in x o)) (sym e ∙ ap m.prop (eqb-true j id f) ∙ there))
-      by j false f None e = refl
-      by j false f (Some r) e = stays j r e f (same_object r.definer x) refl
+  names_of_x = changed (renames p.name new) (name_on m x) (name_on m2 x) (numbers_below m.head.next_prop)
+      (own_names t good x id p there own (Some put) (option_map (renames p.name new)) refl
+      (ap (λ b. Some (if b then new else p.name)) ((same_text-Decides (folded p.name) (folded p.name)).1 refl) ∙ sym (ap (λ b. if b then Some new else None) ((same_object-Decides x x).1 refl)))
+      (λ n e. ap (λ b. Some (if b then new else n)) e))
 
   names_of_other : (y : ObjNo) → same_object x y ≡ false → name_on m2 y ≡ name_on m y
-  names_of_other y e = λ i j. by j (eqb j id) refl i
-    where
-      by : (j : ℕ) (b : Bool) → eqb j id ≡ b → name_in y (if b then Some put else m.prop j) ≡ name_on m y j
-      by j false f = refl
-      by j true f =
-          ap (λ b. if b then Some new else None) e
-          ∙ sym (ap (name_in y) (ap m.prop (eqb-true j id f) ∙ there) ∙ ap (λ b. if b then Some p.name else None) (ap (λ d. same_object d y) own ∙ e))
+  names_of_other y e = λ i j. other_names t good x id p there own (Some put) y e (ap (λ b. if b then Some new else None) e) j i
 
   -- ---- slots
 

@@ -1,6 +1,6 @@
 -- Rows without a property show the world without it, and are sound.
-use Rattle.moo_props.{proofs.Words.{◌≡◌, ℕ, Bool, true, false, cond, eqb, Option, None, Some, List, [], ◌∷◌, refl, sym, ap, ◌∙◌, subst, ◌&&◌, not, is_some, unwrap_or, if◌then◌else◌, unsigned_tied, option_map, option_and_then, filter, filter_map, list_any, get, remove, get-remove, both_ways, and_parts, eqb-true, eq-eqb, same_Some, ObjNo, ObjRow, PropId, PropRow, SlotRow, Maps, Held, wrote, prop_total, slot_total, property_removed, Name, nothing, same_object, same_text, folded, is_among, same_object-Decides, same_text-Decides, World, WorldObject, Slot, IsWellFormed, is_object, chain, slot_of, with_slots, without_slots, LookUps, AreSound, IsGood, look_ups, world_of, world_shown, numbers_below, name_on, slot_seen, object_shown, prop_id, SameButSlots-rebuilt, same_world, no_slot, objects_same, is_object_seen, defines, spelling_of, owners_under, less_over, slot_removed, SlotHere, false_from_ne_true}, proofs.Shared.{all_change, but_slots, cond_again, cond_under, is_id, kept_slots, key_parts, left_some, left_value, one_prop, own_under, passing, same_maps, under_is}, proofs.Numbers.{fewer, kept}, proofs.Lessened.{is_own}}
-use Rattle.moo_world.proofs.Inheritance.Shorter.{s, kept_slot, objects, undefined_law, IsWellFormed-property_removed}
+use Rattle.moo_props.{proofs.Words.{◌||◌, ◌≡◌, ℕ, Bool, true, false, cond, eqb, Option, None, Some, [], ◌∷◌, refl, sym, ap, ◌∙◌, subst, ◌&&◌, not, is_some, unwrap_or, if◌then◌else◌, unsigned_tied, option_map, filter, filter_map, get, remove, get-remove, both_ways, and_parts, eqb-true, same_Some, ObjNo, ObjRow, PropId, PropRow, SlotRow, Maps, Held, wrote, prop_total, property_removed, Name, nothing, same_object, same_text, folded, is_among, same_object-Decides, same_text-Decides, World, WorldObject, Slot, IsWellFormed, is_object, chain, slot_of, with_slots, without_slots, LookUps, AreSound, IsGood, look_ups, world_of, world_shown, numbers_below, name_on, slot_seen, object_shown, prop_id, SameButSlots-rebuilt, is_object_seen, defines, spelling_of, owners_under, SlotHere, false_from_ne_true, slots_moved}, proofs.Shared.{kept_slots, left_some, left_value, own_under, passing, same_maps, same_by_objects}, proofs.Moved.{keeps-moved, slots_of_moved}, proofs.OtherRow.{only, own_names, other_names}, proofs.Numbers.{fewer, kept}, proofs.Lessened.{is_own}}
+use Rattle.moo_world.proofs.Inheritance.Shorter.{s, kept_slot, undefined_law, IsWellFormed-property_removed}
 
 -- the look-ups without a property and its slots
 abbrev pub less_property : LookUps → ℕ → LookUps
@@ -29,37 +29,12 @@ module _ (t : Maps) (good : IsGood t) (x : ObjNo) (id : ℕ) (p : PropRow) (ther
   abbrev named : Name → Bool
   named n = not (same_text (folded n) (folded p.name))
 
-  -- x defines no other property of the name
-  only : (j : ℕ) (r : PropRow) → m.prop j ≡ Some r → r.definer ≡ x → folded r.name ≡ folded p.name → eqb j id ≡ true
-  only j r e d n = eq-eqb j id (one_prop t good.sound good.formed j id r p e there (d ∙ sym own) n)
-
-  -- the name under a number, if y defines it
-  abbrev name_in : ObjNo → Option PropRow → Option Name
-  name_in y o = option_and_then (λ (r : PropRow). if same_object r.definer y then Some r.name else None) o
-
   names_of_x : filter_map (name_on m2 x) (numbers_below m.head.next_prop) ≡ filter named (filter_map (name_on m x) (numbers_below m.head.next_prop))
-  names_of_x = fewer named (name_on m x) (name_on m2 x) (numbers_below m.head.next_prop) (λ j. by j (eqb j id) refl (m.prop j) refl)
-    where
-      gone : (c : Bool) → same_object p.definer x ≡ c → None ≡ kept named (if c then Some p.name else None)
-      gone false e = refl
-      gone true e = sym (ap (λ b. if not b then Some p.name else None) ((same_text-Decides (folded p.name) (folded p.name)).1 refl))
-
-      other : (j : ℕ) (r : PropRow) → m.prop j ≡ Some r → eqb j id ≡ false → (c : Bool) → same_object r.definer x ≡ c → (if c then Some r.name else None) ≡ kept named (if c then Some r.name else None)
-      other j r e f false g = refl
-      other j r e f true g = sym (ap (λ b. if not b then Some r.name else None) (false_from_ne_true (same_text (folded r.name) (folded p.name)) (λ h.
-          both_ways (eqb j id) f (only j r e ((same_object-Decides r.definer x).0 g) ((same_text-Decides (folded r.name) (folded p.name)).0 h)))))
-
-      by : (j : ℕ) (b : Bool) → eqb j id ≡ b → (o : Option PropRow) → m.prop j ≡ o → name_in x (if b then None else o) ≡ kept named (name_in x o)
-      by j true f o e = gone (same_object p.definer x) refl ∙ sym (ap (λ o. kept named (name_in x o)) (sym e ∙ ap m.prop (eqb-true j id f) ∙ there))
-      by j false f None e = refl
-      by j false f (Some r) e = other j r e f (same_object r.definer x) refl
+  names_of_x = fewer named (name_on m x) (name_on m2 x) (numbers_below m.head.next_prop)
+      (own_names t good x id p there own None (kept named) refl (ap (λ b. if not b then Some p.name else None) ((same_text-Decides (folded p.name) (folded p.name)).1 refl)) (λ n e. ap (λ b. if not b then Some n else None) e))
 
   names_of_other : (y : ObjNo) → same_object x y ≡ false → name_on m2 y ≡ name_on m y
-  names_of_other y e = λ i j. by j (eqb j id) refl i
-    where
-      by : (j : ℕ) (b : Bool) → eqb j id ≡ b → name_in y (if b then None else m.prop j) ≡ name_in y (m.prop j)
-      by j false f = refl
-      by j true f = sym (ap (name_in y) (ap m.prop (eqb-true j id f) ∙ there) ∙ ap (λ b. if b then Some p.name else None) (ap (λ d. same_object d y) own ∙ e))
+  names_of_other y e = λ i j. other_names t good x id p there own None y e refl j i
 
   abbrev v : World
   v = property_removed w x p.name
@@ -108,7 +83,7 @@ module _ (t : Maps) (good : IsGood t) (x : ObjNo) (id : ℕ) (p : PropRow) (ther
           let k = left_value (eqb j id) (m.slot y j) h.row h.held in
           let other = false_from_ne_true (gone (slot_seen h.prop.definer h.row)) (λ g.
           let parts = and_parts (same_object h.prop.definer x) (same_text n (folded p.name)) g in
-          both_ways (eqb j id) q.0 (only j h.prop q.1 ((same_object-Decides h.prop.definer x).0 parts.0) (h.name ∙ (same_text-Decides n (folded p.name)).0 parts.1))) in
+          both_ways (eqb j id) q.0 (only t good x id p there own j h.prop q.1 ((same_object-Decides h.prop.definer x).0 parts.0) (h.name ∙ (same_text-Decides n (folded p.name)).0 parts.1))) in
           (record { prop = h.prop; row = h.row; there = q.1; held = k.1; name = h.name }, refl, other)
 
       after : (j : ℕ) (h : SlotHere m y n j) → gone (slot_seen h.prop.definer h.row) ≡ false → SlotHere m2 y n j
@@ -126,49 +101,32 @@ module _ (t : Maps) (good : IsGood t) (x : ObjNo) (id : ℕ) (p : PropRow) (ther
             name = h.name;
           }
 
-  same_slots : (y : ObjNo) (n : Name) → slot_of (world_shown m2) y n ≡ slot_of v y n
-  same_slots y n = by (is_object w y) refl
-    where
-      by : (o : Bool) → is_object w y ≡ o → slot_of (world_shown m2) y n ≡ slot_of v y n
-      by true o = kept_slots_of y n o ∙ sym (undefined_law w good.formed x p.name y n o)
-      by false o =
-          no_slot ((world_shown m2).object y) n (is_object_seen m2 y ∙ sym (is_object_seen m y) ∙ o)
-          ∙ sym (no_slot (v.object y) n (objects_same v (s w good.formed x p.name) (SameButSlots-rebuilt w (s w good.formed x p.name) nothing) y ∙ objects w good.formed x p.name y ∙ o))
-
   pub world_shorter : world_shown m2 ≡ v
-  world_shorter = same_world (world_shown m2) v (links ∙ sym (SameButSlots-rebuilt w (s w good.formed x p.name) nothing)) same_slots
+  world_shorter = same_by_objects (world_shown m2) v (links ∙ sym (SameButSlots-rebuilt w (s w good.formed x p.name) nothing)) (λ y n e.
+      let here = is_object_seen m y ∙ sym (is_object_seen m2 y) ∙ e in
+      kept_slots_of y n here ∙ sym (undefined_law w good.formed x p.name y n here))
 
   -- ---- the rows
 
-  module _ (row : ObjRow) (here : get t.objects x ≡ Some row) (held : Held) (same : held.maps ≡ t) where
-    pub keeps-over : (es : List (ObjNo × ObjNo)) (h : Held) → but_slots (less_over (prop_id id) es h) ≡ but_slots h
-    keeps-over [] h = refl
-    keeps-over (e ∷ es) h = keeps-over es (slot_removed e.0 (prop_id id) h)
-
-    slots-over : (z : ObjNo) (j : PropId) (es : List (ObjNo × ObjNo)) (h : Held) → get (less_over (prop_id id) es h).maps.slots (z, j) ≡ cond (list_any (λ e. same_object e.0 z) es && is_id j (prop_id id)) None (get h.maps.slots (z, j))
-    slots-over z j es h =
-        all_change (less_over (prop_id id)) (λ e h. slot_removed e.0 (prop_id id) h) (λ h. refl) (λ e es h. refl) (λ h. get h.maps.slots (z, j)) (λ e. same_object e.0 z) (cond (is_id j (prop_id id)) None) (cond_again (is_id j (prop_id id)) None)
-        (λ e h. get-remove slot_total h.maps.slots (e.0, prop_id id) (z, j) ∙ ap (λ b. cond b None (get h.maps.slots (z, j))) (key_parts e.0 z (prop_id id) j) ∙ cond_under (same_object e.0 z) (is_id j (prop_id id)) (is_id j (prop_id id)) None (get h.maps.slots (z, j)) (λ k. refl))
-        es h
-        ∙ sym (cond_under (list_any (λ e. same_object e.0 z) es) (is_id j (prop_id id)) (is_id j (prop_id id)) None (get h.maps.slots (z, j)) (λ k. refl))
-
+  module _ (held : Held) (same : held.maps ≡ t) where
     abbrev pub held1 : Held
-    held1 = less_over (prop_id id) (owners_under t x) held
+    held1 = slots_moved (λ y. prop_id id ∷ []) [] (owners_under t x) held
 
     abbrev pub held2 : Held
     held2 = wrote held1 (record (held1.maps) { props = remove held1.maps.props (prop_id id) })
 
     pub only2 : held2.maps ≡ record t { slots = held1.maps.slots; props = remove t.props (prop_id id) }
-    only2 = ap (λ (k : Maps). record k { props = remove k.props (prop_id id) }) (same_maps (keeps-over (owners_under t x) held) held1.maps.slots) ∙ ap (λ (k : Maps). record k { slots = held1.maps.slots; props = remove k.props (prop_id id) }) same
+    only2 = ap (λ (k : Maps). record k { props = remove k.props (prop_id id) }) (same_maps (keeps-moved (λ y. prop_id id ∷ []) [] (owners_under t x) held) held1.maps.slots) ∙ ap (λ (k : Maps). record k { slots = held1.maps.slots; props = remove k.props (prop_id id) }) same
 
     slots2 : (z : ObjNo) (j : ℕ) → get held1.maps.slots (z, prop_id j) ≡ (if eqb j id then None else m.slot z j)
     slots2 z j =
-        slots-over z (prop_id j) (owners_under t x) held
-        ∙ (λ i. cond (under_is t x z i && unsigned_tied j id i) None (get (same i).slots (z, prop_id j)))
+        slots_of_moved t x (λ y. prop_id id ∷ []) [] z (prop_id j) held
+        ∙ (λ i. cond (is_among x (chain w z)) (cond (unsigned_tied j id i || false) None (get (same i).slots (z, prop_id j))) (get (same i).slots (z, prop_id j)))
         ∙ by (is_among x (chain w z)) (eqb j id) refl refl (m.slot z j) refl
       where
-        by : (u c : Bool) → is_among x (chain w z) ≡ u → eqb j id ≡ c → (o : Option SlotRow) → m.slot z j ≡ o → cond (u && c) None o ≡ (if c then None else o)
-        by true c f g o h = refl
+        by : (u c : Bool) → is_among x (chain w z) ≡ u → eqb j id ≡ c → (o : Option SlotRow) → m.slot z j ≡ o → cond u (cond (c || false) None o) o ≡ (if c then None else o)
+        by true true f g o h = refl
+        by true false f g o h = refl
         by false false f g o h = refl
         by false true f g None h = refl
         by false true f g (Some k) h =

@@ -1,5 +1,5 @@
 -- The walk over an object's slots finds the property of a name.
-use Rattle.moo_props.{proofs.Words.{◌≡◌, ℕ, Bool, true, false, cond, Some, List, [], ◌∷◌, Ordering, Less, refl, sym, ap, ◌∙◌, ◌&&◌, ◌||◌, is_some, unwrap_or, option_map, IsTotalOrder, tied_itself, nat_cmp_is, eq_by_cmp, is_lt, int_eq, ordering_then, filter, list_any, AllByRecursion, get, entries, get-entries, entries_sorted, or_right, Decides-int_eq, CmpEqualImpliesEq, none-some, same_Some, ObjNo, PropId, PropRow, SlotRow, Maps, prop_cmp, slot_cmp, slots_of_left, is_past, slot_exact, object_total, slot_total, Name, folded, slot_of, IsSound, look_ups, world_of, slot_seen, key-Decides, slot_shown, name_of, some_of, own_entries, SlotHere, LookUps, AreSound, world_shown, or_left, cond_both, FinMap}}
+use Rattle.moo_props.proofs.Words.{arith, ◌||◌, ◌≡◌, ℕ, Bool, true, false, cond, Some, List, [], ◌∷◌, Ordering, Less, refl, sym, ap, ◌∙◌, ◌&&◌, is_some, unwrap_or, option_map, IsTotalOrder, tied_itself, nat_cmp_is, eq_by_cmp, is_lt, int_eq, ordering_then, filter, list_any, AllByRecursion, get, entries, get-entries, entries_sorted, or_right, Decides-int_eq, CmpEqualImpliesEq, none-some, same_Some, ObjNo, PropId, PropRow, SlotRow, Maps, prop_cmp, slot_cmp, slots_of_left, is_past, slot_exact, object_total, slot_total, Name, folded, slot_of, IsSound, look_ups, world_of, slot_seen, key-Decides, slot_shown, name_of, some_of, own_entries, SlotHere, LookUps, AreSound, world_shown, or_left, cond_both, FinMap}
 use Rattle.std.specs.List.{find}
 use Rattle.std.specs.FinMap as map
 
@@ -20,19 +20,11 @@ all_pass P test (x ∷ l) a =
 
 pub found_any : {A : Type 0} (test : A → Bool) (l : List A) → is_some (find test l) ≡ list_any test l
 found_any test [] = refl
-found_any test (x ∷ l) = by (test x) (found_any test l)
-  where
-    by : (b : Bool) → is_some (find test l) ≡ list_any test l → is_some (cond b (Some x) (find test l)) ≡ (b || list_any test l)
-    by true r = refl
-    by false r = r
+found_any test (x ∷ l) = grind (arith, found_any test l)
 
 pub any_filter : {A : Type 0} (p test : A → Bool) (l : List A) → list_any p (filter test l) ≡ list_any (λ a. test a && p a) l
 any_filter p test [] = refl
-any_filter p test (x ∷ l) = by (test x) (any_filter p test l)
-  where
-    by : (b : Bool) → list_any p (filter test l) ≡ list_any (λ a. test a && p a) l → list_any p (cond b (x ∷ filter test l) (filter test l)) ≡ ((b && p x) || list_any (λ a. test a && p a) l)
-    by true r = ap (λ b. p x || b) r
-    by false r = r
+any_filter p test (x ∷ l) = grind (arith, any_filter p test l)
 
 pub any_held : {K X : Type 0} (cmp : K → K → Ordering) (total : IsTotalOrder cmp) (exact : CmpEqualImpliesEq cmp) (p : K × X → Bool) (k : K) (v : X) (es : List (K × X)) → map.find cmp k es ≡ Some v → p (k, v) ≡ true → list_any p es ≡ true
 any_held cmp total exact p k v [] e h = absurd (none-some v e)

@@ -1,5 +1,5 @@
 -- In a good world the walks that begin below the least number go over all rows.
-use Rattle.moo_props.{proofs.Words.{◌≡◌, ◌≢◌, ◌<◌, T, ◌||◌, Option, None, Some, List, [], ◌∷◌, map, Less, Ordering, negsuc, refl, sym, ap, ◌∙◌, arith, is_some, IsTotalOrder, tied_itself, nat_cmp_is, int_eq, filter, FinMap, get, is_sorted, entries, entries_sorted, get-entries, true≢false, ints, ObjNo, ObjRow, VerbId, VerbRow, ChildOf, Within, object_exact, IsFirst, defined_left, Maps, object_cmp, prop_cmp, is_past, entries_past, verbs_of_left, object_total, prop_total, first_of, nothing, same_object, same_object-eq, IsGood, look_ups, prop_id, verb_id, is_object_seen, links_to, linked_among, verbs_among, props_of, or-false, IsSound}, specs.Dropping.{row_linked}}
+use Rattle.moo_props.{proofs.Words.{◌||◌, ◌≡◌, ◌≢◌, ◌<◌, T, Option, None, Some, List, [], ◌∷◌, map, Less, Ordering, negsuc, refl, sym, ap, ◌∙◌, arith, is_some, IsTotalOrder, tied_itself, nat_cmp_is, int_eq, filter, FinMap, get, is_sorted, entries, entries_sorted, get-entries, true≢false, ints, ObjNo, ObjRow, VerbId, VerbRow, ChildOf, Within, object_exact, IsFirst, defined_left, Maps, object_cmp, prop_cmp, is_past, entries_past, verbs_of_left, object_total, prop_total, first_of, nothing, same_object, same_object-eq, IsGood, look_ups, prop_id, verb_id, is_object_seen, links_to, linked_among, verbs_among, props_of, or-false, IsSound}, specs.Dropping.{row_linked}}
 use Rattle.std.{specs.Cmp.{int_cmp_is}, specs.Ordering.{is_eq}, specs.FinMap.{find}}
 use Rattle.moo_rows.{proofs.Firsts.{first-alike, first-end, first-step}, proofs.OfObject.{verbs_of_left-all}, proofs.Walking.{here, keeps, past_test, all_past}}
 use Rattle.moo_rows.specs.Links as links

@@ -1,17 +1,16 @@
 -- The words that most proofs of this crate share.
-pub use Rattle.std.proofs.Common.{Bool, FitsSigned, IfOk, IfSome, Less, List, None, Option, Ordering, Some, T, [], ap, append-nil, append_assoc, arith, cond, drop, eqb, false, get_or, inl, inr, length, length-append, map, negsuc, pos, refl, rules, subst, suc, sym, true, w32, w64, zero, ℕ, ◌++◌, ◌+◌, ◌<◌, ◌||◌, ◌∙◌, ◌∷◌, ◌≡◌, ◌≢◌, ◌≤◌, ◌⊎◌}
+pub use Rattle.std.proofs.Common.{Bool, FitsSigned, IfSome, Less, List, None, Option, Ordering, Some, T, [], ap, append-nil, append_assoc, arith, cond, drop, eqb, take, false, get_or, inl, inr, length, length-append, map, negsuc, pos, refl, rules, subst, suc, sym, true, w32, w64, zero, ℕ, ◌++◌, ◌+◌, ◌<◌, ◌||◌, ◌∙◌, ◌∷◌, ◌≡◌, ◌≢◌, ◌≤◌, ◌⊎◌}
 pub use Rattle.std.specs.Bool.{Decides}
 pub use Rattle.std.specs.Cmp.{IsTotalOrder, nat_cmp_is, tied_itself, unsigned_tied}
 pub use Rattle.std.specs.FinMap.{FinMap, entries, entries_sorted, get, get-entries, get-insert, get-remove, insert, is_sorted, remove}
 pub use Rattle.std.specs.List.{AllByRecursion, cons_option, filter, filter_map, list_any}
 pub use Rattle.std.specs.Option.{option_and_then, option_map, option_or}
 pub use Rattle.std.specs.Ordering.{eq_by_cmp, int_eq, is_lt, ordering_then}
-pub use Rattle.std.specs.Prelude.{OnOk, if◌then◌else◌, int_lt, is_some, not, slice_get, unwrap_or, ◌&&◌, ◌+ℤ◌}
-pub use Rattle.std.proofs.lemmas.Bool.{and_from, and_parts, both_ways, cases_eq, cases_lt, cases_order, cond_both, eq-eqb, eqb-true, false_from_ne_true, false≢true, le-ltb, lt-ltb, ne_eqb, not-true, or_cases, or_left, or_parts, or_right, true_from_ne_false, true≢false}
+pub use Rattle.std.specs.Prelude.{if◌then◌else◌, int_lt, is_some, not, slice_get, unwrap_or, ◌&&◌, ◌+ℤ◌}
+pub use Rattle.std.proofs.lemmas.Bool.{and_parts, both_ways, cases_eq, cases_lt, cases_order, cond_both, eq-eqb, eqb-true, false_from_ne_true, false≢true, le-ltb, lt-ltb, ne_eqb, not-true, or_cases, or_left, or_parts, or_right, true_from_ne_false, true≢false}
 pub use Rattle.std.proofs.Math.Bool.{and-false, and-true, or-false}
 pub use Rattle.std.proofs.lemmas.Bool.Decides.{Decides-int_eq}
 pub use Rattle.std.proofs.lemmas.Int.{ints, to_z-of_z}
-pub use Rattle.std.proofs.lemmas.List.{at_drop_more}
 pub use Rattle.std.proofs.lemmas.List.Elements.{filter_map-append}
 pub use Rattle.std.proofs.lemmas.Map.Lookups.{CmpEqualImpliesEq}
 pub use Rattle.std.proofs.lemmas.Option.{cond_some, none-some, same_Some, slice_get-map}
@@ -65,14 +64,13 @@ unfoldable pub use Rattle.moo_world.specs.World.{chain}
 pub use Rattle.moo_tree.specs.Under.{owners_under}
 pub use Rattle.moo_props.specs.Birth.{new_row, with_new_row}
 pub use Rattle.moo_props.specs.Clashes.{meets_on}
-pub use Rattle.moo_props.specs.Defining.{fresh_over, with_definition}
+pub use Rattle.moo_props.specs.Defining.{with_definition}
 pub use Rattle.moo_props.specs.Descent.{after_below, from_here, walk_after}
 pub use Rattle.moo_props.specs.Dropped.{dropped_keys, goes_with}
-pub use Rattle.moo_props.specs.Dropping.{dropped_over, ids_among, ids_for, linked_among, links_to, props_removed, released_row, row_released, rows_released, slots_dropped, verbs_among, verbs_removed, with_released}
+pub use Rattle.moo_props.specs.Dropping.{ids_among, linked_among, links_to, props_removed, released_row, row_released, rows_released, verbs_among, verbs_removed, with_released}
 pub use Rattle.moo_props.specs.Names.{defines, name_of, spelling_of}
 pub use Rattle.moo_props.specs.Present.{AreAbsent, AreAscending, ArePresent}
-pub use Rattle.moo_props.specs.Reparent.{is_defined_only, is_only_of, props_only_of, relinked, relinked_list, slots_moved}
-pub use Rattle.moo_props.specs.Slots.{fresh_of, fresh_row, id_of, keys_on, keys_over, origin_of, origins, origins_among, slot_put, slot_removed, with_fresh, without_on}
+pub use Rattle.moo_props.specs.Reparent.{is_defined_only, is_only_of, props_only_of, relinked, relinked_list}
+pub use Rattle.moo_props.specs.Slots.{after_each, fresh_of, fresh_row, ids_for, keys_by, keys_on, keys_over, origin_of, origins, origins_among, slot_put, slot_removed, slots_moved, with_fresh, without_on}
 pub use Rattle.moo_props.specs.Touched.{IsSameButSlotsAndObjects, added_keys, is_defined_among, props_of, removed_keys, row_after, slot_after}
-pub use Rattle.moo_props.specs.Undefining.{less_over}
 pub use Rattle.moo_props.specs.declared.slots.Origin.{Origin}

@@ -1,18 +1,18 @@
 -- The end of an object, at the level of the rows.
-use Rattle.std.specs.Prelude.{Bool, false, ◌||◌, List, [], ◌∷◌, ◌++◌, map, Option, Some, None, unwrap_or, if◌then◌else◌}
+use Rattle.std.specs.Prelude.{Bool, false, ◌||◌, List, map, Option, Some, None, unwrap_or, if◌then◌else◌}
 use Rattle.std.specs.Option.{option_map}
 use Rattle.std.specs.Ordering.{int_eq}
 use Rattle.std.specs.List.{filter}
-use Rattle.std.specs.FinMap.{get, insert, remove}
+use Rattle.std.specs.FinMap.{get, insert}
 use Rattle.moo_value.specs.declared.value.ObjNo.{ObjNo}
 use Rattle.moo_rows.specs.declared.row.ObjRow.{ObjRow}
 use Rattle.moo_rows.specs.declared.row.PropId.{PropId}
 use Rattle.moo_rows.specs.declared.row.SlotRow.{SlotRow}
 use Rattle.moo_rows.specs.declared.row.VerbId.{VerbId}
 use Rattle.moo_rows.specs.declared.row.VerbRow.{VerbRow}
-use Rattle.moo_rows.specs.Maps.{Held, wrote}
+use Rattle.moo_rows.specs.Maps.{Held, wrote, without_prop, without_verb}
 use Rattle.moo_world.specs.Objects.{nothing, same_object}
-use Rattle.moo_props.specs.Slots.{keys_on, without_on}
+use Rattle.moo_props.specs.Slots.{after_each}
 
 -- ---- who is concerned
 
@@ -36,15 +36,6 @@ verbs_among object pairs = map (λ pair. pair.0) (filter (λ pair. int_eq pair.0
 abbrev pub ids_among : List ((ObjNo × PropId) × SlotRow) → List PropId
 ids_among pairs = map (λ pair. pair.0.1) pairs
 
--- all properties for the object itself, and its own for a descendant
-abbrev pub ids_for : ObjNo → List PropId → List PropId → ObjNo → List PropId
-ids_for object all own other = if same_object object other then all else own
-
--- on each of these objects the keys of those properties
-abbrev pub dropped_over : ObjNo → List PropId → List PropId → List (ObjNo × ObjNo) → List (ObjNo × PropId)
-dropped_over object all own [] = []
-dropped_over object all own (pair ∷ pairs) = keys_on pair.0 (ids_for object all own pair.0) ++ dropped_over object all own pairs
-
 -- a row that has the object as parent or place no more
 abbrev pub released_row : ObjNo → ObjNo → ObjRow → ObjRow
 released_row object parent row = record row {
@@ -54,18 +45,11 @@ released_row object parent row = record row {
 
 -- ---- what is held after each step
 
-abbrev pub slots_dropped : ObjNo → List PropId → List PropId → List (ObjNo × ObjNo) → Held → Held
-slots_dropped object all own [] held = held
-slots_dropped object all own (pair ∷ pairs) held =
-    slots_dropped object all own pairs (without_on pair.0 (ids_for object all own pair.0) held)
-
 abbrev pub props_removed : List PropId → Held → Held
-props_removed [] held = held
-props_removed (id ∷ ids) held = props_removed ids (wrote held (record (held.maps) { props = remove held.maps.props id }))
+props_removed ids held = after_each (λ id before. without_prop before id) ids held
 
 abbrev pub verbs_removed : List (ObjNo × VerbId) → Held → Held
-verbs_removed [] held = held
-verbs_removed (key ∷ keys) held = verbs_removed keys (wrote held (record (held.maps) { verbs = remove held.maps.verbs key }))
+verbs_removed keys held = after_each (λ key before. without_verb before key) keys held
 
 -- with the other's row released, if it has one
 abbrev pub with_released : ObjNo → ObjNo → ObjNo → Held → Option ObjRow → Held
@@ -77,5 +61,4 @@ abbrev pub row_released : ObjNo → ObjNo → ObjNo → Held → Held
 row_released object parent other held = with_released object parent other held (get held.maps.objects other)
 
 abbrev pub rows_released : ObjNo → ObjNo → List ObjNo → Held → Held
-rows_released object parent [] held = held
-rows_released object parent (other ∷ others) held = rows_released object parent others (row_released object parent other held)
+rows_released object parent others held = after_each (row_released object parent) others held

@@ -9,8 +9,6 @@ use Rattle.moo_rows.specs.declared.row.PropId.{PropId}
 use Rattle.moo_rows.specs.declared.row.PropRow.{PropRow}
 use Rattle.moo_rows.specs.Maps.{Maps, Held, wrote}
 use Rattle.moo_world.specs.Objects.{same_object, is_among}
-use Rattle.moo_props.specs.declared.slots.Origin.{Origin}
-use Rattle.moo_props.specs.Slots.{without_on, with_fresh}
 
 -- ---- which properties are concerned
 
@@ -25,14 +23,6 @@ props_only_of these others pairs = map (λ pair. pair.0) (filter (λ pair. is_on
 -- an object of the first list, and not of the second, defines the property
 abbrev pub is_defined_only : List ObjNo → List ObjNo → Maps → PropId → Bool
 is_defined_only these others maps id = unwrap_or (option_map (λ row. is_only_of these others row.definer) (get maps.props id)) false
-
--- ---- what is held after each step
-
--- on each of these objects without the slots of some properties, and with fresh ones
-abbrev pub slots_moved : List PropId → List Origin → List (ObjNo × ObjNo) → Held → Held
-slots_moved lost gained [] held = held
-slots_moved lost gained (pair ∷ pairs) held =
-    slots_moved lost gained pairs (with_fresh pair.0 pair.1 gained (without_on pair.0 lost held))
 
 -- ---- the parent link
 

@@ -1,14 +1,14 @@
 -- Slots that go and slots that come, at the level of the rows.
-use Rattle.std.specs.Prelude.{◌++◌, List, [], ◌∷◌, map}
+use Rattle.std.specs.Prelude.{List, map, if◌then◌else◌}
 use Rattle.std.specs.Option.{option_map}
-use Rattle.std.specs.List.{filter_map}
+use Rattle.std.specs.List.{filter_map, flat_map, fold}
 use Rattle.std.specs.FinMap.{FinMap, get, insert, remove}
 use Rattle.moo_value.specs.declared.value.ObjNo.{ObjNo}
 use Rattle.moo_rows.specs.declared.row.PropId.{PropId}
 use Rattle.moo_rows.specs.declared.row.SlotRow.{SlotRow}
 use Rattle.moo_rows.specs.declared.row.SlotState.TheVariants.{Clear}
 use Rattle.moo_rows.specs.Maps.{Held, wrote, slot_cmp}
-use Rattle.moo_world.specs.Objects.{nothing}
+use Rattle.moo_world.specs.Objects.{nothing, same_object}
 use Rattle.moo_world.specs.Rows.{slot_seen}
 use Rattle.moo_world.specs.World.{Slot, fresh}
 use Rattle.moo_props.specs.declared.slots.Origin.{Origin}
@@ -29,9 +29,6 @@ fresh_of owner origin = fresh_row owner (record { owner = origin.owner; bits = o
 
 -- ---- what they are made from
 
-abbrev pub id_of : Origin → PropId
-id_of origin = origin.id
-
 abbrev pub origin_of : PropId → SlotRow → Origin
 origin_of id row = record { id = id; owner = row.owner; bits = row.bits }
 
@@ -45,6 +42,10 @@ origins slots parent ids = filter_map (λ id. option_map (origin_of id) (get slo
 
 -- ---- what is held after each step
 
+-- after a step for each item of a list
+abbrev pub after_each : {A : Type 0} → (A → Held → Held) → List A → Held → Held
+after_each step items held = fold (λ done item. step item done) held items
+
 abbrev pub slot_removed : ObjNo → PropId → Held → Held
 slot_removed object id held = wrote held (record (held.maps) { slots = remove held.maps.slots (object, id) })
 
@@ -53,20 +54,30 @@ slot_put object id row held = wrote held (record (held.maps) { slots = insert he
 
 -- without the object's slots of these properties
 abbrev pub without_on : ObjNo → List PropId → Held → Held
-without_on object [] held = held
-without_on object (id ∷ ids) held = without_on object ids (slot_removed object id held)
+without_on object ids held = after_each (slot_removed object) ids held
 
 -- with fresh slots on the object, which has this owner
 abbrev pub with_fresh : ObjNo → ObjNo → List Origin → Held → Held
-with_fresh object owner [] held = held
-with_fresh object owner (origin ∷ others) held = with_fresh object owner others (slot_put object origin.id (fresh_of owner origin) held)
+with_fresh object owner origins held = after_each (λ origin. slot_put object origin.id (fresh_of owner origin)) origins held
+
+-- on each of these objects, with its owner, without the slots that it loses, and with fresh ones
+abbrev pub slots_moved : (ObjNo → List PropId) → List Origin → List (ObjNo × ObjNo) → Held → Held
+slots_moved lost gained pairs held =
+    after_each (λ pair before. with_fresh pair.0 pair.1 gained (without_on pair.0 (lost pair.0) before)) pairs held
 
 -- ---- keys
 
 abbrev pub keys_on : ObjNo → List PropId → List (ObjNo × PropId)
 keys_on object ids = map (λ id. (object, id)) ids
 
+-- on each of these objects its properties
+abbrev pub keys_by : (ObjNo → List PropId) → List (ObjNo × ObjNo) → List (ObjNo × PropId)
+keys_by ids pairs = flat_map (λ pair. keys_on pair.0 (ids pair.0)) pairs
+
 -- each of these properties on each of these objects
 abbrev pub keys_over : List PropId → List (ObjNo × ObjNo) → List (ObjNo × PropId)
-keys_over ids [] = []
-keys_over ids (pair ∷ pairs) = keys_on pair.0 ids ++ keys_over ids pairs
+keys_over ids pairs = keys_by (λ object. ids) pairs
+
+-- all properties for the object itself, and its own for another
+abbrev pub ids_for : ObjNo → List PropId → List PropId → ObjNo → List PropId
+ids_for object all own other = if same_object object other then all else own

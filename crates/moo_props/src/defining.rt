@@ -6,28 +6,14 @@ ghost use Rattle.moo_world.specs.Arguments.{fits};
 ghost use Rattle.moo_world.specs.Changes.{clashes, property_added};
 ghost use Rattle.moo_world.specs.Rows.{world_of, prop_id, IsGood};
 ghost use Rattle.moo_world.specs.World.{is_object, is_property_name};
-ghost use Rattle.moo_props.specs.Defining.{fresh_over, with_definition};
+ghost use Rattle.moo_props.specs.Defining.{with_definition};
 ghost use Rattle.moo_world.specs.Keeps.{Keeps};
 
-use crate::slots::{Origin, put_fresh};
+use crate::slots::{Origin, move_slots};
 use moo_rows::{Bits, PropId, PropRow, Rows, SlotRow, SlotState};
 use moo_tree::owners_under;
 use moo_value::{MooStr, ObjNo, Value};
 use std::alloc::{AllocError, Global};
-
-/// Puts a fresh slot of a property on each of these objects.
-fn put_on_all<R: Rows>(
-    rows: &mut R,
-    under: &[(ObjNo, ObjNo)],
-    origin: Origin,
-) -> Result<(), AllocError>
-    ensures { OnOk result (R.held rows.new ≡ fresh_over origin under.now (R.held rows.old)) }
-{
-    for (y, owner) in under {
-        put_fresh(rows, *y, *owner, &[origin])?;
-    }
-    Ok(())
-}
 
 /// Puts the row of a new property under the next number, which it gives.
 fn put_definition<R: Rows>(rows: &mut R, x: ObjNo, name: MooStr) -> Result<PropId, AllocError>
@@ -74,7 +60,14 @@ pub fn define<R: Rows>(
 {
     let under = owners_under(alloc, rows, x)?;
     let id = put_definition(rows, x, name)?;
-    put_on_all(rows, under.as_slice(), Origin { id, owner, bits })?;
+    move_slots(
+        rows,
+        under.as_slice(),
+        x,
+        &[],
+        &[],
+        &[Origin { id, owner, bits }],
+    )?;
     let own = SlotRow {
         owner,
         bits,

@@ -1,7 +1,7 @@
 //! The end of an object.
 //! LambdaMOO Programmer's Manual, 'Fundamental Operations on Objects': `recycle`.
 
-ghost use Rattle.std.specs.Prelude.{◌≡◌, ◌≤◌, ◌+◌, ◌++◌, [], ◌∷◌, true, if◌then◌else◌, IfOk, OnOk};
+ghost use Rattle.std.specs.Prelude.{◌≡◌, ◌≤◌, ◌+◌, [], ◌∷◌, true, if◌then◌else◌, IfOk, OnOk};
 ghost use Rattle.std.specs.FinMap.{get, entries};
 ghost use Rattle.moo_rows.specs.Links.{IsFirst};
 ghost use Rattle.moo_rows.specs.Maps.{object_cmp, without_object};
@@ -13,11 +13,12 @@ ghost use Rattle.moo_world.specs.Rows.{world_of, IsGood};
 ghost use Rattle.moo_world.specs.World.{is_object};
 ghost use Rattle.moo_props.specs.Dropped.{ListsDropped, LeavesDropped, rows_dropped};
 ghost use Rattle.moo_props.specs.Dropping.{row_linked, released_row, row_released, rows_released, linked_among, verbs_among, ids_among};
-ghost use Rattle.moo_props.specs.Dropping.{ids_for, slots_dropped, dropped_over, props_removed, verbs_removed};
+ghost use Rattle.moo_props.specs.Dropping.{props_removed, verbs_removed};
+ghost use Rattle.moo_props.specs.Slots.{ids_for, keys_by, slots_moved};
 ghost use Rattle.moo_world.specs.Keeps.{Keeps};
 ghost use Rattle.moo_props.specs.Touched.{props_of};
 
-use crate::slots::{SlotKeys, remove_on};
+use crate::slots::{SlotKeys, keys_by, move_slots};
 use moo_rows::ordered::least;
 use moo_rows::{
     Link, ObjList, PropId, Row, Rows, VerbId, each_defined, each_slot_of, each_verb_of,
@@ -144,32 +145,6 @@ fn linked_to<R: Rows>(alloc: Global, rows: &R, x: ObjNo) -> Result<Vec<ObjNo>, A
     Ok(found)
 }
 
-/// All properties for x itself, and its own for a descendant.
-#[tactic(auto, unfolding(moo_world::specs::Objects::same_object))]
-fn ids_for<'a>(x: ObjNo, all: &'a [PropId], own: &'a [PropId], y: ObjNo) -> &'a [PropId]
-    ensures { result.now ≡ ids_for x all.now own.now y }
-{
-    if x == y { all } else { own }
-}
-
-/// Removes from x the slots of all its properties, and from each descendant those of x's own, and lists them.
-fn drop_slots<R: Rows>(
-    rows: &mut R,
-    x: ObjNo,
-    all: &[PropId],
-    own: &[PropId],
-    under: &[(ObjNo, ObjNo)],
-    removed: &mut Vec<(ObjNo, PropId)>,
-) -> Result<(), AllocError>
-    ensures rows { OnOk result (R.held rows.new ≡ slots_dropped x all.now own.now under.now (R.held rows.old)) }
-    ensures list { OnOk result (removed.new.items ≡ removed.old.items ++ dropped_over x all.now own.now under.now) }
-{
-    for (y, _owner) in under {
-        remove_on(rows, *y, ids_for(x, all, own, *y), removed)?;
-    }
-    Ok(())
-}
-
 /// Removes the slots of x, and those of its own properties on all under it, and lists them.
 fn drop_under<R: Rows>(
     alloc: Global,
@@ -179,15 +154,15 @@ fn drop_under<R: Rows>(
 ) -> Result<SlotKeys, AllocError>
     requires { IsGood (R.held rows.old).maps }
     ensures rows { OnOk result (let old = (R.held rows.old).maps in R.held rows.new
-        ≡ slots_dropped x (ids_among (slots_of_left x (record { 0 = 0 }) old)) own.now (owners_under old x) (R.held rows.old)) }
+        ≡ slots_moved (ids_for x (ids_among (slots_of_left x (record { 0 = 0 }) old)) own.now) [] (owners_under old x) (R.held rows.old)) }
     ensures list { IfOk result (λ keys. let old = (R.held rows.old).maps in keys
-        ≡ dropped_over x (ids_among (slots_of_left x (record { 0 = 0 }) old)) own.now (owners_under old x)) }
+        ≡ keys_by (ids_for x (ids_among (slots_of_left x (record { 0 = 0 }) old)) own.now) (owners_under old x)) }
 {
     let under = owners_under(alloc, rows, x)?;
     let all = ids_on(alloc, rows, x)?;
-    let mut removed = Vec::new(alloc);
-    drop_slots(rows, x, all.as_slice(), own, under.as_slice(), &mut removed)?;
-    Ok(SlotKeys::from_vec(removed))
+    move_slots(rows, under.as_slice(), x, all.as_slice(), own, &[])?;
+    let removed = keys_by(alloc, under.as_slice(), x, all.as_slice(), own)?;
+    Ok(removed)
 }
 
 /// Removes the rows of these properties.

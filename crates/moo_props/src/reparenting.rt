@@ -1,6 +1,6 @@
 //! A change of parent.
 
-ghost use Rattle.std.specs.Prelude.{◌≡◌, true, ◌++◌, ◌+◌, ◌≤◌, map, IfOk, OnOk};
+ghost use Rattle.std.specs.Prelude.{◌≡◌, true, ◌+◌, ◌≤◌, IfOk, OnOk};
 ghost use Rattle.std.specs.FinMap.{entries};
 ghost use Rattle.moo_tree.specs.Under.{owners_under};
 ghost use Rattle.moo_world.specs.Objects.{is_among};
@@ -8,11 +8,11 @@ ghost use Rattle.moo_world.specs.World.{chain, reparented};
 ghost use Rattle.moo_world.specs.Rows.{world_of, IsGood};
 ghost use Rattle.moo_world.specs.Laws.{MayReparent};
 ghost use Rattle.moo_world.specs.Keeps.{Keeps};
-ghost use Rattle.moo_props.specs.Reparent.{is_defined_only, props_only_of, slots_moved, relinked, relinked_list};
-ghost use Rattle.moo_props.specs.Slots.{id_of, keys_over, origins};
+ghost use Rattle.moo_props.specs.Reparent.{is_defined_only, props_only_of, relinked, relinked_list};
+ghost use Rattle.moo_props.specs.Slots.{keys_over, origins, slots_moved};
 ghost use Rattle.moo_props.specs.Touched.{ListsTouched, LeavesTouched, rows_touched};
 
-use crate::slots::{Origin, SlotKeys, list_on, origins, put_fresh, remove_on};
+use crate::slots::{SlotKeys, keys_by, move_slots, origins};
 use moo_rows::{ObjList, ObjRow, PropId, Row, Rows, each_slot_of};
 use moo_tree::{chain, owners_under};
 use moo_value::ObjNo;
@@ -65,78 +65,50 @@ fn props_among<R: Rows>(
     Ok(found)
 }
 
-/// On each of these objects, removes slots and puts fresh ones, and lists both.
-fn move_slots<R: Rows>(
-    rows: &mut R,
-    under: &[(ObjNo, ObjNo)],
-    lost: &[PropId],
-    gained: &[Origin],
-    removed: &mut Vec<(ObjNo, PropId)>,
-    added: &mut Vec<(ObjNo, PropId)>,
-) -> Result<(), AllocError>
-    ensures rows { OnOk result (R.held rows.new ≡ slots_moved lost.now gained.now under.now (R.held rows.old)) }
-    ensures removed { OnOk result (removed.new.items ≡ removed.old.items ++ keys_over lost.now under.now) }
-    ensures added { OnOk result (added.new.items ≡ added.old.items ++ keys_over (map id_of gained.now) under.now) }
-{
-    for (y, owner) in under {
-        remove_on(rows, *y, lost, removed)?;
-        put_fresh(rows, *y, *owner, gained)?;
-        list_on(*y, gained, added)?;
-    }
-    Ok(())
-}
-
-/// The properties that x loses when it goes from one parent to another, and those that it gains, each with the slot of it on
-/// the new one.
+/// The properties that x loses when it goes from one parent to another, and those that it gains.
 fn turnover<R: Rows>(
     alloc: Global,
     rows: &R,
     x: ObjNo,
     parent: ObjNo,
     new: ObjNo,
-) -> Result<(Vec<PropId>, Vec<Origin>), AllocError>
+) -> Result<(Vec<PropId>, Vec<PropId>), AllocError>
     requires good { IsGood (R.held rows.now).maps }
     requires above { (d : ObjNo) → is_among d (chain (world_of (R.held rows.now).maps) parent) ≡ true →
         is_among d (chain (world_of (R.held rows.now).maps) x) ≡ true }
     ensures lost { IfOk result (λ both. let w = world_of (R.held rows.now).maps in
         both.0.items ≡ props_only_of (chain w parent) (chain w new) (entries (R.held rows.now).maps.props)) }
-    ensures gained { IfOk result (λ both. let maps = (R.held rows.now).maps in let w = world_of maps in
-        both.1.items ≡ origins maps.slots new (props_only_of (chain w new) (chain w parent) (entries maps.props))) }
+    ensures gained { IfOk result (λ both. let w = world_of (R.held rows.now).maps in
+        both.1.items ≡ props_only_of (chain w new) (chain w parent) (entries (R.held rows.now).maps.props)) }
 {
     let above = chain(alloc, rows, parent)?;
     let ahead = chain(alloc, rows, new)?;
     let lost = props_among(alloc, rows, x, above.as_slice(), ahead.as_slice())?;
-    let coming = props_among(alloc, rows, new, ahead.as_slice(), above.as_slice())?;
-    let gained = origins(alloc, rows, new, coming.as_slice())?;
+    let gained = props_among(alloc, rows, new, ahead.as_slice(), above.as_slice())?;
     Ok((lost, gained))
 }
 
-/// Moves the slots of x and of all under it, and lists those that went and those that came.
+/// Moves the slots of x and of all under it, fresh ones from those of the new parent, and lists those that went and those that came.
 fn move_under<R: Rows>(
     alloc: Global,
     rows: &mut R,
     x: ObjNo,
+    new: ObjNo,
     lost: &[PropId],
-    gained: &[Origin],
+    gained: &[PropId],
 ) -> Result<(SlotKeys, SlotKeys), AllocError>
     requires { IsGood (R.held rows.old).maps }
-    ensures rows { OnOk result (R.held rows.new
-        ≡ slots_moved lost.now gained.now (owners_under (R.held rows.old).maps x) (R.held rows.old)) }
+    ensures rows { OnOk result (let old = (R.held rows.old).maps in
+        R.held rows.new ≡ slots_moved (λ y. lost.now) (origins old.slots new gained.now) (owners_under old x) (R.held rows.old)) }
     ensures removed { IfOk result (λ both. both.0 ≡ keys_over lost.now (owners_under (R.held rows.old).maps x)) }
-    ensures added { IfOk result (λ both. both.1 ≡ keys_over (map id_of gained.now) (owners_under (R.held rows.old).maps x)) }
+    ensures added { IfOk result (λ both. both.1 ≡ keys_over gained.now (owners_under (R.held rows.old).maps x)) }
 {
     let under = owners_under(alloc, rows, x)?;
-    let mut removed = Vec::new(alloc);
-    let mut added = Vec::new(alloc);
-    move_slots(
-        rows,
-        under.as_slice(),
-        lost,
-        gained,
-        &mut removed,
-        &mut added,
-    )?;
-    Ok((SlotKeys::from_vec(removed), SlotKeys::from_vec(added)))
+    let fresh = origins(alloc, rows, new, gained)?;
+    move_slots(rows, under.as_slice(), x, lost, lost, fresh.as_slice())?;
+    let removed = keys_by(alloc, under.as_slice(), x, lost, lost)?;
+    let added = keys_by(alloc, under.as_slice(), x, gained, gained)?;
+    Ok((removed, added))
 }
 
 /// Puts x under another parent, and lists it, unless that is its parent already.
@@ -186,7 +158,7 @@ pub fn reparent<R: Rows>(
         Some(row) => row.copy(alloc)?,
     };
     let (lost, gained) = turnover(alloc, rows, x, row.parent, new)?;
-    let (removed, added) = move_under(alloc, rows, x, lost.as_slice(), gained.as_slice())?;
+    let (removed, added) = move_under(alloc, rows, x, new, lost.as_slice(), gained.as_slice())?;
     let relinked = relink(alloc, rows, x, row, new)?;
     Ok(Touched {
         removed,

@@ -1,8 +1,8 @@
 //! Slots that go and slots that come: their keys, and what fresh ones are made from.
 
-ghost use Rattle.std.specs.Prelude.{◌≡◌, ◌++◌, map, IfOk, OnOk};
+ghost use Rattle.std.specs.Prelude.{◌≡◌, ◌++◌, IfOk, OnOk};
 ghost use Rattle.moo_rows.specs.Walk.{slots_of_left};
-ghost use Rattle.moo_props.specs.Slots.{fresh_of, id_of, keys_on, origins, origins_among, with_fresh, without_on};
+ghost use Rattle.moo_props.specs.Slots.{fresh_of, ids_for, keys_by, keys_on, origins, origins_among, slots_moved, with_fresh, without_on};
 
 use moo_rows::{Bits, PropId, Rows, SlotRow, SlotState, each_slot_of};
 use moo_value::ObjNo;
@@ -26,13 +26,6 @@ impl Model for SlotKeys {
 }
 
 impl SlotKeys {
-    /// The keys of a list.
-    pub(crate) fn from_vec(items: Vec<(ObjNo, PropId)>) -> SlotKeys
-        ensures { result ≡ items.items }
-    {
-        SlotKeys { items }
-    }
-
     /// The keys, in order.
     pub fn items(&self) -> &[(ObjNo, PropId)]
         ensures { result.now ≡ self.now }
@@ -103,19 +96,12 @@ pub(crate) fn origins<R: Rows>(
     Ok(found)
 }
 
-/// Removes the slots of these properties on y and lists them.
-pub(crate) fn remove_on<R: Rows>(
-    rows: &mut R,
-    y: ObjNo,
-    ids: &[PropId],
-    removed: &mut Vec<(ObjNo, PropId)>,
-) -> Result<(), AllocError>
-    ensures rows { OnOk result (R.held rows.new ≡ without_on y ids.now (R.held rows.old)) }
-    ensures list { OnOk result (removed.new.items ≡ removed.old.items ++ keys_on y ids.now) }
+/// Removes the slots of these properties on y.
+fn remove_on<R: Rows>(rows: &mut R, y: ObjNo, ids: &[PropId]) -> Result<(), AllocError>
+    ensures { OnOk result (R.held rows.new ≡ without_on y ids.now (R.held rows.old)) }
 {
     for id in ids {
         rows.remove_slot((y, *id))?;
-        removed.push((y, *id))?;
     }
     Ok(())
 }
@@ -136,15 +122,55 @@ pub(crate) fn put_fresh<R: Rows>(
 }
 
 /// Lists the keys of these properties on y.
-pub(crate) fn list_on(
-    y: ObjNo,
-    origins: &[Origin],
-    keys: &mut Vec<(ObjNo, PropId)>,
-) -> Result<(), AllocError>
-    ensures { OnOk result (keys.new.items ≡ keys.old.items ++ keys_on y (map id_of origins.now)) }
+fn list_on(y: ObjNo, ids: &[PropId], keys: &mut Vec<(ObjNo, PropId)>) -> Result<(), AllocError>
+    ensures { OnOk result (keys.new.items ≡ keys.old.items ++ keys_on y ids.now) }
 {
-    for origin in origins {
-        keys.push((y, origin.id))?;
+    for id in ids {
+        keys.push((y, *id))?;
     }
     Ok(())
+}
+
+/// All properties for x itself, and its own for another object.
+#[tactic(auto, unfolding(moo_world::specs::Objects::same_object))]
+fn ids_for<'a>(x: ObjNo, all: &'a [PropId], own: &'a [PropId], y: ObjNo) -> &'a [PropId]
+    ensures { result.now ≡ ids_for x all.now own.now y }
+{
+    if x == y { all } else { own }
+}
+
+/// On each of these objects, with its owner, removes slots and puts fresh ones. From x it removes those of all the properties, and from
+/// another object those of x's own.
+pub(crate) fn move_slots<R: Rows>(
+    rows: &mut R,
+    under: &[(ObjNo, ObjNo)],
+    x: ObjNo,
+    all: &[PropId],
+    own: &[PropId],
+    gained: &[Origin],
+) -> Result<(), AllocError>
+    ensures { OnOk result (R.held rows.new ≡ slots_moved (ids_for x all.now own.now) gained.now under.now (R.held rows.old)) }
+{
+    for (y, owner) in under {
+        remove_on(rows, *y, ids_for(x, all, own, *y))?;
+        put_fresh(rows, *y, *owner, gained)?;
+    }
+    Ok(())
+}
+
+/// The keys of the slots of all the properties on x, and of its own on another one of these objects.
+pub(crate) fn keys_by(
+    alloc: Global,
+    under: &[(ObjNo, ObjNo)],
+    x: ObjNo,
+    all: &[PropId],
+    own: &[PropId],
+) -> Result<SlotKeys, AllocError>
+    ensures { IfOk result (λ keys. keys ≡ keys_by (ids_for x all.now own.now) under.now) }
+{
+    let mut keys = Vec::new(alloc);
+    for (y, _owner) in under {
+        list_on(*y, ids_for(x, all, own, *y), &mut keys)?;
+    }
+    Ok(SlotKeys { items: keys })
 }

@@ -6,26 +6,12 @@ ghost use Rattle.moo_world.specs.Changes.{property_removed};
 ghost use Rattle.moo_world.specs.Rows.{world_of, IsGood};
 ghost use Rattle.moo_world.specs.Keeps.{Keeps};
 ghost use Rattle.moo_props.specs.Names.{defines, spelling_of};
-ghost use Rattle.moo_props.specs.Undefining.{less_over};
 
+use crate::slots::move_slots;
 use moo_rows::{PropId, Rows};
 use moo_tree::owners_under;
 use moo_value::ObjNo;
 use std::alloc::{AllocError, Global};
-
-/// Removes the slots of a property on these objects.
-fn remove_over<R: Rows>(
-    rows: &mut R,
-    id: PropId,
-    under: &[(ObjNo, ObjNo)],
-) -> Result<(), AllocError>
-    ensures { OnOk result (R.held rows.new ≡ less_over id under.now (R.held rows.old)) }
-{
-    for (y, _owner) in under {
-        rows.remove_slot((*y, id))?;
-    }
-    Ok(())
-}
 
 /// Removes a property that x defines, from x and all its descendants. Each other one keeps its number.
 ///
@@ -46,7 +32,7 @@ pub fn undefine<R: Rows>(
     ensures props { OnOk result ((R.held rows.new).maps.props ≡ remove (R.held rows.old).maps.props id) }
 {
     let under = owners_under(alloc, rows, x)?;
-    remove_over(rows, id, under.as_slice())?;
+    move_slots(rows, under.as_slice(), x, &[id], &[id], &[])?;
     rows.remove_prop(id)?;
     Ok(())
 }

@@ -1,19 +1,40 @@
-//! Rows of any kind: what is the same for objects, properties, slots, verbs and petitions.
+//! Rows of any kind: what is the same for all of them.
 
-ghost use Rattle.std.specs.Prelude.{◌≡◌, [], ◌∷◌, Some, IfSome, IfNone, OnOk, OnErr, option_map, refl};
+ghost use Rattle.std.specs.Prelude.{◌≡◌, [], ◌∷◌, Some, IfSome, IfNone, OnOk, OnErr, option_map};
 ghost use Rattle.std.specs.declared.cmp.Ordering.{Ordering};
 ghost use Rattle.std.specs.FinMap as map;
 ghost use Rattle.std.specs.FinMap.{FinMap};
 ghost use Rattle.moo_rows.specs.Ordered.{IsNext};
-ghost use Rattle.moo_rows.specs.Maps.{Maps, wrote, object_cmp, prop_cmp, slot_cmp, verb_cmp, petition_cmp};
+ghost use Rattle.moo_rows.specs.Maps.{Maps, wrote};
 ghost use Rattle.moo_rows.specs.Walk.{rows_left};
 
-use crate::entries::Row;
 use crate::ordered::OrderedKey;
-use crate::row::{ObjRow, PetitionId, PetitionRow, PropId, PropRow, SlotRow, VerbId, VerbRow};
 use crate::rows::Rows;
-use moo_value::ObjNo;
-use std::alloc::AllocError;
+use std::alloc::{AllocError, Global};
+
+/// A row that `==` tells from every other, and whose clones equal it.
+pub trait Row: PartialEq + Clone + Drop {
+    ghost use Rattle.std.specs.Prelude.{◌≡◌, ◌↔◌, IfOk, IsTrue};
+    ghost use Rattle.moo_value.specs.Equal.{IsExact};
+
+    /// Whether two rows are equal.
+    final fn equals(&self, other: &Self) -> bool
+        ensures { IsTrue result ↔ (self.now ≡ other.now) }
+    {
+        self == other
+    }
+
+    /// An equal row. An `Err` is a lack of memory.
+    final fn copy(&self, _alloc: Global) -> Result<Self, AllocError>
+        ensures { IfOk result (λ copy. copy ≡ self.now) }
+    {
+        self.clone()
+    }
+
+    ghost exact: { IsExact Self.eq };
+
+    ghost clones: { (row copy : Self) → Self.is_clone row copy → copy ≡ row };
+}
 
 /// A kind of row: in which map of a `Rows` its rows are, and how they are found, put and removed there.
 pub trait KeyedRow: Row {
@@ -70,184 +91,4 @@ pub trait KeyedRow: Row {
 
     /// Of two maps that are set one after another the last one counts.
     ghost last_map: { (maps : Maps) (one two : FinMap order Self) → with_map (with_map maps one) two ≡ with_map maps two };
-}
-
-impl KeyedRow for ObjRow {
-    type Key = ObjNo;
-
-    ghost order = { object_cmp };
-
-    ghost map_of = { λ maps. maps.objects };
-
-    ghost with_map = { λ maps rows. record maps { objects = rows } };
-
-    fn find<R: Rows>(rows: &R, key: ObjNo) -> Option<&ObjRow> {
-        rows.object(key)
-    }
-
-    fn next<R: Rows>(rows: &R, from: Option<ObjNo>) -> Option<ObjNo>
-        ensures { IsNext (R.held rows.now).maps.objects from result }
-    {
-        rows.next_object(from)
-    }
-
-    fn put<R: Rows>(rows: &mut R, key: ObjNo, row: ObjRow) -> Result<(), AllocError> {
-        rows.put_object(key, row)
-    }
-
-    fn remove<R: Rows>(rows: &mut R, key: ObjNo) -> Result<(), AllocError> {
-        rows.remove_object(key)
-    }
-
-    ghost ordered = { refl };
-
-    ghost own_map = { λ _. refl };
-
-    ghost other_map = { λ _ _. refl };
-
-    ghost last_map = { λ _ _ _. refl };
-}
-
-impl KeyedRow for PropRow {
-    type Key = PropId;
-
-    ghost order = { prop_cmp };
-
-    ghost map_of = { λ maps. maps.props };
-
-    ghost with_map = { λ maps rows. record maps { props = rows } };
-
-    fn find<R: Rows>(rows: &R, key: PropId) -> Option<&PropRow> {
-        rows.prop(key)
-    }
-
-    fn next<R: Rows>(rows: &R, from: Option<PropId>) -> Option<PropId>
-        ensures { IsNext (R.held rows.now).maps.props from result }
-    {
-        rows.next_prop(from)
-    }
-
-    fn put<R: Rows>(rows: &mut R, key: PropId, row: PropRow) -> Result<(), AllocError> {
-        rows.put_prop(key, row)
-    }
-
-    fn remove<R: Rows>(rows: &mut R, key: PropId) -> Result<(), AllocError> {
-        rows.remove_prop(key)
-    }
-
-    ghost ordered = { refl };
-
-    ghost own_map = { λ _. refl };
-
-    ghost other_map = { λ _ _. refl };
-
-    ghost last_map = { λ _ _ _. refl };
-}
-
-impl KeyedRow for SlotRow {
-    type Key = (ObjNo, PropId);
-
-    ghost order = { slot_cmp };
-
-    ghost map_of = { λ maps. maps.slots };
-
-    ghost with_map = { λ maps rows. record maps { slots = rows } };
-
-    fn find<R: Rows>(rows: &R, key: (ObjNo, PropId)) -> Option<&SlotRow> {
-        rows.slot(key)
-    }
-
-    fn next<R: Rows>(rows: &R, from: Option<(ObjNo, PropId)>) -> Option<(ObjNo, PropId)>
-        ensures { IsNext (R.held rows.now).maps.slots from result }
-    {
-        rows.next_slot(from)
-    }
-
-    fn put<R: Rows>(rows: &mut R, key: (ObjNo, PropId), row: SlotRow) -> Result<(), AllocError> {
-        rows.put_slot(key, row)
-    }
-
-    fn remove<R: Rows>(rows: &mut R, key: (ObjNo, PropId)) -> Result<(), AllocError> {
-        rows.remove_slot(key)
-    }
-
-    ghost ordered = { refl };
-
-    ghost own_map = { λ _. refl };
-
-    ghost other_map = { λ _ _. refl };
-
-    ghost last_map = { λ _ _ _. refl };
-}
-
-impl KeyedRow for VerbRow {
-    type Key = (ObjNo, VerbId);
-
-    ghost order = { verb_cmp };
-
-    ghost map_of = { λ maps. maps.verbs };
-
-    ghost with_map = { λ maps rows. record maps { verbs = rows } };
-
-    fn find<R: Rows>(rows: &R, key: (ObjNo, VerbId)) -> Option<&VerbRow> {
-        rows.verb(key)
-    }
-
-    fn next<R: Rows>(rows: &R, from: Option<(ObjNo, VerbId)>) -> Option<(ObjNo, VerbId)>
-        ensures { IsNext (R.held rows.now).maps.verbs from result }
-    {
-        rows.next_verb(from)
-    }
-
-    fn put<R: Rows>(rows: &mut R, key: (ObjNo, VerbId), row: VerbRow) -> Result<(), AllocError> {
-        rows.put_verb(key, row)
-    }
-
-    fn remove<R: Rows>(rows: &mut R, key: (ObjNo, VerbId)) -> Result<(), AllocError> {
-        rows.remove_verb(key)
-    }
-
-    ghost ordered = { refl };
-
-    ghost own_map = { λ _. refl };
-
-    ghost other_map = { λ _ _. refl };
-
-    ghost last_map = { λ _ _ _. refl };
-}
-
-impl KeyedRow for PetitionRow {
-    type Key = PetitionId;
-
-    ghost order = { petition_cmp };
-
-    ghost map_of = { λ maps. maps.petitions };
-
-    ghost with_map = { λ maps rows. record maps { petitions = rows } };
-
-    fn find<R: Rows>(rows: &R, key: PetitionId) -> Option<&PetitionRow> {
-        rows.petition(key)
-    }
-
-    fn next<R: Rows>(rows: &R, from: Option<PetitionId>) -> Option<PetitionId>
-        ensures { IsNext (R.held rows.now).maps.petitions from result }
-    {
-        rows.next_petition(from)
-    }
-
-    fn put<R: Rows>(rows: &mut R, key: PetitionId, row: PetitionRow) -> Result<(), AllocError> {
-        rows.put_petition(key, row)
-    }
-
-    fn remove<R: Rows>(rows: &mut R, key: PetitionId) -> Result<(), AllocError> {
-        rows.remove_petition(key)
-    }
-
-    ghost ordered = { refl };
-
-    ghost own_map = { λ _. refl };
-
-    ghost other_map = { λ _ _. refl };
-
-    ghost last_map = { λ _ _ _. refl };
 }

@@ -4,122 +4,74 @@ ghost use Rattle.std.specs.Prelude.{◌≡◌};
 ghost use Rattle.std.specs.FinMap as map;
 ghost use Rattle.std.specs.Iterator.{YieldsFirstBy, item_count};
 ghost use Rattle.moo_rows.specs.Links.{defined_left};
-ghost use Rattle.moo_rows.specs.Walk.{objects_left, props_left, slots_left, verbs_left, petitions_left, slots_of_left, verbs_of_left};
+ghost use Rattle.moo_rows.specs.Walk.{rows_left, objects_left, props_left, slots_left, verbs_left, petitions_left, slots_of_left, verbs_of_left};
 
-use crate::row::{ObjRow, PetitionId, PetitionRow, PropId, PropRow, SlotRow, VerbId, VerbRow};
+use crate::keyed::KeyedRow;
+use crate::row::{ObjRow, PetitionRow, PropId, PropRow, SlotRow, VerbId, VerbRow};
 use crate::rows::Rows;
 use moo_value::ObjNo;
 
-/// The rows of one map with their keys, in the order of the keys.
+/// The rows of one kind with their keys, in the order of the keys.
 #[derive(Drop)]
-pub struct Walk<'a, R, K> {
+pub struct Walk<'a, R, V: KeyedRow> {
     rows: &'a R,
-    last: Option<K>,
+    last: Option<V::Key>,
 }
 
-impl<'a, R: Rows> Iterator for Walk<'a, R, ObjNo> {
-    type Item = (ObjNo, &'a ObjRow);
+impl<'a, R: Rows, V: KeyedRow + 'a> Iterator for Walk<'a, R, V> {
+    type Item = (V::Key, &'a V);
 
-    ghost next_gives = { YieldsFirstBy (λ p. (p.0, p.1.now)) (λ s. objects_left s.last (R.held s.rows.now).maps) };
+    ghost next_gives = { YieldsFirstBy (λ p. (p.0, p.1.now)) (λ s. rows_left s.last (V.map_of (R.held s.rows.now).maps)) };
 
-    ghost remaining = { item_count (λ s. objects_left s.last (R.held s.rows.now).maps) };
+    ghost remaining = { item_count (λ s. rows_left s.last (V.map_of (R.held s.rows.now).maps)) };
 
-    fn next(&mut self) -> Option<(ObjNo, &'a ObjRow)> {
-        let key = self.rows.next_object(self.last)?;
+    fn next(&mut self) -> Option<(V::Key, &'a V)> {
+        let (key, row) = V::next_row(self.rows, self.last)?;
         self.last = Some(key);
-        Some(key).zip(self.rows.object(key))
+        Some((key, row))
     }
+}
+
+/// The rows of one kind with their keys, in the order of the keys. Takes no memory.
+pub fn each_row<R: Rows, V: KeyedRow>(rows: &R) -> Walk<'_, R, V>
+    ensures { rows_left result.last (V.map_of (R.held result.rows.now).maps) ≡ map.entries (V.map_of (R.held rows.now).maps) }
+{
+    Walk { rows, last: None }
 }
 
 /// The objects with their rows, in the order of their keys. Takes no memory.
-pub fn each_object<R: Rows>(rows: &R) -> Walk<'_, R, ObjNo>
+pub fn each_object<R: Rows>(rows: &R) -> Walk<'_, R, ObjRow>
     ensures { objects_left result.last (R.held result.rows.now).maps ≡ map.entries (R.held rows.now).maps.objects }
 {
-    Walk { rows, last: None }
-}
-
-impl<'a, R: Rows> Iterator for Walk<'a, R, PropId> {
-    type Item = (PropId, &'a PropRow);
-
-    ghost next_gives = { YieldsFirstBy (λ p. (p.0, p.1.now)) (λ s. props_left s.last (R.held s.rows.now).maps) };
-
-    ghost remaining = { item_count (λ s. props_left s.last (R.held s.rows.now).maps) };
-
-    fn next(&mut self) -> Option<(PropId, &'a PropRow)> {
-        let key = self.rows.next_prop(self.last)?;
-        self.last = Some(key);
-        Some(key).zip(self.rows.prop(key))
-    }
+    each_row(rows)
 }
 
 /// The properties with their rows, in the order of their keys. Takes no memory.
-pub fn each_prop<R: Rows>(rows: &R) -> Walk<'_, R, PropId>
+pub fn each_prop<R: Rows>(rows: &R) -> Walk<'_, R, PropRow>
     ensures { props_left result.last (R.held result.rows.now).maps ≡ map.entries (R.held rows.now).maps.props }
 {
-    Walk { rows, last: None }
-}
-
-impl<'a, R: Rows> Iterator for Walk<'a, R, (ObjNo, PropId)> {
-    type Item = ((ObjNo, PropId), &'a SlotRow);
-
-    ghost next_gives = { YieldsFirstBy (λ p. (p.0, p.1.now)) (λ s. slots_left s.last (R.held s.rows.now).maps) };
-
-    ghost remaining = { item_count (λ s. slots_left s.last (R.held s.rows.now).maps) };
-
-    fn next(&mut self) -> Option<((ObjNo, PropId), &'a SlotRow)> {
-        let key = self.rows.next_slot(self.last)?;
-        self.last = Some(key);
-        Some(key).zip(self.rows.slot(key))
-    }
+    each_row(rows)
 }
 
 /// The slots with their rows, in the order of their keys. Takes no memory.
-pub fn each_slot<R: Rows>(rows: &R) -> Walk<'_, R, (ObjNo, PropId)>
+pub fn each_slot<R: Rows>(rows: &R) -> Walk<'_, R, SlotRow>
     ensures { slots_left result.last (R.held result.rows.now).maps ≡ map.entries (R.held rows.now).maps.slots }
 {
-    Walk { rows, last: None }
-}
-
-impl<'a, R: Rows> Iterator for Walk<'a, R, (ObjNo, VerbId)> {
-    type Item = ((ObjNo, VerbId), &'a VerbRow);
-
-    ghost next_gives = { YieldsFirstBy (λ p. (p.0, p.1.now)) (λ s. verbs_left s.last (R.held s.rows.now).maps) };
-
-    ghost remaining = { item_count (λ s. verbs_left s.last (R.held s.rows.now).maps) };
-
-    fn next(&mut self) -> Option<((ObjNo, VerbId), &'a VerbRow)> {
-        let key = self.rows.next_verb(self.last)?;
-        self.last = Some(key);
-        Some(key).zip(self.rows.verb(key))
-    }
+    each_row(rows)
 }
 
 /// The verbs with their rows, in the order of their keys. Takes no memory.
-pub fn each_verb<R: Rows>(rows: &R) -> Walk<'_, R, (ObjNo, VerbId)>
+pub fn each_verb<R: Rows>(rows: &R) -> Walk<'_, R, VerbRow>
     ensures { verbs_left result.last (R.held result.rows.now).maps ≡ map.entries (R.held rows.now).maps.verbs }
 {
-    Walk { rows, last: None }
-}
-
-impl<'a, R: Rows> Iterator for Walk<'a, R, PetitionId> {
-    type Item = (PetitionId, &'a PetitionRow);
-
-    ghost next_gives = { YieldsFirstBy (λ p. (p.0, p.1.now)) (λ s. petitions_left s.last (R.held s.rows.now).maps) };
-
-    ghost remaining = { item_count (λ s. petitions_left s.last (R.held s.rows.now).maps) };
-
-    fn next(&mut self) -> Option<(PetitionId, &'a PetitionRow)> {
-        let key = self.rows.next_petition(self.last)?;
-        self.last = Some(key);
-        Some(key).zip(self.rows.petition(key))
-    }
+    each_row(rows)
 }
 
 /// The petitions with their rows, in the order of their keys. Takes no memory.
-pub fn each_petition<R: Rows>(rows: &R) -> Walk<'_, R, PetitionId>
+pub fn each_petition<R: Rows>(rows: &R) -> Walk<'_, R, PetitionRow>
     ensures { petitions_left result.last (R.held result.rows.now).maps ≡ map.entries (R.held rows.now).maps.petitions }
 {
-    Walk { rows, last: None }
+    each_row(rows)
 }
 
 /// The rows of one object in a map with their keys, in the order of the keys.

@@ -2,8 +2,8 @@
 use Rattle.moo_run.proofs.Words.{◌≡◌, ◌⊎◌, inl, inr, ℕ, List, [], Option, Result, Ok, Err, refl, sym, subst, subst₂, ap, ◌∙◌, Bool, true, false, IsTrue, MatchResult, ⊤, HasCleanDisk, Survives, Held, state, Task, Stand, Failure, Store, Damaged, NewerVersion, Reports, store_failure, Given, Run, Leads, MayLead, Done, StopsTask, ShowsTables, EndsTask, RunsAction, RunsIn, RunsFrom, RunsUnseen, IsOpening, MayRefuse, LeadsFrom, LeavesAsBefore, LeavesNothingNew, only_reads, serves, Batch, State, LeavesLed, Maps, World, store_of, CrashLeaves, ShowsState}
 use Rattle.sqlite.{specs.State.{State as Database}, specs.Store.{Ghosts}, specs.declared.error.Error.{Error}}
 use Rattle.moo_cli.{specs.declared.task.Action.{Action}, specs.declared.task.Action.TheVariants.{Init, Apply, Rehearse, Ask, Dump, Load, Check, Serve}}
-use Rattle.moo_store.{specs.declared.fault.StoreFault.{StoreFault}, specs.Opening.{IsOfStore, Adopts}}
-use Rattle.moo_store.specs.declared.fault.StoreFault.TheVariants as store_fault
+use Rattle.moo_store_rows.{specs.declared.fault.StoreFault.{StoreFault}, specs.Opening.{IsOfStore, Adopts}}
+use Rattle.moo_store_rows.specs.declared.fault.StoreFault.TheVariants as store_fault
 
 -- why a new world can't be made, and why the opening of a world fails
 pub of_making : {A : Type 0} (fault : StoreFault) (failure : Failure) → failure ≡ store_failure fault → ((fault ≡ store_fault.OutOfMemory) × A) ⊎ ((error : Error) × (fault ≡ store_fault.Store error)) → IsOpening failure

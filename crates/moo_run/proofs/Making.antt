@@ -2,7 +2,7 @@
 use Rattle.moo_run.{proofs.Words.{◌≡◌, ◌⊎◌, inl, true, false, sym, ◌∙◌, true≢false, HasCleanDisk, Held, file_state, over_files, store_of, Image, Ghosts, State, World, LeavesState, Task, Run, Reports, store_failure, begins_anew, BeginsWith, RunsRows, RanOver, RefusedOver}, specs.Run.{BeginsFrom}, proofs.Beginning.{fails_to_begin, unmade_begins, fresh_begins}, proofs.Refusals.{fails_at_once}}
 use Rattle.sqlite_store.specs.declared.store.FileStore.{FileStore}
 use Rattle.sqlite.{specs.Files.{IsNothing}, specs.Tree.{Trees}}
-use Rattle.moo_store.{specs.Opening.{IsOfStore}, specs.declared.fault.StoreFault.{StoreFault}}
+use Rattle.moo_store_rows.{specs.Opening.{IsOfStore}, specs.declared.fault.StoreFault.{StoreFault}}
 use Rattle.moo_files.{specs.Blank.{IsBlank}, specs.Contents.{HoldsTrees, HoldsState, HasAnyTable, HoldsNoTable}, specs.Remains.{IsCleanRemains, MayStopAs, Spares, KeepsSuch, KeepsNothingBut, StillHolds}, specs.declared.remains.Remains.{Remains}}
 
 never : {A : Type 0} (task : Task) → begins_anew task ≡ true → begins_anew task ≡ false → A

@@ -3,7 +3,7 @@ use Rattle.moo_run.{proofs.Words.{◌≡◌, inl, inr, ℕ, List, Err, true, fal
 use Rattle.moo_run.specs.declared.ends.Ends.TheVariants as variant
 use Rattle.moo_files.{specs.Opened.{Contents, Nothing, Database, Unfit, Hold, Refuses}, specs.Contents.{HoldsState}, specs.Remains.{IsCleanRemains, StillHolds}, specs.declared.remains.Remains.{Remains}, proofs.OpenedLemmas.{still_holds}}
 use Rattle.moo_run.specs.Ends.{RefusedOnto}
-use Rattle.moo_store.{specs.Opening.{IsOfStore}, specs.declared.fault.StoreFault.{StoreFault}}
+use Rattle.moo_store_rows.{specs.Opening.{IsOfStore}, specs.declared.fault.StoreFault.{StoreFault}}
 
 module _ (fault : StoreFault) where
   -- the line that there is no such file is that of a store that can't open it

@@ -10,7 +10,8 @@ use Rattle.moo_store.specs.declared.course.Course.{Course}
 use Rattle.moo_store.specs.Stopping.{AreAccepted, AppliesFirst, CompletesUntil, HaltsUntil, EndsEarly}
 use Rattle.moo_store.specs.Rehearsed.{RehearsesBatch}
 use Rattle.sqlite.specs.Held.{state}
-use Rattle.moo_store.{specs.Untouched.{IsMovedBy}, proofs.Crashes.{IsSettled}, proofs.Untouched.{is_over, written_none}, specs.Text.{Applies, StopsRun}}
+use Rattle.moo_store.{specs.Untouched.{IsMovedBy}, proofs.Untouched.{is_over, written_none}, specs.Text.{Applies, StopsRun}}
+use Rattle.moo_store_rows.proofs.Committed.{IsSettled}
 
 pub given_input : (batches : List ℕ) (input : Option (List ℕ)) (files : Texts) → bytes_eq batches (codes "-") ≡ true → texts_by input files batches ≡ input
 given_input batches input files e = ap (λ (b : Bool). if b then input else files batches) e

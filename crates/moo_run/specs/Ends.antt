@@ -1,5 +1,5 @@
 -- The outcome of a run over a file, by what the file holds.
-use Rattle.std.specs.Prelude.{IsTrue, ◌≡◌, ◌<◌, ◌⊎◌, ℕ, true, false, List, Option, length, codes, ⊤}
+use Rattle.std.specs.Prelude.{IsTrue, ◌≡◌, ◌<◌, ◌⊎◌, ℕ, true, false, List, length, codes, ⊤}
 use Rattle.std.specs.Str.{bytes_eq}
 use Rattle.sqlite_disk.specs.declared.Disk.{Ghosts}
 use Rattle.sqlite_store.specs.declared.store.FileStore.{FileStore}
@@ -11,17 +11,17 @@ use Rattle.sqlite.specs.Files.{IsNothing, file_state}
 use Rattle.moo_rows.specs.Maps.{Maps}
 use Rattle.moo_world.specs.Rows.{IsGood}
 use Rattle.moo_world.specs.Judge.{State, state_of}
-use Rattle.moo_tables.specs.Tables.{Tables}
+use Rattle.moo_tables_rows.specs.Tables.{Tables}
 use Rattle.moo_cells.specs.Shows.{ShowsRows}
-use Rattle.moo_store.specs.Opening.{Says, IsOfStore}
-use Rattle.moo_store.specs.States.{LeavesRows, LeavesState}
-use Rattle.moo_tables.specs.Inside.{Leaves}
+use Rattle.moo_store_rows.specs.Opening.{Says, IsOfStore}
+use Rattle.moo_store_rows.specs.States.{LeavesRows, LeavesState}
+use Rattle.moo_tables_rows.specs.Inside.{Leaves}
 use Rattle.moo_files.specs.Opened.{Contents, Nothing, Database, Unfit, Hold}
-use Rattle.moo_store.specs.Current.{BecomesCurrent, unread_from}
+use Rattle.moo_store_rows.specs.Current.{BecomesCurrent, unread_from}
 use Rattle.moo_store.specs.Led.{LeavesLed}
 use Rattle.moo_store.specs.Untouched.{LeavesWritten}
 use Rattle.moo_store.specs.World.{CrashLeaves}
-use Rattle.moo_store.specs.declared.fault.StoreFault.{StoreFault}
+use Rattle.moo_store_rows.specs.declared.fault.StoreFault.{StoreFault}
 use Rattle.moo_files.specs.Contents.{HoldsSuch, HoldsTrees, HoldsState, HoldsNoTable, HasOtherTables, HasAnyTable, IsKept, ReadsAsOurs}
 use Rattle.moo_files.specs.Remains.{IsCleanRemains, MayStopAs, Spares, KeepsSuch, KeepsNothingBut, StillHolds, StillHoldsTrees}
 use Rattle.moo_files.specs.Blank.{IsBlank}

@@ -16,15 +16,15 @@ use Rattle.moo_rows.specs.Opening.{opening_maps}
 use Rattle.moo_world.specs.Rows.{IsGood}
 use Rattle.moo_world.specs.Judge.{State, state_of}
 use Rattle.moo_world.specs.ObjectLists.{objects_of}
-use Rattle.moo_tables.specs.Tables.{Tables}
-use Rattle.moo_tables.specs.Inside.{Rests}
+use Rattle.moo_tables_rows.specs.Tables.{Tables}
+use Rattle.moo_tables_rows.specs.Inside.{Rests}
 use Rattle.moo_cells.specs.Shows.{ShowsRows}
 use Rattle.moo_text.specs.Items.{items}
 use Rattle.moo_text.specs.declared.fault.TextFault.{TextFault}
 use Rattle.moo_dump.specs.Dump.{dump as dump_of}
 use Rattle.moo_load.specs.OneState.{IsHeld}
 use Rattle.moo_load.specs.RowsOf.{AreRowsOf}
-use Rattle.moo_store.specs.declared.fault.StoreFault.{StoreFault}
+use Rattle.moo_store_rows.specs.declared.fault.StoreFault.{StoreFault}
 use Rattle.moo_store.specs.declared.course.Course.{Course}
 use Rattle.moo_store.specs.Stand.{Stand, Works, RunsBatch, AsksBatch}
 use Rattle.moo_text.specs.declared.reply.Answer.{Answer}
@@ -32,11 +32,11 @@ use Rattle.moo_store.specs.Turns.{Completes, Halts}
 use Rattle.moo_store.specs.Stopping.{CompletesUntil, HaltsUntil, EndsEarly}
 use Rattle.moo_store.specs.Rehearsed.{RehearsesBatch}
 use Rattle.moo_store.specs.Text.{accepted, faulted}
-use Rattle.moo_store.specs.Current.{unread_of}
+use Rattle.moo_store_rows.specs.Current.{unread_of}
 use Rattle.moo_store.specs.Led.{LeavesLed}
 use Rattle.moo_store.specs.Untouched.{LeavesWritten}
-use Rattle.moo_store.specs.Opening.{Says, IsOfStore}
-use Rattle.moo_store.specs.States.{LeavesState}
+use Rattle.moo_store_rows.specs.Opening.{Says, IsOfStore}
+use Rattle.moo_store_rows.specs.States.{LeavesState}
 use Rattle.moo_store.specs.Kept.{World}
 use Rattle.moo_store.specs.World.{store_of, CrashLeaves}
 use Rattle.moo_cli.specs.declared.task.Task.{Task}

@@ -1,11 +1,12 @@
 -- From what a crash left of a run to the next run.
-use Rattle.moo_run.{proofs.Words.{◌≡◌, ◌≢◌, ◌⊎◌, inl, inr, ℕ, zero, suc, Bool, true, false, List, length, Option, codes, refl, sym, ap, subst, true≢false, false_from_ne_true, ◌||◌, bytes_eq, Ghosts, Image, HasCleanDisk, Held, file_state, Maps, Batch, IsGood, State, state_of, LeavesLed, LeavesRows, LeavesState, Task, Given, Run, makes_world, begins_anew, HoldsRows, RunsRows, RanFrom, RanOver, RefusedOver, EndsWith, RunsOver, IsClosedEnd, RunsClosed}, proofs.Connections.{runs_when, unled}, specs.declared.ends.Ends.{Ends}}
+use Rattle.moo_run.{proofs.Words.{◌≡◌, ◌≢◌, ◌⊎◌, inl, inr, ℕ, zero, suc, Bool, true, false, List, length, codes, refl, sym, ap, subst, true≢false, false_from_ne_true, ◌||◌, bytes_eq, Ghosts, Image, HasCleanDisk, Held, file_state, Maps, Batch, IsGood, State, state_of, LeavesLed, LeavesRows, LeavesState, Task, Given, Run, makes_world, begins_anew, HoldsRows, RunsRows, RanFrom, RanOver, RefusedOver, EndsWith, RunsOver, IsClosedEnd, RunsClosed}, proofs.Connections.{runs_when, unled}, specs.declared.ends.Ends.{Ends}}
 use Rattle.moo_run_laws.specs.Again.{Started, StartedRows, LeadTo, TakesUp, TakesRows, IsLeftAfter, IsFoundOf, CrashesTo, LeadsOn, ClosesOn, IsFoundIn, ClosesTo}
 use Rattle.moo_run.specs.declared.ends.Ends.TheVariants as variant
 use Rattle.sqlite_store.specs.declared.store.FileStore.{FileStore}
 use Rattle.sqlite.{specs.State.{State as Database}, specs.Schema.{Schema}, specs.Tree.{Trees}, specs.Held.{AreDatabases}, specs.Files.{IsCleanLeft}, specs.declared.file.Leftover.{Leftover}}
 use Rattle.sqlite.specs.declared.file.Leftover.TheVariants as left
-use Rattle.moo_tables.{specs.declared.version.Version.{Version}, specs.declared.version.Version.TheVariants.{First, Second}, specs.Tables.{Tables, schema_of, no_schema}, specs.Inside.{Leaves}, proofs.SchemaLemmas.{one_schema}}
+use Rattle.moo_tables.proofs.SchemaLemmas.{one_schema}
+use Rattle.moo_tables_rows.{specs.declared.version.Version.{Version}, specs.declared.version.Version.TheVariants.{First, Second}, specs.Tables.{Tables, schema_of, no_schema}, specs.Inside.{Leaves}}
 use Rattle.moo_cells.{proofs.CellsLemmas.{one_good}, proofs.GoodRows.{good_within}}
 use Rattle.moo_files.{specs.Contents.{HoldsSuch, HoldsState, HasAnyTable, IsKept, IsLeftBy}, specs.Remains.{IsCleanRemains, LeftoverKeeps, KeepsSuch, StillHolds}, specs.Closing.{IsLeftOf, IsClosedFrom}, specs.declared.remains.Remains.{Remains}, specs.Stop.{AreNumbered}, proofs.AgainLemmas.{held_after}, proofs.RemainsLemmas.{keeps_more}, proofs.StopLemmas.{left_by_store, such_by_bytes, state_is_database, states_are_databases}}
 use Rattle.moo_files.specs.Opened.{Database as a_database}

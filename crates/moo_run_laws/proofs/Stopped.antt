@@ -1,5 +1,5 @@
 -- From what the disk left of a run that was stopped to the next run.
-use Rattle.moo_run.{proofs.Words.{ℕ, List, Option, subst, Ghosts, Image, HasCleanDisk, Held, file_state, Maps, State, CrashLeaves, LeavesState, Stand, Run, HoldsRows, RunsOver, IsClosedEnd, RunsClosed}, proofs.Connections.{runs_when}, specs.declared.ends.Ends.{Ends}}
+use Rattle.moo_run.{proofs.Words.{ℕ, List, subst, Ghosts, Image, HasCleanDisk, Held, file_state, Maps, State, CrashLeaves, LeavesState, Stand, Run, HoldsRows, RunsOver, IsClosedEnd, RunsClosed}, proofs.Connections.{runs_when}, specs.declared.ends.Ends.{Ends}}
 use Rattle.moo_run_laws.{specs.Again.{TakesUp, TakesRows, StopsTo, StopsOn}, proofs.AgainLemmas.{started_map, started_rows_map, crashes_to, leads_on, takes_up, takes_rows, refused_left, refused_rows, such_after, rows_after, was_numbered, same_untouched}}
 use Rattle.moo_run.specs.declared.ends.Ends.TheVariants as variant
 use Rattle.sqlite_store.specs.declared.store.FileStore.{FileStore}

@@ -1,5 +1,5 @@
 -- What words do to a file, and the next words to what a crash left of it.
-use Rattle.std.specs.Prelude.{◌≡◌, ◌<◌, ◌⊎◌, ℕ, ◌≤◌, true, false, List, ◌++◌, take, Option, length, ⊤}
+use Rattle.std.specs.Prelude.{◌≡◌, ◌<◌, ◌⊎◌, ℕ, ◌≤◌, true, false, List, ◌++◌, take, length, ⊤}
 use Rattle.sqlite_disk.specs.declared.Disk.{Ghosts}
 use Rattle.sqlite_store.specs.declared.store.FileStore.{FileStore}
 use Rattle.sqlite_store.specs.FileStore.{recovers}

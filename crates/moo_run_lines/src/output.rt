@@ -6,8 +6,8 @@ ghost use Rattle.moo_run_lines.specs.Lines.{checked_line, damaged_line, loaded_l
 
 use crate::failure::Failure;
 use moo_damage::{Key, Kind};
-use moo_dump::put_all;
 use moo_store::Tally;
+use moo_text::put_all;
 use sqlite::{Error, ErrorCode};
 use std::alloc::{AllocError, Global};
 use std::io::{Eprint, Write};

@@ -1,31 +1,7 @@
--- From what a check read to the World that it leaves.
-use Rattle.moo_store.{proofs.Words.{◌≡◌, ◌≢◌, ◌≤◌, ◌≤ℤ◌, ℕ, ℤ, pos, negsuc, suc, zero, [], ◌∷◌, length, map, Bool, true, false, Result, Ok, Err, refl, sym, ap, subst, ◌∙◌, arith, length-append, length-map, IfOk, IfErr, OnOk, MatchResult, entries, HasCleanDisk, Ghosts, Held, state, Maps, IsGood, world_of, numbers_below, State, Tables, Rests, ShowsRows, KeepsRows, World, store_of, StandsFor, IsOfStore, StoreFault, Store, Damaged, NewerVersion, OutOfMemory, Closed}, specs.Checked.{SaysInCheck, IsUnchecked, Checks, FailsWorld}}
+-- From what a check found to the World that it leaves.
+use Rattle.moo_store.{proofs.Words.{◌≡◌, ◌≢◌, ℕ, Bool, true, false, Result, Ok, Err, refl, sym, ◌∙◌, IfErr, MatchResult, HasCleanDisk, Ghosts, Held, state, Maps, State, Tables, Rests, ShowsRows, KeepsRows, World, store_of, StandsFor, IsOfStore, StoreFault, Store, Damaged, NewerVersion, OutOfMemory, Closed}, specs.World.{FailsWorld}}
+use Rattle.moo_store_rows.specs.Checked.{Checks}
 use Rattle.sqlite.specs.State.{State as Database}
-use Rattle.std.{proofs.lemmas.List.Sums.{count_by-le-length, length-filter}, proofs.lemmas.Int.{ints}}
-use Rattle.moo_world.{specs.Objects.{object_at}, specs.ObjectLists.{objects_of}, specs.World.{is_object, numbers_to}, proofs.Shown.ObjectEntries.{objects_listed}}
-
--- what the cells that were read say, and what is known of the tables that they are, decides a check
-pub checked_by : (own : Maps) (cells : Tables) (old new : Database) (r : Result ℕ StoreFault) → OnOk r (ShowsRows cells own) → IfOk r (λ count. count ≡ length (objects_of (world_of own)))
-    → IfErr r (SaysInCheck own cells) → (ShowsRows cells own → IfErr r IsOfStore) → (HasCleanDisk new → (t : Tables) → Rests old t → cells ≡ t)
-    → (HasCleanDisk new → (t : Tables) → Rests old t → Rests new t) → Checks own old new r
-checked_by own cells old new (Ok count) shown is says whole are rests = record {
-  shown = λ clean t here. subst (λ t. ShowsRows t own) (are clean t here) shown;
-  count = is;
-  rests = rests;
-}
-checked_by own cells old new (Err fault) shown is says whole are rests = record {
-  fault = λ clean t here. subst (λ t. SaysInCheck own t fault) (are clean t here) says;
-  whole = λ worked clean t here shows. whole (subst (λ t. ShowsRows t own) (sym (are clean t here)) shows);
-  rests = λ clean _. rests clean;
-}
-
--- a check that finds nothing out isn't of damage
-pub unchecked : (own : Maps) (old new : Database) (fault : StoreFault) → IsOfStore fault → (fault ≡ OutOfMemory → HasCleanDisk new → (t : Tables) → Rests old t → Rests new t) → IsUnchecked own old new fault
-unchecked own old new (Store error) it rests = record { fault = λ clean t here. tt; whole = λ worked clean t here shows. tt; rests = λ clean is. absurd cc }
-unchecked own old new (Damaged kind key) it rests = absurd it
-unchecked own old new NewerVersion it rests = absurd it
-unchecked own old new OutOfMemory it rests = record { fault = λ clean t here. tt; whole = λ worked clean t here shows. tt; rests = λ clean is. rests is clean }
-unchecked own old new Closed it rests = absurd it
 
 pub rests_checked : (own : Maps) (old new : Database) (r : Result ℕ StoreFault) → Checks own old new r → HasCleanDisk new
     → MatchResult r (λ _. (t : Tables) → Rests old t → Rests new t) (λ fault. fault ≡ OutOfMemory → (t : Tables) → Rests old t → Rests new t)
@@ -57,26 +33,3 @@ stands_on g known old conn failed s it works clean stays late =
         shown = λ sure _ _. over old.rows.maps (it.is_at.shown sure it.works (clean late));
       };
     }
-
--- ---- how many objects there are
-
-pub objects_held : (t : Maps) → IsGood t → length (entries t.objects) ≡ length (objects_of (world_of t))
-objects_held t good = sym (length-map (entries t.objects) (λ e. e.0)) ∙ sym (ap length (objects_listed t good.formed.tree))
-
-length-numbers_below : (n : ℕ) → length (numbers_below n) ≡ n
-length-numbers_below zero = refl
-length-numbers_below (suc n) = length-append (numbers_below n) (n ∷ []) ∙ (let e = length-numbers_below n in omega arith)
-
-numbers_up_to : (top : ℤ) → top ≤ℤ pos 2147483647 → numbers_to top ≤ 2147483648
-numbers_up_to (pos n) h = grind (arith, ints, h)
-numbers_up_to (negsuc n) h = omega arith
-
-pub few_objects : (t : Maps) → IsGood t → length (objects_of (world_of t)) ≤ 2147483648
-few_objects t good =
-    let top = numbers_up_to (world_of t).top good.formed.limits.top.1 in
-    let all = map object_at (numbers_below (numbers_to (world_of t).top)) in
-    let fewer = count_by-le-length (is_object (world_of t)) all in
-    let is = length-filter (is_object (world_of t)) all in
-    let many = length-map (numbers_below (numbers_to (world_of t).top)) object_at in
-    let count = length-numbers_below (numbers_to (world_of t).top) in
-    omega (arith, top, fewer, is, many, count)

@@ -1,11 +1,8 @@
 -- What a crash leaves of a connection, at rest and in a call.
 use Rattle.moo_store.proofs.Words.{◌≡◌, ◌⊎◌, inl, inr, Bool, IsTrue, refl, sym, ap, ◌∙◌, Trees, Ghosts, Maps, Tables, Rests, ShowsRows, LeavesEither, unread_of, IsGood, State, state_of, KeepsRows, LeavesRows, KeepsState, LeavesState, World, Stand, Works, Failed, StoreFailed, store_of, Left, CrashLeaves, StandsAt}
+use Rattle.moo_store_rows.proofs.Committed.{IsSettled}
 use Rattle.sqlite.{specs.State.{State as Database, HasCleanDisk}, specs.Effect.{Database as Content}}
-use Rattle.moo_tables.proofs.InsideLemmas.{left_by}
-
--- the law of a store that is open: a crash leaves the last commit
-abbrev pub IsSettled : Database → Type 0
-IsSettled store = (trees : Trees) → IsTrue store.is_open → store.may_leave trees → trees ≡ store.committed.trees
+use Rattle.moo_tables_rows.proofs.InsideLemmas.{left_by}
 
 pub rows_at_rest : (store : Database) (rows : Maps) → IsSettled store → KeepsRows store rows → (trees : Trees) → store.may_leave trees → LeavesRows trees rows
 rows_at_rest store rows settled it trees left = record {

@@ -1,5 +1,6 @@
 -- How far a text was answered that stops at the first answer that isn't `accepted`.
-use Rattle.moo_store.{proofs.Words.{◌≡◌, ◌&&◌, ◌∙◌, not, ℕ, ◌≤◌, Bool, true, false, IsTrue, List, [], ◌∷◌, ◌++◌, Option, refl, sym, arith, items, Ghosts, store_of, IsGood, Side, untouched, Next, Answer, Batch, says_accepted, stops_after, AreAccepted, EndAtFirst, EndsEarly, StandsAt, Stand, RunsBatch, World, RunsAndAnswers, accepted, faulted, AppliesFirst}, proofs.Crashes.{IsSettled, crash_leaves}, proofs.Following.{early-follows}, proofs.Going.{Going, gives_front}, proofs.Items.{turns_written, keeps_rest, keeps_led, keeps_left}, proofs.Untouched.{written_none}}
+use Rattle.moo_store.{proofs.Words.{◌≡◌, ◌&&◌, ◌∙◌, not, ℕ, Bool, true, false, List, [], ◌∷◌, ◌++◌, Option, refl, sym, arith, items, Ghosts, store_of, IsGood, Side, Answer, Batch, says_accepted, stops_after, AreAccepted, EndAtFirst, EndsEarly, StandsAt, Stand, RunsBatch, World, RunsAndAnswers, accepted, faulted, AppliesFirst}, proofs.Crashes.{crash_leaves}, proofs.Following.{early-follows}, proofs.Going.{Going, gives_front}, proofs.Items.{turns_written, keeps_rest, keeps_led, keeps_left}, proofs.Untouched.{written_none}}
+use Rattle.moo_store_rows.proofs.Committed.{IsSettled}
 
 -- one answer more
 pub accepted_on : (answers : List Answer) (a : Answer) → AreAccepted answers → says_accepted a ≡ true → AreAccepted (answers ++ a ∷ [])

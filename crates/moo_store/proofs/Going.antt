@@ -1,6 +1,6 @@
 -- How far the answering of a text has come, whatever answers its batches.
-use Rattle.moo_store.{proofs.Words.{◌≡◌, ◌≢◌, ◌<◌, inl, inr, ℕ, ◌+◌, ◌≤◌, Bool, true, false, cond, length, List, [], ◌∷◌, ◌++◌, take, append_assoc, Option, Some, None, Result, Ok, Err, IfOk, zero-add, refl, sym, ap, subst, ◌∙◌, arith, ◌⊎◌, IfErr, append-nil, Batch, items, Side, untouched, IsOver, Next, Answer, TextFault, answers_text, is_batch, is_lost_answer, Turn, Turns, GivesFrontOrAll, Completes, Halts}, proofs.Writing.{Appends-then, Appends-nothing}}
-use Rattle.std.{specs.List.{count_by}, specs.Io.KnownBytes.{Appends, Consumes, IsAtEnd}, proofs.lemmas.List.Sums.{sum_by-append}, proofs.lemmas.Grind.{flat_map-append}}
+use Rattle.moo_store.proofs.Words.{◌≡◌, ◌≢◌, ◌<◌, inl, inr, ℕ, ◌+◌, ◌≤◌, Bool, true, false, cond, length, List, [], ◌∷◌, ◌++◌, take, append_assoc, Option, Some, None, zero-add, refl, sym, ap, subst, ◌∙◌, arith, ◌⊎◌, append-nil, Batch, items, Side, untouched, IsOver, Next, Answer, TextFault, answers_text, is_batch, is_lost_answer, Turn, Turns, GivesFrontOrAll, Completes, Halts}
+use Rattle.std.{specs.List.{count_by}, proofs.KnownBytes.{Appends-nil, Appends-trans}, specs.Io.KnownBytes.{Appends, Consumes, IsAtEnd}, proofs.lemmas.List.Sums.{sum_by-append}, proofs.lemmas.Grind.{flat_map-append}}
 use Rattle.moo_text.{specs.Replies.{answer_text}, specs.Given.{ReaderGives, Explains, BreaksOff, ReadsNext, ReadsItems}, specs.declared.next.Next.TheVariants.{End}, specs.declared.fault.TextFault.TheVariants.{Read, Write, OutOfMemory, Long}, proofs.Joining.{items_none, items_then, items_end, whole_items, all_given, items_stop}}
 
 -- one turn more
@@ -64,7 +64,7 @@ module _ {A : Type 0} (P : A → Batch → Answer → A → Type 0) (old : A) (t
     read = subst (λ s. ReadsItems (untouched text 1073741824) s []) (sym is) (items_none (untouched text 1073741824));
     answers = [];
     turns = refl;
-    wrote = Appends-nothing before;
+    wrote = Appends-nil before;
     batches_are = is_b;
     lost_are = is_l;
   }
@@ -77,7 +77,7 @@ module _ {A : Type 0} (P : A → Batch → Answer → A → Type 0) (old : A) (t
     read = items_then (untouched text 1073741824) side more p.done item p.read took (not_end P now next item a one);
     answers = p.answers ++ a ∷ [];
     turns = turns-push P old now next p.done p.answers item a p.turns one;
-    wrote = subst (Appends before longer) (ap (λ (t : List ℕ). answers_text p.answers ++ t) (sym (append-nil (answer_text a))) ∙ sym (flat_map-append answer_text p.answers (a ∷ []))) (Appends-then before written longer (answers_text p.answers) (answer_text a) p.wrote wrote);
+    wrote = subst (Appends before longer) (ap (λ (t : List ℕ). answers_text p.answers ++ t) (sym (append-nil (answer_text a))) ∙ sym (flat_map-append answer_text p.answers (a ∷ []))) (Appends-trans before written longer (answers_text p.answers) (answer_text a) p.wrote wrote);
     batches_are = is_b ∙ ap (λ n. n + cond (is_batch a) 1 0) p.batches_are ∙ sym (count-push is_batch p.answers a);
     lost_are = is_l ∙ ap (λ n. n + cond (is_lost_answer a) 1 0) p.lost_are ∙ sym (count-push is_lost_answer p.answers a);
   }
@@ -142,7 +142,7 @@ module _ {A : Type 0} (P : A → Batch → Answer → A → Type 0) (old : A) (t
         last = a ∷ [];
         in_hand = (next, one, refl);
         count = count;
-        wrote = subst (λ (t : List ℕ). Appends before longer (answers_text p.answers ++ take count t)) (sym (append-nil (answer_text a))) (Appends-then before written longer (answers_text p.answers) (take count (answer_text a)) p.wrote wrote);
+        wrote = subst (λ (t : List ℕ). Appends before longer (answers_text p.answers ++ take count t)) (sym (append-nil (answer_text a))) (Appends-trans before written longer (answers_text p.answers) (take count (answer_text a)) p.wrote wrote);
         read = λ e. elim e [ inl r ↦ no_read fault writing r | inr long ↦ not_long fault writing long ];
         cut = cut;
       }
@@ -157,13 +157,3 @@ falls_at_turn P now next item a room less one falls = falls (not_end P now next 
 pub one_more : (b : Bool) (n m room less : ℕ) → n + room ≤ 1073741824 → less < room → m ≡ n + cond b 1 0 → m + less ≤ 1073741824
 one_more true n m room less low falls is = omega (arith, low, falls, is)
 one_more false n m room less low falls is = omega (arith, low, falls, is)
-
--- ---- a result that is handed on
-
-pub IfOk-then : {T E : Type 0} (r : Result T E) (P Q : T → Type 0) → ((x : T) → P x → Q x) → IfOk r P → IfOk r Q
-IfOk-then (Ok x) P Q f p = f x p
-IfOk-then (Err e) P Q f p = tt
-
-pub IfErr-then : {T E : Type 0} (r : Result T E) (P Q : E → Type 0) → ((e : E) → P e → Q e) → IfErr r P → IfErr r Q
-IfErr-then (Ok x) P Q f p = tt
-IfErr-then (Err e) P Q f p = f e p

@@ -1,36 +1,22 @@
 -- What a run over a text leaves of a World.
-use Rattle.moo_store.{proofs.Words.{◌≡◌, ℕ, Bool, true, false, IsTrue, List, [], ◌∷◌, ◌++◌, append_assoc, Option, Result, Ok, Err, sym, ap, subst, ◌∙◌, append-nil, HasCleanDisk, Ghosts, Batch, items, Next, Answer, Reply, TextFault, IsGood, Tables, Rests, store_of, ShowsItsRows, StandsAt, Stand, Works, Failed, StoreFailed, RunsBatch, World, StoreFault, Store, Damaged, NewerVersion, OutOfMemory, Closed, RunsAndAnswers, answer_to, accepted_at, accepted, faulted_at, faulted, KeepsRest, KeepsLed, KeepsLeft, Applies, StopsRun, StandsOver, taken_of, lost_of, IsMovedBy, Turn, Turns, Completes, Halts}, proofs.Crashes.{IsSettled, crash_leaves}, proofs.Following.{completes-follows, halts-follows}, proofs.Running.{FailsAtStore, fails_of}, proofs.Untouched.{is_over, written_none, written_on}}
+use Rattle.moo_store.{proofs.Words.{◌≡◌, subst₂, ℕ, Bool, true, false, IsTrue, List, [], ◌∷◌, ◌++◌, append_assoc, Option, Result, Ok, Err, sym, ap, subst, ◌∙◌, HasCleanDisk, Ghosts, Batch, items, Next, Answer, Reply, TextFault, IsGood, Tables, Rests, store_of, ShowsItsRows, StandsAt, Stand, Works, Failed, StoreFailed, RunsBatch, World, StoreFault, RunsAndAnswers, answer_to, accepted_at, accepted, faulted_at, faulted, KeepsRest, KeepsLed, KeepsLeft, Applies, StopsRun, StandsOver, taken_of, lost_of, IsMovedBy, Turn, Turns, Completes, Halts}, proofs.Crashes.{crash_leaves}, proofs.Following.{completes-follows, halts-follows}, proofs.Running.{FailsAtStore, by_fault, fails_of}, proofs.Untouched.{is_over, written_none, written_on, written_same}}
+use Rattle.moo_store_rows.proofs.Committed.{IsSettled}
 use Rattle.moo_text.specs.declared.next.Next.TheVariants.{Batch as Whole, Malformed, Truncated, End}
 
 -- ---- what is written
 
-one_taken : (batch : Batch) (a : Answer) (r : Result Reply StoreFault) → a ≡ answer_to r → accepted_at (Whole batch) a ≡ taken_of batch r
-one_taken batch a (Ok reply) is = ap (accepted_at (Whole batch)) is
-one_taken batch a (Err (Store error)) is = ap (accepted_at (Whole batch)) is
-one_taken batch a (Err (Damaged kind key)) is = ap (accepted_at (Whole batch)) is
-one_taken batch a (Err NewerVersion) is = ap (accepted_at (Whole batch)) is
-one_taken batch a (Err OutOfMemory) is = ap (accepted_at (Whole batch)) is
-one_taken batch a (Err Closed) is = ap (accepted_at (Whole batch)) is
-
-one_lost : {S : Type 0} (g : Ghosts S) (old new : World S) (batch : Batch) (a : Answer) (r : Result Reply StoreFault) → a ≡ answer_to r → FailsAtStore g old new r → faulted_at (Whole batch) a ≡ lost_of batch r
-one_lost g old new batch a (Ok reply) is fails = ap (faulted_at (Whole batch)) is
-one_lost g old new batch a (Err (Store error)) is fails = ap (faulted_at (Whole batch)) is
-one_lost g old new batch a (Err (Damaged kind key)) is fails = absurd fails
-one_lost g old new batch a (Err NewerVersion) is fails = absurd fails
-one_lost g old new batch a (Err OutOfMemory) is fails = absurd fails
-one_lost g old new batch a (Err Closed) is fails = ap (faulted_at (Whole batch)) is
-
--- an item that isn't a batch writes nothing
-written_same : {S : Type 0} (g : Ghosts S) (old now new : World S) (batches lost : List Batch) → new ≡ now → IsMovedBy g old now batches lost → IsMovedBy g old new (batches ++ []) (lost ++ [])
-written_same g old now new batches lost same was =
-    subst (λ w. IsMovedBy g old w (batches ++ []) (lost ++ [])) (sym same) (subst (IsMovedBy g old now (batches ++ [])) (sym (append-nil lost)) (subst (λ bs. IsMovedBy g old now bs lost) (sym (append-nil batches)) was))
+one_batch : {S : Type 0} (g : Ghosts S) (old new : World S) (batch : Batch) (a : Answer) (r : Result Reply StoreFault) → a ≡ answer_to r → FailsAtStore g old new r → (accepted_at (Whole batch) a ≡ taken_of batch r) × (faulted_at (Whole batch) a ≡ lost_of batch r)
+one_batch g old new batch a (Ok reply) is fails = (ap (accepted_at (Whole batch)) is, ap (faulted_at (Whole batch)) is)
+one_batch g old new batch a (Err fault) is fails =
+    by_fault g old new (λ f. a ≡ answer_to (Err f) → (accepted_at (Whole batch) a ≡ taken_of batch (Err f)) × (faulted_at (Whole batch) a ≡ lost_of batch (Err f))) fault fails
+    (λ error works failed is. (ap (accepted_at (Whole batch)) is, ap (faulted_at (Whole batch)) is)) (λ shut same is. (ap (accepted_at (Whole batch)) is, ap (faulted_at (Whole batch)) is)) is
 
 turn_written : {S : Type 0} (g : Ghosts S) (old now new : World S) (batches lost : List Batch) (item : Next) (a : Answer) → IsMovedBy g old now batches lost → Turn (RunsAndAnswers g) now item a new
     → IsMovedBy g old new (batches ++ accepted_at item a) (lost ++ faulted_at item a)
 turn_written g old now new batches lost (Whole batch) a was turn =
     let fails = fails_of g now new turn.result turn.closed turn.fails in
-    subst (λ more. IsMovedBy g old new (batches ++ more) (lost ++ faulted_at (Whole batch) a)) (sym (one_taken batch a turn.result turn.answer))
-    (subst (λ more. IsMovedBy g old new (batches ++ taken_of batch turn.result) (lost ++ more)) (sym (one_lost g now new batch a turn.result turn.answer fails)) (written_on g old now new batches lost batch turn.result was fails turn.cells))
+    let one = one_batch g now new batch a turn.result turn.answer fails in
+    subst₂ (λ took gone. IsMovedBy g old new (batches ++ took) (lost ++ gone)) (sym one.0) (sym one.1) (written_on g old now new batches lost batch turn.result was fails turn.cells)
 turn_written g old now new batches lost (Malformed number) a was turn = written_same g old now new batches lost turn.1 was
 turn_written g old now new batches lost Truncated a was turn = written_same g old now new batches lost turn.1 was
 turn_written g old now new batches lost End a was turn = absurd turn

@@ -1,5 +1,5 @@
 -- Where a rehearsal stands after one batch, and after a text.
-use Rattle.moo_store.{proofs.Words.{◌≡◌, inl, inr, ℕ, Bool, true, false, List, Option, refl, sym, ap, subst, ◌∙◌, Batch, State, Verdict, Accepted, judge, state_of, Maps, Value, Reply, Answer, TextFault, reply_of, IsRun, Rehearsal, RehearsesAt, RehearsesBatch, Stand, Works, Failed, StoreFailed, VerdictLeaves, Completes, Halts, CompletesUntil, HaltsUntil, EndsEarly}, proofs.Following.{completes-follows, halts-follows, early-follows}, proofs.Judged.{not_both}}
+use Rattle.moo_store.{proofs.Words.{◌≡◌, Reply, RunsBatch, inl, inr, ℕ, Bool, true, false, List, Option, refl, sym, ap, subst, ◌∙◌, Batch, State, Accepted, judge, state_of, Maps, Value, Answer, TextFault, reply_of, Rehearsal, RehearsesAt, RehearsesBatch, Stand, Works, Failed, StoreFailed, VerdictLeaves, CompletesUntil, HaltsUntil, EndsEarly}, proofs.Following.{completes-follows, halts-follows, early-follows}, proofs.Verdicts.{not_both}}
 use Rattle.moo_text.specs.declared.reply.Answer.TheVariants as answer
 use Rattle.moo_text.specs.declared.reply.Reply.TheVariants as reply
 
@@ -20,13 +20,9 @@ works_rehearsal old new batch a works it (Works s) at = subst (λ t. (next : Sta
 works_rehearsal old new batch a works it (Failed s) at = not_both old.failed works at
 works_rehearsal old new batch a works it (StoreFailed s hand) at = absurd at
 
-pub no_memory_rehearsal : (it : Rehearsal) (batch : Batch) → it.failed ≡ false → IsRun (state_of it.rows.maps) batch → Rehearses it batch (answer.Replied reply.NoMemory) it
-no_memory_rehearsal it batch works run = works_rehearsal it it batch (answer.Replied reply.NoMemory) works (Works (state_of it.rows.maps), (works, refl), (inl (refl, refl, run), λ e. absurd cc))
-
-pub refused_rehearsal : (it : Rehearsal) (batch : Batch) (v : Verdict) → it.failed ≡ false → judge (state_of it.rows.maps) batch ≡ v → ((s : State) → VerdictLeaves s v (Works s)) → Rehearses it batch (answer.Replied (reply_of v)) it
-refused_rehearsal it batch v works judged leaves =
-    let s = state_of it.rows.maps in
-    works_rehearsal it it batch (answer.Replied (reply_of v)) works (Works s, (works, refl), (inr (ap reply_of (sym judged), subst (λ x. VerdictLeaves s x (Works s)) (sym judged) (leaves s)), λ e. absurd cc))
+pub still_rehearsal : (it : Rehearsal) (batch : Batch) (reply : Reply) → it.failed ≡ false
+    → RunsBatch (Works (state_of it.rows.maps)) batch (answer.Replied reply) (Works (state_of it.rows.maps)) → Rehearses it batch (answer.Replied reply) it
+still_rehearsal it batch reply works run = works_rehearsal it it batch (answer.Replied reply) works (Works (state_of it.rows.maps), (works, refl), (run, λ e. absurd cc))
 
 pub accepted_rehearsal : (old new : Rehearsal) (batch : Batch) (a : Answer) (answers : List Value) (n : ℕ) (next : Maps) → old.failed ≡ false → judge (state_of old.rows.maps) batch ≡ Accepted answers (state_of next)
     → n ≡ next.head.seq → a ≡ answer.Replied (reply.Accepted n answers) → (new.failed ≡ false → new.rows.maps ≡ next) → Rehearses old batch a new

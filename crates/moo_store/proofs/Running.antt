@@ -1,5 +1,5 @@
 -- One batch, and then a list of them.
-use Rattle.moo_store.{proofs.Words.{◌≡◌, inl, inr, ℕ, zero, suc, ◌+◌, ◌≤◌, ◌<◌, Bool, List, [], ◌∷◌, ◌++◌, take, drop, length, get_or, append_assoc, length-append, Result, Ok, Err, OnOk, OnErr, IfErr, true, false, refl, sym, ap, subst, ◌∙◌, arith, is_err, ⊤, IsTrue, map, append-nil, take_more, HasCleanDisk, Ghosts, Batch, Reply, Value, nat_lt, if◌then◌else◌, State, Ran, Through, FailedAt, FullAt, Verdict, Accepted, Refused, NoRoom, Stale, is_due, last_seq, run_calls, verdict_of, judge, left_by, after, LeavesState, reply_of, state_behind, IsRun, AnsweredOne, Answered, acknowledged, added, Stand, Works, Failed, StoreFailed, state_at, VerdictLeaves, RunsBatch, Turns, StandsBehind, RunsAll, answer_to, store_of, IsAt, StandsAt, Left, LeftOrNext, MatchStore, World, StoreFault, Store, Damaged, NewerVersion, OutOfMemory, Closed}, proofs.Crashes.{IsSettled, left_at_rest}}
+use Rattle.moo_store.proofs.Words.{◌≡◌, inl, inr, ℕ, zero, suc, ◌+◌, ◌≤◌, ◌<◌, Bool, List, [], ◌∷◌, ◌++◌, take, drop, length, get_or, append_assoc, length-append, Result, Ok, Err, OnOk, IfErr, true, false, refl, sym, ap, subst, ◌∙◌, arith, is_err, IsTrue, map, append-nil, take_more, HasCleanDisk, Ghosts, Batch, Reply, Value, nat_lt, if◌then◌else◌, State, Ran, Through, FailedAt, FullAt, Verdict, Accepted, Refused, NoRoom, Stale, is_due, last_seq, run_calls, verdict_of, judge, left_by, after, LeavesState, reply_of, state_behind, IsRun, AnsweredOne, Answered, acknowledged, added, Stand, Works, Failed, StoreFailed, state_at, VerdictLeaves, RunsBatch, Turns, StandsBehind, RunsAll, answer_to, store_of, IsAt, StandsAt, LeftOrNext, MatchStore, World, StoreFault, Store, Damaged, NewerVersion, OutOfMemory, Closed}
 use Rattle.std.proofs.Math.Seq.{drop-append_seam, drop-cons, take-append_seam}
 use Rattle.sqlite.specs.declared.error.Error.{Error}
 use Rattle.moo_text.specs.declared.reply.Reply.TheVariants as reply
@@ -10,14 +10,6 @@ use Rattle.moo_text.specs.declared.reply.Answer.TheVariants as answer
 pub when_ok : {T E P : Type 0} (r : Result T E) → false ≡ is_err r → OnOk r P → P
 when_ok (Ok x) e p = p
 when_ok (Err x) e p = absurd cc
-
-pub at_changed : {T E P Q : Type 0} (r : Result T E) → (P → Q) → OnOk r P → OnOk r Q
-at_changed (Ok x) f p = f p
-at_changed (Err e) f p = tt
-
-pub at_error : {T E P Q : Type 0} (r : Result T E) → (P → Q) → OnErr r P → OnErr r Q
-at_error (Ok x) f p = tt
-at_error (Err e) f p = f p
 
 -- the number of an accepted batch is one that the tables hold
 low_after : (seq : ℕ) (ran : Ran) (answers : List Value) (t : State) → seq < 9223372036854775807 → verdict_of seq ran ≡ Accepted answers t → t.seq < 9223372036854775808
@@ -65,20 +57,20 @@ pub fails_of : {S : Type 0} (g : Ghosts S) (old new : World S) (r : Result Reply
     → (old.failed ≡ false → IfErr r (λ fault. ((error : Error) × (fault ≡ Store error)) × (new.failed ≡ true))) → FailsAtStore g old new r
 fails_of {S} g old new r closed fails = by old.failed r refl closed fails
   where
-    by : (failed : Bool) (r : Result Reply StoreFault) → old.failed ≡ failed → (old.failed ≡ true → (r ≡ Err Closed) × (new ≡ old))
-        → (old.failed ≡ false → IfErr r (λ fault. ((error : Error) × (fault ≡ Store error)) × (new.failed ≡ true))) → FailsAtStore g old new r
-    by true (Ok reply) is closed fails = let no : Ok reply ≡ Err Closed = (closed is).0 in absurd cc
-    by true (Err (Store error)) is closed fails = let no : Store error ≡ Closed = ap (λ (r : Result Reply StoreFault). elim r [ Ok x ↦ Closed | Err f ↦ f ]) (closed is).0 in absurd cc
-    by true (Err (Damaged kind key)) is closed fails = let no : (Damaged kind key) ≡ Closed = ap (λ (r : Result Reply StoreFault). elim r [ Ok x ↦ Closed | Err f ↦ f ]) (closed is).0 in absurd cc
-    by true (Err NewerVersion) is closed fails = let no : NewerVersion ≡ Closed = ap (λ (r : Result Reply StoreFault). elim r [ Ok x ↦ Closed | Err f ↦ f ]) (closed is).0 in absurd cc
-    by true (Err OutOfMemory) is closed fails = let no : OutOfMemory ≡ Closed = ap (λ (r : Result Reply StoreFault). elim r [ Ok x ↦ Closed | Err f ↦ f ]) (closed is).0 in absurd cc
-    by true (Err Closed) is closed fails = (is, (closed is).1)
+    by : (failed : Bool) (r : Result Reply StoreFault) → old.failed ≡ failed → (failed ≡ true → (r ≡ Err Closed) × (new ≡ old))
+        → (failed ≡ false → IfErr r (λ fault. ((error : Error) × (fault ≡ Store error)) × (new.failed ≡ true))) → FailsAtStore g old new r
+    by true r is closed fails = subst (FailsAtStore g old new) (sym (closed refl).0) (is, (closed refl).1)
     by false (Ok reply) is closed fails = is
-    by false (Err (Store error)) is closed fails = (is, (fails is).1)
-    by false (Err (Damaged kind key)) is closed fails = let no : (Damaged kind key) ≡ Store (fails is).0.0 = (fails is).0.1 in absurd cc
-    by false (Err NewerVersion) is closed fails = let no : NewerVersion ≡ Store (fails is).0.0 = (fails is).0.1 in absurd cc
-    by false (Err OutOfMemory) is closed fails = let no : OutOfMemory ≡ Store (fails is).0.0 = (fails is).0.1 in absurd cc
-    by false (Err Closed) is closed fails = let no : Closed ≡ Store (fails is).0.0 = (fails is).0.1 in absurd cc
+    by false (Err fault) is closed fails = let it = fails refl in subst (λ f. let r : Result Reply StoreFault = Err f in FailsAtStore g old new r) (sym it.0.1) (is, it.1)
+
+-- what a batch that met a fault leaves of a World
+pub by_fault : {S : Type 0} (g : Ghosts S) (old new : World S) (P : StoreFault → Type 0) (fault : StoreFault) → (let r : Result Reply StoreFault = Err fault in FailsAtStore g old new r)
+    → ((error : Error) → old.failed ≡ false → new.failed ≡ true → P (Store error)) → (old.failed ≡ true → new ≡ old → P Closed) → P fault
+by_fault g old new P (Store error) fails stopped closed = stopped error fails.0 fails.1
+by_fault g old new P Closed fails stopped closed = closed fails.0 fails.1
+by_fault g old new P (Damaged kind key) fails stopped closed = absurd fails
+by_fault g old new P NewerVersion fails stopped closed = absurd fails
+by_fault g old new P OutOfMemory fails stopped closed = absurd fails
 
 -- ---- a list of batches
 
@@ -148,16 +140,14 @@ pub runs_one : {S : Type 0} (g : Ghosts S) (old new : World S) (batch : Batch) (
 runs_one g old new batch (Ok reply) works stands known s it =
     let one = stands known (Works s) (record { works = works; is_at = it }) in
     (state_at one.0, replied_one s batch reply one.0 one.2, replied_at g known new s batch reply one.0 one.1 one.2)
-runs_one g old new batch (Err (Store error)) fails stands known s it =
-    let one = stands known (Works s) (record { works = fails.0; is_at = it }) in
+runs_one g old new batch (Err fault) fails stands known s it =
+    by_fault g old new (λ f. StandsBehind g old batch (answer_to (Err f)) new → RunsOne g known new s batch (Err f)) fault fails
+    (λ error works failed stands sure clean trees left.
+    let one = stands known (Works s) (record { works = works; is_at = it }) in
     let lost : StandsAt g known new (StoreFailed s batch) = subst (StandsAt g known new) one.2.1 one.1 in
-    λ sure clean trees left.
     let lies = lost.1 sure clean trees left in
-    elim lies.1 [ inl same ↦ (0, omega arith, subst (LeavesState trees) same lies.2) | inr on ↦ (1, omega arith, subst (LeavesState trees) on lies.2) ]
-runs_one g old new batch (Err (Damaged kind key)) fails stands known s it = absurd fails
-runs_one g old new batch (Err NewerVersion) fails stands known s it = absurd fails
-runs_one g old new batch (Err OutOfMemory) fails stands known s it = absurd fails
-runs_one g old new batch (Err Closed) fails stands known s it = subst (λ w. IsAt g known w s) (sym fails.1) it
+    elim lies.1 [ inl same ↦ (0, omega arith, subst (LeavesState trees) same lies.2) | inr on ↦ (1, omega arith, subst (LeavesState trees) on lies.2) ])
+    (λ failed same stands. subst (λ w. IsAt g known w s) (sym same) it) stands
 
 -- ---- a list of batches
 
@@ -244,28 +234,18 @@ next_is all count batch s (suc (suc n)) few low is = absurd (omega arith)
 
 -- the batch in hand met a fault
 pub stops : (T : Type 0) {S : Type 0} (g : Ghosts S) (old now new : World S) (all : List Batch) (count : ℕ) (before replies : List Reply) (batch : Batch) (fault : StoreFault)
-    → count < length all → batch ≡ get_or all count batch → Progress g old now all count before replies → ((known : Bool) (s : State) → IsAt g known now s → RunsOne g known new s batch (Err fault)) → (known : Bool) (s : State) → IsAt g known old s
+    → count < length all → batch ≡ get_or all count batch → Progress g old now all count before replies → (let r : Result Reply StoreFault = Err fault in FailsAtStore g now new r)
+    → ((known : Bool) (s : State) → IsAt g known now s → RunsOne g known new s batch (Err fault)) → (known : Bool) (s : State) → IsAt g known old s
     → let end = after s (acknowledged all (added before replies)) in
     MatchStore (let r : Result T StoreFault = Err fault in r) (IsAt g known new end) (IsTrue known → HasCleanDisk (store_of g new) → LeftOrNext (store_of g new) end (drop (length (added before replies)) all))
-stops T g old now new all count before replies batch (Store error) low is p runs known s it = λ sure clean trees left.
+stops T g old now new all count before replies batch fault low is p fails runs known s it =
     let end = after s (acknowledged all (added before replies)) in
-    let lost = runs known end (is_at_end g old now all count before replies p known s it) sure clean trees left in
+    by_fault g now new (λ f. RunsOne g known new end batch (Err f) → (let r : Result T StoreFault = Err f in MatchStore r (IsAt g known new end) (IsTrue known → HasCleanDisk (store_of g new) → LeftOrNext (store_of g new) end (drop (length (added before replies)) all)))) fault fails
+    (λ error works failed one sure clean trees left.
+    let lost = one sure clean trees left in
     let place : length (added before replies) ≡ count = ap length (added_is g old now all count before replies p) ∙ p.each in
-    (lost.0, lost.1, subst (LeavesState trees) (next_is all count batch end lost.0 lost.1 low is ∙ ap (λ n. after end (take lost.0 (drop n all))) (sym place)) lost.2)
-stops T g old now new all count before replies batch (Damaged kind key) low is p runs known s it = absurd (runs known (after s (acknowledged all (added before replies))) (is_at_end g old now all count before replies p known s it))
-stops T g old now new all count before replies batch NewerVersion low is p runs known s it = absurd (runs known (after s (acknowledged all (added before replies))) (is_at_end g old now all count before replies p known s it))
-stops T g old now new all count before replies batch OutOfMemory low is p runs known s it = absurd (runs known (after s (acknowledged all (added before replies))) (is_at_end g old now all count before replies p known s it))
-stops T g old now new all count before replies batch Closed low is p runs known s it = runs known (after s (acknowledged all (added before replies))) (is_at_end g old now all count before replies p known s it)
-
--- where tables show a state, a crash leaves it
-pub left_at : {S T : Type 0} (g : Ghosts S) (new : World S) (end : State) (r : Result T StoreFault) (Q : Type 0) → IsSettled (store_of g new) → MatchStore r (IsAt g true new end) Q
-    → MatchStore r (HasCleanDisk (store_of g new) → Left (store_of g new) end) ⊤
-left_at g new end (Ok x) Q settled it = λ clean. left_at_rest (store_of g new) end settled (it.tables refl clean)
-left_at g new end (Err (Store error)) Q settled it = tt
-left_at g new end (Err (Damaged kind key)) Q settled it = λ clean. left_at_rest (store_of g new) end settled (it.tables refl clean)
-left_at g new end (Err NewerVersion) Q settled it = λ clean. left_at_rest (store_of g new) end settled (it.tables refl clean)
-left_at g new end (Err OutOfMemory) Q settled it = λ clean. left_at_rest (store_of g new) end settled (it.tables refl clean)
-left_at g new end (Err Closed) Q settled it = λ clean. left_at_rest (store_of g new) end settled (it.tables refl clean)
+    (lost.0, lost.1, subst (LeavesState trees) (next_is all count batch end lost.0 lost.1 low is ∙ ap (λ n. after end (take lost.0 (drop n all))) (sym place)) lost.2))
+    (λ shut same one. one) (runs known end (is_at_end g old now all count before replies p known s it))
 
 -- ---- where a run stands at its end
 
@@ -298,7 +278,9 @@ next_in_hand g old now all count before replies batch low is p =
 pub runs_stopped : {S : Type 0} (g : Ghosts S) (old now new : World S) (all : List Batch) (count : ℕ) (before replies : List Reply) (batch : Batch) (fault : StoreFault) → count < length all → batch ≡ get_or all count batch
     → (let r : Result Reply StoreFault = Err fault in FailsAtStore g now new r) → StandsBehind g now batch (answer_to (Err fault)) new → Progress g old now all count before replies
     → (known : Bool) (stand : Stand) → StandsAt g known old stand → RunsAll g known new stand all (added before replies) (Err fault)
-runs_stopped g old now new all count before replies batch (Store error) low is fails stands p known stand it =
+runs_stopped g old now new all count before replies batch fault low is fails stands p known stand it =
+    by_fault g now new (λ f. StandsBehind g now batch (answer_to (Err f)) new → RunsAll g known new stand all (added before replies) (Err f)) fault fails
+    (λ error works failed stands.
     let done = p.turned known stand it in
     let one = stands known done.0 done.1 in
     record {
@@ -307,13 +289,8 @@ runs_stopped g old now new all count before replies batch (Store error) low is f
       new = one.0;
       stands = one.1;
       ends = (batch, drop (suc count) all, next_in_hand g old now all count before replies batch low is p, one.2);
-    }
-runs_stopped g old now new all count before replies batch (Damaged kind key) low is fails stands p known stand it = absurd fails
-runs_stopped g old now new all count before replies batch NewerVersion low is fails stands p known stand it = absurd fails
-runs_stopped g old now new all count before replies batch OutOfMemory low is fails stands p known stand it = absurd fails
-runs_stopped g old now new all count before replies batch Closed low is fails stands p known stand it =
-    let same : now ≡ new = sym fails.1 in
-    subst (λ w. RunsAll g known w stand all (added before replies) (Err Closed)) same (runs_through g old now all count before replies (Err Closed) (λ P Q p. p) p known stand it)
+    })
+    (λ failed same stands. subst (λ w. RunsAll g known w stand all (added before replies) (Err Closed)) (sym same) (runs_through g old now all count before replies (Err Closed) (λ P Q p. p) p known stand it)) stands
 
 -- at a fault, fewer batches have a reply than there are
 pub fewer : {S : Type 0} (g : Ghosts S) (old now : World S) (all : List Batch) (count : ℕ) (before replies : List Reply) → count < length all → Progress g old now all count before replies → length (added before replies) < length all
@@ -329,11 +306,7 @@ all_answered g old now all count before replies p done = ap length (added_is g o
 
 -- a fault of a batch fails the World, and isn't want of memory
 pub has_failed : {S : Type 0} (g : Ghosts S) (old new : World S) (fault : StoreFault) → FailsAtStore g old new (let r : Result Reply StoreFault = Err fault in r) → IsTrue new.failed
-has_failed g old new (Store error) it = it.1
-has_failed {S} g old new Closed it = ap (λ (w : World S). w.failed) it.1 ∙ it.0
-has_failed g old new (Damaged kind key) it = absurd it
-has_failed g old new NewerVersion it = absurd it
-has_failed g old new OutOfMemory it = absurd it
+has_failed {S} g old new fault it = by_fault g old new (λ _. IsTrue new.failed) fault it (λ error works failed. failed) (λ failed same. ap (λ (w : World S). w.failed) same ∙ failed)
 
 pub no_memory : {S : Type 0} (g : Ghosts S) (old new : World S) (fault : StoreFault) → fault ≡ OutOfMemory → FailsAtStore g old new (let r : Result Reply StoreFault = Err fault in r) → ⊥
 no_memory g old new fault is it = subst (λ f. FailsAtStore g old new (let r : Result Reply StoreFault = Err f in r)) is it

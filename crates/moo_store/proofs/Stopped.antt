@@ -1,7 +1,7 @@
 -- Why the store stopped a World, after batches that it kept.
 use Rattle.moo_store.proofs.Words.{◌≡◌, Bool, true, false, Err, Result, IsTrue, refl, sym, ◌∙◌, arith, Reply, KeepsFaults, IsStopped, StoreFault, Store, Closed}
 use Rattle.sqlite.specs.State.{State as Database}
-use Rattle.moo_tables.proofs.CauseLemmas.{stops_since}
+use Rattle.moo_tables_rows.proofs.CauseLemmas.{stops_since}
 
 pub faults_same : (s : Database) → KeepsFaults s s
 faults_same s = record { faults = omega arith; steps = refl }

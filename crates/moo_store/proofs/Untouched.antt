@@ -1,8 +1,9 @@
 -- What the accepted batches of a run leave of the tables, one after another.
-use Rattle.moo_store.{proofs.Words.{◌≡◌, ◌⊎◌, inl, inr, ℕ, zero, suc, ◌<◌, ◌≤◌, Bool, List, [], ◌∷◌, ◌++◌, append_assoc, take, drop, length, get_or, Result, Ok, Err, OnOk, OnErr, IfOk, IfErr, IsTrue, true, false, refl, sym, ap, subst, ◌∙◌, arith, append-nil, ⊤, Ghosts, Trees, Maps, Tables, Rests, IsCurrent, Batch, Reply, Value, IsGood, State, Accepted, state_of, judge, left_by, acknowledged, added, ShowsRows, store_of, ShowsItsRows, IsAt, StandsFor, MatchStore, KeepsRows, LeavesRows, BatchesLead, LeavesLed, World, KeepsCells, LeavesEither, LeavesWritten, unread_of, SparesUnread, Writes, StandsOver, HasWritten, WritesOne, IsKnown, taken_of, lost_of, IsMovedBy, StoreFault, Store, Damaged, NewerVersion, OutOfMemory, Closed}, proofs.Crashes.{IsSettled, rows_at_rest, unread_at_rest}, proofs.Committed.{shown_by, current_by}, proofs.Numbered.{led-append, led_good, writes_led}, proofs.Running.{Progress, FailsAtStore}}
+use Rattle.moo_store.{proofs.Words.{◌≡◌, subst₂, ◌⊎◌, inl, inr, ℕ, zero, suc, ◌<◌, ◌≤◌, Bool, List, [], ◌∷◌, ◌++◌, append_assoc, take, drop, length, get_or, Result, Ok, Err, OnOk, OnErr, IfOk, IfErr, IsTrue, true, false, refl, sym, ap, subst, ◌∙◌, arith, append-nil, ⊤, Ghosts, Trees, Maps, Tables, Rests, IsCurrent, Batch, Reply, Value, IsGood, State, Accepted, state_of, judge, left_by, acknowledged, added, ShowsRows, store_of, ShowsItsRows, IsAt, StandsFor, MatchStore, KeepsRows, LeavesRows, BatchesLead, LeavesLed, World, KeepsCells, LeavesEither, LeavesWritten, unread_of, SparesUnread, Writes, StandsOver, HasWritten, WritesOne, IsKnown, taken_of, lost_of, IsMovedBy, StoreFault, Store}, proofs.Crashes.{rows_at_rest, unread_at_rest}, proofs.Numbered.{led-append, led_good, writes_led}, proofs.Running.{Progress, FailsAtStore, by_fault}}
+use Rattle.moo_store_rows.proofs.Committed.{IsSettled, shown_by, current_by}
 use Rattle.std.proofs.Math.Seq.{drop-append_seam}
 use Rattle.sqlite.specs.State.{State as Database, HasCleanDisk}
-use Rattle.moo_tables.proofs.InsideLemmas.{left_by as tables_left}
+use Rattle.moo_tables_rows.proofs.InsideLemmas.{left_by as tables_left}
 use Rattle.moo_text.specs.declared.reply.Reply.TheVariants as reply
 use Rattle.moo_world.specs.Between.{BatchLeads}
 
@@ -106,87 +107,6 @@ nothing_written g old batch r settled good none = record {
   left = λ c tables over. left_at_rest g old tables (taken_of batch r) (lost_of batch r) settled none over;
 }
 
--- an accepted batch writes its changes, or the store failed and nothing is written
-pub accepted_writes : {S : Type 0} (g : Ghosts S) (old new : World S) (batch : Batch) (answers : List Value) (seq : ℕ) (next : Maps) (r : Result Reply StoreFault) → old.failed ≡ false → IsGood old.rows.maps → IsGood next → BatchLeads batch old.rows.maps next
-    → judge (state_of old.rows.maps) batch ≡ Accepted answers (state_of next)
-    → IfOk r (λ r. r ≡ reply.Accepted seq answers) → OnOk r (new.failed ≡ false → new.rows.maps ≡ next)
-    → OnOk r ((tables : Tables) → HasCleanDisk (store_of g new) → Rests (store_of g old) tables → IsCurrent tables → ShowsRows tables old.rows.maps → (after : Tables) × Rests (store_of g new) after × KeepsCells old.rows.maps next tables after)
-    → OnErr r (HasCleanDisk (store_of g new) → IsTrue (store_of g new).is_open → (tables : Tables) → Rests (store_of g old) tables → IsCurrent tables → Rests (store_of g new) tables)
-    → (HasCleanDisk (store_of g new) → HasCleanDisk (store_of g old)) → IfErr r (λ fault. (error : _) × (fault ≡ Store error)) → OnErr r (new.failed ≡ true)
-    → IsSettled (store_of g new) → OnErr r (ShowsItsRows g old → HasCleanDisk (store_of g new) → (trees : Trees) → (store_of g new).may_leave trees → LeavesRows trees old.rows.maps ⊎ LeavesRows trees next)
-    → OnErr r ((tables : Tables) → HasCleanDisk (store_of g new) → Rests (store_of g old) tables → IsCurrent tables → ShowsRows tables old.rows.maps → (trees : Trees) → (store_of g new).may_leave trees → LeavesEither old.rows.maps next tables trees)
-    → (HasCleanDisk (store_of g new) → (tables : Tables) → Rests (store_of g old) tables → IsCurrent tables → SparesUnread (store_of g old) (store_of g new)) → WritesOne g old new batch r
-accepted_writes g old new batch answers seq next (Ok reply) works sound good leads judged is rows cells undone clean fault failed settled crash leaves spared = record {
-  clean = clean;
-  written = λ c known tables over.
-      let it = cells tables c over.rests (over.current works) (over.shows works) in
-      record {
-        end = next;
-        after = it.0;
-        rests = it.1;
-        current = λ _. it.2.version ∙ over.current works;
-        writes = subst (λ x. Writes old.rows.maps tables (acknowledged (batch ∷ []) (x ∷ [])) next it.0) (sym is) (next, it.0, good, leads, sym (ap (left_by (state_of old.rows.maps)) judged), it.2, (refl, refl));
-        rows = rows;
-        unread = (spared c tables over.rests (over.current works)).kept it.1.is_open;
-      };
-  led = λ c shown on trees lies.
-      let was = shown (clean c) in
-      let it = cells was.tables c was.rests was.current was.shows in (
-        0,
-        omega arith,
-        next,
-        good,
-        subst (λ x. BatchesLead (acknowledged (batch ∷ []) (x ∷ []) ++ []) old.rows.maps next) (sym is) (next, good, leads, sym (ap (left_by (state_of old.rows.maps)) judged), refl),
-        rows_at_rest (store_of g new) next settled (record { tables = it.0; rests = it.1; current = it.2.version ∙ was.current; shows = it.2.shows }) trees lies,
-      );
-  left = λ c tables over trees lies.
-      let it = cells tables c over.rests (over.current works) (over.shows works) in (
-        0,
-        omega arith,
-        next,
-        it.0,
-        subst (λ x. Writes old.rows.maps tables (acknowledged (batch ∷ []) (x ∷ []) ++ []) next it.0) (sym is) (next, it.0, good, leads, sym (ap (left_by (state_of old.rows.maps)) judged), it.2, (refl, refl)),
-        tables_left (store_of g new) it.0 trees it.1 (settled trees it.1.is_open lies),
-        (spared c tables over.rests (over.current works)).crash trees lies,
-      );
-}
-accepted_writes g old new batch answers seq next (Err (Store error)) works sound good leads judged is rows cells undone clean fault failed settled crash leaves spared = record {
-  clean = clean;
-  written = λ c opened tables over. record {
-    end = old.rows.maps;
-    after = tables;
-    rests = undone c opened tables over.rests (over.current works);
-    current = λ on. let no : true ≡ false = sym failed ∙ on in absurd cc;
-    writes = (refl, refl);
-    rows = λ on. let no : true ≡ false = sym failed ∙ on in absurd cc;
-    unread = (spared c tables over.rests (over.current works)).kept opened;
-  };
-  led = λ c shown on trees lies. elim (crash shown c trees lies) [
-    | inl was ↦ (0, omega arith, old.rows.maps, sound, refl, was)
-    | inr late ↦ (1, omega arith, next, good, (next, good, leads, sym (ap (left_by (state_of old.rows.maps)) judged), refl), late)
-  ];
-  left = λ c tables over trees lies.
-      let unread = (spared c tables over.rests (over.current works)).crash trees lies in
-      elim (leaves tables c over.rests (over.current works) (over.shows works) trees lies) [
-        | inl was ↦ (0, omega arith, old.rows.maps, tables, (refl, refl), was, unread)
-        | inr (after, late, kept) ↦ (1, omega arith, next, after, (next, after, good, leads, sym (ap (left_by (state_of old.rows.maps)) judged), kept, (refl, refl)), late, unread)
-      ];
-}
-accepted_writes g old new batch answers seq next (Err (Damaged kind key)) works sound good leads judged is rows cells undone clean fault failed settled crash leaves spared = let no : (Damaged kind key) ≡ Store fault.0 = fault.1 in absurd cc
-accepted_writes g old new batch answers seq next (Err NewerVersion) works sound good leads judged is rows cells undone clean fault failed settled crash leaves spared = let no : NewerVersion ≡ Store fault.0 = fault.1 in absurd cc
-accepted_writes g old new batch answers seq next (Err OutOfMemory) works sound good leads judged is rows cells undone clean fault failed settled crash leaves spared = let no : OutOfMemory ≡ Store fault.0 = fault.1 in absurd cc
-accepted_writes g old new batch answers seq next (Err Closed) works sound good leads judged is rows cells undone clean fault failed settled crash leaves spared = let no : Closed ≡ Store fault.0 = fault.1 in absurd cc
-
--- an accepted batch is acknowledged, unless the store failed
-pub accepted_is_taken : {S : Type 0} (old new : World S) (batch : Batch) (answers : List Value) (seq : ℕ) (r : Result Reply StoreFault)
-    → IfOk r (λ r. r ≡ reply.Accepted seq answers) → IfErr r (λ fault. (error : _) × (fault ≡ Store error)) → taken_of batch r ≡ [] → MatchStore r (new ≡ old) ⊤
-accepted_is_taken old new batch answers seq (Ok reply) is fault none = let no : batch ∷ [] ≡ [] = subst (λ x. acknowledged (batch ∷ []) (x ∷ []) ≡ []) is none in absurd cc
-accepted_is_taken old new batch answers seq (Err (Store error)) is fault none = tt
-accepted_is_taken old new batch answers seq (Err (Damaged kind key)) is fault none = let no : (Damaged kind key) ≡ Store fault.0 = fault.1 in absurd cc
-accepted_is_taken old new batch answers seq (Err NewerVersion) is fault none = let no : NewerVersion ≡ Store fault.0 = fault.1 in absurd cc
-accepted_is_taken old new batch answers seq (Err OutOfMemory) is fault none = let no : OutOfMemory ≡ Store fault.0 = fault.1 in absurd cc
-accepted_is_taken old new batch answers seq (Err Closed) is fault none = let no : Closed ≡ Store fault.0 = fault.1 in absurd cc
-
 -- ---- the rows that a crash leaves
 
 -- the tables that show a World's rows
@@ -241,6 +161,11 @@ written_none g old settled = record {
   left = λ c tables over. left_at_rest g old tables [] [] settled refl over;
 }
 
+-- an item that isn't a batch writes nothing
+pub written_same : {S : Type 0} (g : Ghosts S) (old now new : World S) (batches lost : List Batch) → new ≡ now → IsMovedBy g old now batches lost → IsMovedBy g old new (batches ++ []) (lost ++ [])
+written_same g old now new batches lost same was =
+    subst (λ w. IsMovedBy g old w (batches ++ []) (lost ++ [])) (sym same) (subst (IsMovedBy g old now (batches ++ [])) (sym (append-nil lost)) (subst (λ bs. IsMovedBy g old now bs lost) (sym (append-nil batches)) was))
+
 -- one more batch was run
 pub written_on : {S : Type 0} (g : Ghosts S) (old now next : World S) (batches lost : List Batch) (batch : Batch) (r : Result Reply StoreFault)
     → IsMovedBy g old now batches lost → FailsAtStore g now next r → WritesOne g now next batch r → IsMovedBy g old next (batches ++ taken_of batch r) (lost ++ lost_of batch r)
@@ -256,25 +181,23 @@ written_on g old now next batches lost batch (Ok reply) was works one =
       left = λ c tables over. subst (LeavesWritten (store_of g next) old.rows.maps tables (unread_of (store_of g old).now.trees) (batches ++ taken_of batch (Ok reply))) (sym (append-nil lost ∙ was.none works))
           (left_then g old now next tables batches (taken_of batch (Ok reply)) [] works (over.shows (was.works works)) (was.written (one.clean c) (inl works) tables over) (one.left c));
     }
-written_on g old now next batches lost batch (Err (Store error)) was fails one = record {
-  clean = λ c. was.clean (one.clean c);
-  works = λ _. was.works fails.0;
-  none = λ on. let no : true ≡ false = sym fails.1 ∙ on in absurd cc;
-  closed = λ failed. let no : true ≡ false = sym failed ∙ was.works fails.0 in absurd cc;
-  written = λ c known tables over. elim known [
-    | inl works ↦ (let no : true ≡ false = sym fails.1 ∙ works in absurd cc)
-    | inr opened ↦ written_then g old now next tables batches [] fails.0 (over.shows (was.works fails.0)) (was.written (one.clean c) (inl fails.0) tables over) (one.written c opened)
-  ];
-  led = λ c shown good. subst (λ none. LeavesLed (store_of g next) old.rows.maps (batches ++ []) (none ++ batch ∷ [])) (sym (was.none fails.0))
-      (led_then g old now next batches [] (batch ∷ []) fails.0 (was.clean (one.clean c)) shown (was.written (one.clean c) (inl fails.0)) (λ shows. one.led c shows fails.0));
-  left = λ c tables over. subst (λ none. LeavesWritten (store_of g next) old.rows.maps tables (unread_of (store_of g old).now.trees) (batches ++ []) (none ++ batch ∷ [])) (sym (was.none fails.0))
-      (left_then g old now next tables batches [] (batch ∷ []) fails.0 (over.shows (was.works fails.0)) (was.written (one.clean c) (inl fails.0) tables over) (one.left c));
-}
-written_on g old now next batches lost batch (Err (Damaged kind key)) was fails one = absurd fails
-written_on g old now next batches lost batch (Err NewerVersion) was fails one = absurd fails
-written_on g old now next batches lost batch (Err OutOfMemory) was fails one = absurd fails
-written_on g old now next batches lost batch (Err Closed) was fails one =
-    subst (λ w. IsMovedBy g old w (batches ++ []) (lost ++ [])) (sym fails.1) (subst (IsMovedBy g old now (batches ++ [])) (sym (append-nil lost)) (subst (λ bs. IsMovedBy g old now bs lost) (sym (append-nil batches)) was))
+written_on g old now next batches lost batch (Err fault) was fails one =
+    by_fault g now next (λ f. WritesOne g now next batch (Err f) → IsMovedBy g old next (batches ++ taken_of batch (Err f)) (lost ++ lost_of batch (Err f))) fault fails
+    (λ error works failed one. record {
+      clean = λ c. was.clean (one.clean c);
+      works = λ _. was.works works;
+      none = λ on. let no : true ≡ false = sym failed ∙ on in absurd cc;
+      closed = λ shut. let no : true ≡ false = sym shut ∙ was.works works in absurd cc;
+      written = λ c known tables over. elim known [
+        | inl on ↦ (let no : true ≡ false = sym failed ∙ on in absurd cc)
+        | inr opened ↦ written_then g old now next tables batches [] works (over.shows (was.works works)) (was.written (one.clean c) (inl works) tables over) (one.written c opened)
+      ];
+      led = λ c shown good. subst (λ none. LeavesLed (store_of g next) old.rows.maps (batches ++ []) (none ++ batch ∷ [])) (sym (was.none works))
+          (led_then g old now next batches [] (batch ∷ []) works (was.clean (one.clean c)) shown (was.written (one.clean c) (inl works)) (λ shows. one.led c shows works));
+      left = λ c tables over. subst (λ none. LeavesWritten (store_of g next) old.rows.maps tables (unread_of (store_of g old).now.trees) (batches ++ []) (none ++ batch ∷ [])) (sym (was.none works))
+          (left_then g old now next tables batches [] (batch ∷ []) works (over.shows (was.works works)) (was.written (one.clean c) (inl works) tables over) (one.left c));
+    })
+    (λ shut same one. written_same g old now next batches lost same was) one
 
 fails_or_works : (b : Bool) → (b ≡ true) ⊎ (b ≡ false)
 fails_or_works true = inl refl
@@ -292,10 +215,7 @@ pub moved_then : {S : Type 0} (g : Ghosts S) (old mid new : World S) (first gone
 moved_then g old mid new first gone second lost was on = elim (fails_or_works mid.failed) [
   | inl failed ↦
       let stays = on.closed failed in
-      subst (λ w. IsMovedBy g old w (first ++ second) (gone ++ lost)) (sym stays.0)
-      (subst (λ bs. IsMovedBy g old mid (first ++ bs) (gone ++ lost)) (sym stays.1)
-      (subst (λ bs. IsMovedBy g old mid (first ++ []) (gone ++ bs)) (sym stays.2)
-      (subst (IsMovedBy g old mid (first ++ [])) (sym (append-nil gone)) (subst (λ bs. IsMovedBy g old mid bs gone) (sym (append-nil first)) was))))
+      subst₂ (λ bs ls. IsMovedBy g old new (first ++ bs) (gone ++ ls)) (sym stays.1) (sym stays.2) (written_same g old mid new first gone stays.0 was)
   | inr works ↦
       record {
         clean = λ c. was.clean (on.clean c);
@@ -349,23 +269,16 @@ wrote_one g old now next all replies batch r low is was works one stays = record
 pub wrote_stopped : (T : Type 0) {S : Type 0} (g : Ghosts S) (old now new : World S) (all : List Batch) (replies : List Reply) (batch : Batch) (fault : StoreFault) → Wrote g old now all replies
     → (let r : Result Reply StoreFault = Err fault in FailsAtStore g now new r) → WritesOne g now new batch (Err fault)
     → HasCleanDisk (store_of g new) → (let r : Result T StoreFault = Err fault in IsKnown (store_of g new) r) → (tables : Tables) → StandsOver g old tables → HasWritten g old new tables (acknowledged all replies)
-wrote_stopped T g old now new all replies batch (Store error) it fails one clean opened tables over =
-    subst (HasWritten g old new tables) (append-nil (acknowledged all replies))
-    (written_then g old now new tables (acknowledged all replies) [] fails.0 (over.shows (it.works fails.0)) (it.written (one.clean clean) tables over) (one.written clean opened))
-wrote_stopped T g old now new all replies batch (Damaged kind key) it fails one clean known tables over = absurd fails
-wrote_stopped T g old now new all replies batch NewerVersion it fails one clean known tables over = absurd fails
-wrote_stopped T g old now new all replies batch OutOfMemory it fails one clean known tables over = absurd fails
-wrote_stopped T g old now new all replies batch Closed it fails one clean known tables over =
-    let same : now ≡ new = sym fails.1 in
-    (subst (λ w. Wrote g old w all replies) same it).written clean tables over
+wrote_stopped T g old now new all replies batch fault it fails one clean known tables over =
+    by_fault g now new (λ f. WritesOne g now new batch (Err f) → (let r : Result T StoreFault = Err f in IsKnown (store_of g new) r) → HasWritten g old new tables (acknowledged all replies)) fault fails
+    (λ error works failed one opened. subst (HasWritten g old new tables) (append-nil (acknowledged all replies))
+    (written_then g old now new tables (acknowledged all replies) [] works (over.shows (it.works works)) (it.written (one.clean clean) tables over) (one.written clean opened)))
+    (λ shut same one known. (subst (λ w. Wrote g old w all replies) (sym same) it).written clean tables over) one known
 
 pub same_stopped : (T : Type 0) {S : Type 0} (g : Ghosts S) (old now new : World S) (all : List Batch) (replies : List Reply) (fault : StoreFault) → Wrote g old now all replies
     → (let r : Result Reply StoreFault = Err fault in FailsAtStore g now new r) → acknowledged all replies ≡ [] → MatchStore (let r : Result T StoreFault = Err fault in r) (new ≡ old) ⊤
-same_stopped T g old now new all replies (Store error) it fails none = tt
-same_stopped T g old now new all replies (Damaged kind key) it fails none = absurd fails
-same_stopped T g old now new all replies NewerVersion it fails none = absurd fails
-same_stopped T g old now new all replies OutOfMemory it fails none = absurd fails
-same_stopped T g old now new all replies Closed it fails none = fails.1 ∙ it.same none
+same_stopped T g old now new all replies fault it fails none =
+    by_fault g now new (λ f. let r : Result T StoreFault = Err f in MatchStore r (new ≡ old) ⊤) fault fails (λ error works failed. tt) (λ shut same. same ∙ it.same none)
 
 -- ---- the rows that a crash leaves of a list of batches
 
@@ -389,16 +302,12 @@ with_others store rows batches batch left led trees lies =
 pub led_stopped : {S : Type 0} (g : Ghosts S) (old now new : World S) (s : State) (all : List Batch) (replies : List Reply) (batch : Batch) (left : List Batch) (fault : StoreFault) → IsSettled (store_of g new) → StandsFor g true old s → IsGood old.rows.maps
     → Wrote g old now all replies → (let r : Result Reply StoreFault = Err fault in FailsAtStore g now new r) → WritesOne g now new batch (Err fault)
     → HasCleanDisk (store_of g new) → LeavesLed (store_of g new) old.rows.maps (acknowledged all replies) (batch ∷ left)
-led_stopped g old now new s all replies batch left (Store error) settled at good it fails one clean =
-    with_others (store_of g new) old.rows.maps (acknowledged all replies) batch left
+led_stopped g old now new s all replies batch left fault settled at good it fails one clean =
+    by_fault g now new (λ f. WritesOne g now new batch (Err f) → LeavesLed (store_of g new) old.rows.maps (acknowledged all replies) (batch ∷ left)) fault fails
+    (λ error works failed one. with_others (store_of g new) old.rows.maps (acknowledged all replies) batch left
     (subst (λ bs. LeavesLed (store_of g new) old.rows.maps bs (batch ∷ [])) (append-nil (acknowledged all replies))
-    (led_then g old now new (acknowledged all replies) [] (batch ∷ []) fails.0 (it.clean (one.clean clean)) (at.is_at.shown refl at.works) (it.written (one.clean clean)) (λ shows. one.led clean shows fails.0)))
-led_stopped g old now new s all replies batch left (Damaged kind key) settled at good it fails one clean = absurd fails
-led_stopped g old now new s all replies batch left NewerVersion settled at good it fails one clean = absurd fails
-led_stopped g old now new s all replies batch left OutOfMemory settled at good it fails one clean = absurd fails
-led_stopped g old now new s all replies batch left Closed settled at good it fails one clean =
-    let same : now ≡ new = sym fails.1 in
-    led_over g old new s all replies (batch ∷ left) settled at good (subst (λ w. Wrote g old w all replies) same it) clean
+    (led_then g old now new (acknowledged all replies) [] (batch ∷ []) works (it.clean (one.clean clean)) (at.is_at.shown refl at.works) (it.written (one.clean clean)) (λ shows. one.led clean shows works))))
+    (λ shut same one. led_over g old new s all replies (batch ∷ left) settled at good (subst (λ w. Wrote g old w all replies) (sym same) it) clean) one
 
 -- ---- the replies that a run added
 

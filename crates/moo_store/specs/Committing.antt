@@ -7,8 +7,8 @@ use Rattle.sqlite.specs.Tree.{Trees}
 use Rattle.moo_rows.specs.Maps.{Maps}
 use Rattle.moo_memory.specs.declared.changes.Changes.{Changes}
 use Rattle.moo_memory.specs.Changes.{AreChanges}
-use Rattle.moo_tables.specs.Tables.{Tables}
-use Rattle.moo_tables.specs.Inside.{Rests, IsCurrent, SparesUnread}
+use Rattle.moo_tables_rows.specs.Tables.{Tables}
+use Rattle.moo_tables_rows.specs.Inside.{Rests, IsCurrent, SparesUnread}
 use Rattle.moo_cells.specs.Shows.{ShowsRows}
 use Rattle.moo_world.specs.Rows.{IsGood}
 use Rattle.moo_world.specs.Judge.{state_of}
@@ -16,12 +16,12 @@ use Rattle.moo_value.specs.declared.value.Value.{Value}
 use Rattle.moo_text.specs.declared.reply.Reply.{Reply}
 use Rattle.moo_text.specs.declared.reply.Reply.TheVariants.{Accepted}
 use Rattle.moo_store.specs.Kept.{World}
-use Rattle.moo_store.specs.States.{LeavesRows}
-use Rattle.moo_store.specs.Stopped.{IsStopped}
-use Rattle.moo_store.specs.Untouched.{KeepsCells, LeavesEither}
+use Rattle.moo_store_rows.specs.States.{LeavesRows}
+use Rattle.moo_store_rows.specs.Stopped.{IsStopped}
+use Rattle.moo_store_rows.specs.Untouched.{KeepsCells, LeavesEither}
 use Rattle.moo_store.specs.World.{store_of, ShowsItsRows, IsAt}
-use Rattle.moo_store.specs.declared.fault.StoreFault.{StoreFault}
-use Rattle.moo_store.specs.declared.fault.StoreFault.TheVariants.{Store}
+use Rattle.moo_store_rows.specs.declared.fault.StoreFault.{StoreFault}
+use Rattle.moo_store_rows.specs.declared.fault.StoreFault.TheVariants.{Store}
 
 module _ {S : Type 0} (g : Ghosts S) where
   -- The changes of a batch were committed, and its reply is this. The tables of the World have the rows that the changes give, and so has

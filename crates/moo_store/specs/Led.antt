@@ -8,7 +8,7 @@ use Rattle.moo_world.specs.Rows.{IsGood}
 use Rattle.moo_world.specs.Between.{BatchLeads}
 use Rattle.moo_world.specs.Judge.{state_of}
 use Rattle.moo_store.specs.Answered.{state_behind}
-use Rattle.moo_store.specs.States.{LeavesRows}
+use Rattle.moo_store_rows.specs.States.{LeavesRows}
 
 -- Accepted batches, one after another: each leads from rows to good rows, as it is judged, call by call with the numbers of
 -- properties, verbs and petitions kept.

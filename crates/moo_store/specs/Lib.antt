@@ -1,7 +1,3 @@
-pub mod Columns
-pub mod Printed
-pub mod States
-pub mod Current
 pub mod Kept
 pub mod Answered
 pub mod Stand
@@ -9,14 +5,11 @@ pub mod World
 pub mod Turns
 pub mod Led
 pub mod Untouched
-pub mod Stopped
 pub mod Committing
 pub mod Text
 pub mod Stopping
 pub mod Rehearsed
 pub mod Opening
-pub mod Reading
 pub mod Loading
 pub mod Reopened
 pub mod Runs
-pub mod Checked

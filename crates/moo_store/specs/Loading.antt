@@ -8,14 +8,14 @@ use Rattle.sqlite.specs.Held.{Held, state}
 use Rattle.sqlite.specs.Store.{Ghosts}
 use Rattle.moo_rows.specs.Maps.{Maps}
 use Rattle.moo_world.specs.Judge.{state_of}
-use Rattle.moo_tables.specs.Tables.{no_schema}
-use Rattle.moo_tables.specs.Inside.{RestsAt}
+use Rattle.moo_tables_rows.specs.Tables.{no_schema}
+use Rattle.moo_tables_rows.specs.Inside.{RestsAt}
 use Rattle.moo_store.specs.Kept.{World}
 use Rattle.moo_store.specs.Opening.{Adoption}
-use Rattle.moo_store.specs.States.{LeavesState}
+use Rattle.moo_store_rows.specs.States.{LeavesState}
 use Rattle.moo_store.specs.World.{store_of, StandsFor}
-use Rattle.moo_store.specs.declared.fault.StoreFault.{StoreFault}
-use Rattle.moo_store.specs.declared.fault.StoreFault.TheVariants.{Store, OutOfMemory}
+use Rattle.moo_store_rows.specs.declared.fault.StoreFault.{StoreFault}
+use Rattle.moo_store_rows.specs.declared.fault.StoreFault.TheVariants.{Store, OutOfMemory}
 
 -- the fault of a database that has a table, an index or a view already
 abbrev pub name_taken : StoreFault

@@ -1,82 +1,23 @@
--- What opening a store may answer, and what it may leave.
-use Rattle.std.specs.Prelude.{◌≡◌, ◌≢◌, ◌⊎◌, IsTrue, true, false, Result, Ok, Err, IfOk, IfErr, ⊤}
-use Rattle.sqlite.specs.declared.error.Error.{Error}
-use Rattle.sqlite.specs.declared.error.Error.TheVariants.{SqliteFailure}
-use Rattle.sqlite.specs.declared.error.ErrorCode.TheVariants.{NotADatabase}
+-- What opening the world of a store may answer.
+use Rattle.std.specs.Prelude.{◌≡◌, true, false, Result, Ok, Err, IfOk, IfErr}
 use Rattle.sqlite.specs.State.{State as Database, HasCleanDisk, Survives}
 use Rattle.sqlite.specs.Held.{Held, state}
 use Rattle.sqlite.specs.Store.{Ghosts}
-use Rattle.sqlite.specs.Tree.{Trees}
-use Rattle.moo_rows.specs.Maps.{Maps, Held as Rows}
 use Rattle.moo_world.specs.Judge.{State, state_of}
 use Rattle.moo_world.specs.Rows.{IsGood}
-use Rattle.moo_tables.specs.Tables.{Tables, schema_of}
-use Rattle.moo_tables.specs.Inside.{Rests, RestsAt, HasTables}
-use Rattle.moo_tables.specs.Cause.{StopsChange}
-use Rattle.moo_tables.specs.ReadCause.{StopsQuery}
-use Rattle.moo_tables.specs.Version.{IsEarlier}
-use Rattle.moo_tables.specs.declared.version.Version.{Version}
+use Rattle.moo_tables_rows.specs.Tables.{Tables}
+use Rattle.moo_tables_rows.specs.Inside.{Rests}
 use Rattle.moo_cells.specs.Shows.{ShowsRows}
-use Rattle.moo_cells.specs.Damage.{Damage, IsNewer}
-use Rattle.moo_store.specs.States.{LeavesRows, ShowsState, LeavesState}
-use Rattle.moo_store.specs.Current.{RestsCurrent}
+use Rattle.moo_store_rows.specs.States.{ShowsState}
+use Rattle.moo_store_rows.specs.Opening.{IsOfStore, Adopts, HasOthers, IsUnadopted}
+use Rattle.moo_store_rows.specs.Current.{RestsCurrent}
 use Rattle.moo_store.specs.Kept.{World}
 use Rattle.moo_store.specs.World.{store_of, StandsFor}
-use Rattle.moo_store.specs.declared.fault.StoreFault.{StoreFault}
-use Rattle.moo_store.specs.declared.fault.StoreFault.TheVariants.{Store, Damaged, NewerVersion, OutOfMemory, Closed}
+use Rattle.moo_store_rows.specs.declared.fault.StoreFault.{StoreFault}
 
 -- what opening a World over a connection answers, or making one
 abbrev pub Adoption : Type 0 → Type 0
 Adoption S = Result (World S) (StoreFault × Held S)
-
--- what a fault of opening says of the tables: Store and OutOfMemory nothing, and Closed never comes
-abbrev pub Says : Tables → StoreFault → Type 0
-Says tables (Store error) = ⊤
-Says tables (Damaged kind key) = Damage tables kind key
-Says tables NewerVersion = IsNewer tables
-Says tables OutOfMemory = ⊤
-Says tables Closed = ⊥
-
--- a fault that says nothing of the tables
-abbrev pub IsOfStore : StoreFault → Type 0
-IsOfStore (Store error) = ⊤
-IsOfStore (Damaged kind key) = ⊥
-IsOfStore NewerVersion = ⊥
-IsOfStore OutOfMemory = ⊤
-IsOfStore Closed = ⊥
-
--- memory ran out, or the store failed with an error of which this is true
-abbrev pub StopsBy : (Error → Type 0) → StoreFault → Type 0
-StopsBy Cause (Store error) = Cause error
-StopsBy Cause (Damaged kind key) = ⊥
-StopsBy Cause NewerVersion = ⊥
-StopsBy Cause OutOfMemory = ⊤
-StopsBy Cause Closed = ⊥
-
--- the tables are of an earlier version
-abbrev pub HasEarlier : Database → Type 0
-HasEarlier conn = (version : Version) × IsEarlier version × HasTables (schema_of version) conn
-
--- Why tables that show a state aren't opened: memory ran out, or a query of them stopped; or, if they are of an earlier version, their
--- migration stopped.
-abbrev pub StopsOpening : Database → Database → StoreFault → Type 0
-StopsOpening conn last = StopsBy (λ error. StopsQuery conn last error ⊎ (HasEarlier conn × StopsChange conn last error))
-
--- the fault that says that the tables are not ours
-abbrev pub not_ours : StoreFault
-not_ours = Store (SqliteFailure NotADatabase)
-
--- in place of tables that show these rows, the trees have others that show them
-abbrev pub TakesOver : Maps → Database → Trees → Type 0
-TakesOver rows store trees = (tables : Tables) → Rests store tables → ShowsRows tables rows → LeavesRows trees rows
-
--- what opening may commit: in place of tables of an earlier version others that show what those showed; and it commits only if the
--- tables that are there show the rows of a world
-abbrev pub Adopts : Database → Trees → Type 0
-Adopts conn trees =
-    (version : Version) × IsEarlier version × (conn.now.schema ≡ schema_of version)
-    × ((s : State) → ShowsState conn s → LeavesState trees s)
-    × ((tables : Tables) → Rests conn tables → (rows : Maps) × IsGood rows × ShowsRows tables rows × LeavesRows trees rows)
 
 module _ {S : Type 0} (g : Ghosts S) where
   -- if the tables show a state, a World that is opened stands for it
@@ -92,11 +33,6 @@ module _ {S : Type 0} (g : Ghosts S) where
   OpensShown store r = IfOk r (λ world. HasCleanDisk (store_of g world) → (tables : Tables) → Rests store tables →
       ShowsRows tables world.rows.maps × IsGood world.rows.maps)
 
--- the tables of a connection are of no version of ours, or there are none
-abbrev pub HasOthers : Database → Type 0
-HasOthers conn = (version : Version) → conn.now.schema ≢ schema_of version
-
-module _ {S : Type 0} (g : Ghosts S) where
   -- A World was opened over the tables of this connection: they are ours. It works, its rows are good, and what is said of rows alone is
   -- said of them. It stands for the state that the tables show, and has their rows. They rest in it, each cell, or those that they were
   -- migrated to, and the table that isn't read has its rows, or none after a migration; a crash leaves what it could leave before, or these.
@@ -111,37 +47,7 @@ module _ {S : Type 0} (g : Ghosts S) where
         RestsCurrent (store_of g world) conn.now.trees tables world.rows.maps
     pub crash : Survives conn (store_of g world) (Adopts conn)
 
-  -- None was opened, and the connection comes back outside a transaction. A fault of a state is one of the store and has a cause, and a
-  -- damage that is told is that of the tables; other tables are a fault of the store, and ours are never called others. The database is as
-  -- it was.
-  pub record IsUnadopted (conn : Held S) (fault : StoreFault) (last : Held S) : Type 0 where
-    pub outside : (state g last).in_transaction ≡ false
-    pub other : HasOthers (state g conn) → IsOfStore fault × (last ≡ conn)
-    pub own : (version : Version) → HasTables (schema_of version) (state g conn) → fault ≢ not_ours
-    pub whole : (s : State) → ShowsState (state g conn) s → HasCleanDisk (state g last) → IsOfStore fault
-    pub cause : (s : State) → ShowsState (state g conn) s → HasCleanDisk (state g last) →
-        StopsOpening (state g conn) (state g last) fault
-    pub says : (tables : Tables) → Rests (state g conn) tables → HasCleanDisk (state g last) → Says tables fault
-    pub undone : (last ≡ conn) ⊎ (HasCleanDisk (state g last) → IsTrue (state g last).is_open → RestsAt (state g last) (state g conn).now)
-    pub crash : Survives (state g conn) (state g last) (Adopts (state g conn))
-
   -- what opening the world that the tables of a connection show answers
   abbrev pub Adopting : Held S → Adoption S → Type 0
   Adopting conn (Ok world) = IsAdopted (state g conn) world
-  Adopting conn (Err e) = IsUnadopted conn e.0 e.1
-
-  -- Rows were read of the tables of this connection, which are ours. They are good, those that the tables show, and no others are. The
-  -- tables were brought to the present version.
-  pub record IsBrought (conn last : Held S) (rows : Maps) : Type 0 where
-    pub good : IsGood rows
-    pub ours : ¬ HasOthers (state g conn)
-    pub one : (tables : Tables) (m : Maps) → Rests (state g conn) tables → ShowsRows tables m → IsGood m → HasCleanDisk (state g last) →
-        rows ≡ m
-    pub shown : (tables : Tables) → Rests (state g conn) tables → HasCleanDisk (state g last) → ShowsRows tables rows
-    pub rests : (tables : Tables) → Rests (state g conn) tables → HasCleanDisk (state g last) →
-        RestsCurrent (state g last) (state g conn).now.trees tables rows
-    pub crash : Survives (state g conn) (state g last) (Adopts (state g conn))
-
-  abbrev pub Brings : Held S → Held S → Result Rows StoreFault → Type 0
-  Brings conn last (Ok rows) = IsBrought conn last rows.maps
-  Brings conn last (Err fault) = IsUnadopted conn fault last
+  Adopting conn (Err e) = IsUnadopted g conn e.0 e.1

@@ -5,18 +5,18 @@ use Rattle.sqlite.specs.Store.{Ghosts}
 use Rattle.moo_world.specs.declared.call.Batch.{Batch}
 use Rattle.moo_world.specs.Judge.{State, after}
 use Rattle.moo_text.specs.declared.reply.Reply.{Reply}
-use Rattle.moo_tables.specs.Tables.{Tables}
-use Rattle.moo_tables.specs.Inside.{Rests}
+use Rattle.moo_tables_rows.specs.Tables.{Tables}
+use Rattle.moo_tables_rows.specs.Inside.{Rests}
 use Rattle.moo_store.specs.Answered.{Answered, acknowledged, added}
 use Rattle.moo_store.specs.Kept.{World}
 use Rattle.moo_store.specs.Reopened.{RunLeaves}
 use Rattle.moo_store.specs.Stand.{Stand}
-use Rattle.moo_store.specs.Stopped.{KeepsFaults, IsStopped}
+use Rattle.moo_store_rows.specs.Stopped.{KeepsFaults, IsStopped}
 use Rattle.moo_store.specs.Text.{RunsAll}
 use Rattle.moo_store.specs.Untouched.{HasWritten, IsKnown}
 use Rattle.moo_store.specs.World.{store_of, IsAt, StandsAt, Left, LeftOrNext, MatchStore, IsOfRun}
-use Rattle.moo_store.specs.declared.fault.StoreFault.{StoreFault}
-use Rattle.moo_store.specs.declared.fault.StoreFault.TheVariants.{OutOfMemory, Closed}
+use Rattle.moo_store_rows.specs.declared.fault.StoreFault.{StoreFault}
+use Rattle.moo_store_rows.specs.declared.fault.StoreFault.TheVariants.{OutOfMemory, Closed}
 
 -- what a run answers
 abbrev pub Ended : Type 0

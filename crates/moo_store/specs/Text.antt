@@ -14,18 +14,18 @@ use Rattle.moo_text.specs.declared.reply.Answer.TheVariants as answer
 use Rattle.moo_text.specs.declared.reply.Reply.{Reply}
 use Rattle.moo_text.specs.declared.reply.Reply.TheVariants.{Accepted, Refused, Full, Stale, NoMemory}
 use Rattle.moo_world.specs.Judge.{State, judge}
-use Rattle.moo_tables.specs.Tables.{Tables}
-use Rattle.moo_tables.specs.Inside.{Rests}
+use Rattle.moo_tables_rows.specs.Tables.{Tables}
+use Rattle.moo_tables_rows.specs.Inside.{Rests}
 use Rattle.moo_store.specs.Answered.{reply_of, answer_of, state_behind, acknowledged}
 use Rattle.moo_store.specs.Kept.{World}
 use Rattle.moo_store.specs.World.{store_of, CrashLeaves, StandsAt, MatchStore}
 use Rattle.moo_store.specs.Stand.{Stand, RunsBatch}
 use Rattle.moo_store.specs.Turns.{Turns, Completes, Halts}
 use Rattle.moo_store.specs.Led.{LeavesLed}
-use Rattle.moo_store.specs.Current.{unread_of}
+use Rattle.moo_store_rows.specs.Current.{unread_of}
 use Rattle.moo_store.specs.Untouched.{HasWritten, WritesOne, LeavesWritten}
-use Rattle.moo_store.specs.declared.fault.StoreFault.{StoreFault}
-use Rattle.moo_store.specs.declared.fault.StoreFault.TheVariants.{Store, OutOfMemory, Closed}
+use Rattle.moo_store_rows.specs.declared.fault.StoreFault.{StoreFault}
+use Rattle.moo_store_rows.specs.declared.fault.StoreFault.TheVariants.{Store, OutOfMemory, Closed}
 
 -- the answer to a batch that a World ran or was asked
 abbrev pub answer_to : Result Reply StoreFault → Answer

@@ -7,11 +7,11 @@ use Rattle.sqlite.specs.Store.{Ghosts}
 use Rattle.sqlite.specs.Held.{state}
 use Rattle.moo_world.specs.declared.call.Batch.{Batch}
 use Rattle.moo_world.specs.Judge.{State, state_of, after}
-use Rattle.moo_store.specs.States.{KeepsRows, KeepsState, LeavesState}
+use Rattle.moo_store_rows.specs.States.{KeepsRows, KeepsState, LeavesState}
 use Rattle.moo_store.specs.Stand.{Stand, Works, Failed, StoreFailed, MayLeave}
 use Rattle.moo_store.specs.Kept.{World}
-use Rattle.moo_store.specs.declared.fault.StoreFault.{StoreFault}
-use Rattle.moo_store.specs.declared.fault.StoreFault.TheVariants.{Store, OutOfMemory, Closed}
+use Rattle.moo_store_rows.specs.declared.fault.StoreFault.{StoreFault}
+use Rattle.moo_store_rows.specs.declared.fault.StoreFault.TheVariants.{Store, OutOfMemory, Closed, Damaged, NewerVersion}
 
 -- what the connection of a World shows
 abbrev pub store_of : {S : Type 0} (g : Ghosts S) → World S → Database
@@ -64,3 +64,12 @@ MatchStore (Err fault) P Q = P
 -- the faults of a run: the store failed, memory ran out, or the World had failed before
 abbrev pub IsOfRun : StoreFault → Type 0
 IsOfRun fault = ((error : Error) × (fault ≡ Store error)) ⊎ ((fault ≡ OutOfMemory) ⊎ (fault ≡ Closed))
+
+-- whether a World has failed after a check that answered this
+abbrev pub FailsWorld : Result ℕ StoreFault → Bool → Type 0
+FailsWorld (Ok count) failed = failed ≡ false
+FailsWorld (Err (Store error)) failed = failed ≡ true
+FailsWorld (Err (Damaged kind key)) failed = failed ≡ true
+FailsWorld (Err NewerVersion) failed = failed ≡ true
+FailsWorld (Err OutOfMemory) failed = failed ≡ false
+FailsWorld (Err Closed) failed = failed ≡ true

@@ -10,11 +10,10 @@ ghost use Rattle.moo_store.specs.Turns.{Turn, Completes, Halts};
 ghost use Rattle.moo_store.specs.Stopping.{CompletesUntil, HaltsUntil, EndsEarly};
 
 use crate::course::{Course, stops_after};
-use crate::fault::StoreFault;
-use crate::output::put_answer;
 use crate::tally::Tally;
 use moo_batch::Witness;
-use moo_text::{Answer, Feed, Marks, Next, Notes, Reply, TextFault};
+use moo_store_rows::StoreFault;
+use moo_text::{Answer, Feed, Marks, Next, Notes, Reply, TextFault, put_answer};
 use moo_world::Batch;
 use std::alloc::Global;
 use std::io::{Read, Write};

@@ -7,7 +7,7 @@ ghost use Rattle.moo_text.specs.declared.next.Next.{Next};
 ghost use Rattle.moo_text.specs.declared.reply.Reply.{Reply};
 ghost use Rattle.moo_text.specs.declared.reply.Answer.{Answer};
 ghost use Rattle.moo_rows.specs.Maps.{Maps};
-ghost use Rattle.moo_tables.specs.Tables.{Tables};
+ghost use Rattle.moo_tables_rows.specs.Tables.{Tables};
 ghost use Rattle.moo_world.specs.Judge.{State, after};
 ghost use Rattle.moo_world.specs.Numbers.{NumbersStay};
 ghost use Rattle.moo_world.specs.Requests.{PetitionsStay, state_of};

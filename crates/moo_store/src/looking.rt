@@ -4,9 +4,9 @@ ghost use Rattle.std.specs.Prelude.{◌≡◌, false, IfOk, IfErr, IsErrOf, IsTr
 ghost use Rattle.moo_dump.specs.Look.{look_of};
 ghost use Rattle.moo_store.specs.World.{StandsFor};
 
-use crate::fault::StoreFault;
 use crate::world::World;
 use moo_dump::{Look, look};
+use moo_store_rows::StoreFault;
 use moo_value::ObjNo;
 use sqlite::Alter;
 

@@ -9,8 +9,9 @@ ghost use Rattle.moo_store.specs.World.{StandsFor, StandsAt};
 
 use crate::answering::{Answering, answer_until};
 use crate::course::Course;
+use crate::judged::judged;
 use crate::world::World;
-use moo_batch::{Verdict, Witness, judge};
+use moo_batch::Witness;
 use moo_memory::{Changes, Flat, apply_changes};
 use moo_text::{Answer, Notes, Reply, TextFault};
 use moo_world::{Answers, Batch};
@@ -90,12 +91,9 @@ impl Rehearsal {
         if self.failed {
             return Answer::Closed;
         }
-        match judge(self.alloc, &self.rows, batch, witness) {
-            Verdict::Accepted { answers, changes } => self.accept(answers, changes),
-            Verdict::Refused { call, code } => Answer::Replied(Reply::Refused { call, code }),
-            Verdict::Full { call } => Answer::Replied(Reply::Full { call }),
-            Verdict::Stale { seq } => Answer::Replied(Reply::Stale { seq }),
-            Verdict::OutOfMemory => Answer::Replied(Reply::NoMemory),
+        match judged(self.alloc, &self.rows, batch, witness) {
+            Ok((answers, changes)) => self.accept(answers, changes),
+            Err(reply) => Answer::Replied(reply),
         }
     }
 }

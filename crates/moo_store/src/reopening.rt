@@ -6,9 +6,10 @@ ghost use Rattle.sqlite.specs.Held.{Held, state};
 ghost use Rattle.moo_world.specs.declared.call.Batch.{Batch};
 ghost use Rattle.moo_world.specs.Judge.{State, after};
 ghost use Rattle.moo_text.specs.declared.reply.Reply.{Reply};
-ghost use Rattle.moo_tables.specs.Inside.{MayOpenAs};
+ghost use Rattle.moo_tables_rows.specs.Inside.{MayOpenAs};
 ghost use Rattle.moo_store.specs.Kept.{World};
-ghost use Rattle.moo_store.specs.Opening.{Adoption, IsOfStore, Adopts, OpensState, RefusesState, OpensShown};
+ghost use Rattle.moo_store.specs.Opening.{Adoption, OpensState, RefusesState, OpensShown};
+ghost use Rattle.moo_store_rows.specs.Opening.{IsOfStore, Adopts};
 ghost use Rattle.moo_store.specs.Reopened.{RunLeaves, HoldsAcknowledged, AreLedTo, RunsInParts, IsKeptOf};
 ghost use Rattle.moo_store.specs.World.{store_of, StandsFor};
 

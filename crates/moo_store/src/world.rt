@@ -1,13 +1,11 @@
 //! A World: the rows in memory, over the tables of a store.
 
-use crate::checking::object_count;
-use crate::committing::commit_cells;
-use crate::fault::StoreFault;
-use crate::printing::print_changes;
+use crate::judged::judged;
 use crate::quiet::NoNotes;
-use moo_batch::{Verdict, Witness, judge};
+use moo_batch::Witness;
 use moo_memory::{Changes, Flat, apply_changes};
 use moo_rows::Rows;
+use moo_store_rows::{StoreFault, commit_cells, object_count, print_changes};
 use moo_tables::CellChanges;
 use moo_text::Reply;
 use moo_world::{Answers, Batch};
@@ -51,16 +49,16 @@ impl<S: Alter + Drop> World<S> {
     ghost use Rattle.moo_world.specs.Judge.{state_of, judge as verdict};
     ghost use Rattle.moo_world.specs.ObjectLists.{objects_of};
     ghost use Rattle.moo_memory.specs.Changes.{AreChanges};
-    ghost use Rattle.moo_store.specs.Printed.{Prints};
+    ghost use Rattle.moo_store_rows.specs.Printed.{Prints};
     ghost use Rattle.moo_store.specs.Committing.{Commits};
     ghost use Rattle.moo_store.specs.Answered.{answer_of, IsRun};
     ghost use Rattle.moo_store.specs.Runs.{RunsBatches};
     ghost use Rattle.moo_store.specs.Untouched.{WritesOne, taken_of};
-    ghost use Rattle.moo_store.specs.Stopped.{KeepsFaults, IsStopped};
+    ghost use Rattle.moo_store_rows.specs.Stopped.{KeepsFaults, IsStopped};
     ghost use Rattle.moo_store.specs.Stand.{Stand};
     ghost use Rattle.moo_store.specs.Text.{answer_to, StandsBehind};
     ghost use Rattle.moo_store.specs.World.{store_of, ShowsItsRows, StandsFor, StandsAt, CrashLeaves, MatchStore, IsOfRun};
-    ghost use Rattle.moo_store.specs.declared.fault.StoreFault.TheVariants.{Store, OutOfMemory, Closed};
+    ghost use Rattle.moo_store_rows.specs.declared.fault.StoreFault.TheVariants.{Store, OutOfMemory, Closed};
 
     /// The World of good rows, over a connection in no transaction. It stands for them if the tables of the connection
     /// show them. `check` tests that: nothing is read or written here. `create_in`, `load_in` and `adopt` make Worlds whose tables do.
@@ -127,17 +125,12 @@ impl<S: Alter + Drop> World<S> {
         if self.failed {
             return Err(StoreFault::Closed);
         }
-        match judge(self.alloc, &self.rows, batch, witness) {
-            Verdict::Accepted { answers, changes } => {
-                match print_changes(self.alloc, &self.rows, &changes) {
-                    Ok(cells) => self.commit(answers, changes, &cells),
-                    Err(_) => Ok(Reply::NoMemory),
-                }
-            }
-            Verdict::Refused { call, code } => Ok(Reply::Refused { call, code }),
-            Verdict::Full { call } => Ok(Reply::Full { call }),
-            Verdict::Stale { seq } => Ok(Reply::Stale { seq }),
-            Verdict::OutOfMemory => Ok(Reply::NoMemory),
+        match judged(self.alloc, &self.rows, batch, witness) {
+            Ok((answers, changes)) => match print_changes(self.alloc, &self.rows, &changes) {
+                Ok(cells) => self.commit(answers, changes, &cells),
+                Err(_) => Ok(Reply::NoMemory),
+            },
+            Err(reply) => Ok(reply),
         }
     }
 
@@ -178,19 +171,13 @@ impl<S: Alter + Drop> World<S> {
         if self.failed {
             return Err(StoreFault::Closed);
         }
-        Ok(match judge(self.alloc, &self.rows, batch, witness) {
-            Verdict::Accepted {
-                answers,
-                changes: _changes,
-            } => Reply::Accepted {
+        match judged(self.alloc, &self.rows, batch, witness) {
+            Ok((answers, _changes)) => Ok(Reply::Accepted {
                 seq: self.rows.head().seq,
                 answers,
-            },
-            Verdict::Refused { call, code } => Reply::Refused { call, code },
-            Verdict::Full { call } => Reply::Full { call },
-            Verdict::Stale { seq } => Reply::Stale { seq },
-            Verdict::OutOfMemory => Reply::NoMemory,
-        })
+            }),
+            Err(reply) => Ok(reply),
+        }
     }
 
     /// A World that works and whose tables show its rows stands for their world. The call does nothing; its contract is what it is for.

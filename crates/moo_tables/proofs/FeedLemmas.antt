@@ -1,7 +1,6 @@
 -- A query whose rows are handed on while they are read.
-use Rattle.moo_tables.proofs.{Words.{◌≡◌, ℕ, List, [], Bool, true, Result, Ok, Err, IfOk, OnOk, OnErr, ◌⊎◌, Row, Held, Schema, Program, Tables, Error, State, HasCleanDisk, Shown, Survives, CommitsShowing, IsUnchanged, IsRolledBack, IsPlain, understood, Holds, Rests, ReadsTables, FailsToRead}, InsideLemmas.{clean_before}, SelectLemmas.{IsSelect}, StreamLemmas.{IsGiving}, ReadLemmas.{plain_in, quiet, has_failed}}
+use Rattle.moo_tables.{proofs.Words.{◌≡◌, ℕ, List, [], Bool, true, Result, Ok, Err, IfOk, OnOk, OnErr, ◌⊎◌, Row, Held, Schema, Program, Tables, Error, State, HasCleanDisk, Shown, Survives, CommitsShowing, IsUnchanged, IsRolledBack, IsPlain, understood, Holds, Rests, ReadsTables, FailsToRead, clean_before}, proofs.SelectLemmas.{IsSelect}, proofs.StreamLemmas.{IsGiving}, proofs.ReadLemmas.{plain_in, quiet, has_failed}, specs.Feeding.{AreTaken, AreFed}}
 use Rattle.sqlite_trees.specs.declared.store.Store.{Ghosts}
-use Rattle.moo_tables.specs.Feeding.{AreTaken, AreFed}
 
 -- the rows so far are those of the query: the first of them were taken, and the others are left
 pub record IsFeeding {S T : Type 0} (g : Ghosts S) (took : T → List Row → T → Type 0) (sql : List ℕ) (old now : Held S) (first last : T) (left : List Row) : Type 0 where

@@ -1,5 +1,5 @@
 -- What the statements do that make the tables of the present version of those of an earlier one.
-use Rattle.moo_tables.{proofs.Words.{◌≡◌, ℕ, List, [], ◌∷◌, Ok, Err, Result, OnOk, refl, sym, ap, subst, ◌∙◌, Schema, Database, Error, State, HasCleanDisk, First, Tables, schema_of, first_schema, slot2_schema, petition_schema, second_schema, slot2_table, petition_table, petition_head_table, numbered_in, paired_in, head_places, object_places, prop_places, slot_places, verb_places, petition_places, petition_head_places, with_counter, AreKeyed, Holds, Sees, StaysInside, Changes, RanStatement, IsGrown, GrowsTables, grown, no_tables, KeepsUnread, create_text, IsEarlier, IsUnderWay, no_rows, present_schema}, proofs.TextLemmas.{create_slot2_is, create_petition_is, create_petition_head_is}, proofs.CreateLemmas.{runs_making}, proofs.InsideLemmas.{of_version, clean_before, only_first}, proofs.SeenLemmas.{same_tables}}
+use Rattle.moo_tables.{proofs.Words.{◌≡◌, ℕ, List, [], ◌∷◌, Ok, Err, Result, OnOk, refl, sym, ap, subst, ◌∙◌, Schema, Database, Error, State, HasCleanDisk, First, Tables, schema_of, first_schema, slot2_schema, petition_schema, second_schema, slot2_table, petition_table, petition_head_table, numbered_in, paired_in, head_places, object_places, prop_places, slot_places, verb_places, petition_places, petition_head_places, with_counter, AreKeyed, Holds, Sees, StaysInside, Changes, RanStatement, IsGrown, GrowsTables, grown, no_tables, KeepsUnread, create_text, IsEarlier, IsUnderWay, no_rows, present_schema, create_slot2_is, create_petition_is, create_petition_head_is, of_version, clean_before, only_first, same_tables}, proofs.CreateLemmas.{runs_making}}
 
 pub makes_slot2 : (old new : State) (count : ℕ) → RanStatement (create_text slot2_table) [] old new (Ok count) → HasCleanDisk new → (base : Database) → IsGrown base first_schema [] old.now → IsGrown base slot2_schema (7 ∷ []) new.now
 makes_slot2 old new count ran = λ clean base was.

@@ -1,5 +1,5 @@
 -- What the migration does.
-use Rattle.moo_tables.{proofs.Words.{◌≡◌, ℕ, List, [], ◌∷◌, filter, not, true, Option, Ok, Err, Result, OnOk, IsTrue, refl, sym, subst, ◌∙◌, Null, Error, Row, col, overlay, understood, State, HasCleanDisk, statement_of, runs_as, ObjNo, PropId, SlotCells, Tables, present_schema, slot_tree, with_each, with_head_cells, with_slot_cells, migrated, AreKeyed, Holds, Sees, HasTables, StaysInside, Changes, RanStatement, HasNoSlot, IsEarlier}, proofs.TextLemmas.{empty_slots_text, empty_slots, rowids_where}, proofs.InsideLemmas.{clean_before, only_first}, proofs.ChangeLemmas.{slots_in_turn}, proofs.GrowLemmas.{Becomes}, proofs.QueryLemmas.{shows_all}, proofs.RowLemmas.{moo_quiet, went_out}, proofs.SeenLemmas.{SetsTree, schema_seen, sees_same}, proofs.StepLemmas.{deletes}}
+use Rattle.moo_tables.{proofs.Words.{◌≡◌, ℕ, List, [], ◌∷◌, filter, not, true, Option, Ok, Err, Result, OnOk, IsTrue, refl, sym, subst, ◌∙◌, Null, Error, Row, col, overlay, understood, State, HasCleanDisk, statement_of, runs_as, ObjNo, PropId, SlotCells, Tables, present_schema, slot_tree, with_each, with_head_cells, with_slot_cells, migrated, AreKeyed, Holds, Sees, HasTables, StaysInside, Changes, RanStatement, HasNoSlot, IsEarlier, empty_slots_text, empty_slots, rowids_where, clean_before, only_first, slots_in_turn, shows_all, moo_quiet, went_out, SetsTree, schema_seen, sees_same, deletes}, proofs.GrowLemmas.{Becomes}}
 use Rattle.moo_rows.specs.declared.row.Head.{Head}
 
 -- ---- a table that is emptied

@@ -1,6 +1,5 @@
 -- Why a query of our tables stops: SQL refuses none for its text, its types or its sums.
-use Rattle.moo_tables.{proofs.Words.{◌≡◌, ◌∙◌, inl, inr, ℕ, List, [], ◌∷◌, length, true, true≢false, Option, IsSome, Result, Ok, Err, refl, sym, ap, subst, Error, State, HasCleanDisk, HasTables, Survives, CommitsShowing, Schema, Term, Database, Select, RefusesQuery, FailsToQuery, FailsToShow, IsNotRun, IsNoStatement, IsSourceOf, IsPlain, command_of, timed, understood, reads_listing, accepts_program, no_fold_overflows, overlay, inner, end}, proofs.TextLemmas.{IsOne, plain_query, in_order}, proofs.SelectLemmas.{IsSelect}}
-use Rattle.moo_tables.specs.ReadCause.{StopsQuery, FailsToList, HasCauseIfNotShown, HasCauseOfReading}
+use Rattle.moo_tables.{proofs.Words.{◌≡◌, ◌∙◌, inl, inr, ℕ, List, [], ◌∷◌, length, true, true≢false, Option, IsSome, Result, Ok, Err, refl, sym, ap, subst, Error, State, HasCleanDisk, HasTables, Survives, CommitsShowing, Schema, Term, Database, Select, RefusesQuery, FailsToQuery, FailsToShow, IsNotRun, IsNoStatement, IsSourceOf, IsPlain, command_of, timed, understood, reads_listing, accepts_program, no_fold_overflows, overlay, inner, end, IsOne, plain_query, in_order}, proofs.SelectLemmas.{IsSelect}, specs.ReadCause.{StopsQuery, FailsToList, HasCauseIfNotShown, HasCauseOfReading}}
 use Rattle.sqlite.specs.Effect.{RefusesToRead}
 use Rattle.sqlite.specs.declared.error.Error.TheVariants.{SqliteFailure}
 use Rattle.sqlite.specs.declared.error.ErrorCode.TheVariants as code

@@ -1,7 +1,6 @@
 -- Why one of several readings failed, one after another.
-use Rattle.moo_tables.proofs.Words.{⊤, ◌≡◌, ◌≤◌, inl, inr, ap, sym, subst, arith, true≢false, ◌∙◌, Result, Ok, Err, IfErr, IsTrue, IsSome, Error, Schema, State, Database, HasCleanDisk, HasCause, Survives, IsUnchanged, HasTables, ReadsTables, FailsToRead, StopsChange, store_error}
+use Rattle.moo_tables.{proofs.Words.{⊤, ◌≡◌, ◌≤◌, inl, inr, ap, sym, subst, arith, true≢false, ◌∙◌, Result, Ok, Err, IfErr, IsTrue, IsSome, Error, Schema, State, Database, HasCleanDisk, HasCause, Survives, IsUnchanged, HasTables, ReadsTables, FailsToRead, StopsChange, store_error}, specs.ReadCause.{StopsQuery, HasCauseOfReading}}
 use Rattle.std.specs.Result.{IsErrAnd}
-use Rattle.moo_tables.specs.ReadCause.{StopsQuery, HasCauseOfReading}
 use Rattle.sqlite.specs.declared.error.Error.TheVariants.{SqliteFailure}
 use Rattle.sqlite.specs.declared.error.ErrorCode.TheVariants as code
 use Rattle.sqlite_trees.{specs.declared.error.StoreError.{StoreError}, specs.declared.error.StoreError.TheVariants.{OutOfMemory, Io, Corrupt, Full, Broken, Unstorable}}
@@ -19,19 +18,6 @@ pub query_stops_since : (old mid new : State) (e : Error) → old.faults ≤ mid
 query_stops_since old mid new e up steps is_open (inl h) = inl (h.0, h.1, cause_from old mid new h.0 up is_open h.2)
 query_stops_since old mid new e up steps is_open (inr h) = inr (h.0, subst IsSome steps h.1)
 
-cause_to : (old mid new : State) (cause : StoreError) → mid.faults ≤ new.faults → HasCause old mid ⊥ cause → HasCause old new ⊥ cause
-cause_to old mid new OutOfMemory up h = tt
-cause_to old mid new Io up h = omega arith
-cause_to old mid new Corrupt up h = omega arith
-cause_to old mid new Full up h = omega arith
-cause_to old mid new Broken up h = h
-cause_to old mid new Unstorable up h = absurd h
-
--- and more was done since
-pub query_stops_to : (old mid new : State) (e : Error) → mid.faults ≤ new.faults → StopsQuery old mid e → StopsQuery old new e
-query_stops_to old mid new e up (inl h) = inl (h.0, h.1, cause_to old mid new h.0 up h.2)
-query_stops_to old mid new e up (inr h) = inr h
-
 -- tables were read, and then a call stopped
 pub stops_after : {schema : Schema} {old mid : State} (new : State) {e : Error} → ReadsTables schema old mid → (HasCleanDisk new → HasCleanDisk mid) → (HasCleanDisk new → HasTables schema mid → StopsQuery mid new e) → HasCleanDisk new → HasTables schema old → StopsQuery old new e
 stops_after {schema} {old} {mid} new {e} read clean cause = λ late has.
@@ -39,11 +25,6 @@ stops_after {schema} {old} {mid} new {e} read clean cause = λ late has.
     let was : Survives old mid (λ _. ⊥) = read.crash (λ _. has) in
     let there : HasTables schema mid = ap (λ (d : Database). d.schema) same.0.now_is ∙ has in
     query_stops_since old mid new e was.counts was.limit same.0.is_open (cause late there)
-
--- tables were read, and a later call has a cause
-pub cause_since : {A : Type 0} {schema : Schema} {old mid : State} (new : State) (r : Result A Error) → ReadsTables schema old mid → (HasCleanDisk new → HasCleanDisk mid) → HasCauseOfReading schema mid new r → HasCauseOfReading schema old new r
-cause_since new (Ok x) read clean cause = λ late has. tt
-cause_since new (Err e) read clean cause = stops_after new read clean cause
 
 -- the error is handed on
 pub handed_on : {A : Type 0} (P : Error → Type 0) (r : Result A Error) (e : Error) → IsErrAnd r (λ x. x ≡ e) → P e → IfErr r P
@@ -71,16 +52,3 @@ stored_otherwise Unstorable is = absurd cc
 pub not_a_database : (old new : State) → ¬ StopsQuery old new (SqliteFailure code.NotADatabase)
 not_a_database old new (inl h) = stored_otherwise h.0 h.1
 not_a_database old new (inr h) = absurd (let e = h.0 in cc)
-
-cause_of_change : (old new : State) (cause : StoreError) → HasCause old new ⊥ cause → HasCause old new ⊤ cause
-cause_of_change old new OutOfMemory h = tt
-cause_of_change old new Io h = h
-cause_of_change old new Corrupt h = h
-cause_of_change old new Full h = h
-cause_of_change old new Broken h = h
-cause_of_change old new Unstorable h = absurd h
-
--- what stops a query also stops a change
-pub stops_change_too : (old new : State) (e : Error) → StopsQuery old new e → StopsChange old new e
-stops_change_too old new e (inl h) = inl (h.0, h.1, cause_of_change old new h.0 h.2)
-stops_change_too old new e (inr h) = inr (inl h)

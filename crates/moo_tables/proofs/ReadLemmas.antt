@@ -1,5 +1,5 @@
 -- What the queries of the tables answer.
-use Rattle.moo_tables.{proofs.Words.{◌≡◌, ◌⊎◌, ◌&&◌, None, ℕ, ℤ, List, [], ◌∷◌, map, drop, codes, option_map, true, false, not, Vec, inl, inr, Result, Ok, Err, IfOk, OnOk, OnErr, IsTrue, refl, sym, ap, subst, ◌∙◌, is_eq, ordering_then, IsPermutation, Global, Contains-permutation, IsPermutation-sym, and_parts, not-true, Null, Error, Row, column, value_cmp, Term, eval_all, Query, Output, output, output_cmp, overlay, Schema, Table, Trees, Column, Program, AllByRecursion, Database, understood, State, HasCleanDisk, Shown, ShowsRows, Survives, CommitsShowing, IsUnchanged, IsRolledBack, timed, IsPlain, reads_as, never_commits, survives_weaker, survives_then, IsAscending, is_int, then-Equal, output_cmp_total, Datatype, NotNull, Unique, clashes, are_typed, are_present, has_computed, plain, IsSound, Has, all_has, all_from, has_contained, contains_had, ascending-map, ascending_from_map, ascending_weaker, all_map, Version, First, Second, Tables, required, schema_of, slot_tree, head_table, object_table, prop_table, petition_table, petition_head_table, slot_table, slot2_table, verb_table, has_pair, cells_at, found_in, numbered_in, paired_in, head_places, object_places, prop_places, slot_places, verb_places, petition_places, petition_head_places, select_text, AreKeyed, Holds, Rests, HasTables, ReadsTables, FailsToRead, ListsNumbers, ListsPairs, IsRowBelow, has_key_pair, has_petitions, petition_rows, if◌then◌else◌}, proofs.TextLemmas.{plain_query, in_order, number_order, pair_order}, proofs.SelectLemmas.{IsSelect, number_columns, pair_columns, slots_table, select_head, select_object, select_prop, select_slot, select_verb, select_petition, select_counter}, proofs.InsideLemmas.{clean_before}, proofs.StreamLemmas.{unchanged_then, failed_then}, proofs.QueryLemmas.{chosen, Selects, selects, shows_in_order, shown_rows}, proofs.SortLemmas.{rises-sort_by}, proofs.ListingLemmas.{find-map, find_alike, one_pair, two_ints, lists_numbers, no_ties}}
+use Rattle.moo_tables.{proofs.Words.{ArePairs, slot_pairs, verb_pairs, ◌≡◌, ◌⊎◌, ℕ, ℤ, List, [], ◌∷◌, map, drop, option_map, true, false, Vec, inl, inr, Result, Ok, Err, IfOk, OnOk, OnErr, IsTrue, refl, sym, ap, subst, ◌∙◌, is_eq, ordering_then, IsPermutation, Global, Contains-permutation, IsPermutation-sym, Null, Error, Row, column, value_cmp, Term, eval_all, Query, Output, output, output_cmp, overlay, Schema, Trees, Program, Database, understood, State, HasCleanDisk, Shown, ShowsRows, Survives, CommitsShowing, IsUnchanged, IsRolledBack, timed, IsPlain, reads_as, never_commits, survives_weaker, survives_then, IsAscending, is_int, then-Equal, output_cmp_total, plain, IsSound, Has, all_from, has_contained, contains_had, ascending-map, ascending_from_map, ascending_weaker, all_map, Version, First, Second, Tables, schema_of, slot_tree, head_table, object_table, prop_table, petition_table, petition_head_table, slot2_table, verb_table, has_pair, cells_at, found_in, numbered_in, paired_in, head_places, object_places, prop_places, slot_places, verb_places, petition_places, petition_head_places, select_text, AreKeyed, Holds, Rests, HasTables, ReadsTables, FailsToRead, ListsNumbers, ListsPairs, IsRowBelow, has_key_pair, has_petitions, petition_rows, if◌then◌else◌, find-map, find_alike, plain_query, in_order, number_order, pair_order, clean_before, chosen, Selects, selects, shows_in_order, shown_rows}, proofs.SelectLemmas.{IsSelect, number_columns, pair_columns, slots_table, select_head, select_object, select_prop, select_slot, select_verb, select_petition, select_counter}, proofs.StreamLemmas.{unchanged_then, failed_then}, proofs.SortLemmas.{rises-sort_by}, proofs.ListingLemmas.{lists_numbers, no_ties}}
 use Rattle.std.{proofs.Common.{Ordering, Less, Equal}, specs.Cmp.{on_total}}
 use Rattle.sqlite_schema.specs.declared.schema.Kind.TheVariants.{Integer}
 use Rattle.sqlite_keyed.{specs.Lists.{sort_by}, proofs.SortLemmas.{sorted_is-sort_by, IsPermutation-sort_by, sort_by-map}}
@@ -13,11 +13,6 @@ unchanged_as sql params old new rows plain h =
 pub all_chosen : (params : Row) (rows : List Row) → chosen [] params rows ≡ rows
 all_chosen params [] = refl
 all_chosen params (r ∷ rows) = ap (λ more. r ∷ more) (all_chosen params rows)
-
--- two columns are whole numbers, and tell the row
-pub record ArePairs (rows : List Row) : Type 0 where
-  pub ints : (r : Row) → Has rows r → IsTrue (is_int (column r 1)) × IsTrue (is_int (column r 2))
-  pub one : (key : ℤ × ℤ) (r s : Row) → Has rows r → Has rows s → has_pair key r ≡ true → has_pair key s ≡ true → r ≡ s
 
 each_shown : (project : List Term) (places : List ℕ) → ((r : Row) → eval_all project ([] ∷ r ∷ []) ≡ cells_at places r) → (rs : List Row) → map (λ r. eval_all project ([] ∷ r ∷ [])) rs ≡ map (cells_at places) rs
 each_shown project places shows [] = refl
@@ -177,29 +172,9 @@ module _ (schema : Schema) (text : List ℕ) (tree : ℕ) (columns : List Term) 
       let it = subst (λ found. Selects (plain_query tree [] columns pair_order) [] found rows) (ap (chosen [] []) stored ∙ all_chosen [] the_rows) (selects tree [] columns pair_order (overlay old.now.trees []) [] rows (read.answer Null)) in
       lists_pairs tree columns places shows the_rows rows it keyed pairs.ints pairs.one
 
--- ---- what the schema asks of the rows of a table with a key of two columns
-
-pairs_in : (one two : List ℕ) (more : List Column) (t : Table) (rows : List Row) → AreKeyed rows
-    → AllByRecursion (λ r. (are_typed None 0 (required Integer one ∷ required Integer two ∷ more) (drop 1 r) && has_computed t r) ≡ true) rows
-    → AllByRecursion (λ r. are_present None 0 (required Integer one ∷ required Integer two ∷ more) r ≡ true) rows
-    → AllByRecursion (λ r. (not (clashes plain (1 ∷ 2 ∷ []) rows r) && true) ≡ true) rows → ArePairs rows
-pairs_in one two more t rows keyed typed present unique =
-    let ints = λ (r : Row) (has : Has rows r). two_ints r one two more (and_parts _ (has_computed t r) (all_has _ rows r typed has)).0 (all_has _ rows r present has) in
-    let alone = λ (r : Row) (has : Has rows r). not-true _ (and_parts (not (clashes plain (1 ∷ 2 ∷ []) rows r)) true (all_has _ rows r unique has)).0 in
-    record { ints = ints; one = one_pair rows keyed alone ints }
-
-pub slot_pairs : (version : Version) (db : Trees) → IsSound (schema_of version) db → AreKeyed (db (slot_tree version)) → ArePairs (db (slot_tree version))
-slot_pairs First db sound keyed = pairs_in (codes "object") (codes "prop") (drop 2 slot_table.columns) slot_table (db 3) keyed (sound.obeys.rules Datatype).1.1.1.0 (sound.obeys.rules NotNull).1.1.1.0 (sound.obeys.rules Unique).1.1.1.0
-slot_pairs Second db sound keyed =
-    pairs_in (codes "object") (codes "prop") (drop 2 slot2_table.columns) slot2_table (db 7) keyed (sound.obeys.rules Datatype).1.1.1.1.1.0 (sound.obeys.rules NotNull).1.1.1.1.1.0 (sound.obeys.rules Unique).1.1.1.1.1.0
-
 slots_stored : (version : Version) (db : Trees) → overlay db [] (slot_tree version) ≡ db (slot_tree version)
 slots_stored First db = refl
 slots_stored Second db = refl
-
-pub verb_pairs : (version : Version) (db : Trees) → IsSound (schema_of version) db → AreKeyed (db 5) → ArePairs (db 5)
-verb_pairs First db sound keyed = pairs_in (codes "object") (codes "id") (drop 2 verb_table.columns) verb_table (db 5) keyed (sound.obeys.rules Datatype).1.1.1.1.0 (sound.obeys.rules NotNull).1.1.1.1.0 (sound.obeys.rules Unique).1.1.1.1.0
-verb_pairs Second db sound keyed = pairs_in (codes "object") (codes "id") (drop 2 verb_table.columns) verb_table (db 5) keyed (sound.obeys.rules Datatype).1.1.1.1.0 (sound.obeys.rules NotNull).1.1.1.1.0 (sound.obeys.rules Unique).1.1.1.1.0
 
 sound_in : (db : Database) (tables : Tables) → Holds db tables → IsSound (schema_of tables.version) db.trees
 sound_in db tables holds = subst (λ s. IsSound s db.trees) holds.schema holds.sound

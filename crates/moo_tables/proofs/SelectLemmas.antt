@@ -1,5 +1,5 @@
 -- What the texts that read a table mean.
-use Rattle.moo_tables.{proofs.Words.{◌≡◌, ℕ, List, [], map, length, arith, true, false, refl, accepts_program, Select, Schema, Table, understood, reads_listing, Term, col, IsPlain, command_of, everything, Program, Version, First, Second, first_schema, second_schema, schema_of, slot_tree, number_places, pair_places, head_table, object_table, prop_table, slot_table, slot2_table, verb_table, petition_table, petition_head_table, select_text, names, IsTrue, has_petitions, has_lettered_bits, sym, true≢false, if◌then◌else◌}, proofs.TextLemmas.{IsOne, MeansOne, one_is, in_order, number_order, pair_order}}
+use Rattle.moo_tables.proofs.Words.{◌≡◌, ℕ, List, [], map, length, arith, true, false, refl, accepts_program, Select, Schema, Table, understood, reads_listing, Term, col, IsPlain, command_of, everything, Program, Version, First, Second, first_schema, second_schema, schema_of, slot_tree, number_places, pair_places, head_table, object_table, prop_table, slot_table, slot2_table, verb_table, petition_table, petition_head_table, select_text, names, IsTrue, has_petitions, has_lettered_bits, sym, true≢false, if◌then◌else◌, IsOne, MeansOne, one_is, in_order, number_order, pair_order}
 use Rattle.sqlite_schema.specs.Program.{lets_of}
 
 -- the text is this query of the schema, which SQL accepts, and it reads no list of tables

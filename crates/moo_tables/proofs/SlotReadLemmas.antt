@@ -1,5 +1,5 @@
 -- The query that reads the slots, from the table that the version has them in.
-use Rattle.moo_tables.{proofs.Words.{◌≡◌, Bool, if◌then◌else◌, [], sym, ap, subst, State, Row, Table, Shown, understood, IsPlain, Version, has_lettered_bits, Tables, slot_table, slot2_table, slot_tree, names, schema_of, Holds, select_text, ListsPairs, List}, proofs.TextLemmas.{in_order, pair_order}, proofs.SelectLemmas.{IsSelect, pair_columns, slots_table, select_slot}, proofs.ReadLemmas.{plain_of, slot_lists}}
+use Rattle.moo_tables.{proofs.Words.{◌≡◌, Bool, if◌then◌else◌, [], sym, ap, subst, State, Row, Table, Shown, understood, IsPlain, Version, has_lettered_bits, Tables, slot_table, slot2_table, slot_tree, names, schema_of, Holds, select_text, ListsPairs, List, in_order, pair_order}, proofs.SelectLemmas.{IsSelect, pair_columns, slots_table, select_slot}, proofs.ReadLemmas.{plain_of, slot_lists}}
 
 pub select_at : (version : Version) (t : Table) → slots_table version ≡ t → IsSelect (schema_of version) (select_text t) (in_order (slot_tree version) (pair_columns slot2_table) pair_order) (names slot2_table)
 select_at version t is = subst (λ table. IsSelect (schema_of version) (select_text table) (in_order (slot_tree version) (pair_columns slot2_table) pair_order) (names slot2_table)) is (select_slot version)

@@ -1,5 +1,5 @@
 -- What a transaction leaves of the table that isn't read.
-use Rattle.moo_tables.{proofs.Words.{◌≡◌, ◌⊎◌, inl, inr, true, false, IsTrue, IfErr, OnOk, Result, Ok, Err, Error, sym, ap, ◌∙◌, Trees, State, KeepsCommit, IsRolledBack, Tables, Rests, Sees, KeepsUnread, First, slot_tree}, specs.Inside.{SparesUnread}, proofs.InsideLemmas.{restores}}
+use Rattle.moo_tables.proofs.Words.{◌≡◌, ◌⊎◌, inl, inr, true, false, IsTrue, IfErr, OnOk, Result, Ok, Err, Error, sym, ap, ◌∙◌, Trees, State, KeepsCommit, IsRolledBack, Tables, Rests, Sees, KeepsUnread, First, slot_tree, SparesUnread, restores}
 use Rattle.sqlite.{specs.Steps.{FailsToCommit}, specs.Effect.{Database}}
 
 -- the law of a store that is open: a crash leaves the last commit

@@ -1,6 +1,5 @@
 -- A query that is read row by row.
-use Rattle.moo_tables.proofs.Words.{◌≡◌, ◌⊎◌, ◌≤◌, refl, false, ℕ, List, [], ◌∷◌, ◌++◌, None, Some, Result, Ok, Err, OnErr, inl, inr, sym, subst, ◌∙◌, arith, Row, Schema, timed, understood, reads_listing, IsSourceOf, Held, state, Database, Error, State, HasCleanDisk, Shown, ShowsRows, Survives, CommitsShowing, IsUnchanged, IsRolledBack, Fails, FailsToQuery, FailsToShow, IsNotRun, IsNoStatement, IsPlain, begun_plain, survives_then, HasTables}
-use Rattle.moo_tables.proofs.ReadCauseLemmas.{cause_from}
+use Rattle.moo_tables.{proofs.Words.{◌≡◌, ◌⊎◌, ◌≤◌, refl, false, ℕ, List, [], ◌∷◌, ◌++◌, None, Some, Result, Ok, Err, OnErr, inl, inr, sym, subst, ◌∙◌, arith, Row, Schema, timed, understood, reads_listing, IsSourceOf, Held, state, Database, Error, State, HasCleanDisk, Shown, ShowsRows, Survives, CommitsShowing, IsUnchanged, IsRolledBack, Fails, FailsToQuery, FailsToShow, IsNotRun, IsNoStatement, IsPlain, begun_plain, survives_then, HasTables}, proofs.ReadCauseLemmas.{cause_from}}
 use Rattle.sqlite.specs.Given.{HasGiven, HasBegun, Advances, FailsToAdvance, IsRefused}
 use Rattle.sqlite.specs.Effect.{RefusesToRead}
 use Rattle.sqlite_trees.specs.declared.store.Store.{Ghosts}
@@ -85,10 +84,6 @@ module _ {S : Type 0} (g : Ghosts S) (sql : List ℕ) (old : Held S) where
   refused {X} r e new is it clean plain =
       let left = subst (λ (r : Result X Error). OnErr r (IsRefused g sql [] old r new)) is it in
       query_failed old.schema sql (state g old) (state g new) e plain (left.err clean) refl
-
-  -- and why it doesn't
-  pub why_refused : {X : Type 0} (r : Result X Error) (e : Error) (new : Held S) → r ≡ Err e → OnErr r (IsRefused g sql [] old r new) → HasCleanDisk (state g new) → FailsToQuery sql [] (state g old) (state g new) e
-  why_refused {X} r e new is it clean = let left = subst (λ (r : Result X Error). OnErr r (IsRefused g sql [] old r new)) is it in left.err clean
 
   module _ (mid new : Held S) (rows : List Row) (it : IsGiving mid rows) (kept : Survives (state g mid) (state g new) (λ _. ⊥)) where
     pub survives_on : Survives (state g old) (state g new) (CommitsShowing sql [] (state g old))

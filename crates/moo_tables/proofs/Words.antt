@@ -1,92 +1,25 @@
 -- The words that most proofs of this crate share.
-pub use Rattle.std.proofs.Common.{Bool, Err, IfErr, IfOk, IsSome, IsSorted, IsTrue, List, None, Ok, OnErr, OnOk, Option, Result, Some, Vec, [], ap, append-nil, arith, codes, cond, drop, false, filter, find, flat_map, fold, get_or, if◌then◌else◌, inl, inr, is_gt, length, length-append, map, negsuc, not, option_map, pos, refl, rules, slice_get, subst, subst₂, suc, sym, take, true, true≢false, unwrap_or, zero, ℕ, ℤ, ◌&&◌, ◌++◌, ◌+◌, ◌-◌, ◌/◌, ◌<◌, ◌==◌, ◌||◌, ◌↔◌, ◌∙◌, ◌∷◌, ◌≡◌, ◌≢◌, ◌≤◌, ◌⊎◌}
-pub use Rattle.std.proofs.lemmas.Bool.{and_from, and_parts, not-true}
-pub use Rattle.std.proofs.lemmas.Cmp.{on_total, then_total, tied_back, tied_itself}
-pub use Rattle.std.proofs.lemmas.List.{drop_all, take_all, take_more}
-pub use Rattle.std.proofs.lemmas.List.Sorted.{Contains-permutation, IsPermutation-map, IsPermutation-sym, length_permutation}
-pub use Rattle.std.specs.Cmp.{IsTotalOrder}
-pub use Rattle.std.specs.List.{AllByRecursion, AllZip, list_all, list_any, range_with_len}
-pub use Rattle.std.specs.List.Sorted.{IsPermutation}
-pub use Rattle.std.specs.Ordering.{int_cmp, is_eq, is_lt, is_ne, match_ordering, ordering_reverse, ordering_then}
-pub use Rattle.std.specs.Prelude.{MatchBool, nat_lt, ⊤}
-pub use Rattle.std.specs.declared.alloc.Global.{Global}
-pub use Rattle.std.specs.declared.cmp.Ordering.{Ordering}
-pub use Rattle.std.specs.declared.cmp.Ordering.TheVariants.{Equal, Greater, Less}
-pub use Rattle.moo_rows.specs.declared.row.PropId.{PropId}
-pub use Rattle.moo_tables.specs.Cause.{HasCauseIn, MeetsRowIn, StopsChange, is_conflict}
-pub use Rattle.moo_tables.specs.Cells.{KeepsOthers, cells_after, counter_with, head_cells, object_cells, petition_cells, petition_head_cells, prop_cells, slot_cells, tables_with, verb_cells, with_counter, with_each, with_head_cells, with_next_petition, with_object_cells, with_object_changes, with_petition_cells, with_petition_changes, with_prop_cells, with_prop_changes, with_slot_cells, with_slot_changes, with_verb_cells, with_verb_changes}
-pub use Rattle.moo_tables.specs.Columns.{all_but, cells_over}
-pub use Rattle.moo_tables.specs.Inside.{AreKeyed, Changes, FailsToRead, HasNoTables, HasTables, Holds, IsCurrent, IsMade, KeepsUnread, Leaves, RanStatement, ReadsTables, Rests, Sees, StaysInside, no_rows, no_tables}
+pub use Rattle.moo_tables_rows.proofs.Words.{Abort, AllByRecursion, AllZip, Answers, Applies, AreConflicts, AreKeyed, Binary, Blob, Bool, Changes, Check, Chosen, Clears, Column, CommitsShowing, Compare, Concludes, Contains-permutation, CreateTable, Database, Datatype, Delete, Deletes, Does, Edit, Edited, Enforced, Env, Eq, Equal, Err, Error, Executes, ExecutesInside, Fails, FailsToRead, FailsToShow, ForeignKey, Given, Global, Greater, Has, HasCause, HasCauseIn, HasCleanDisk, HasNoTables, HasTables, Held, Holds, IfErr, IfOk, Insert, InsertOr, Inserts, InsertsOr, Int, IsAnswer, IsAscending, IsClean, IsCurrent, IsDatabase, IsDefined, IsEarlier, IsIndexRow, IsMade, IsMisplaced, IsNoIndex, IsNoStatement, IsPermutation, IsPermutation-map, IsPermutation-sym, IsPlain, IsRefused, IsRolledBack, IsSome, IsSorted, IsSound, IsSourceOf, IsStatement, IsTable, IsTableRow, IsTotalOrder, IsTrue, IsUnchanged, IsViewRow, Judged, Keeps, KeepsCommit, KeepsCounts, KeepsOthers, KeepsUnread, Leaves, Less, List, MatchBool, Meets, MeetsRowIn, Ne, None, NotNull, Null, ObjNo, Ok, OnErr, OnOk, Opens, Option, Order, Ordering, Output, PrimaryKey, Program, PropId, Puts, Query, RanStatement, ReadsTables, Real, Refers, RefusesQuery, Rests, Result, Row, RunsCommand, Schema, Sees, Select, Shows, ShowsRows, Some, State, StaysInside, StopsChange, Survives, Table, Tables, Tally, Task, Term, Text, Trees, Tries, TriesEach, Unique, Update, Updates, Upsert, Upserts, Value, Values, Vec, Writes, WritesOver, Written, [], accepts_program, accepts_terms, agree, all_but, all_from, all_has, all_map, all_weaker, and_from, and_parts, ap, append-nil, are_fresh, are_present, are_typed, arith, ascending, ascending-map, ascending_from_map, ascending_weaker, automatic, begun_plain, cast, cast_all, cast_row, cells_after, cells_at, cells_over, clashes, codes, col, column, command_of, cond, conflicts, contains_had, count_of, counter_with, create_text, differ, drop, drop_all, edit_error, edit_of, edited, end, eval_all, false, filter, find, first_schema, flat_map, fold, found_in, from_truth, get_or, has_computed, has_contained, has_filtered, has_found, has_kept, has_lettered_bits, has_pair, has_petitions, has_rowid, have_rowids, head_cells, head_places, head_schema, head_table, holds, id_in, ids_of, if◌then◌else◌, inl, inner, inr, insert_text, int_cmp, is_conflict, is_eq, is_gt, is_int, is_lt, is_ne, is_of, is_pragma, is_query, is_referred, is_taken, is_true, keep_text, lacks_sequence, left_by, length, length-append, length_permutation, list_all, list_any, lit, map, match_ordering, mode_of, names, nat_lt, negsuc, never_commits, next_rowid, no_fold_overflows, no_rows, no_schema, no_tables, not, not-true, nothing, number_places, numbered, numbered_in, numbered_over, numbered_with, object_cells, object_places, object_row, object_schema, object_table, on_total, one_permutation, one_step, op2, option_map, ordering_reverse, ordering_then, output, output_cmp, output_cmp_total, overlay, pair_places, paired, paired_in, paired_over, paired_with, passes, petition_cells, petition_head_cells, petition_head_places, petition_head_table, petition_places, petition_row, petition_rows, petition_schema, petition_table, plain, pos, present, present_schema, prop_cells, prop_places, prop_schema, prop_table, put_all, put_counter_text, put_row, put_text, range_with_len, reads_as, reads_listing, refl, remove_text, required, rowid, rules, runs_as, same_number, same_numbers, schema_of, second_schema, select_text, shown, shows_rows, slice_get, slot2_schema, slot2_table, slot_cells, slot_places, slot_row, slot_schema, slot_table, slot_tree, some_from, some_has, state, statement_of, store_error, subst, subst₂, suc, survives_then, survives_weaker, sym, table_defined_by, table_of, tables_in, tables_with, take, take_all, take_more, taken_by, text_of, then-Equal, then_total, tied_back, tied_itself, timed, true, true≢false, unwrap_or, update_text, value_cmp-Int, value_cmp_total, value_rows, verb_cells, verb_places, verb_row, verb_table, with_cells, with_counter, with_each, with_head_cells, with_next_petition, with_object_cells, with_object_changes, with_petition_cells, with_petition_changes, with_prop_cells, with_prop_changes, with_rowid, with_slot_cells, with_slot_changes, with_tree, with_verb_cells, with_verb_changes, without_all, without_rowid, zero, ℕ, ℤ, ⊤, ◌&&◌, ◌++◌, ◌+◌, ◌-◌, ◌/◌, ◌<◌, ◌==◌, ◌||◌, ◌↔◌, ◌∙◌, ◌∷◌, ◌≡◌, ◌≢◌, ◌≤◌, ◌⊎◌}
+unfoldable pub use Rattle.moo_tables_rows.proofs.Words.{EndsScope, ExecutesIn, FailsToQuery, IsNotRun, Shown, binary, everything, first_key, unary, understood, value_cmp}
+pub use Rattle.moo_tables_rows.proofs.CauseLemmas.{err_after, err_again, fails_after, reaches, reaches_more, stops_since, stops_to}
+pub use Rattle.moo_tables_rows.proofs.ChangeLemmas.{all_written, slots_in_turn}
+pub use Rattle.moo_tables_rows.proofs.FindLemmas.{ArePairs, slot_pairs, verb_pairs, find-map, find_alike}
+pub use Rattle.moo_tables_rows.proofs.InsideLemmas.{always, begins, clean_before, commits, earlier_too, leaves, no_ok, of_version, on_ok, only_first, rest_again, restored, restores, stays_begun, stays_then, undoes}
+pub use Rattle.moo_tables_rows.proofs.KeyLemmas.{int_value, is_false, number_exact, one_row, pair_exact, ties_one}
+pub use Rattle.moo_tables_rows.proofs.QueryLemmas.{Selects, chosen, selects, shown_rows, shows_all, shows_in_order}
+pub use Rattle.moo_tables_rows.proofs.RefusalLemmas.{IsAllowed, clear_none, concluded, delete_stops, each, halted}
+pub use Rattle.moo_tables_rows.proofs.RowLemmas.{equal_number, moo_quiet, told, went_out}
+pub use Rattle.moo_tables_rows.proofs.SeenLemmas.{SetsTree, same_tables, schema_seen, sees_same, sound_seen}
+pub use Rattle.moo_tables_rows.proofs.StepLemmas.{Made, creates, deletes}
+pub use Rattle.moo_tables_rows.proofs.StopPairLemmas.{left_of}
+pub use Rattle.moo_tables_rows.proofs.StoppedLemmas.{Ran, at_schema, fails_so, stops, stops_unrefused}
+pub use Rattle.moo_tables_rows.proofs.TextLemmas.{IsMaking, IsOne, MeansOne, create_head_is, create_object_is, create_petition_head_is, create_petition_is, create_prop_is, create_slot2_is, create_slot_is, create_verb_is, empty_slots, empty_slots_text, in_order, number_order, one_is, pair_order, plain_query, rowids_where}
+pub use Rattle.moo_tables_rows.proofs.UniqueLemmas.{AreApart}
+pub use Rattle.moo_tables_rows.specs.Inside.{RestsAt, SparesUnread}
+pub use Rattle.moo_tables_rows.specs.declared.cells.CellChanges.{CellChanges}
 pub use Rattle.moo_tables.specs.Listing.{AreListed, ArePaired, IsRowBelow, ListsNumbers, ListsPairs, ListsTables, has_key_pair, tables_of}
-pub use Rattle.moo_tables.specs.Head.{put_counter_text}
 pub use Rattle.moo_tables.specs.Migrated.{GrowsTables, HasNoSlot, IsGrown, IsUnderWay, grown, migrated}
-pub use Rattle.moo_tables.specs.Object.{insert_object_text, keep_object_text, object_row, put_object_text, remove_object_text, update_object_text}
-pub use Rattle.moo_tables.specs.Over.{WritesOver}
-pub use Rattle.moo_tables.specs.Petition.{insert_petition_text, keep_petition_text, petition_row, put_petition_text, remove_petition_text, update_petition_text}
-pub use Rattle.moo_tables.specs.Prop.{insert_prop_text, put_prop_text, remove_prop_text, update_prop_text}
+pub use Rattle.moo_tables_rows.specs.declared.slot.SlotCells.{SlotCells}
+pub use Rattle.moo_tables_rows.specs.declared.version.Version.{Version}
+pub use Rattle.moo_tables_rows.specs.declared.version.Version.TheVariants.{First, Second}
 pub use Rattle.moo_tables.specs.Rising.{has_two_numbers, is_above, pair_cmp, pair_of_ints}
-pub use Rattle.moo_tables.specs.Slot.{insert_slot_text, keep_slot_text, put_slot_text, remove_slot_text, slot_row, update_slot_text}
-pub use Rattle.moo_tables.specs.Tables.{Tables, cells_at, first_schema, found_in, has_pair, head_places, head_schema, head_table, no_schema, number_places, numbered, numbered_in, numbered_over, numbered_with, object_places, object_schema, object_table, pair_places, paired, paired_in, paired_over, paired_with, petition_head_places, petition_head_table, petition_places, petition_rows, petition_schema, petition_table, present_schema, prop_places, prop_schema, prop_table, required, same_number, same_numbers, schema_of, second_schema, slot2_schema, slot2_table, slot_places, slot_schema, slot_table, slot_tree, table_of, tables_in, verb_places, verb_table, with_cells}
-pub use Rattle.moo_tables.specs.Texts.{create_text, insert_text, keep_text, names, put_text, remove_text, select_text, update_text}
-pub use Rattle.moo_tables.specs.Verb.{insert_verb_text, keep_verb_text, put_verb_text, remove_verb_text, update_verb_text, verb_row}
-pub use Rattle.moo_tables.specs.Version.{IsEarlier, has_lettered_bits, has_petitions, present}
-pub use Rattle.moo_tables.specs.declared.slot.SlotCells.{SlotCells}
-pub use Rattle.moo_tables.specs.declared.version.Version.{Version}
-pub use Rattle.moo_tables.specs.declared.version.Version.TheVariants.{First, Second}
-pub use Rattle.moo_value.specs.declared.value.ObjNo.{ObjNo}
-pub use Rattle.sqlite.proofs.Callers.{IsPlain, begun_plain, command_of, never_commits, one_permutation, one_step, reads_as, runs_as, statement_of}
-pub use Rattle.sqlite.proofs.StateLemmas.{survives_then, survives_weaker}
-pub use Rattle.sqlite.specs.Cast.{cast, cast_all, cast_row}
-pub use Rattle.sqlite.specs.Clock.{timed}
-pub use Rattle.sqlite.specs.Collation.TheVariants.{Binary}
-pub use Rattle.sqlite.specs.Command.TheVariants.{CreateTable, Delete, Insert, InsertOr, Select, Update}
-pub use Rattle.sqlite.specs.Compile.{table_defined_by}
-pub use Rattle.sqlite.specs.Does.{Concludes, Does, Tally, lacks_sequence}
-pub use Rattle.sqlite.specs.Edit.{Applies, Edit, edit_of, id_in, next_rowid, put_all, with_rowid, without_all}
-pub use Rattle.sqlite.specs.Effect.{Answers, Database, IsDatabase, RefusesQuery, edit_error, is_query, value_rows}
-pub use Rattle.sqlite.specs.Held.{Held, state}
-pub use Rattle.sqlite.specs.Listing.{IsSourceOf, reads_listing}
-unfoldable pub use Rattle.sqlite.specs.Listing.{understood}
-pub use Rattle.sqlite.specs.Ops.{from_truth, is_true}
-unfoldable pub use Rattle.sqlite.specs.Ops.{binary, unary}
-pub use Rattle.sqlite.specs.Order.{Row, column}
-unfoldable pub use Rattle.sqlite.specs.Order.{value_cmp}
-pub use Rattle.sqlite.specs.Program.{overlay}
-pub use Rattle.sqlite.specs.Query.{IsAnswer, Output, Query, end, inner, output, output_cmp}
-pub use Rattle.sqlite.specs.Rowids.TheVariants.{Chosen, Given}
-pub use Rattle.sqlite.specs.Rows.{Clears, Deletes, Edited, Inserts, InsertsOr, Judged, Meets, Puts, Task, Tries, TriesEach, Updates, Upserts, Written, count_of, nothing, shown}
-pub use Rattle.sqlite.specs.Schema.{Schema}
-pub use Rattle.sqlite.specs.Source.TheVariants.{Values}
-pub use Rattle.sqlite.specs.State.{CommitsShowing, Executes, ExecutesInside, Fails, FailsToShow, HasCause, HasCleanDisk, IsMisplaced, IsNoStatement, IsRolledBack, IsStatement, IsUnchanged, KeepsCommit, KeepsCounts, Opens, RunsCommand, Shows, ShowsRows, State, Survives, Writes, is_pragma, mode_of, shows_rows, store_error, text_of}
-unfoldable pub use Rattle.sqlite.specs.State.{EndsScope, ExecutesIn, FailsToQuery, IsNotRun, Shown}
-pub use Rattle.sqlite.specs.Table.{Table}
-pub use Rattle.sqlite.specs.Term.{Env, Term, col, eval_all, holds, lit, op2}
-pub use Rattle.sqlite.specs.Tree.{IsTable, Trees, has_rowid, put_row, rowid, without_rowid}
-pub use Rattle.sqlite.specs.declared.error.Error.{Error}
-pub use Rattle.sqlite.specs.declared.types.Value.{Value}
-pub use Rattle.sqlite.specs.declared.types.Value.TheVariants.{Blob, Int, Null, Real, Text}
-pub use Rattle.sqlite_catalog.specs.Listing.{IsDefined, IsIndexRow, IsSound, IsTableRow, IsViewRow, automatic}
-pub use Rattle.sqlite_keyed.proofs.ListLemmas.{all_map, all_weaker, ascending-map, ascending_from_map, ascending_weaker}
-pub use Rattle.sqlite_rules.proofs.ListLemmas.{all_from, all_has, contains_had, has_contained, has_filtered, has_found, has_kept, some_from, some_has}
-pub use Rattle.sqlite_rules.specs.Calls.{ids_of}
-pub use Rattle.sqlite_rules.specs.Edit.{IsNoIndex, IsRefused, are_fresh, edited, have_rowids, is_referred, is_taken, left_by, taken_by}
-pub use Rattle.sqlite_rules.specs.Keys.{AreConflicts, conflicts}
-pub use Rattle.sqlite_rules.specs.Lists.{Has}
-pub use Rattle.sqlite_schema.specs.Rules.{Keeps, Refers, agree, are_present, are_typed, clashes, differ, has_computed, is_of, passes}
-pub use Rattle.sqlite_schema.specs.declared.command.Conflict.TheVariants.{Abort}
-pub use Rattle.sqlite_schema.specs.declared.command.Upsert.{Upsert}
-pub use Rattle.sqlite_schema.specs.declared.program.Program.{Program}
-pub use Rattle.sqlite_schema.specs.declared.schema.Column.{Column}
-pub use Rattle.sqlite_schema.specs.declared.schema.Constraint.TheVariants.{Check, Datatype, ForeignKey, NotNull, PrimaryKey, Unique}
-pub use Rattle.sqlite_schema.specs.declared.schema.Keys.TheVariants.{Enforced}
-pub use Rattle.sqlite_sql.proofs.QueryLemmas.{no_fold_overflows, output_cmp_total}
-pub use Rattle.sqlite_sql.specs.declared.ops.BinaryOp.TheVariants.{Compare}
-pub use Rattle.sqlite_sql.specs.declared.ops.CompareOp.TheVariants.{Eq, Ne}
-unfoldable pub use Rattle.sqlite_tied.specs.Compute.{everything}
-pub use Rattle.sqlite_trees.specs.Tree.{IsAscending, with_tree}
-pub use Rattle.sqlite_trees.specs.View.{IsClean, is_int}
-pub use Rattle.sqlite_typing.specs.Types.{accepts_program, accepts_terms}
-pub use Rattle.sqlite_value.proofs.OrderLemmas.{then-Equal, value_cmp-Int, value_cmp_total}
-pub use Rattle.sqlite_value.specs.Keys.{ascending, plain}
-unfoldable pub use Rattle.sqlite_value.specs.Keys.{first_key}
-pub use Rattle.sqlite_value.specs.declared.keys.Order.{Order}

@@ -8,13 +8,13 @@ use Rattle.sqlite.specs.declared.error.Error.{Error}
 use Rattle.moo_value.specs.declared.value.ObjNo.{ObjNo}
 use Rattle.moo_rows.specs.declared.row.Head.{Head}
 use Rattle.moo_rows.specs.declared.row.PropId.{PropId}
-use Rattle.moo_tables.specs.declared.slot.SlotCells.{SlotCells}
-use Rattle.moo_tables.specs.declared.version.Version.TheVariants.{First}
-use Rattle.moo_tables.specs.Cause.{StopsChange}
-use Rattle.moo_tables.specs.Version.{present, IsEarlier}
-use Rattle.moo_tables.specs.Tables.{Tables, Holds, KeepsUnread, numbered_with, slot_tree}
-use Rattle.moo_tables.specs.Inside.{Sees}
-use Rattle.moo_tables.specs.Cells.{head_cells, petition_head_cells, slots_with}
+use Rattle.moo_tables_rows.specs.declared.slot.SlotCells.{SlotCells}
+use Rattle.moo_tables_rows.specs.declared.version.Version.TheVariants.{First}
+use Rattle.moo_tables_rows.specs.Cause.{StopsChange}
+use Rattle.moo_tables_rows.specs.Version.{present, IsEarlier}
+use Rattle.moo_tables_rows.specs.Tables.{Tables, Holds, KeepsUnread, numbered_with, slot_tree}
+use Rattle.moo_tables_rows.specs.Inside.{Sees}
+use Rattle.moo_tables_rows.specs.Cells.{head_cells, petition_head_cells, slots_with}
 
 -- On the way to the present version: the trees of the tables of the base are those that it had, and these have been made since, empty.
 pub record IsGrown (base : Database) (schema : Schema) (made : List ℕ) (db : Database) : Type 0 where

@@ -3,7 +3,7 @@ use Rattle.std.specs.Prelude.{◌≡◌, ℕ, false, if◌then◌else◌, map, L
 use Rattle.sqlite.specs.Table.{Table}
 use Rattle.sqlite_value.specs.Keys.{plain}
 use Rattle.moo_tables.specs.declared.columns.OurTable.{OurTable}
-use Rattle.moo_tables.specs.Columns.{numbered, paired, required}
+use Rattle.moo_tables_rows.specs.Columns.{numbered, paired, required}
 
 -- no constraint but the key, and no column that is computed
 pub record HasNoRules (t : Table) : Type 0 where

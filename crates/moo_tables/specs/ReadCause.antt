@@ -8,8 +8,8 @@ use Rattle.sqlite.specs.declared.error.Error.{Error}
 use Rattle.sqlite.specs.declared.error.Error.TheVariants.{SqliteFailure}
 use Rattle.sqlite.specs.declared.error.ErrorCode.TheVariants as code
 use Rattle.sqlite_trees.specs.declared.error.StoreError.{StoreError}
-use Rattle.moo_tables.specs.Cause.{IsCutShort}
-use Rattle.moo_tables.specs.Inside.{HasTables}
+use Rattle.moo_tables_rows.specs.Cause.{IsCutShort}
+use Rattle.moo_tables_rows.specs.Inside.{HasTables}
 
 -- The store failed: memory ran out, the disk failed or refused, or the connection was shut. No row is too big to be read.
 abbrev pub FailsByStore : State → State → Error → Type 0

@@ -6,9 +6,9 @@ use Rattle.sqlite.specs.Listing.{understood}
 use Rattle.sqlite.specs.Order.{Row}
 use Rattle.sqlite.specs.State.{State, HasCleanDisk, Shown, IsUnchanged, IsRolledBack}
 use Rattle.sqlite.specs.declared.error.Error.{Error}
-use Rattle.moo_tables.specs.declared.version.Version.{Version}
-use Rattle.moo_tables.specs.Inside.{Rests}
-use Rattle.moo_tables.specs.Tables.{Tables}
+use Rattle.moo_tables_rows.specs.declared.version.Version.{Version}
+use Rattle.moo_tables_rows.specs.Inside.{Rests}
+use Rattle.moo_tables_rows.specs.Tables.{Tables}
 
 -- the rows are all that a query without parameters answers, in its order
 abbrev pub ShowsAll : List ℕ → State → State → Result (Vec Row Global) Error → Type 0

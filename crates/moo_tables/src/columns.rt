@@ -1,7 +1,7 @@
 //! What our tables are, and whether columns are those of one.
 
 ghost use Rattle.std.specs.Prelude.{◌≡◌, ◌↔◌, map, IsTrue};
-ghost use Rattle.moo_tables.specs.Tables.{required};
+ghost use Rattle.moo_tables_rows.specs.Tables.{required};
 
 use sqlite_schema::schema::{Column, Kind};
 use sqlite_value::keys::Collation;

@@ -6,7 +6,7 @@ ghost use Rattle.std.specs.Prelude.{◌≡◌, ◌↔◌, false, option_map, IsT
 ghost use Rattle.sqlite.specs.Order.{column, value_cmp};
 ghost use Rattle.sqlite.specs.declared.types.Value.TheVariants.{Int};
 ghost use Rattle.sqlite_trees.specs.View.{is_int};
-ghost use Rattle.moo_tables.specs.Inside.{AreKeyed};
+ghost use Rattle.moo_tables_rows.specs.Inside.{AreKeyed};
 ghost use Rattle.moo_tables.specs.Listing.{ArePaired, AreListed};
 ghost use Rattle.moo_tables.specs.Rising.{has_two_numbers, is_above, pair_cmp, pair_of_ints};
 

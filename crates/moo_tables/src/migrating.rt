@@ -3,17 +3,13 @@
 ghost use Rattle.std.specs.Prelude.{◌≡◌, ◌<◌, ◌^◌, IsTrue, OnOk, false};
 ghost use Rattle.sqlite.specs.State.{HasCleanDisk};
 ghost use Rattle.sqlite.specs.Held.{state};
-ghost use Rattle.moo_tables.specs.Inside.{StaysInside};
+ghost use Rattle.moo_tables_rows.specs.Inside.{StaysInside};
 ghost use Rattle.moo_tables.specs.Migrated.{GrowsTables, HasCauseOfMigrating, MigratesInside};
 ghost use Rattle.moo_tables.specs.Transaction.{MigratesTables};
 
-use crate::counter::{CREATE_PETITION_HEAD, put_counter};
-use crate::head::put_head;
-use crate::petition::CREATE_PETITION;
-use crate::slot::{CREATE_SLOT2, SlotCells};
-use crate::statement::Run;
-use crate::writing::write_rows;
+use crate::tables::{CREATE_PETITION, CREATE_PETITION_HEAD, CREATE_SLOT2};
 use moo_rows::{Head, PropId};
+use moo_tables_rows::{Run, SlotCells, put_counter, put_head, write_rows};
 use moo_value::ObjNo;
 use sqlite::{Alter, Connection, Error};
 

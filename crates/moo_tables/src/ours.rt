@@ -3,18 +3,12 @@
 ghost use Rattle.std.specs.Prelude.{◌≡◌, ◌≢◌, ◌↔◌, [], ◌∷◌, map, IsTrue, IfOk, IfSome, IfNone};
 ghost use Rattle.std.specs.List.{AllByRecursion};
 ghost use Rattle.sqlite_value.specs.Keys.{plain};
-ghost use Rattle.moo_tables.specs.Tables.{key_index, first_schema, second_schema, schema_of};
+ghost use Rattle.moo_tables_rows.specs.Tables.{key_index, first_schema, second_schema, schema_of};
 ghost use Rattle.moo_tables.specs.Ours.{HasNoRules, IsNumbered, IsPaired, our_table};
 
 use crate::columns::{OurTable, are_required};
-use crate::counter::PETITION_HEAD;
-use crate::head::HEAD;
-use crate::object::OBJECT;
-use crate::petition::PETITION;
-use crate::prop::PROP;
-use crate::slot::{SLOT, SLOT2};
-use crate::verb::VERB;
-use crate::version::Version;
+use crate::tables::{HEAD, OBJECT, PETITION, PETITION_HEAD, PROP, SLOT, SLOT2, VERB};
+use moo_tables_rows::Version;
 use sqlite_items::Items;
 use sqlite_schema::code::Terms;
 use sqlite_schema::schema::{Index, Schema, Table};

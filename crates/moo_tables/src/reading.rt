@@ -3,21 +3,18 @@
 ghost use Rattle.std.specs.Prelude.{◌≡◌, IfOk, OnOk, OnErr, false, ◌⊎◌};
 ghost use Rattle.sqlite.specs.Held.{state};
 ghost use Rattle.sqlite.specs.State.{HasCleanDisk};
-ghost use Rattle.moo_tables.specs.Inside.{Rests, ReadsTables, FailsToRead};
+ghost use Rattle.moo_tables_rows.specs.Inside.{Rests, ReadsTables, FailsToRead};
 ghost use Rattle.moo_tables.specs.Listing.{ListsNumbers, ListsPairs, ListsTables};
 ghost use Rattle.moo_tables.specs.ReadCause.{HasCauseOfReading};
 ghost use Rattle.moo_tables.specs.Reading.{Lists};
-ghost use Rattle.moo_tables.specs.Tables.{schema_of};
+ghost use Rattle.moo_tables_rows.specs.Tables.{schema_of};
 
-use crate::counter::READ_PETITION_HEAD;
-use crate::head::READ_HEAD;
-use crate::object::object_cells_of;
-use crate::petition::READ_PETITION;
-use crate::prop::READ_PROP;
 use crate::query::all_rows;
-use crate::slot::slot_cells_of;
-use crate::verb::READ_VERB;
-use crate::version::Version;
+use crate::tables::{
+    READ_HEAD, READ_OBJECT, READ_PETITION, READ_PETITION_HEAD, READ_PROP, READ_SLOT, READ_SLOT2,
+    READ_VERB,
+};
+use moo_tables_rows::Version;
 use sqlite::{Alter, Connection, Error, Row};
 use std::alloc::Global;
 
@@ -81,6 +78,22 @@ pub fn small_cells_of<S: Alter>(
     Ok((head, petition, petition_head))
 }
 
+/// The rows of `object`, in the order of their numbers.
+pub fn object_cells_of<S: Alter>(
+    alloc: Global,
+    conn: &mut Connection<S>,
+    version: Version,
+) -> Result<Vec<Row>, Error>
+    ensures outside { (state S.Store conn.old).in_transaction ≡ false → (state S.Store conn.new).in_transaction ≡ false }
+    ensures read { OnOk result (ReadsTables (schema_of version) (state S.Store conn.old) (state S.Store conn.new)) }
+    ensures listed { Lists version (state S.Store conn.old) (state S.Store conn.new) result
+        (λ rows tables. ListsNumbers rows.items tables.object) }
+    ensures failed { OnErr result (FailsToRead (schema_of version) (state S.Store conn.old) (state S.Store conn.new)) }
+    ensures cause { HasCauseOfReading (schema_of version) (state S.Store conn.old) (state S.Store conn.new) result }
+{
+    all_rows(alloc, conn, READ_OBJECT)
+}
+
 /// The rows of `prop`, in the order of their numbers.
 pub fn prop_cells_of<S: Alter>(
     alloc: Global,
@@ -95,6 +108,25 @@ pub fn prop_cells_of<S: Alter>(
     ensures cause { HasCauseOfReading (schema_of version) (state S.Store conn.old) (state S.Store conn.new) result }
 {
     all_rows(alloc, conn, READ_PROP)
+}
+
+/// The rows of the slots, in the order of their objects, then of their properties.
+pub fn slot_cells_of<S: Alter>(
+    alloc: Global,
+    conn: &mut Connection<S>,
+    version: Version,
+) -> Result<Vec<Row>, Error>
+    ensures outside { (state S.Store conn.old).in_transaction ≡ false → (state S.Store conn.new).in_transaction ≡ false }
+    ensures read { OnOk result (ReadsTables (schema_of version) (state S.Store conn.old) (state S.Store conn.new)) }
+    ensures listed { Lists version (state S.Store conn.old) (state S.Store conn.new) result
+        (λ rows tables. ListsPairs rows.items tables.slot) }
+    ensures failed { OnErr result (FailsToRead (schema_of version) (state S.Store conn.old) (state S.Store conn.new)) }
+    ensures cause { HasCauseOfReading (schema_of version) (state S.Store conn.old) (state S.Store conn.new) result }
+{
+    if version.has_lettered_bits() {
+        return all_rows(alloc, conn, READ_SLOT);
+    }
+    all_rows(alloc, conn, READ_SLOT2)
 }
 
 /// The rows of `verb`, in the order of their objects, then of their numbers.

@@ -1,6 +1,6 @@
 -- A call is read as it is spelled.
-use Rattle.moo_text.{proofs.Shared.{◌≡◌, ℕ, zero, suc, ◌≤◌, true, false, inl, inr, List, [], ◌∷◌, ◌++◌, length, Option, Some, None, refl, sym, ap, subst, ◌∙◌, append_assoc, arith, ◌==◌, IsTrue, AllByRecursion, option_map, option_map_or, option_and_then, eqb-true, cases_Bool, append-nil, Value, is_blank, is_digit, is_word, AreBlanks, Spaced, Item, SpellsToken, Fits, BeginsNo, Ends, after_blanks, word, after_word, opened_at, items_at, value_at, literal_at, chosen, folded, Call, is_short, is_all_blank, ClosesCall, SpellsArguments, SpellsCall, found, front_of, behind_mark, after_mark, closed, behind_value, values_at, arguments_of, call_name, call_behind, call_of}, proofs.Reading.{front_read, front_again_of, front_shorter, mark_taken, mark_shorter, name_found}, proofs.Headers.{then_some, map_some, le_taken, le_again, nothing_left}}
-use Rattle.moo_value.{specs.declared.value.Value.TheVariants.{Int, Obj, Str, Error, List as a_list}, proofs.Tokens.{word_parts, word_again}, proofs.Literals.{blanks_taken, blanks_skipped}}
+use Rattle.moo_text.{proofs.Shared.{◌≡◌, ℕ, zero, suc, ◌≤◌, true, false, inl, inr, List, [], ◌∷◌, ◌++◌, length, Option, Some, None, refl, sym, ap, subst, ◌∙◌, append_assoc, arith, IsTrue, AllByRecursion, option_map, option_map_or, option_and_then, append-nil, Value, is_blank, is_digit, is_word, AreBlanks, Spaced, Item, SpellsToken, Fits, BeginsNo, Ends, after_blanks, word, after_word, opened_at, items_at, value_at, literal_at, chosen, folded, Call, is_short, is_all_blank, ClosesCall, SpellsArguments, SpellsCall, found, front_of, behind_mark, after_mark, closed, behind_value, values_at, arguments_of, call_name, call_behind, call_of}, proofs.Reading.{front_read, front_again_of, front_shorter, mark_taken, mark_shorter, name_found}, proofs.Headers.{then_some, map_some, le_taken, le_again, nothing_left}}
+use Rattle.moo_value.{proofs.Tokens.{word_parts, word_again}, proofs.Literals.{blanks_taken, blanks_skipped}}
 use Rattle.moo_world.specs.Names.{spelled_is}
 
 -- ---- marks
@@ -20,8 +20,7 @@ closes b end mark blank =
     (w.0, 41 ∷ end, w.1, (end, all_blank_taken end blank, refl), w.2 ∙ ap (λ (t : List ℕ). w.0 ++ t) (mark_taken 41 b end mark))
 
 closing : (b : List ℕ) → Spaced ClosesCall b → (end : List ℕ) × (after_mark 41 b ≡ Some end) × (is_all_blank end ≡ true)
-closing b (blanks, token, all, (end, blank, is), whole) =
-    (end, ap (after_mark 41) (whole ∙ ap (λ (t : List ℕ). blanks ++ t) is) ∙ ap (behind_mark 41) (blanks_skipped blanks (41 ∷ end) all), all_blank_again end blank)
+closing b e = grind (arith, blanks_skipped, all_blank_again)
 
 -- ---- what is read is spelled so
 
@@ -65,18 +64,11 @@ arguments_taken : (b : List ℕ) (args : List Value) → arguments_of b ≡ Some
 arguments_taken b args e = by_mark (after_mark 41 b) refl e
   where
     by_mark : (o : Option (List ℕ)) → after_mark 41 b ≡ o → option_map_or (closed []) o (values_at (length b) b) ≡ Some args → SpellsArguments true args b
-    by_mark (Some end) mark h = elim (chosen (is_all_blank end) (Some []) None (Some args) h) [
-      | inl blank ↦ let none : [] ≡ args = (let k : Some [] ≡ Some args = blank.1 in cc) in subst (λ (us : List Value). SpellsArguments true us b) none (closes b end mark blank.0)
-      | inr other ↦ absurd (let k : None ≡ Some args = other.1 in cc)
-    ]
-    by_mark None mark h = some_spelled args b (values_taken (length b) b args h)
+    by_mark o mark h = grind (arith, mark, chosen, closes, some_spelled, values_taken)
 
 word_letters : (b : List ℕ) → AllByRecursion (λ c. IsTrue (is_word c)) (word b)
 word_letters [] = tt
-word_letters (c ∷ cs) = elim (cases_Bool (is_word c)) [
-  | inl here ↦ let is : word (c ∷ cs) ≡ c ∷ word cs = rw here refl in subst (λ (t : List ℕ). AllByRecursion (λ c. IsTrue (is_word c)) t) (sym is) (here, word_letters cs)
-  | inr other ↦ let is : word (c ∷ cs) ≡ [] = rw other refl in subst (λ (t : List ℕ). AllByRecursion (λ c. IsTrue (is_word c)) t) (sym is) tt
-]
+word_letters (c ∷ cs) = grind (arith, word_letters cs)
 
 pub call_taken : (line : List ℕ) (call : Call) → call_of line ≡ Some call → SpellsCall call line
 call_taken line call e = elim (chosen (is_short line) (call_behind (after_blanks line)) None (Some call) e) [
@@ -113,10 +105,7 @@ record Stops (c : ℕ) : Type 0 where
   no_word : is_word c ≡ false
 
 blank_stops : (c : ℕ) → is_blank c ≡ true → Stops c
-blank_stops c h = elim (cases_Bool (c == 32)) [
-  | inl space ↦ subst Stops (sym (eqb-true c 32 space)) (record { no_digit = refl; no_word = refl })
-  | inr other ↦ let tab : (c == 9) ≡ true = (rw other at h) in subst Stops (sym (eqb-true c 9 tab)) (record { no_digit = refl; no_word = refl })
-]
+blank_stops c h = grind arith
 
 -- blanks and a mark begin with a byte that stops
 stopped : (mark : ℕ) (blanks more : List ℕ) → AreBlanks blanks → Stops mark → (c : ℕ) × (cs : List ℕ) × (blanks ++ mark ∷ more ≡ c ∷ cs) × Stops c
@@ -132,14 +121,7 @@ arguments_stop (v ∷ vs) rest (fits, (comma, value, more, (blanks, token, all, 
     (s.0, s.1, whole ∙ ap (λ (t : List ℕ). t ++ (value ++ more)) (is_comma ∙ ap (λ (t : List ℕ). blanks ++ t) is) ∙ append_assoc blanks (44 ∷ []) (value ++ more) ∙ s.2, s.3)
 
 ends_there : (v : Value) (rest : List ℕ) (c : ℕ) (cs : List ℕ) → rest ≡ c ∷ cs → Stops c → Ends v rest
-ends_there v rest c cs is s = subst (Ends v) (sym is) (by_value v)
-  where
-    by_value : (v : Value) → Ends v (c ∷ cs)
-    by_value (Int n) = s.no_digit
-    by_value (Obj o) = s.no_digit
-    by_value (Str t) = tt
-    by_value (Error e) = s.no_word
-    by_value (a_list vs) = tt
+ends_there v rest c cs is s = grind arith
 
 item_front : (v : Value) (vs : List Value) (b : List ℕ) → Fits v → (i : Item true (SpellsToken v) (SpellsArguments false vs) b) → front_of b ≡ Some (v, i.2)
 item_front v vs b fits (comma, value, rest, none, spelled, behind, whole) =
@@ -194,10 +176,7 @@ begins (c ∷ cs) between behind letters all =
     subst (λ (t : List ℕ). Begins t (c ∷ cs) behind) (sym stays) (record { front = w.0; mark = ap (after_mark 40) w.1 ∙ ap (behind_mark 40) (blanks_skipped between (40 ∷ behind) all) })
   where
     word_is_solid : (c : ℕ) → is_word c ≡ true → is_blank c ≡ false
-    word_is_solid c h = elim (cases_Bool (is_blank c)) [
-      | inl blank ↦ absurd (let k : true ≡ false = sym h ∙ (blank_stops c blank).no_word in cc)
-      | inr solid ↦ solid
-    ]
+    word_is_solid c h = grind (arith, blank_stops)
 
 pub call_again : (line : List ℕ) (call : Call) → SpellsCall call line → call_of line ≡ Some call
 call_again line call s =

@@ -1,5 +1,5 @@
 -- What the lines that are left of a text say, from one line to the next.
-use Rattle.moo_text.{proofs.Shared.{◌≡◌, ℕ, ◌+◌, ◌<◌, ◌≤◌, true, false, inl, inr, List, [], ◌∷◌, ◌++◌, length, Option, Some, None, Result, Ok, Err, IfOk, IfErr, refl, sym, ap, subst, ◌∙◌, arith, nat_lt, lines, length-append, Call, is_short, is_blank_line, is_end_line, header_of, call_of, between, within, skipping, IsLineRead, TakesLine, Carries, TakesFirst, TakesNext, Side, ReadsOn, ReadsLine, ReadsAlong, ReadsFirst, ReadsNext, BreaksOff, TextFault, OutOfMemory, Header, Next}, proofs.Giving.{ReadsOn-then, ReadsOn-map, ReadsOn-breaks, out_of_memory}, specs.declared.next.Next.TheVariants.{Batch as Whole, Malformed, Truncated, End}}
+use Rattle.moo_text.{proofs.Shared.{◌≡◌, ℕ, ◌+◌, ◌<◌, ◌≤◌, true, false, inl, inr, List, [], ◌∷◌, ◌++◌, length, Option, Some, None, Result, Ok, Err, IfOk, IfErr, refl, sym, ap, subst, ◌∙◌, arith, nat_lt, length-append, Call, is_short, is_blank_line, is_end_line, header_of, call_of, between, within, skipping, IsLineRead, Side, ReadsOn, ReadsLine, ReadsAlong, ReadsFirst, ReadsNext, BreaksOff, TextFault, OutOfMemory, Header, Next}, proofs.Giving.{ReadsOn-then, ReadsOn-map, ReadsOn-breaks, out_of_memory}, specs.declared.next.Next.TheVariants.{Batch as Whole, Malformed}}
 
 -- lines that are read alike
 pub record AreAlike (read line : List ℕ) : Type 0 where
@@ -33,13 +33,11 @@ skipping_alike n read line rest a = rw a.end refl
 
 -- one line on
 pub along_line : (f g h : List (List ℕ) → List Next) {a b c : Side} (read : List ℕ) → SeesAlike g → ReadsAlong f g a b → ReadsLine b c (Some read) → ((rest : List (List ℕ)) → g (read ∷ rest) ≡ h rest) → ReadsAlong f h a c
-along_line f g h {a} {b} {c} read sees p q step =
-    ReadsOn-then a b c (λ x y. Carries f g x y) (λ x y. TakesLine x y (Some read)) (λ x y. Carries f h x y) p q (λ x y z carries took. carries ∙ ap g took.2 ∙ sym (sees read took.0 (lines z) (alike read took.0 took.1)) ∙ step (lines z))
+along_line f g h {a} {b} {c} read sees p q step = grind (arith, ReadsOn-then, alike)
 
 -- at the end of the text
 pub along_end : (f g h : List (List ℕ) → List Next) {a b c : Side} → ReadsAlong f g a b → ReadsLine b c None → g [] ≡ h [] → ReadsAlong f h a c
-along_end f g h {a} {b} {c} p q step =
-    ReadsOn-then a b c (λ x y. Carries f g x y) (λ x y. TakesLine x y None) (λ x y. Carries f h x y) p q (λ x y z carries took. carries ∙ ap (λ (t : List ℕ). g (lines t)) took.0 ∙ step ∙ sym (ap (λ (t : List ℕ). h (lines t)) took.1))
+along_end f g h {a} {b} {c} p q step = grind (arith, ReadsOn-then)
 
 -- reading stops for want of memory
 pub along_refused : {P : List ℕ → List ℕ → Type 0} {a b c : Side} (line : List ℕ) → ReadsOn a b P → ReadsLine b c (Some line) → BreaksOff a c OutOfMemory
@@ -81,8 +79,7 @@ module _ {header : Header} {calls : List Call} {n : ℕ} {a b c : Side} (line : 
   within_blank blank = along_line (within header [] 1) (within header calls n) (within header calls (n + 1)) line (within_alike header calls n) p q (λ rest. rw blank refl)
 
   pub within_end : {all : List Call} → is_blank_line line ≡ false → is_end_line line ≡ true → calls ≡ all → ReadsAlong (within header [] 1) (λ rest. Whole (record { programmer = header.programmer; at = header.at; calls = all }) ∷ between rest) a c
-  within_end not_blank end is = subst (λ (cs : List Call). ReadsAlong (within header [] 1) (λ rest. Whole (record { programmer = header.programmer; at = header.at; calls = cs }) ∷ between rest) a c) is
-      (along_line (within header [] 1) (within header calls n) (λ rest. Whole (record { programmer = header.programmer; at = header.at; calls = calls }) ∷ between rest) line (within_alike header calls n) p q (λ rest. rw (not_blank, end) refl))
+  within_end not_blank end is = grind (arith, end, within, header, along_line, within_alike)
 
   pub bad_line : is_blank_line line ≡ false → is_end_line line ≡ false → call_of line ≡ None → ReadsAlong (within header [] 1) (skipping (n + 1)) a c
   bad_line not_blank not_end none = along_line (within header [] 1) (within header calls n) (skipping (n + 1)) line (within_alike header calls n) p q (λ rest. rw (not_blank, not_end, none) refl)
@@ -103,24 +100,10 @@ module _ {header : Header} {calls : List Call} {n : ℕ} {a b c : Side} (line : 
 -- ---- the first item
 
 pub first_after : (f g : List (List ℕ) → List Next) {a b : Side} (c : Side) (r : Result Next TextFault) → ReadsAlong f g a b → IfOk r (λ item. ReadsFirst g b c item) → IfOk r (λ item. ReadsFirst f a c item)
-first_after f g c (Err e) p q = tt
-first_after f g {a} {b} c (Ok item) p q = ReadsOn-then a b c (λ x y. Carries f g x y) (λ x y. TakesFirst g x y item) (λ x y. TakesFirst f x y item) p q (λ x y z carries took. by_item item x y z carries took)
-  where
-    by_item : (item : Next) (x y z : List ℕ) → Carries f g x y → TakesFirst g y z item → TakesFirst f x z item
-    by_item End x y z carries took = took
-    by_item (Whole batch) x y z carries took = carries ∙ took
-    by_item (Malformed n) x y z carries took = carries ∙ took
-    by_item Truncated x y z carries took = carries ∙ took
+first_after f g c r p q = grind (arith, ReadsOn-then)
 
 pub first_is_next : (a b : Side) (r : Result Next TextFault) → IfOk r (λ item. ReadsFirst between a b item) → IfOk r (λ item. ReadsNext a b item)
-first_is_next a b (Err e) p = tt
-first_is_next a b (Ok item) p = ReadsOn-map a b (λ x y. TakesFirst between x y item) (λ x y. TakesNext x y item) p (λ x y took. by_item item x y took)
-  where
-    by_item : (item : Next) (x y : List ℕ) → TakesFirst between x y item → TakesNext x y item
-    by_item End x y took = absurd took
-    by_item (Whole batch) x y took = took
-    by_item (Malformed n) x y took = took
-    by_item Truncated x y took = took
+first_is_next a b r p = grind (arith, ReadsOn-map)
 
 -- a call that is stopped behind others
 pub breaks_after : {T : Type 0} {P : List ℕ → List ℕ → Type 0} {a b : Side} (c : Side) (r : Result T TextFault) → ReadsOn a b P → IfErr r (λ fault. BreaksOff b c fault) → IfErr r (λ fault. BreaksOff a c fault)

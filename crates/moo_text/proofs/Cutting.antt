@@ -1,5 +1,5 @@
 -- Reading line by line gives the one way in which a text is cut.
-use Rattle.moo_text.{proofs.Shared.{◌≡◌, ℕ, suc, ◌+◌, ◌<◌, ◌≤◌, Bool, true, false, cases_Bool, cond, ◌⊎◌, inl, inr, List, [], ◌∷◌, ◌++◌, length, Option, Some, None, refl, sym, ap, subst, ◌∙◌, append_assoc, arith, nat_lt, ◌&&◌, ◌==◌, option_map_or, append-nil, length-append, after_blanks, Call, is_short, is_end_word, is_blank_line, is_end_line, SpellsHeader, SpellsCall, header_of, call_of, between, within, skipping, Header, Next}, specs.Cut.{AreBlankLines, HaveNoEnd, IsContentLine, IsNoHeader, IsNoCall, AreCalls, IsBatch, IsFirstBad, IsMalformed, IsTruncated, Cuts}, specs.declared.next.Next.TheVariants.{Batch as Whole, Malformed, Truncated, End}, proofs.Reading.{none_if}, proofs.Headers.{header_taken, header_again}, proofs.Calls.{call_taken, call_again}}
+use Rattle.moo_text.{proofs.Shared.{◌≡◌, ℕ, suc, ◌+◌, ◌<◌, ◌≤◌, Bool, true, false, cases_Bool, cond, ◌⊎◌, inl, inr, List, [], ◌∷◌, ◌++◌, length, Option, Some, None, refl, sym, ap, subst, ◌∙◌, append_assoc, arith, nat_lt, ◌&&◌, ◌==◌, option_map_or, append-nil, length-append, Call, is_blank_line, is_end_line, SpellsHeader, SpellsCall, header_of, call_of, between, within, skipping, Header, Next}, specs.Cut.{AreBlankLines, HaveNoEnd, IsContentLine, IsNoHeader, IsNoCall, AreCalls, IsBatch, IsFirstBad, IsMalformed, IsTruncated, Cuts}, specs.declared.next.Next.TheVariants.{Batch as Whole, Malformed, Truncated, End}, proofs.Reading.{none_if}, proofs.Headers.{header_taken, header_again}, proofs.Calls.{call_taken, call_again}}
 use Rattle.moo_world.specs.declared.call.Batch.{Batch}
 
 no_header : (line : List ℕ) → IsNoHeader line → header_of line ≡ None
@@ -46,10 +46,7 @@ calls_read p before n (line ∷ body) calls lines (inr one) few =
 -- inside a batch whose end doesn't come
 one_more : (A : Type 0) (blank : Bool) (call : Option Call) (room ends : Bool) (x w s t : A) (f : Call → A) → ends ≡ false → x ≡ t → ((c : Call) → f c ≡ t) → s ≡ t
     → cond blank x (cond ends w (option_map_or (λ c. cond room (f c) s) call s)) ≡ t
-one_more A true call room ends x w s t f none e g h = e
-one_more A false None room ends x w s t f none e g h = rw none h
-one_more A false (Some c) true ends x w s t f none e g h = rw none (g c)
-one_more A false (Some c) false ends x w s t f none e g h = rw none h
+one_more A blank call room ends x w s t f none e g h = grind arith
 
 -- inside a batch whose end doesn't come
 never_ends : (p : Header) (calls : List Call) (n : ℕ) (lines : List (List ℕ)) → HaveNoEnd lines → within p calls n lines ≡ Truncated ∷ []
@@ -60,8 +57,7 @@ never_ends p calls n (line ∷ lines) none =
 
 -- no call more
 full_call : (A : Type 0) (call : Option Call) (room : Bool) (f : Call → A) (s : A) → room ≡ false → option_map_or (λ c. cond room (f c) s) call s ≡ s
-full_call A None room f s e = refl
-full_call A (Some c) room f s e = rw e refl
+full_call A call room f s e = grind arith
 
 batch_read : (lines : List (List ℕ)) (batch : Batch) (rest : List (List ℕ)) → IsBatch lines batch rest → between lines ≡ Whole batch ∷ between rest
 batch_read lines batch rest b =
@@ -90,11 +86,7 @@ malformed_read lines n rest (inl e) = ap between e.3 ∙ rw (e.1, e.2, e.4) refl
 malformed_read lines n rest (inr m) = first_bad_read lines n (m.0 ++ m.1 ∷ rest) m.2 ∙ skipped n m.0 m.1 rest m.3 m.4
 
 truncated_read : (lines : List (List ℕ)) → IsTruncated lines → between lines ≡ Truncated ∷ []
-truncated_read lines t = ap between t.2 ∙ rw (t.3.not_blank, t.3.not_end) (by_header (header_of t.0))
-  where
-    by_header : (h : Option Header) → option_map_or (λ p. within p [] 1 t.1) h (skipping 1 t.1) ≡ Truncated ∷ []
-    by_header None = skipped_out 1 t.1 t.4
-    by_header (Some p) = never_ends p [] 1 t.1 t.4
+truncated_read lines t = grind (arith, within, skipped_out, never_ends)
 
 pub cut_read : (lines : List (List ℕ)) (items : List Next) → Cuts lines items → between lines ≡ items
 cut_read lines [] c = ap between (sym (append-nil lines)) ∙ blanks_skipped lines [] c
@@ -109,12 +101,7 @@ no_nil : (n : ℕ) → (true && (suc n == 0)) ≡ true → ⊥
 no_nil n e = grind (arith, e)
 
 blank_not_end : (line : List ℕ) → is_blank_line line ≡ true → is_end_line line ≡ false
-blank_not_end line blank = by_bytes (is_short line) (after_blanks line) blank
-  where
-    by_bytes : (short : Bool) (bytes : List ℕ) → (short && (length bytes == 0)) ≡ true → (short && is_end_word bytes) ≡ false
-    by_bytes true [] e = refl
-    by_bytes true (c ∷ cs) e = absurd (no_nil (length cs) e)
-    by_bytes false bytes e = refl
+blank_not_end line blank = grind (arith, no_nil)
 
 calls_no_end : (body : List (List ℕ)) (calls : List Call) → AreCalls body calls → HaveNoEnd body
 calls_no_end [] calls are = tt
@@ -140,8 +127,7 @@ calls-push (b ∷ body) calls line call (inl x) text is = inl (x.0, calls-push b
 calls-push (b ∷ body) calls line call (inr x) text is = inr (x.0, (x.1.0, x.1.1 ++ call ∷ [], x.1.2, ap (λ (t : List Call). t ++ call ∷ []) x.1.3, calls-push body x.1.1 line call x.1.4 text is))
 
 out_is : (lines : List (List ℕ)) (n : ℕ) (rest : List (List ℕ)) → IsFirstBad lines n rest → HaveNoEnd rest → IsTruncated lines
-out_is lines n rest (inl h) none = (h.0, rest, h.3, h.1, none)
-out_is lines n rest (inr b) none = (b.0, b.2 ++ b.3 ∷ rest, b.11, b.5, no_end-append b.2 (b.3 ∷ rest) (calls_no_end b.2 b.4 b.7) (b.9.not_end, none))
+out_is lines n rest e none = grind (arith, no_end-append, calls_no_end)
 
 -- an option is some or none
 some_or_none : {A : Type 0} (o : Option A) → ((x : A) × (o ≡ Some x)) ⊎ (o ≡ None)

@@ -1,26 +1,18 @@
 -- The bytes that a reader gave, joined from call to call.
-use Rattle.moo_text.proofs.Shared.{◌≡◌, ℕ, ◌+◌, true, List, [], ◌++◌, length, Option, Some, None, refl, sym, ap, subst, ◌∙◌, append_assoc, arith, Result, IfErr, length-append, Side, ReaderGives, ReadsOn, Explains, BreaksOff, TextFault, Read, Write, OutOfMemory, Long}
+use Rattle.moo_text.proofs.Shared.{◌≡◌, ℕ, ◌+◌, true, List, [], ◌++◌, length, Option, refl, sym, ap, subst, ◌∙◌, append_assoc, arith, Result, IfErr, length-append, Side, ReaderGives, ReadsOn, Explains, BreaksOff, TextFault, OutOfMemory}
 use Rattle.std.{specs.Io.KnownBytes.{Consumes}, specs.Result.{IsErrAnd}, proofs.lemmas.Result.{err_from_is_err_and}}
 
 Consumes-none : (a : Option (List ℕ)) → Consumes a a []
-Consumes-none None = tt
-Consumes-none (Some xs) = refl
+Consumes-none a = grind arith
 
 Consumes-then : (a b c : Option (List ℕ)) (xs ys : List ℕ) → Consumes a b xs → Consumes b c ys → Consumes a c (xs ++ ys)
-Consumes-then None b c xs ys p q = tt
-Consumes-then (Some us) None c xs ys p q = absurd p
-Consumes-then (Some us) (Some vs) None xs ys p q = absurd q
-Consumes-then (Some us) (Some vs) (Some ws) xs ys p q = p ∙ ap (λ (t : List ℕ). xs ++ t) q ∙ sym (append_assoc xs ys ws)
+Consumes-then a b c xs ys p q = grind (arith, append_assoc)
 
 pub ReaderGives-none : (a : Side) → ReaderGives a a []
 ReaderGives-none a = record { known = Consumes-none a.left; stays = λ e. (refl, e); at_end = λ was e. was e }
 
 pub ReaderGives-then : (a b c : Side) (xs ys : List ℕ) → ReaderGives a b xs → ReaderGives b c ys → ReaderGives a c (xs ++ ys)
-ReaderGives-then a b c xs ys p q = record {
-  known = Consumes-then a.left b.left c.left xs ys p.known q.known;
-  stays = λ e. let first = p.stays e in let second = q.stays first.1 in (ap (λ (t : List ℕ). t ++ ys) first.0 ∙ second.0, second.1);
-  at_end = λ was e. q.at_end (p.at_end was) e;
-}
+ReaderGives-then a b c xs ys p q = grind (arith, Consumes-then)
 
 -- what comes from the second reader's side is nothing, where the first has ended
 pub nothing_more : (b c : Side) (ys rest : List ℕ) → ReaderGives b c ys → (c.ended ≡ true → rest ≡ []) → b.ended ≡ true → ys ++ rest ≡ []
@@ -44,10 +36,7 @@ ReadsOn-map a b P Q p f = record { given = p.given; gives = p.gives; room = p.ro
 
 -- a call, and one that is stopped
 pub Explains-then : (x y m n : ℕ) (fault : TextFault) → x ≡ m + y → Explains y n fault → Explains x (m + n) fault
-Explains-then x y m n Long e s = omega (arith, e, s)
-Explains-then x y m n Write e s = s
-Explains-then x y m n Read e s = omega (arith, e, s)
-Explains-then x y m n OutOfMemory e s = omega (arith, e, s)
+Explains-then x y m n fault e s = grind arith
 
 pub gives_then_breaks : (a b c : Side) (given : List ℕ) (fault : TextFault) → ReaderGives a b given → a.room ≡ length given + b.room → BreaksOff b c fault → BreaksOff a c fault
 gives_then_breaks a b c given fault p room q = record {
@@ -62,8 +51,7 @@ ReadsOn-breaks {a} {b} {c} {P} {fault} p q = gives_then_breaks a b c p.given fau
 -- what was read before a call that is stopped stands, whatever the reader may give behind it
 pub ReadsOn-stand : (a b c : Side) (P : List ℕ → List ℕ → Type 0) (fault : TextFault) (p : ReadsOn a b P) (q : BreaksOff b c fault) (rest : List ℕ) → (c.ended ≡ true → rest ≡ [])
     → P (a.ahead ++ ((p.given ++ q.given) ++ rest)) (b.ahead ++ (q.given ++ rest))
-ReadsOn-stand a b c P fault p q rest none =
-    subst (λ (t : List ℕ). P (a.ahead ++ t) (b.ahead ++ (q.given ++ rest))) (sym (append_assoc p.given q.given rest)) (p.holds (q.given ++ rest) (nothing_more b c q.given rest q.gives none))
+ReadsOn-stand a b c P fault p q rest none = grind (arith, append_assoc, nothing_more)
 
 -- memory is refused behind these bytes
 pub out_of_memory : (a b : Side) (given : List ℕ) → ReaderGives a b given → a.room ≡ length given + b.room → BreaksOff a b OutOfMemory

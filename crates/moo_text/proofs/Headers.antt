@@ -1,23 +1,17 @@
 -- A header is read as it is spelled.
-use Rattle.moo_text.{proofs.Shared.{◌≡◌, ℕ, ◌≤◌, Bool, true, false, cond, inl, inr, List, [], ◌∷◌, ◌++◌, length, Option, Some, None, refl, sym, ap, subst, ◌∙◌, arith, ◌==◌, ◌&&◌, nat_le, codes, list_all, option_map, option_and_then, eqb-true, append-nil, Value, is_blank, is_digit, AreDigits, value_after, SpellsObject, Spells, InRange, an_object, chosen, same_text, same_text-Decides, is_short, words_of_line, SpellsPlace, SpellsAt, SpellsHeader, front_of, behind_word, object_value, begins_with_byte, object_of, is_place, place_number, last_place, at_of, header_behind, header_of, Header}, proofs.Reading.{front_read, front_again_of}}
-use Rattle.moo_value.{specs.declared.value.ObjNo.{ObjNo}, specs.declared.value.Value.TheVariants.{Int, Obj, Str, Error, List as a_list}}
+use Rattle.moo_text.{proofs.Shared.{◌≡◌, ℕ, ◌≤◌, Bool, true, false, cond, inl, inr, List, [], ◌∷◌, length, Option, Some, None, refl, sym, ap, subst, ◌∙◌, arith, ◌==◌, ◌&&◌, nat_le, codes, list_all, option_map, option_and_then, eqb-true, append-nil, Value, is_digit, AreDigits, SpellsObject, Spells, InRange, an_object, chosen, same_text, same_text-Decides, is_short, words_of_line, SpellsPlace, SpellsAt, SpellsHeader, front_of, behind_word, object_value, begins_with_byte, object_of, place_number, last_place, at_of, header_behind, header_of, Header}, proofs.Reading.{front_read, front_again_of}}
+use Rattle.moo_value.{specs.declared.value.ObjNo.{ObjNo}, specs.declared.value.Value.TheVariants.{Obj}}
 
 pub then_some : {A B : Type 0} (f : A → Option B) (o : Option A) (y : B) → option_and_then f o ≡ Some y → (x : A) × (o ≡ Some x) × (f x ≡ Some y)
-then_some f None y e = absurd cc
-then_some f (Some x) y e = (x, refl, e)
+then_some f o y e = grind arith
 
 pub map_some : {A B : Type 0} (f : A → B) (o : Option A) (y : B) → option_map f o ≡ Some y → (x : A) × (o ≡ Some x) × (f x ≡ y)
-map_some f None y e = absurd cc
-map_some f (Some x) y e = (x, refl, let h : f x ≡ y = cc in h)
+map_some f o y e = grind arith
 
 -- ---- words
 
 word_taken : (w : List ℕ) (ws more : List (List ℕ)) → behind_word w ws ≡ Some more → ws ≡ w ∷ more
-word_taken w [] more e = absurd cc
-word_taken w (x ∷ xs) more e = elim (chosen (same_text x w) (Some xs) None (Some more) e) [
-  | inl here ↦ let rest : xs ≡ more = (let h : Some xs ≡ Some more = here.1 in cc) in let first : x ≡ w = (same_text-Decides x w).0 here.0 in ap (λ (t : List ℕ). t ∷ xs) first ∙ ap (λ (t : List (List ℕ)). w ∷ t) rest
-  | inr other ↦ absurd (let h : None ≡ Some more = other.1 in cc)
-]
+word_taken w ws more e = grind (arith, chosen, same_text-Decides)
 
 word_again : (w : List ℕ) (more : List (List ℕ)) → behind_word w (w ∷ more) ≡ Some more
 word_again w more = let same : same_text w w ≡ true = (same_text-Decides w w).1 refl in rw same refl
@@ -25,21 +19,14 @@ word_again w more = let same : same_text w w ≡ true = (same_text-Decides w w).
 -- ---- the programmer
 
 begun : (b : List ℕ) → begins_with_byte 35 b ≡ true → (cs : List ℕ) × (b ≡ 35 ∷ cs)
-begun [] e = absurd cc
-begun (c ∷ cs) e = (cs, ap (λ (d : ℕ). d ∷ cs) (eqb-true c 35 e))
+begun b e = grind (arith, eqb-true)
 
 unspaced : (o : ObjNo) (cs text : List ℕ) → text ≡ 35 ∷ cs → Spells (Obj o) text → SpellsObject o.0 text
 unspaced o cs text begins ([], token, blank, s, whole) = subst (SpellsObject o.0) (sym whole) s
-unspaced o cs text begins (c ∷ blanks, token, blank, s, whole) =
-    let same : c ≡ 35 = (let h : 35 ∷ cs ≡ c ∷ (blanks ++ token) = sym begins ∙ whole in cc) in
-    absurd (let h : is_blank 35 ≡ true = subst (λ (d : ℕ). is_blank d ≡ true) same blank.0 in cc)
+unspaced o cs text begins (c ∷ blanks, token, blank, s, whole) = grind (arith)
 
 value_object : (v : Value) (o : ObjNo) → object_value v ≡ Some o → v ≡ Obj o
-value_object (Int n) o e = absurd cc
-value_object (Obj p) o e = let h : p ≡ o = cc in ap (λ (q : ObjNo). Obj q) h
-value_object (Str s) o e = absurd cc
-value_object (Error c) o e = absurd cc
-value_object (a_list vs) o e = absurd cc
+value_object v o e = grind arith
 
 pub nothing_left : (t : List ℕ) → (length t == 0) ≡ true → t ≡ []
 nothing_left [] e = refl
@@ -72,8 +59,7 @@ object_again w o s range =
 -- ---- the number
 
 both : (a b : Bool) → (a && b) ≡ true → (a ≡ true) × (b ≡ true)
-both true b e = (refl, e)
-both false b e = absurd cc
+both a b e = grind arith
 
 joined : {a b : Bool} → a ≡ true → b ≡ true → (a && b) ≡ true
 joined h k = rw (h, k) refl
@@ -93,24 +79,10 @@ pub le_again : (a b : ℕ) → a ≤ b → nat_le a b ≡ true
 le_again a b h = grind (arith, h)
 
 place_taken : (w : List ℕ) (n : ℕ) → place_number w ≡ Some n → SpellsPlace n w
-place_taken w n e = elim (chosen (is_place w) (Some (value_after 0 w)) None (Some n) e) [
-  | inl here ↦
-      let small = nat_le (value_after 0 w) 9223372036854775807 in
-      let few = nat_le (length w) 19 in
-      let some = nat_le 1 (length w) in
-      let a = both (list_all is_digit w && some && few) small here.0 in
-      let b = both (list_all is_digit w && some) few a.0 in
-      let c = both (list_all is_digit w) some b.0 in
-      let value : value_after 0 w ≡ n = (let h : Some (value_after 0 w) ≡ Some n = here.1 in cc) in
-      record { each = digits_taken w c.0; some = omega (arith, le_taken 1 (length w) c.1); few = le_taken (length w) 19 b.1; value = sym value; in_range = subst (λ (m : ℕ). m ≤ 9223372036854775807) value (le_taken (value_after 0 w) 9223372036854775807 a.1) }
-  | inr other ↦ absurd (let h : None ≡ Some n = other.1 in cc)
-]
+place_taken w n e = grind (arith, chosen, both, digits_taken, le_taken)
 
 place_again : (w : List ℕ) (n : ℕ) → SpellsPlace n w → place_number w ≡ Some n
-place_again w n s =
-    let small = le_again (value_after 0 w) 9223372036854775807 (subst (λ (m : ℕ). m ≤ 9223372036854775807) s.value s.in_range) in
-    let is : is_place w ≡ true = joined (joined (joined (digits_again w s.each) (le_again 1 (length w) (omega (arith, s.some)))) (le_again (length w) 19 s.few)) small in
-    rw is (ap (λ (m : ℕ). Some m) (sym s.value))
+place_again w n s = grind (arith, le_again, joined, digits_again)
 
 last_taken : (ws : List (List ℕ)) (n : ℕ) → last_place ws ≡ Some n → (w : List ℕ) × (ws ≡ w ∷ []) × SpellsPlace n w
 last_taken [] n e = absurd cc
@@ -127,20 +99,12 @@ at_taken (w ∷ ws) at e =
     subst (λ (o : Option ℕ). SpellsAt o (w ∷ ws)) m.2 (l.0, word_taken (codes "at") (w ∷ ws) t.0 t.1 ∙ ap (λ (t : List (List ℕ)). codes "at" ∷ t) l.1, l.2)
 
 at_again : (more : List (List ℕ)) (at : Option ℕ) → SpellsAt at more → at_of more ≡ Some at
-at_again more None s = ap at_of s
-at_again more (Some n) s =
-    let last : last_place (s.0 ∷ []) ≡ Some n = place_again s.0 n s.2 in
-    let here : at_of (codes "at" ∷ s.0 ∷ []) ≡ Some (Some n) = ap (λ (o : Option (List (List ℕ))). option_map (λ m. Some m) (option_and_then last_place o)) (word_again (codes "at") (s.0 ∷ [])) ∙ ap (option_map (λ m. Some m)) last in
-    ap at_of s.1 ∙ here
+at_again more at s = grind (arith, place_again, word_again)
 
 -- ---- the header
 
 behind_taken : (ws : List (List ℕ)) (h : Header) → header_behind ws ≡ Some h → (object : List ℕ) × (more : List (List ℕ)) × (ws ≡ object ∷ more) × (object_of object ≡ Some h.programmer) × (at_of more ≡ Some h.at)
-behind_taken [] h e = absurd cc
-behind_taken (o ∷ more) h e =
-    let t = then_some (λ p. option_map (λ at. record { programmer = p; at = at }) (at_of more)) (object_of o) h e in
-    let m = map_some (λ at. record { programmer = t.0; at = at }) (at_of more) h t.2 in
-    (o, more, refl, t.1 ∙ ap (λ (x : Header). Some x.programmer) m.2, m.1 ∙ ap (λ (x : Header). Some x.at) m.2)
+behind_taken ws h e = grind (arith, then_some, map_some)
 
 pub header_taken : (line : List ℕ) (h : Header) → header_of line ≡ Some h → SpellsHeader h line
 header_taken line h e = elim (chosen (is_short line) (option_and_then header_behind (option_and_then (behind_word (codes "as")) (behind_word (codes "batch") (words_of_line line)))) None (Some h) e) [
@@ -162,10 +126,4 @@ header_taken line h e = elim (chosen (is_short line) (option_and_then header_beh
 ]
 
 pub header_again : (line : List ℕ) (h : Header) → SpellsHeader h line → header_of line ≡ Some h
-header_again line h s =
-    let short : is_short line ≡ true = le_again (length line) 262144 s.short in
-    let object = object_again s.object h.programmer s.programmer s.in_range in
-    let place = at_again s.more h.at s.place in
-    let behind : header_behind (s.object ∷ s.more) ≡ Some h = rw (object, place) refl in
-    let first : behind_word (codes "batch") (words_of_line line) ≡ Some (codes "as" ∷ s.object ∷ s.more) = ap (behind_word (codes "batch")) s.words_are ∙ word_again (codes "batch") (codes "as" ∷ s.object ∷ s.more) in
-    rw short (ap (λ (o : Option (List (List ℕ))). option_and_then header_behind (option_and_then (behind_word (codes "as")) o)) first ∙ ap (option_and_then header_behind) (word_again (codes "as") (s.object ∷ s.more)) ∙ behind)
+header_again line h s = grind (arith, le_again, object_again, at_again, word_again)

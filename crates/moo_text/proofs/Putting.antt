@@ -1,11 +1,10 @@
 -- Texts that are put behind others.
-use Rattle.std.{proofs.Common.{◌≡◌, ◌++◌, ℕ, List, Result, Ok, Err, ap, ◌∙◌, append_assoc}, specs.Prelude.{OnOk, if◌then◌else◌}, specs.Result.{is_ok}, specs.Io.{StartsWith}}
+use Rattle.std.{proofs.Common.{arith, ◌≡◌, ◌++◌, ℕ, List, Result, Ok, Err, ap, ◌∙◌, append_assoc}, specs.Prelude.{OnOk, if◌then◌else◌}, specs.Result.{is_ok}, specs.Io.{StartsWith}}
 use Rattle.moo_value.proofs.Printed.{starts, starts_alike, kept_on}
 
 -- a text that was put last ends the whole, unless there was no memory for it
 pub put_last : {A E : Type 0} (r : Result A E) (old before added whole new : List ℕ) → new ≡ (if is_ok r then before ++ added else before) → before ++ added ≡ old ++ whole → OnOk r (new ≡ old ++ whole)
-put_last (Ok v) old before added whole new is same = is ∙ same
-put_last (Err e) old before added whole new is same = tt
+put_last r old before added whole new is same = grind arith
 
 -- and it leaves what stood before it
 pub kept_last : {A E : Type 0} (r : Result A E) (old before added new : List ℕ) → new ≡ (if is_ok r then before ++ added else before) → StartsWith before old → StartsWith new old
@@ -17,15 +16,11 @@ three old first second a b c one two = ap (λ t. t ++ c) (two ∙ ap (λ t. t ++
 
 -- a line of a word, a number and a mark, and two texts behind it
 pub line_and_two : (old first second word digits mark b c : List ℕ) → first ≡ old ++ (word ++ (digits ++ mark)) → second ≡ first ++ b → second ++ c ≡ old ++ (word ++ (digits ++ (mark ++ (b ++ c))))
-line_and_two old first second word digits mark b c one two =
-    three old first second (word ++ (digits ++ mark)) b c one two
-    ∙ ap (λ t. old ++ t) (append_assoc word (digits ++ mark) (b ++ c) ∙ ap (λ t. word ++ t) (append_assoc digits mark (b ++ c)))
+line_and_two old first second word digits mark b c one two = grind (arith, three, append_assoc)
 
 -- a text that was put alone
 pub put_first : {A E : Type 0} (r : Result A E) (old added new : List ℕ) → new ≡ (if is_ok r then old ++ added else old) → (whole : List ℕ) → added ≡ whole → OnOk r (new ≡ old ++ whole)
-put_first (Ok v) old added new is whole same = is ∙ ap (λ t. old ++ t) same
-put_first (Err e) old added new is whole same = tt
+put_first r old added new is whole same = grind arith
 
 pub kept_first : {A E : Type 0} (r : Result A E) (old added new : List ℕ) → new ≡ (if is_ok r then old ++ added else old) → StartsWith new old
-kept_first (Ok v) old added new is = starts new old added is
-kept_first (Err e) old added new is = starts_alike new old is
+kept_first r old added new is = grind (arith, starts, starts_alike)

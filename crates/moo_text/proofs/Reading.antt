@@ -1,13 +1,12 @@
 -- Reading a header and a call from left to right.
-use Rattle.moo_text.proofs.Shared.{◌≡◌, ℕ, zero, suc, ◌-◌, ◌<◌, ◌≤◌, true, inl, inr, List, [], ◌∷◌, ◌++◌, length, drop, Option, Some, None, Ok, Err, refl, sym, ap, ◌∙◌, append_assoc, arith, ◌↔◌, option_map, option_and_then, ◌==◌, ◌&&◌, list_all, eqb-true, length-append, Value, Spells, Fits, Ends, Front, literal_at, value_at, after_blanks, chosen, fits, folded, is_all_blank, found, front_of, behind_value, values_at, behind_mark, after_mark, call_name}
+use Rattle.moo_text.proofs.Shared.{◌≡◌, ℕ, zero, suc, ◌-◌, ◌<◌, ◌≤◌, true, List, [], ◌∷◌, ◌++◌, length, drop, Option, Some, None, Ok, Err, refl, sym, ap, ◌∙◌, append_assoc, arith, ◌↔◌, option_map, option_and_then, list_all, eqb-true, length-append, Value, Spells, Fits, Ends, Front, literal_at, value_at, after_blanks, chosen, fits, folded, is_all_blank, found, front_of, behind_value, values_at, after_mark, call_name}
 use Rattle.std.proofs.lemmas.List.Folds.{list_all-append}
 use Rattle.moo_value.{specs.Reading.{Read}, proofs.Literals.{front_taken, front_again, literal_again, value_taken, takes, blanks_taken}}
 use Rattle.moo_world.{specs.Names.{spelling}, specs.declared.name.CallName.{CallName}, specs.Names.{spelled_is}}
 
 -- an option that is never some
 pub none_if : {A : Type 0} (o : Option A) → ((x : A) → o ≡ Some x → ⊥) → o ≡ None
-none_if None never = refl
-none_if (Some x) never = absurd (never x refl)
+none_if o never = grind arith
 
 -- ---- the literal in front
 
@@ -28,8 +27,7 @@ unfolding front_of
 no_front b none = found_none (literal_at b) (λ v rest e. none v (length b - length rest) (front_taken b v rest e))
 
 found_ok : (r : Read Value) (v : Value) (rest : List ℕ) → found r ≡ Some (v, rest) → r ≡ Ok (v, rest)
-found_ok (Ok x) v rest e = let h : x ≡ (v, rest) = cc in ap (λ y. Ok y) h
-found_ok (Err f) v rest e = absurd cc
+found_ok r v rest e = grind arith
 
 -- a literal that was read, and what follows it
 pub record FrontRead (b : List ℕ) (v : Value) (rest : List ℕ) : Type 0 where
@@ -59,8 +57,7 @@ abbrev pub GoesOn : List ℕ → List Value → List ℕ → Type 0
 GoesOn bytes values rest = (most : ℕ) × (length rest ≤ most) × (values_at (length bytes) bytes ≡ option_map (λ vs. values ++ vs) (values_at most rest))
 
 map_push : (values : List Value) (v : Value) (o : Option (List Value)) → option_map (λ vs. values ++ vs) (option_map (λ vs. v ∷ vs) o) ≡ option_map (λ vs. (values ++ v ∷ []) ++ vs) o
-map_push values v None = refl
-map_push values v (Some vs) = ap (λ (t : List Value). Some t) (sym (append_assoc values (v ∷ []) vs))
+map_push values v o = grind (arith, append_assoc)
 
 -- a value is read
 pub record ValueRead (bytes : List ℕ) (values : List Value) (v : Value) (after : List ℕ) : Type 0 where
@@ -78,29 +75,14 @@ one_read bytes values rest v after (suc most, enough, e) is = record {
 
 pub comma_read : {bytes : List ℕ} {values pushed : List Value} {v : Value} {after others : List ℕ} → ValueRead bytes values v after → after_mark 41 after ≡ None → after_mark 44 after ≡ Some others
     → length others ≤ length after → pushed ≡ values ++ v ∷ [] → GoesOn bytes pushed others
-comma_read {values = values} {v = v} {after = after} {others = others} r unclosed comma shorter is =
-    let step : behind_value v (values_at r.most) after ≡ option_map (λ vs. v ∷ vs) (values_at r.most others) = rw (unclosed, comma) refl in (
-      r.most,
-      omega (arith, r.enough),
-      r.goes_on ∙ ap (λ (o : Option (List Value)). option_map (λ vs. values ++ vs) o) step ∙ map_push values v (values_at r.most others)
-          ∙ ap (λ (us : List Value). option_map (λ vs. us ++ vs) (values_at r.most others)) (sym is),
-    )
+comma_read {values = values} {v = v} {after = after} {others = others} r unclosed comma shorter is = grind (arith, map_push)
 
 pub closed_read : {bytes : List ℕ} {values : List Value} {v : Value} {after end : List ℕ} → ValueRead bytes values v after → after_mark 41 after ≡ Some end → is_all_blank end ≡ true → values_at (length bytes) bytes ≡ Some (values ++ v ∷ [])
-closed_read {values = values} {v = v} {after = after} r close blank =
-    let step : behind_value v (values_at r.most) after ≡ Some (v ∷ []) = rw (close, blank) refl in
-    r.goes_on ∙ ap (λ (o : Option (List Value)). option_map (λ vs. values ++ vs) o) step
+closed_read {values = values} {v = v} {after = after} r close blank = grind arith
 
 -- what stands behind blanks is no longer
 pub mark_taken : (mark : ℕ) (b rest : List ℕ) → after_mark mark b ≡ Some rest → after_blanks b ≡ mark ∷ rest
-mark_taken mark b rest e = by_front (after_blanks b) e
-  where
-    by_front : (t : List ℕ) → behind_mark mark t ≡ Some rest → t ≡ mark ∷ rest
-    by_front [] h = absurd cc
-    by_front (c ∷ cs) h = elim (chosen (c == mark) (Some cs) None (Some rest) h) [
-      | inl here ↦ let same : cs ≡ rest = (let k : Some cs ≡ Some rest = here.1 in cc) in ap (λ (d : ℕ). d ∷ cs) (eqb-true c mark here.0) ∙ ap (λ (t : List ℕ). mark ∷ t) same
-      | inr other ↦ absurd (let k : None ≡ Some rest = other.1 in cc)
-    ]
+mark_taken mark b rest e = grind (arith, chosen, eqb-true)
 
 pub mark_shorter : (mark : ℕ) (b rest : List ℕ) → after_mark mark b ≡ Some rest → length rest < length b
 mark_shorter mark b rest e = let w = blanks_taken b in omega (arith, ap length w.2 ∙ length-append w.0 (after_blanks b), ap length (mark_taken mark b rest e))
@@ -116,6 +98,4 @@ name_is w None reads = sym (name_none w (λ name e. let h : None ≡ Some name =
 name_is w (Some name) reads = sym (name_found w name ((reads name).0 refl))
 
 pub fits_push : (vs : List Value) (v : Value) (pushed : List Value) → list_all fits vs ≡ true → fits v ≡ true → pushed ≡ vs ++ v ∷ [] → list_all fits pushed ≡ true
-fits_push vs v pushed all here is =
-    let parts : list_all fits (vs ++ v ∷ []) ≡ (list_all fits vs && (fits v && true)) = list_all-append fits vs (v ∷ []) in
-    ap (list_all fits) is ∙ parts ∙ rw (all, here) refl
+fits_push vs v pushed all here is = grind (arith, fits, list_all-append)

@@ -7,7 +7,7 @@ pub use Rattle.std.specs.Option.{option_and_then, option_map, option_map_or}
 pub use Rattle.std.specs.Prelude.{IsTrue, codes, nat_le, nat_lt, not, slice_index, ◌&&◌, ◌==◌}
 pub use Rattle.std.specs.Str.Lines.{lines, lines_of_parts, strip_carriage_return}
 pub use Rattle.moo_text.specs.Feed.{Carries, IsLineRead, TakesFirst, TakesLine, TakesNext}
-pub use Rattle.moo_text.specs.Given.{BreaksOff, Explains, GivesAll, GivesFront, ReaderGives, ReadsAll, ReadsAlong, ReadsFirst, ReadsItems, ReadsLine, ReadsNext, ReadsOn, StopsBehind}
+pub use Rattle.moo_text.specs.Given.{BreaksOff, Explains, GivesAll, ReaderGives, ReadsAll, ReadsAlong, ReadsFirst, ReadsItems, ReadsLine, ReadsNext, ReadsOn, StopsBehind}
 pub use Rattle.moo_text.specs.Grammar.{ClosesCall, SpellsArguments, SpellsAt, SpellsCall, SpellsHeader, SpellsPlace}
 pub use Rattle.moo_text.specs.Items.{between, items, skipping, within}
 pub use Rattle.moo_text.specs.Line.{from_blank, is_all_blank, is_blank_line, is_end_line, is_end_word, is_short, until_blank, words_of_line}

@@ -17,10 +17,7 @@ use std::alloc::{AllocError, Global};
 fn after_mark(mark: u8, bytes: &[u8]) -> Option<&[u8]>
     ensures { option_map (λ rest. rest.now) result ≡ behind_mark mark bytes.now }
 {
-    match skip_blanks(bytes).split_first() {
-        Some((first, rest)) if *first == mark => Some(rest),
-        _ => None,
-    }
+    skip_blanks(bytes).strip_prefix(&[mark])
 }
 
 /// One argument at least, to the end of the line.
@@ -52,11 +49,7 @@ fn arguments_of(alloc: Global, bytes: &[u8]) -> Result<Option<Args>, AllocError>
     ensures { IfOk result (λ args. args ≡ arguments_in bytes.now) }
 {
     match after_mark(b')', bytes) {
-        Some(end) => Ok(if is_all_blank(end) {
-            Some(Args::from_vec(Vec::new(alloc)))
-        } else {
-            None
-        }),
+        Some(end) => Ok(is_all_blank(end).then(|| Args::from_vec(Vec::new(alloc)))),
         None => values_of(alloc, bytes),
     }
 }
@@ -82,10 +75,7 @@ pub fn call_in(alloc: Global, line: &[u8]) -> Result<Option<Call>, AllocError>
     let Some(rest) = after_mark(b'(', rest) else {
         return Ok(None);
     };
-    match arguments_of(alloc, rest)? {
-        Some(args) => Ok(Some(Call { name, args })),
-        None => Ok(None),
-    }
+    Ok(arguments_of(alloc, rest)?.map(|args| Call { name, args }))
 }
 
 /// The call that a line of at most 262,144 bytes spells, `name(value, ...)`: the name in any case, spaces and tabs between the tokens.

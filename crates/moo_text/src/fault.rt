@@ -1,4 +1,4 @@
-//! Why a line or a text could not be read.
+//! Why a line or a text could not be read, or bytes not be written.
 
 ghost use Rattle.std.specs.Prelude.{◌≡◌};
 ghost use Rattle.moo_text.specs.declared.fault.TextFault.TheVariants.{OutOfMemory};
@@ -13,6 +13,10 @@ pub enum CallFault {
     /// Memory ran out.
     OutOfMemory,
 }
+
+/// The writer failed, or took no bytes.
+#[derive(Clone, Copy)]
+pub struct WriteFault;
 
 /// Why a run over a text stopped.
 #[derive(Clone, Copy)]

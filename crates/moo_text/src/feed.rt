@@ -159,10 +159,7 @@ impl<R: Read> Feed<R> {
             return Err(fault);
         }
         let result = next_item(self.alloc, &mut self.lines);
-        if let Err(fault) = result {
-            self.fault = Some(fault);
-            return Err(fault);
-        }
+        self.fault = result.as_ref().err().copied();
         result
     }
 

@@ -23,19 +23,14 @@ pub struct Header {
 fn after_the_word<'a>(word: &[u8], bytes: &'a [u8]) -> Option<&'a [u8]>
     ensures { option_map (λ rest. words_of_line rest.now) result ≡ behind_word word.now (words_of_line bytes.now) }
 {
-    match next_word(bytes) {
-        Some((first, rest)) => { if first == word { Some(rest) } else { None } }
-        None => None,
-    }
+    let (first, rest) = next_word(bytes)?;
+    (first == word).then_some(rest)
 }
 
 fn begins_with(first: u8, bytes: &[u8]) -> bool
     ensures { result ≡ begins_with_byte first bytes.now }
 {
-    match bytes.split_first() {
-        Some((byte, _)) => *byte == first,
-        None => false,
-    }
+    bytes.first() == Some(&first)
 }
 
 fn object_value(value: &Value) -> Option<ObjNo>
@@ -55,22 +50,16 @@ pub fn object_of(alloc: Global, word: &[u8]) -> Result<Option<ObjNo>, AllocError
         return Ok(None);
     }
     match read_front(alloc, word)? {
-        Some((value, rest)) => Ok(if rest.is_empty() {
-            object_value(&value)
-        } else {
-            None
-        }),
-        None => Ok(None),
+        Some((value, [])) => Ok(object_value(&value)),
+        _ => Ok(None),
     }
 }
 
+/// The value of a digit, 0 to 9.
 fn digit_value(byte: u8) -> Option<u64>
     ensures { MatchOption result (is_digit byte ≡ false) (λ value. (is_digit byte ≡ true) × (value ≡ byte - 48) × (value ≤ 9)) }
 {
-    match byte {
-        b'0'..=b'9' => Some(u64::from(byte - b'0')),
-        _ => None,
-    }
+    byte.is_ascii_digit().then(|| u64::from(byte - b'0'))
 }
 
 /// The number of 1 to 19 digits, at most 9223372036854775807.
@@ -82,28 +71,19 @@ fn place_of(digits: &[u8]) -> Option<u64>
     }
     let mut place: u64 = 0;
     for digit in digits {
-        match digit_value(*digit) {
-            Some(value) => place = 10 * place + value,
-            None => return None,
-        }
+        place = 10 * place + digit_value(*digit)?;
     }
-    if place <= 9223372036854775807 {
-        Some(place)
-    } else {
-        None
-    }
+    (place <= 9223372036854775807).then_some(place)
 }
 
 /// The number that is the last word.
 fn last_place(bytes: &[u8]) -> Option<u64>
     ensures { result ≡ last_place_in (words_of_line bytes.now) }
 {
-    match next_word(bytes) {
-        Some((digits, rest)) => match next_word(rest) {
-            Some(_) => None,
-            None => place_of(digits),
-        },
-        None => None,
+    let (digits, rest) = next_word(bytes)?;
+    match next_word(rest) {
+        Some(_) => None,
+        None => place_of(digits),
     }
 }
 
@@ -114,13 +94,8 @@ fn at_of(bytes: &[u8]) -> Option<Option<u64>>
     if next_word(bytes).is_none() {
         return Some(None);
     }
-    match after_the_word(b"at", bytes) {
-        Some(rest) => match last_place(rest) {
-            Some(place) => Some(Some(place)),
-            None => None,
-        },
-        None => None,
-    }
+    let rest = after_the_word(b"at", bytes)?;
+    last_place(rest).map(Some)
 }
 
 /// The header that a line is; `None` if it isn't a header.
@@ -142,8 +117,5 @@ pub fn read_header(alloc: Global, line: &[u8]) -> Result<Option<Header>, AllocEr
     let Some(programmer) = object_of(alloc, word)? else {
         return Ok(None);
     };
-    match at_of(rest) {
-        Some(at) => Ok(Some(Header { programmer, at })),
-        None => Ok(None),
-    }
+    Ok(at_of(rest).map(|at| Header { programmer, at }))
 }

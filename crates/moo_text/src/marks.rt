@@ -24,10 +24,7 @@ pub struct Marks {
 
 /// Whether the first word of a line is `batch`.
 fn begins_batch(line: &[u8]) -> bool {
-    match next_word(line) {
-        Some((word, _)) => word == b"batch".as_slice(),
-        None => false,
-    }
+    next_word(line).is_some_and(|(word, _)| word == b"batch".as_slice())
 }
 
 impl Marks {

@@ -1,12 +1,14 @@
 -- A search for the objects under one, as far as it has come.
 use Rattle.moo_tree.{proofs.Words.{◌≡◌, ℕ, zero, suc, ◌-◌, ◌<◌, ◌≤◌, ◌≢◌, Bool, true, false, cond, ◌||◌, Option, None, Some, List, [], ◌∷◌, ◌++◌, length, drop, Ordering, Less, Equal, Greater, refl, sym, ap, ◌∙◌, subst, arith, ◌⊎◌, inl, inr, is_some, if◌then◌else◌, slice_index_or, ◌+◌, option_map, eq_by_cmp, is_eq, tied_itself, FinMap, get, insert, get-insert, true≢false, or_right, or_cases, ObjNo, ObjRow, object_exact, Maps, object_cmp, object_total, same_object, is_among, same_object-Decides, children_of, objects_of, is_parent_of, look_ups, world_of, World, IsTree, is_object, parent_of, chain, climb, numbers_to, chain_of_none, chain_of_row, chain_of_no_row, is_object_seen, passes_seen, none_passes, IsFound}, proofs.Sharing.{among_drop}}
-use Rattle.std.proofs.lemmas.Option.{none-some}
-use Rattle.moo_world.{proofs.Inheritance.Owed.{is_among-append}, proofs.Ancestry.Subtrees.{among_filter, object_listed}, proofs.Ancestry.Upward.{filter_passes}}
+use Rattle.std.{proofs.Common.{add-one, drop-cons}, proofs.Math.Bool.{or-false}, proofs.lemmas.Bool.{or_left, true_from_ne_false}, proofs.lemmas.Option.{none-some}}
+use Rattle.moo_world.{proofs.Inheritance.Owed.{is_among-append}, proofs.Ancestry.Subtrees.{among_filter, object_listed}, proofs.Ancestry.Upward.{filter_passes}, proofs.Shown.PairLists.{some_of}}
 
-either : (a b : Bool) → (a ≡ true) ⊎ (b ≡ true) → (a || b) ≡ true
-either true b h = refl
-either false b (inl h) = absurd (true≢false (sym h))
-either false b (inr h) = h
+-- an object has a row
+pub a_row : (t : Maps) (y : ObjNo) → is_object (world_of t) y ≡ true → (row : ObjRow) × (get t.objects y ≡ Some row)
+a_row t y h = some_of (get t.objects y) (sym (is_object_seen (look_ups t) y) ∙ h)
+
+pub among-first : (z : ObjNo) (l : List ObjNo) → is_among z (z ∷ l) ≡ true
+among-first z l = or_left (same_object z z) (is_among z l) ((same_object-Decides z z).1 refl)
 
 module _ (t : Maps) (x : ObjNo) where
   -- what is found is under x with its owner, what is pending is under x, the children of what is found are found or pending, and so is x
@@ -43,11 +45,10 @@ module _ (t : Maps) (tree : IsTree (world_of t)) where
   module _ (x : ObjNo) where
     -- what is pending is under x, so it is an object
     pub is_there : (z : ObjNo) → is_among x (chain w z) ≡ true → is_object w z ≡ true
-    is_there z h = by (is_object w z) refl
-      where
-        by : (b : Bool) → is_object w z ≡ b → b ≡ true
-        by true e = refl
-        by false e = absurd (true≢false (sym h ∙ ap (is_among x) (chain_of_none w z e)))
+    is_there z h = true_from_ne_false (is_object w z) (λ e. true≢false (sym h ∙ ap (is_among x) (chain_of_none w z e)))
+
+    pub own_among : is_object w x ≡ true → is_among x (chain w x) ≡ true
+    own_among here = let r = a_row t x here in ap (is_among x) (child_chain x r.0 r.1) ∙ among-first x (chain w r.0.parent)
 
     -- one step
     module _ (m : FinMap object_cmp ObjNo) (y : ObjNo) (rest below : List ObjNo) (row : ObjRow) (there : get t.objects y ≡ Some row) (s : Search t x m ((y ∷ rest) ++ below)) where
@@ -65,15 +66,15 @@ module _ (t : Maps) (tree : IsTree (world_of t)) where
       ]
         where
           split : (is_among c rest ≡ true) ⊎ (is_among c below ≡ true) → (is_among c rest || is_among c (below ++ children_of w y)) ≡ true
-          split (inl k) = either _ _ (inl k)
-          split (inr k) = or_right _ _ (is_among-append c below (children_of w y) ∙ either _ _ (inl k))
+          split (inl k) = or_left _ _ k
+          split (inr k) = or_right _ _ (is_among-append c below (children_of w y) ∙ or_left _ _ k)
 
       child_now : (c : ObjNo) → is_among c (children_of w y) ≡ true → is_among c now ≡ true
       child_now c h = is_among-append c rest (below ++ children_of w y) ∙ or_right _ _ (is_among-append c below (children_of w y) ∙ or_right _ _ h)
 
       was : (c : ObjNo) → is_among c now ≡ true → (is_among c ((y ∷ rest) ++ below) ≡ true) ⊎ (is_among c (children_of w y) ≡ true)
       was c h = elim (or_cases _ _ (sym (is_among-append c rest (below ++ children_of w y)) ∙ h)) [
-        | inl g ↦ inl (or_right (same_object c y) _ (is_among-append c rest below ∙ either _ _ (inl g)))
+        | inl g ↦ inl (or_right (same_object c y) _ (is_among-append c rest below ∙ or_left _ _ g))
         | inr g ↦ elim (or_cases _ _ (sym (is_among-append c below (children_of w y)) ∙ g)) [
           | inl k ↦ inl (or_right (same_object c y) _ (is_among-append c rest below ∙ or_right _ _ k))
           | inr k ↦ inr k
@@ -96,15 +97,15 @@ module _ (t : Maps) (tree : IsTree (world_of t)) where
       -- found or pending before, so now
       moved : (c : ObjNo) → (is_some (get m c) || is_among c ((y ∷ rest) ++ below)) ≡ true → (is_some (get after c) || is_among c now) ≡ true
       moved c h = elim (or_cases _ _ h) [
-        | inl g ↦ either _ _ (inl (kept c g))
+        | inl g ↦ or_left _ _ (kept c g)
         | inr g ↦ elim (parts c g) [
-          | inl k ↦ either _ _ (inl (same-key c ((same_object-Decides c y).0 k)))
+          | inl k ↦ or_left _ _ (same-key c ((same_object-Decides c y).0 k))
           | inr k ↦ or_right _ _ k
         ]
       ]
 
       y_under : is_among x (chain w y) ≡ true
-      y_under = s.sound y (either _ _ (inl ((same_object-Decides y y).1 refl)))
+      y_under = s.sound y (among-first y (rest ++ below))
 
       under_child : (c : ObjNo) → is_among c (children_of w y) ≡ true → is_among x (chain w c) ≡ true
       under_child c h =
@@ -135,23 +136,16 @@ module _ (t : Maps) (tree : IsTree (world_of t)) where
     pub begun : (m : FinMap object_cmp ObjNo) → ((q : ObjNo) → get m q ≡ None) → is_object w x ≡ true → Search t x m (x ∷ [])
     begun m none ok = record {
       sound = λ z h. elim (or_cases _ _ h) [
-        | inl g ↦ ap (λ q. is_among x (chain w q)) ((same_object-Decides z x).0 g) ∙ own
+        | inl g ↦ ap (λ q. is_among x (chain w q)) ((same_object-Decides z x).0 g) ∙ own_among ok
         | inr g ↦ absurd (true≢false (sym g))
       ];
       right = λ z o h. absurd (none-some o (sym (none z) ∙ h));
       closed = λ z c r e p h. absurd (true≢false (sym h ∙ ap is_some (none z)));
-      start = or_right _ _ (either _ _ (inl ((same_object-Decides x x).1 refl)));
+      start = or_right _ _ (among-first x []);
     }
-      where
-        own : is_among x (chain w x) ≡ true
-        own = by (get t.objects x) refl
-          where
-            by : (o : Option ObjRow) → get t.objects x ≡ o → is_among x (chain w x) ≡ true
-            by None e = absurd (true≢false (sym ok ∙ is_object_seen (look_ups t) x ∙ ap is_some e))
-            by (Some r) e = ap (is_among x) (child_chain x r e) ∙ either _ _ (inl ((same_object-Decides x x).1 refl))
 
     -- what holds of x, and of each child of what it holds of, holds of all under x
-    along : (P : ObjNo → Type 0) → (is_object w x ≡ true → P x) → ((z : ObjNo) (r : ObjRow) → get t.objects z ≡ Some r → P r.parent → P z) → (l : List ObjNo) (z : ObjNo) → chain w z ≡ l → is_among x l ≡ true → P z
+    pub along : (P : ObjNo → Type 0) → (is_object w x ≡ true → P x) → ((z : ObjNo) (r : ObjRow) → get t.objects z ≡ Some r → P r.parent → P z) → (l : List ObjNo) (z : ObjNo) → chain w z ≡ l → is_among x l ≡ true → P z
     along P start more [] z e h = absurd (true≢false (sym h))
     along P start more (a ∷ l) z e h = by (λ p f k. along P start more l p f k) (get t.objects z) refl
       where
@@ -177,12 +171,8 @@ module _ (t : Maps) (tree : IsTree (world_of t)) where
 
     -- at the end
     module _ (m : FinMap object_cmp ObjNo) (s : Search t x m []) where
-      only : (a : Bool) → (a || false) ≡ true → a ≡ true
-      only true h = refl
-      only false h = h
-
       all : (z : ObjNo) → is_among x (chain w z) ≡ true → is_some (get m z) ≡ true
-      all z h = along (λ q. is_some (get m q) ≡ true) (λ o. only _ s.start) (λ q r g k. only _ (s.closed r.parent q r g refl k)) (chain w z) z refl h
+      all z h = along (λ q. is_some (get m q) ≡ true) (λ o. sym (or-false (is_some (get m x))) ∙ s.start) (λ q r g k. sym (or-false (is_some (get m q))) ∙ s.closed r.parent q r g refl k) (chain w z) z refl h
 
       pub ended : IsFound t x m
       ended q = by (get m q) refl (is_among x (chain w q)) refl
@@ -216,9 +206,6 @@ abbrev pub rank : World → List ObjNo → ℕ
 rank w [] = 0
 rank w (z ∷ l) = suc (numbers_to w.top - length (chain w z))
 
-pub among-first : (z : ObjNo) (l : List ObjNo) → is_among z (z ∷ l) ≡ true
-among-first z l = either _ _ (inl ((same_object-Decides z z).1 refl))
-
 pub rank-smaller : (w : World) (n : ℕ) (level below : List ObjNo) → AreAt w n level → AreAt w (suc n) below → length level ≢ 0 → rank w below < rank w level
 rank-smaller w n [] below a b some = absurd (some refl)
 rank-smaller w n (z ∷ l) [] a b some = omega arith
@@ -240,18 +227,7 @@ deeper t tree n y below at rest z h = elim (or_cases _ _ (sym (is_among-append z
 -- ---- the level, one after another
 
 pub rest_of : (l : List ObjNo) (i : ℕ) (d : ObjNo) → i < length l → drop i l ≡ slice_index_or l i d ∷ drop (i + 1) l
-rest_of [] i d h = absurd (omega arith)
-rest_of (y ∷ l) zero d h = refl
-rest_of (y ∷ l) (suc i) d h =
-    let e : i + 1 ≡ suc i = omega arith in
-    let f : suc i + 1 ≡ suc (suc i) = omega arith in
-    rest_of l i d (omega arith) ∙ ap (λ n. slice_index_or l i d ∷ drop n l) e ∙ sym (ap (λ n. slice_index_or l i d ∷ drop n (y ∷ l)) f)
-
-pub at_end : (l : List ObjNo) (i : ℕ) → length l ≤ i → ◌≡◌ {A = List ObjNo} (drop i l) []
-at_end [] zero h = refl
-at_end [] (suc i) h = refl
-at_end (y ∷ l) zero h = absurd (omega arith)
-at_end (y ∷ l) (suc i) h = at_end l i (omega arith)
+rest_of l i d h = drop-cons l i d h ∙ ap (λ n. slice_index_or l i d ∷ drop n l) (sym (add-one i))
 
 pub in_list : (l : List ObjNo) (i : ℕ) (y : ObjNo) (rest : List ObjNo) → drop i l ≡ y ∷ rest → is_among y l ≡ true
 in_list l i y rest e = among_drop y i l (ap (is_among y) e ∙ among-first y rest)
@@ -261,14 +237,6 @@ alone w z x h = elim (or_cases _ _ h) [
   | inl g ↦ ap (λ q. length (chain w q)) ((same_object-Decides z x).0 g)
   | inr g ↦ absurd (true≢false (sym g))
 ]
-
--- an object has a row
-pub a_row : (t : Maps) (y : ObjNo) → is_object (world_of t) y ≡ true → (row : ObjRow) × (get t.objects y ≡ Some row)
-a_row t y h = by (get t.objects y) refl
-  where
-    by : (o : Option ObjRow) → get t.objects y ≡ o → (row : ObjRow) × (get t.objects y ≡ Some row)
-    by None e = absurd (true≢false (sym h ∙ is_object_seen (look_ups t) y ∙ ap is_some e))
-    by (Some row) e = (row, e)
 
 pub no_items : (l : List ObjNo) → length l ≡ 0 → l ≡ []
 no_items [] e = refl

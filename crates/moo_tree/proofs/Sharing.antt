@@ -1,6 +1,6 @@
 -- The nearest ancestor that two objects share.
 use Rattle.moo_tree.proofs.Words.{◌≡◌, ℕ, zero, suc, ◌-◌, ◌≤◌, ◌<◌, Bool, true, false, cond, List, [], ◌∷◌, ◌++◌, length, drop, Some, None, refl, sym, ap, subst, ◌∙◌, ◌⊎◌, inl, inr, arith, unwrap_or, find, int_eq, both_ways, or_right, cases_lt, ObjNo, ancestors, common, nothing, same_object, is_among, same_object-eq, same_object-Decides, World, IsTree, Chain, is_object, parent_of, chain, front_of, Climbs-unique, Climbs-among, Climbs-split, no_parent, Chain-chain, chain_of_none}
-use Rattle.std.proofs.lemmas.List.{length-append, length-drop, drop_at}
+use Rattle.std.{proofs.lemmas.Bool.{false_from_ne_true}, proofs.lemmas.List.{length-append, length-drop, drop_at}}
 
 -- ---- lists
 
@@ -75,13 +75,10 @@ module _ (w : World) (t : IsTree w) where
   -- an object is in no chain that is shorter than its own
   too_deep : (z : ObjNo) (l k : List ObjNo) (y : ObjNo) → Chain w z (z ∷ l) → Chain w y k → length k ≤ length l → is_among z k ≡ false
   too_deep z l k y p q h =
-      elim (is_among z k) as (λ b. is_among z k ≡ b → b ≡ false) [
-        | true ↦ λ e.
-            let r = Climbs-among (parent_of w) (no_parent w t) k y z q e in
-            let long : length (z ∷ l) ≡ length r.0 = ap length (Climbs-unique (parent_of w) (no_parent w t) (z ∷ l) r.0 z p r.1) in
-            absurd (omega (arith, r.2))
-        | false ↦ λ e. refl
-      ] refl
+      false_from_ne_true (is_among z k) (λ e.
+      let r = Climbs-among (parent_of w) (no_parent w t) k y z q e in
+      let long : length (z ∷ l) ≡ length r.0 = ap length (Climbs-unique (parent_of w) (no_parent w t) (z ∷ l) r.0 z p r.1) in
+      absurd (omega (arith, r.2)))
 
   find_no_deeper : (l : List ObjNo) (x : ObjNo) (k : List ObjNo) (y : ObjNo) → Chain w x l → Chain w y k → find (λ d. is_among d k) (drop (length l - length k) l) ≡ find (λ d. is_among d k) l
   find_no_deeper [] x k y p q = ap (find (λ d. is_among d k)) (drop_none (0 - length k))
@@ -105,17 +102,14 @@ module _ (w : World) (t : IsTree w) where
   -- two objects that stand as deep are one, where both are among the ancestors
   pub apart : (x other : ObjNo) (k : ℕ) (one : ObjNo) (c m : List ObjNo) → drop k (ancestors w x) ≡ one ∷ c → is_object w other ≡ true → chain w other ≡ other ∷ m → length c ≡ length m → false ≡ int_eq other.0 one.0 → is_among other (ancestors w x) ≡ false
   apart x other k one c m e o s long differ =
-      elim (is_among other (ancestors w x)) as (λ b. is_among other (ancestors w x) ≡ b → b ≡ false) [
-        | true ↦ λ h.
-            let l = ancestors w x in
-            let a = some_ancestors x in
-            let own : Chain w other (other ∷ m) = subst (Chain w other) s (Chain-chain w t other o) in
-            let split : l ≡ front_of other l ++ (other ∷ m) = Climbs-split (parent_of w) (no_parent w t) l (other ∷ m) a.0 other a.1 own (inl h) in
-            let all : length l ≡ length (front_of other l ++ (other ∷ m)) = ap length split in
-            let rest : length (drop k l) ≡ length (one ∷ c) = ap length e in
-            let place : length (front_of other l) ≡ k = omega (arith, length-append (front_of other l) (other ∷ m), length-drop k l) in
-            let tails : one ∷ c ≡ other ∷ m = sym e ∙ ap (drop k) split ∙ drop_at (front_of other l) (other ∷ m) k place in
-            let same : one ≡ other = cc in
-            absurd (both_ways (same_object one other) (sym (same_object-eq one other) ∙ sym differ) ((same_object-Decides one other).1 same))
-        | false ↦ λ h. refl
-      ] refl
+      false_from_ne_true (is_among other (ancestors w x)) (λ h.
+      let l = ancestors w x in
+      let a = some_ancestors x in
+      let own : Chain w other (other ∷ m) = subst (Chain w other) s (Chain-chain w t other o) in
+      let split : l ≡ front_of other l ++ (other ∷ m) = Climbs-split (parent_of w) (no_parent w t) l (other ∷ m) a.0 other a.1 own (inl h) in
+      let all : length l ≡ length (front_of other l ++ (other ∷ m)) = ap length split in
+      let rest : length (drop k l) ≡ length (one ∷ c) = ap length e in
+      let place : length (front_of other l) ≡ k = omega (arith, length-append (front_of other l) (other ∷ m), length-drop k l) in
+      let tails : one ∷ c ≡ other ∷ m = sym e ∙ ap (drop k) split ∙ drop_at (front_of other l) (other ∷ m) k place in
+      let same : one ≡ other = cc in
+      absurd (both_ways (same_object one other) (sym (same_object-eq one other) ∙ sym differ) ((same_object-Decides one other).1 same)))

@@ -1,5 +1,5 @@
 -- Where reading a list stops, and any value.
-use Rattle.moo_value.{proofs.Words.{◌≡◌, ℕ, zero, suc, ◌+◌, ◌-◌, ◌≤◌, Bool, true, false, inl, inr, List, [], ◌∷◌, ◌++◌, length, drop, Ok, Err, refl, sym, ap, subst, ◌∙◌, append_assoc, arith, ◌==◌, eqb-true, length-append, append-nil, drop_at, LiteralFault, NotALiteral, TooDeep, Value, Int, Obj, Error, a_list, IsText, Values, no_values, levels, prepend, nesting, is_blank, is_digit, is_word, AreBlanks, Comma, SpellsItems, SpellsToken, Spells, HoldInside, HoldIn, InRange, BeginsNo, Ends, NumberBut, TextBut, DepthBut, MayBreak, Read, ◌>>=◌, after_blanks, token_at, opened_at, items_at, value_at, chosen, is_err, no_err, bind_err}, proofs.ReadOrRefused.{all_deep, all_in, value_again}, proofs.Results.{bind_which}, proofs.Items.{item_at, no_blank, skipped}, proofs.Lists.{and_others, blanks_taken, blanks_skipped, items_more, item_spelled, item_holds, item_levels, value_taken, takes, item_front, step_at, item_view}, proofs.Stops.{Stop, SameHead, behind, behind_more, at_once, at_end}, proofs.Tokens.{Fine, Goes, flat, zero_fits, token_stop}}
+use Rattle.moo_value.{proofs.Words.{◌≡◌, ℕ, zero, suc, ◌+◌, ◌-◌, ◌≤◌, Bool, true, false, inl, inr, List, [], ◌∷◌, ◌++◌, length, drop, Ok, Err, refl, sym, ap, subst, ◌∙◌, append_assoc, arith, ◌==◌, eqb-true, length-append, append-nil, drop_at, LiteralFault, NotALiteral, TooDeep, Value, Int, Obj, Error, a_list, IsText, Values, no_values, levels, prepend, nesting, is_blank, is_digit, is_word, AreBlanks, Comma, SpellsItems, SpellsToken, Spells, HoldInside, HoldIn, InRange, BeginsNo, Ends, NumberBut, TextBut, DepthBut, MayBreak, Read, ◌>>=◌, after_blanks, token_at, opened_at, items_at, value_at, chosen, is_err, no_err, bind_err}, proofs.ReadOrRefused.{all_deep, all_in, value_again}, proofs.Results.{bind_which}, proofs.Items.{item_at, no_blank, skipped}, proofs.Lists.{and_others, blanks_taken, blanks_skipped, items_more, item_spelled, item_holds, item_levels, value_taken, takes, item_front, step_at, item_view}, proofs.Stops.{Stop, SameHead, at_head, behind, behind_more, at_once, at_end}, proofs.Tokens.{Fine, Goes, flat, zero_fits, token_stop}}
 
 abbrev pub FineItems : ℕ → Bool → List ℕ → Type 0
 FineItems l first t = (vs : Values) × HoldInside InRange IsText vs × (levels vs ≤ l) × SpellsItems first vs t
@@ -135,11 +135,7 @@ opened_stop l items f brace (c ∷ cs) e =
       | inr other ↦
           behind token_at (Fine SpellsToken l) (Goes SpellsToken l) (opened_at items) (Fine SpellsToken l) (Goes SpellsToken l) (c ∷ cs) [] f
           (λ t v. v)
-          (λ t same read.
-          let h = same c cs refl in
-          let k : opened_at items (c ∷ h.0) ≡ token_at (c ∷ h.0) = rw other.0 refl in
-          ap (opened_at items) h.1 ∙ k ∙ sym (ap token_at h.1) ∙ read)
-          (λ d t over. over)
+          (λ t same read. at_head (opened_at items) token_at c cs t same (λ ds. rw other.0 refl) ∙ read) (λ d t over. over)
           (token_stop l (c ∷ cs) f other.1)
     ]
 
@@ -158,10 +154,7 @@ spaced_stop l items f stops b w (c ∷ cs) all whole after e =
     subst (λ (x : List ℕ). Stop (λ u. opened_at items (after_blanks u)) (Fine Spells l) (Goes Spells l) x f) (sym whole)
     (behind (opened_at items) (Fine SpellsToken l) (Goes SpellsToken l) (λ u. opened_at items (after_blanks u)) (Fine Spells l) (Goes Spells l) (c ∷ cs) w f
     (λ t v. (v.0, v.1, (w, t, all, v.2, refl)))
-    (λ t same read.
-    let h = same c cs refl in
-    let stays : after_blanks (c ∷ h.0) ≡ c ∷ h.0 = rw (no_blank b c cs after) refl in
-    ap (opened_at items) (blanks_skipped w t all ∙ ap after_blanks h.1 ∙ stays ∙ sym h.1) ∙ read)
+    (λ t same read. ap (opened_at items) (blanks_skipped w t all ∙ at_head after_blanks (λ u. u) c cs t same (λ ds. rw (no_blank b c cs after) refl)) ∙ read)
     (λ d t over. (over.0, (over.1.0, over.1.1, (w, t, all, over.1.2, refl))))
     (stops (c ∷ cs) e))
 

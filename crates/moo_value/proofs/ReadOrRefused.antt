@@ -1,5 +1,5 @@
 -- A spelling of a value that keeps every limit but one is read, or refused by that limit's fault.
-use Rattle.moo_value.{proofs.Words.{◌≡◌, ℕ, ℤ, zero, suc, ◌+◌, ◌<◌, ◌≤◌, Bool, true, false, cond, ◌⊎◌, inl, inr, List, [], ◌∷◌, ◌++◌, length, Result, Ok, Err, refl, sym, ap, subst, ◌∙◌, append_assoc, arith, nat_le, ◌==◌, not, length-append, append-nil, LiteralFault, NotALiteral, OutOfRange, BadByte, TooDeep, TooLong, OutOfMemory, Value, Int, Obj, Str, Error, a_list, is_allowed, IsText, Values, no_values, int, object, string, error, list, levels, prepend, nesting, is_digit, Item, SpellsNumber, SpellsBytes, SpellsItems, SpellsToken, Spells, HoldInside, HoldIn, NumberKind, an_integer, an_object, InRange, BeginsNo, Ends, NumberBut, TextBut, DepthBut, KeepsBut, Read, ◌>>=◌, after_blanks, number_at, string_at, token_at, opened_at, items_at, value_at, AreAllowed}, proofs.Numbers.{number_again, number_either}, proofs.Texts.{each_allowed}, proofs.Tokens.{first_of_number, IsNoList, token_starts, name_first, code_again, letter_starts}, specs.Reading.{code_at}, proofs.Items.{spaced_is}, proofs.Lists.{and_others, item_front, items_end, value_spaced}}
+use Rattle.moo_value.{proofs.Words.{◌≡◌, ℕ, ℤ, zero, suc, ◌+◌, ◌<◌, ◌≤◌, Bool, true, false, cond, ◌⊎◌, inl, inr, List, [], ◌∷◌, ◌++◌, length, Result, Ok, Err, refl, sym, ap, subst, ◌∙◌, append_assoc, arith, nat_le, ◌==◌, not, length-append, append-nil, LiteralFault, NotALiteral, OutOfRange, BadByte, TooDeep, TooLong, OutOfMemory, Value, Int, Obj, Str, Error, a_list, is_allowed, IsText, Values, no_values, int, object, string, error, list, levels, prepend, nesting, is_digit, Item, SpellsNumber, SpellsBytes, SpellsItems, SpellsToken, Spells, HoldInside, HoldIn, NumberKind, an_integer, an_object, InRange, BeginsNo, Ends, NumberBut, TextBut, DepthBut, KeepsBut, Read, ◌>>=◌, after_blanks, greatest, number_at, string_at, token_at, opened_at, items_at, value_at, AreAllowed}, proofs.Numbers.{number_again, number_either}, proofs.Texts.{each_allowed}, proofs.Tokens.{first_of_number, IsNoList, token_starts, name_first, code_again, letter_starts}, specs.Reading.{code_at}, proofs.Items.{spaced_is}, proofs.Lists.{and_others, item_front, items_end, value_spaced}}
 use Rattle.std.proofs.Common.{max}
 
 -- ---- what is within the limits keeps every one
@@ -99,10 +99,10 @@ bind_either : {A B : Type 0} (P : LiteralFault → Type 0) (r : Result A Literal
 bind_either P r x f y (inl ok) e = inl (ap (λ q. q >>= f) ok ∙ e)
 bind_either P r x f y (inr bad) e = inr (bad.0, bad.1, ap (λ q. q >>= f) bad.2)
 
-number_gave : (g : LiteralFault) (kind : NumberKind) (z : ℤ) (t rest : List ℕ) → SpellsNumber z t → NumberBut g kind z → BeginsNo is_digit rest → Either (Gave g) (number_at kind (t ++ rest)) (z, rest)
+number_gave : (g : LiteralFault) (kind : NumberKind) (z : ℤ) (t rest : List ℕ) → SpellsNumber z t → NumberBut g kind z → BeginsNo is_digit rest → Either (Gave g) (number_at (greatest kind) (t ++ rest)) (z, rest)
 number_gave g kind z t rest s n ends = go (range_gave g kind z n) (number_either kind z t rest s ends)
   where
-    go : (g ≡ OutOfRange) ⊎ InRange kind z → (InRange kind z × (number_at kind (t ++ rest) ≡ Ok (z, rest))) ⊎ (number_at kind (t ++ rest) ≡ Err OutOfRange) → Either (Gave g) (number_at kind (t ++ rest)) (z, rest)
+    go : (g ≡ OutOfRange) ⊎ InRange kind z → (InRange kind z × (number_at (greatest kind) (t ++ rest) ≡ Ok (z, rest))) ⊎ (number_at (greatest kind) (t ++ rest) ≡ Err OutOfRange) → Either (Gave g) (number_at (greatest kind) (t ++ rest)) (z, rest)
     go (inr fits) _ = inl (number_again kind z t rest s fits ends)
     go (inl is) (inl ok) = inl ok.1
     go (inl is) (inr over) = inr (OutOfRange, subst (λ (h : LiteralFault). Gave h OutOfRange) (sym is) refl, over)
@@ -111,12 +111,12 @@ token_either : (g : LiteralFault) (v : Value) (t rest : List ℕ) → IsNoList v
 token_either g (Int z) t rest flat s n ends =
     let f = first_of_number z t s in
     let whole : t ++ rest ≡ f.0 ∷ (f.1 ++ rest) = ap (λ (u : List ℕ). u ++ rest) f.2 in
-    let at : token_at (f.0 ∷ (f.1 ++ rest)) ≡ (number_at an_integer (f.0 ∷ (f.1 ++ rest)) >>= λ n. Ok (Int n.0, n.1)) = rw (f.3, f.4, f.5) refl in
-    let same : token_at (t ++ rest) ≡ (number_at an_integer (t ++ rest) >>= λ n. Ok (Int n.0, n.1)) = ap token_at whole ∙ at ∙ ap (λ (u : List ℕ). number_at an_integer u >>= λ n. Ok (Int n.0, n.1)) (sym whole) in
-    subst (λ (r : Read Value). Either (Gave g) r (Int z, rest)) (sym same) (bind_either (Gave g) (number_at an_integer (t ++ rest)) (z, rest) (λ n. Ok (Int n.0, n.1)) (Int z, rest) (number_gave g an_integer z t rest s n ends) refl)
+    let at : token_at (f.0 ∷ (f.1 ++ rest)) ≡ (number_at (greatest an_integer) (f.0 ∷ (f.1 ++ rest)) >>= λ n. Ok (Int n.0, n.1)) = rw (f.3, f.4, f.5) refl in
+    let same : token_at (t ++ rest) ≡ (number_at (greatest an_integer) (t ++ rest) >>= λ n. Ok (Int n.0, n.1)) = ap token_at whole ∙ at ∙ ap (λ (u : List ℕ). number_at (greatest an_integer) u >>= λ n. Ok (Int n.0, n.1)) (sym whole) in
+    subst (λ (r : Read Value). Either (Gave g) r (Int z, rest)) (sym same) (bind_either (Gave g) (number_at (greatest an_integer) (t ++ rest)) (z, rest) (λ n. Ok (Int n.0, n.1)) (Int z, rest) (number_gave g an_integer z t rest s n ends) refl)
 token_either g (Obj o) t rest flat s n ends =
-    let same : token_at (t ++ rest) ≡ (number_at an_object (s.0 ++ rest) >>= λ n. Ok (Obj (record { 0 = n.0 }), n.1)) = ap (λ (u : List ℕ). token_at (u ++ rest)) s.1 in
-    subst (λ (r : Read Value). Either (Gave g) r (Obj o, rest)) (sym same) (bind_either (Gave g) (number_at an_object (s.0 ++ rest)) (o.0, rest) (λ n. Ok (Obj (record { 0 = n.0 }), n.1)) (Obj o, rest) (number_gave g an_object o.0 s.0 rest s.2 n ends) refl)
+    let same : token_at (t ++ rest) ≡ (number_at (greatest an_object) (s.0 ++ rest) >>= λ n. Ok (Obj (record { 0 = n.0 }), n.1)) = ap (λ (u : List ℕ). token_at (u ++ rest)) s.1 in
+    subst (λ (r : Read Value). Either (Gave g) r (Obj o, rest)) (sym same) (bind_either (Gave g) (number_at (greatest an_object) (s.0 ++ rest)) (o.0, rest) (λ n. Ok (Obj (record { 0 = n.0 }), n.1)) (Obj o, rest) (number_gave g an_object o.0 s.0 rest s.2 n ends) refl)
 token_either g (Str u) t rest flat s n ends =
     let same : token_at (t ++ rest) ≡ (string_at false [] (s.0 ++ 34 ∷ rest) >>= λ s. Ok (Str s.0, s.1)) = ap (λ (w : List ℕ). token_at (w ++ rest)) s.1 ∙ ap (λ (w : List ℕ). string_at false [] w >>= λ s. Ok (Str s.0, s.1)) (append_assoc s.0 (34 ∷ []) rest) in
     subst (λ (r : Read Value). Either (Gave g) r (Str u, rest)) (sym same) (bind_either (Gave g) (string_at false [] (s.0 ++ 34 ∷ rest)) (u, rest) (λ s. Ok (Str s.0, s.1)) (Str u, rest) (text_gave g u rest (string_at false [] (s.0 ++ 34 ∷ rest)) n (string_either [] u s.0 rest s.2)) refl)

@@ -13,7 +13,7 @@ pub use Rattle.std.proofs.lemmas.List.{append-nil, drop_at, length-append, take-
 pub use Rattle.std.proofs.lemmas.Result.{err_from_is_err_and}
 pub use Rattle.moo_value.specs.Fault.{DepthBut, KeepsBut, MayBreak, NumberBut, TextBut}
 pub use Rattle.moo_value.specs.Literal.{AreBlanks, AreDigits, BeginsNo, Comma, Ends, Fits, Front, HoldIn, HoldInside, InRange, Item, NumberKind, Spells, SpellsBytes, SpellsItems, SpellsName, SpellsNumber, SpellsToken, an_integer, an_object, escape, is_blank, is_digit, is_word, name, print_items, signed, value_after}
-pub use Rattle.moo_value.specs.Reading.{Fails, Read, after_blanks, after_word, digits_at, items_at, limit, named, number_at, opened_at, string_at, token_at, value_at, word, ◌>>=◌}
+pub use Rattle.moo_value.specs.Reading.{Fails, Read, after_blanks, after_word, digits_at, greatest, items_at, named, number_at, opened_at, string_at, token_at, value_at, word, ◌>>=◌}
 unfoldable pub use Rattle.moo_value.specs.Reading.{literal_at}
 pub use Rattle.moo_value.specs.SameValue.{value-exact}
 pub use Rattle.moo_value.specs.Text.{IsText, is_allowed}

@@ -1,17 +1,14 @@
 //! The table of petitions.
 
-ghost use Rattle.std.specs.Prelude.{◌≡◌, IfErr, OnOk};
-ghost use Rattle.std.specs.FinMap.{empty};
 ghost use Rattle.sqlite.specs.Tree.{has_rowid};
-ghost use Rattle.moo_tables.specs.Inside.{AreKeyed};
+ghost use Rattle.moo_tables_rows.specs.Inside.{AreKeyed};
 ghost use Rattle.moo_cells_row.specs.Reading.{ReadsPetition};
-ghost use Rattle.moo_cells.specs.Holding.{petition_number, petition_key, IsLess, HoldsTable, SaysUnread};
+ghost use Rattle.moo_cells.specs.Apart.{HaveNumbers};
+ghost use Rattle.moo_cells.specs.Holding.{petition_number, petition_key, IsLess, HasWholeNumber, HoldsEachRow, SaysUnread, TellsKey};
 
-use crate::spent::Spent;
-use crate::table_row::{ReadRow, take_row};
-use moo_cells_row::{CellFault, RowFault, int_in, read_petition};
-use moo_damage::{Key, Kind};
-use moo_memory::Flat;
+use crate::table_row::ReadRow;
+use moo_cells_row::{RowFault, int_in, read_petition};
+use moo_damage::Key;
 use moo_rows::{PetitionId, PetitionRow};
 use moo_tables::Version;
 use sqlite::Row;
@@ -20,6 +17,18 @@ use std::alloc::Global;
 impl ReadRow for PetitionRow {
     ghost reads = { ReadsPetition };
 
+    ghost apart = { HaveNumbers };
+
+    ghost in_order = { AreKeyed };
+
+    ghost holds = { λ version. HoldsEachRow has_rowid petition_number (ReadsPetition version) };
+
+    ghost unread = { λ version. SaysUnread has_rowid (ReadsPetition version) IsLess petition_key };
+
+    ghost whole = { HasWholeNumber };
+
+    ghost tells = { TellsKey has_rowid petition_key };
+
     fn read(
         alloc: Global,
         version: Version,
@@ -27,32 +36,8 @@ impl ReadRow for PetitionRow {
     ) -> Result<(PetitionId, PetitionRow), RowFault> {
         read_petition(alloc, version, cells)
     }
-}
 
-/// Puts what each row of the table shows, in rows that have none of the table yet. The cells of the rows are let
-/// go soon after they are read.
-pub(crate) fn read_petitions(
-    alloc: Global,
-    version: Version,
-    cells: Vec<Row>,
-    rows: &mut Flat,
-) -> Result<(), CellFault>
-    requires listed { AreKeyed cells.items }
-    requires none { rows.old.maps.petitions ≡ empty }
-    ensures holds { OnOk result (HoldsTable has_rowid petition_number (ReadsPetition version) cells.items rows.new.maps.petitions) }
-    ensures kept { OnOk result (rows.new.maps ≡ record rows.old.maps { petitions = rows.new.maps.petitions }) }
-    ensures fault { IfErr result (SaysUnread has_rowid (ReadsPetition version) IsLess petition_key cells.items) }
-{
-    let mut spent = Spent::new(alloc);
-    for row in cells {
-        match take_row::<PetitionRow>(alloc, version, &row, rows) {
-            Ok(()) => {}
-            Err(RowFault::Unreadable) => {
-                return Err(CellFault::Damaged(Kind::BadCell, Key::Petition(int_in(&row, 0))));
-            }
-            Err(RowFault::OutOfMemory) => return Err(CellFault::OutOfMemory),
-        }
-        spent.add(row)?;
+    fn key_of(cells: &Row) -> Key {
+        Key::Petition(int_in(cells, 0))
     }
-    Ok(())
 }

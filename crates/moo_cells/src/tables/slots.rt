@@ -1,19 +1,13 @@
 //! The table of slots.
 
-ghost use Rattle.std.specs.Prelude.{◌≡◌, IfErr, OnOk};
-ghost use Rattle.std.specs.FinMap.{empty};
 ghost use Rattle.moo_tables.specs.Listing.{has_key_pair, ArePaired};
 ghost use Rattle.moo_cells_row.specs.Reading.{ReadsSlot};
 ghost use Rattle.moo_cells.specs.Apart.{HavePairs};
-ghost use Rattle.moo_cells.specs.Filled.{FillsSlots};
-ghost use Rattle.moo_cells.specs.Holding.{slot_number, slot_key, IsPairLess, HoldsTable, SaysUnread};
+ghost use Rattle.moo_cells.specs.Holding.{slot_number, slot_key, IsPairLess, HasWholePair, HoldsEachRow, SaysUnread, TellsKey};
 
-use crate::filled::FillRow;
-use crate::spent::Spent;
-use crate::table_row::{ReadRow, take_row};
-use moo_cells_row::{CellFault, RowFault, int_in, read_slot};
-use moo_damage::{Key, Kind};
-use moo_memory::Flat;
+use crate::table_row::ReadRow;
+use moo_cells_row::{RowFault, int_in, read_slot};
+use moo_damage::Key;
 use moo_rows::{PropId, SlotRow};
 use moo_tables::Version;
 use moo_value::ObjNo;
@@ -23,6 +17,18 @@ use std::alloc::Global;
 impl ReadRow for SlotRow {
     ghost reads = { ReadsSlot };
 
+    ghost apart = { HavePairs };
+
+    ghost in_order = { ArePaired };
+
+    ghost holds = { λ version. HoldsEachRow has_key_pair slot_number (ReadsSlot version) };
+
+    ghost unread = { λ version. SaysUnread has_key_pair (ReadsSlot version) IsPairLess slot_key };
+
+    ghost whole = { HasWholePair };
+
+    ghost tells = { TellsKey has_key_pair slot_key };
+
     fn read(
         alloc: Global,
         version: Version,
@@ -30,43 +36,8 @@ impl ReadRow for SlotRow {
     ) -> Result<((ObjNo, PropId), SlotRow), RowFault> {
         read_slot(alloc, version, cells)
     }
-}
 
-impl FillRow for SlotRow {
-    ghost fills = { FillsSlots };
-
-    fn put(alloc: Global, version: Version, cells: &Row, rows: &mut Flat) -> Result<(), RowFault> {
-        take_row::<SlotRow>(alloc, version, cells, rows)
+    fn key_of(cells: &Row) -> Key {
+        Key::Slot(int_in(cells, 0), int_in(cells, 1))
     }
-}
-
-/// Puts what each row of the table shows, in rows that have none of the table yet. The cells of the rows are let
-/// go soon after they are read. They may come in any order; in that of their keys a fault is of the first row that can't be read.
-pub(crate) fn read_slots(
-    alloc: Global,
-    version: Version,
-    cells: Vec<Row>,
-    rows: &mut Flat,
-) -> Result<(), CellFault>
-    requires numbered { HavePairs cells.items }
-    requires none { rows.old.maps.slots ≡ empty }
-    ensures holds { OnOk result (HoldsTable has_key_pair slot_number (ReadsSlot version) cells.items rows.new.maps.slots) }
-    ensures kept { OnOk result (rows.new.maps ≡ record rows.old.maps { slots = rows.new.maps.slots }) }
-    ensures fault { IfErr result (λ fault. ArePaired cells.items → SaysUnread has_key_pair (ReadsSlot version) IsPairLess slot_key cells.items fault) }
-{
-    let mut spent = Spent::new(alloc);
-    for row in cells {
-        match take_row::<SlotRow>(alloc, version, &row, rows) {
-            Ok(()) => {}
-            Err(RowFault::Unreadable) => {
-                return Err(CellFault::Damaged(
-                    Kind::BadCell,
-                    Key::Slot(int_in(&row, 0), int_in(&row, 1)),
-                ));
-            }
-            Err(RowFault::OutOfMemory) => return Err(CellFault::OutOfMemory),
-        }
-        spent.add(row)?;
-    }
-    Ok(())
 }

@@ -1,5 +1,5 @@
 -- The lines of entries that fit tell the entries.
-use Rattle.moo_load.{proofs.Words.{◌≡◌, ℕ, List, [], ◌∷◌, ◌++◌, refl, sym, ap, ◌∙◌, append_assoc, codes, flat_map, AllByRecursion, false≢true, Decides-eqb, Fits, Entry, an_object, a_property, a_slot, a_verb, a_petition, entry_text, entry_lines, entry_values}, proofs.One.Texts.{one_line}, proofs.One.Values.{one_object, one_property, one_slot, one_verb, one_petition}, proofs.Taken.{mark, no_end}}
+use Rattle.moo_load.{proofs.Words.{◌≡◌, ℕ, List, [], ◌∷◌, ◌++◌, refl, sym, ap, ◌∙◌, append_assoc, codes, flat_map, AllByRecursion, drop, false≢true, Decides-eqb, Fits, Entry, an_object, a_property, a_slot, a_verb, a_petition, entry_text, entry_lines, entry_values, list_of, print, word_text}, proofs.One.Texts.{one_list}, proofs.One.Values.{one_object, one_property, one_slot, one_verb, one_petition}, proofs.Taken.{kind, line_of, no_end, one_word, text_is, word_of}}
 
 -- the definer of a slot is that of its property
 abbrev pub IsOwn : Entry → Type 0
@@ -10,23 +10,23 @@ IsOwn e = Unit {0}
 abbrev pub IsFit : Entry → Type 0
 IsFit e = AllByRecursion Fits (entry_values e) × IsOwn e
 
-pub one_entry : (e f : Entry) (r q : List ℕ) → IsFit e → IsFit f → entry_text e ++ r ≡ entry_text f ++ q → (e ≡ f) × (r ≡ q)
-one_entry (an_object x a) (an_object y b) r q fe ff same =
-    let o = one_line (codes "object") _ _ _ _ r q fe.0 ff.0 same in
-    let p = one_object x y a b o.0 in (λ i. an_object (p.0 i) (p.1 i), o.1)
-one_entry (a_property x m) (a_property y n) r q fe ff same =
-    let o = one_line (codes "property") _ _ _ _ r q fe.0 ff.0 same in
-    let p = one_property x y m n o.0 in (λ i. a_property (p.0 i) (p.1 i), o.1)
-one_entry (a_slot x p s) (a_slot y n t) r q fe ff same =
-    let o = one_line (codes "slot") _ _ _ _ r q fe.0 ff.0 same in
-    let k = one_slot x y p n s t fe.1 ff.1 o.0 in (λ i. a_slot (k.0 i) (k.1 i) (k.2 i), o.1)
-one_entry (a_verb x a) (a_verb y b) r q fe ff same =
-    let o = one_line (codes "verb") _ _ _ _ r q fe.0 ff.0 same in
-    let p = one_verb x y a b o.0 in (λ i. a_verb (p.0 i) (p.1 i), o.1)
-one_entry (a_petition a) (a_petition b) r q fe ff same =
-    let o = one_line (codes "petition") _ _ _ _ r q fe.0 ff.0 same in
-    let p = one_petition a b o.0 in (λ i. a_petition (p i), o.1)
-one_entry e f r q fe ff same = absurd (false≢true ((Decides-eqb (mark (entry_text e ++ r)) (mark (entry_text f ++ q))).1 (ap mark same)))
+-- the word of an entry's line and its values tell the entry
+same_entry : (e f : Entry) → IsOwn e → IsOwn f → word_of e ≡ word_of f → entry_values e ≡ entry_values f → e ≡ f
+same_entry (an_object x a) (an_object y b) own_e own_f word same = let p = one_object x y a b same in λ i. an_object (p.0 i) (p.1 i)
+same_entry (a_property x m) (a_property y n) own_e own_f word same = let p = one_property x y m n same in λ i. a_property (p.0 i) (p.1 i)
+same_entry (a_slot x p s) (a_slot y n t) own_e own_f word same = let k = one_slot x y p n s t own_e own_f same in λ i. a_slot (k.0 i) (k.1 i) (k.2 i)
+same_entry (a_verb x a) (a_verb y b) own_e own_f word same = let p = one_verb x y a b same in λ i. a_verb (p.0 i) (p.1 i)
+same_entry (a_petition a) (a_petition b) own_e own_f word same = ap a_petition (one_petition a b same)
+same_entry e f own_e own_f word same = absurd (false≢true ((Decides-eqb (kind (word_of e)) (kind (word_of f))).1 (ap kind word)))
+
+parts : (e : Entry) (r : List ℕ) → entry_text e ++ r ≡ word_text (word_of e) ++ 32 ∷ (print (list_of (entry_values e)) ++ 10 ∷ r)
+parts e r = ap (λ (t : List ℕ). t ++ r) (text_is e) ∙ append_assoc (line_of e) (10 ∷ []) r ∙ append_assoc (word_text (word_of e)) (32 ∷ print (list_of (entry_values e))) (10 ∷ r)
+
+one_entry : (e f : Entry) (r q : List ℕ) → IsFit e → IsFit f → entry_text e ++ r ≡ entry_text f ++ q → (e ≡ f) × (r ≡ q)
+one_entry e f r q fe ff same =
+    let o = one_word (word_of e) (word_of f) _ _ (sym (parts e r) ∙ same ∙ parts f q) in
+    let v = one_list (entry_values e) (entry_values f) (10 ∷ r) (10 ∷ q) fe.0 ff.0 o.1 in
+    (same_entry e f fe.1 ff.1 o.0 v.0, ap (drop 1) v.1)
 
 more : (e : Entry) (es : List Entry) → entry_lines (e ∷ es) ≡ entry_text e ++ entry_lines es
 more e es = append_assoc (entry_text e) (flat_map entry_text es) (codes "end\n")

@@ -1,17 +1,13 @@
 -- A dump names one state.
-use Rattle.moo_load.{proofs.Words.{◌≡◌, ℕ, pos, List, ◌∷◌, ◌++◌, drop, refl, sym, ap, ◌∙◌, decimal, filter_map, Value, Int, Obj, State, heading, dump, IsHeld, AreTheSame, AreRowsOf, all_weaker, entry_lines, subst, all_properties, first_head}, proofs.One.Entries.{entries_of, dump_is}, proofs.One.Texts.{one_print}, proofs.One.Values.{object_in}, proofs.One.Injective.{one_entries, IsFit}, proofs.ReadBack.Said.{Good, all_good}, proofs.Headed.{count_fits, lines_are, top_fits, top_of, top_line}, proofs.ReadBack.Fit.{properties_are}, proofs.ReadBack.Taken.{property_in}, proofs.ReadBack.Whole.{rows_are, made_by}, proofs.Shown.Good.{same_state}}
-
-abbrev size_in : Value → ℕ
-size_in (Int (pos n)) = n
-size_in v = 0
+use Rattle.moo_load.{proofs.Words.{◌≡◌, ℕ, pos, List, ◌∷◌, ◌++◌, drop, refl, sym, ap, ◌∙◌, decimal, filter_map, Value, Int, Obj, State, heading, dump, IsHeld, AreTheSame, AreRowsOf, all_weaker, entry_lines, subst, all_properties, first_head}, proofs.One.Entries.{entries_of, dump_is}, proofs.One.Texts.{one_print}, proofs.One.Values.{integer_in, object_in, size_in}, proofs.One.Injective.{one_entries, IsFit}, proofs.ReadBack.Said.{Good, all_good}, proofs.Headed.{count_fits, lines_are, top_fits, top_of, top_line}, proofs.ReadBack.Fit.{properties_are}, proofs.ReadBack.Taken.{property_in}, proofs.ReadBack.Whole.{rows_are, made_by}, proofs.Shown.Good.{same_state}}
 
 -- the two lines of the heading, and what follows
 one_heading : (s t : State) → IsHeld s → IsHeld t → (a b : List ℕ) → heading s ++ a ≡ heading t ++ b → (s.seq ≡ t.seq) × (s.world.top ≡ t.world.top) × (a ≡ b)
 one_heading s t held_s held_t a b e =
     let f : decimal s.seq ++ 10 ∷ (top_line s ++ 10 ∷ a) ≡ decimal t.seq ++ 10 ∷ (top_line t ++ 10 ∷ b) = ap (drop 4) (sym (lines_are s a) ∙ e ∙ lines_are t b) in
-    let o = one_print (Int (pos s.seq)) (Int (pos t.seq)) (10 ∷ (top_line s ++ 10 ∷ a)) (10 ∷ (top_line t ++ 10 ∷ b)) (count_fits s.seq held_s.limit) (count_fits t.seq held_t.limit) refl refl f in
-    let p = one_print (Obj (top_of s)) (Obj (top_of t)) (10 ∷ a) (10 ∷ b) (top_fits s held_s) (top_fits t held_t) refl refl (ap (drop 5) o.1) in
-    (ap size_in o.0, ap (λ (v : Value). (object_in v).0) p.0, ap (drop 1) p.1)
+    let o = one_print (Int (pos s.seq)) (Int (pos t.seq)) (10 ∷ (top_line s ++ 10 ∷ a)) (10 ∷ (top_line t ++ 10 ∷ b)) (count_fits s.seq held_s.limit).0 (count_fits t.seq held_t.limit).0 refl refl f in
+    let p = one_print (Obj (top_of s)) (Obj (top_of t)) (10 ∷ a) (10 ∷ b) (top_fits s held_s).0 (top_fits t held_t).0 refl refl (ap (drop 5) o.1) in
+    (ap (λ (v : Value). size_in (integer_in v)) o.0, ap (λ (v : Value). (object_in v).0) p.0, ap (drop 1) p.1)
 
 -- the lines are read as the same rows, which show both
 pub told : (s t : State) → IsHeld s → IsHeld t → dump s ≡ dump t → AreTheSame s t

@@ -24,7 +24,7 @@ abbrev pub size_in : ℤ → ℕ
 size_in (pos n) = n
 size_in n = 0
 
-abbrev values_in : Value → Values
+abbrev pub values_in : Value → Values
 values_in (a_list vs) = vs
 values_in v = no_values
 

@@ -1,5 +1,5 @@
 -- The laws of the nearest common ancestor, on lists of objects.
-use Rattle.moo_world.{proofs.Words.{◌≡◌, Bool, true, false, cond, not, ◌||◌, List, [], ◌∷◌, ◌++◌, refl, sym, ◌∙◌, ap, subst, ◌⊎◌, inl, inr, Option, Some, None, append-nil, find, false≢true, or_parts, or_right, or_cases, filter-append, none-some, same_Some, ObjNo, nothing, same_object, is_among, same_object-Decides, Climbs, except}, proofs.Ancestry.Chains.{front_of, Climbs-once}, proofs.Inheritance.Owed.{is_among-append}}
+use Rattle.moo_world.{proofs.Words.{arith, ◌≡◌, Bool, true, false, cond, not, ◌||◌, List, [], ◌∷◌, ◌++◌, refl, sym, ◌∙◌, ap, subst, ◌⊎◌, inl, inr, Option, Some, None, append-nil, find, false≢true, or_parts, or_right, or_cases, filter-append, none-some, same_Some, ObjNo, nothing, same_object, is_among, same_object-Decides, Climbs, except}, proofs.Ancestry.Chains.{front_of, Climbs-once}, proofs.Inheritance.Owed.{is_among-append}}
 
 pub same_object-self : (x : ObjNo) → same_object x x ≡ true
 same_object-self x = (same_object-Decides x x).1 refl
@@ -73,5 +73,4 @@ front_within [] c d h = absurd (false≢true h)
 front_within (y ∷ l) c d h = by (same_object c y) h (front_within l c d)
   where
     by : (b : Bool) → is_among d (cond b [] (y ∷ front_of c l)) ≡ true → (is_among d (front_of c l) ≡ true → is_among d l ≡ true) → is_among d (y ∷ l) ≡ true
-    by true k r = absurd (false≢true k)
-    by false k r = elim (or_cases _ _ k) [ inl g ↦ ap (λ b. b || is_among d l) g | inr g ↦ or_right (same_object d y) (is_among d l) (r g) ]
+    by b k r = grind arith

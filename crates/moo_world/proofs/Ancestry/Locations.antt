@@ -1,14 +1,12 @@
 -- The laws of locations in a world: what an object lies in, at any depth.
-use Rattle.moo_world.proofs.Lemmas.{◌≡◌, zero, suc, false, true, ℕ, List, [], ◌∷◌, refl, sym, ◌∙◌, ap, subst, Option, Some, None, is_some, option_map, none-some, same_Some, ObjNo, ObjRow, nothing, World, WorldObject, IsTree, LocationChain, is_object, location_of, climb, location_chain, numbers_to, LookUps, world_shown, object_shown, Climbs-bound, climb_is, NumbersBelow, object_seen, no_object_seen, assigned, linked, no_link, nothing_is_no_object}
+use Rattle.moo_world.proofs.Lemmas.{arith, ◌≡◌, false, true, List, [], ◌∷◌, sym, ◌∙◌, ap, subst, Some, None, is_some, option_map, none-some, same_Some, ObjNo, ObjRow, nothing, World, WorldObject, IsTree, LocationChain, is_object, location_of, location_chain, numbers_to, LookUps, world_shown, object_shown, Climbs-bound, climb_is, NumbersBelow, object_seen, no_object_seen, no_link, nothing_is_no_object}
 
 module _ (w : World) (t : IsTree w) where
   pub no_location : location_of w nothing ≡ None
   no_location = no_link (w.object nothing) (λ r. r.row.location) (nothing_is_no_object w t)
 
   locations_below : NumbersBelow (location_of w) (numbers_to w.top)
-  locations_below x next e =
-      let range = t.numbers x (linked (w.object x) (λ r. r.row.location) next e) in
-      assigned x.0 w.top range.0 range.1
+  locations_below x next e = grind arith
 
   -- the locations are the list that `locations` computes
   pub places_is : (x : ObjNo) (l : List ObjNo) → LocationChain w x l → location_chain w x ≡ l
@@ -35,11 +33,7 @@ module _ (w : World) (t : IsTree w) where
 -- what is no object has no locations
 pub places_of_none : (w : World) (x : ObjNo) → is_object w x ≡ false → location_chain w x ≡ []
 unfolding location_chain
-places_of_none w x e = cut (numbers_to w.top)
-  where
-    cut : (n : ℕ) → climb n (location_of w) x ≡ []
-    cut zero = refl
-    cut (suc n) = subst (λ (o : Option ObjNo). elim o [ None ↦ [] | Some next ↦ x ∷ climb n (location_of w) next ] ≡ []) (sym (no_link (w.object x) (λ r. r.row.location) e)) refl
+places_of_none w x e = grind arith
 
 -- ---- by the rows
 

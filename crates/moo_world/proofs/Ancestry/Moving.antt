@@ -1,5 +1,5 @@
 -- What a change of one parent does to chains.
-use Rattle.moo_world.{proofs.Words.{◌≡◌, Bool, true, false, cond, ◌||◌, List, [], ◌∷◌, ◌++◌, map, refl, sym, ◌∙◌, ap, subst, ◌⊎◌, Option, Some, None, is_some, unwrap_or, if◌then◌else◌, option_map, flat_map, false≢true, or_parts, ObjNo, Name, nothing, same_object, is_among, same_object-Decides, World, WorldObject, IsTree, Climbs, Chain, is_object, parent_of, location_of, property_names_of, owner_of, defined_by_any, chain, with_parent}, proofs.Ancestry.Chains.{front_of}, proofs.Ancestry.Trees.{chain_is, Chain-chain, Chain-either}}
+use Rattle.moo_world.{proofs.Words.{arith, ◌≡◌, Bool, true, false, cond, ◌||◌, List, [], ◌∷◌, ◌++◌, map, refl, sym, ◌∙◌, ap, subst, ◌⊎◌, Option, Some, is_some, unwrap_or, if◌then◌else◌, option_map, flat_map, false≢true, or_parts, ObjNo, Name, nothing, same_object, is_among, same_object-Decides, World, WorldObject, IsTree, Climbs, Chain, is_object, parent_of, location_of, property_names_of, owner_of, defined_by_any, chain, with_parent}, proofs.Ancestry.Chains.{front_of}, proofs.Ancestry.Trees.{chain_is, Chain-chain, Chain-either}}
 
 module _ (w : World) (x q : ObjNo) where
   abbrev pub moved : World
@@ -12,23 +12,16 @@ module _ (w : World) (x q : ObjNo) where
   at y r = if same_object x y then change r else r
 
   at_other : (y : ObjNo) (b : Bool) (o : Option WorldObject) → same_object x y ≡ b → b ≡ false → option_map (λ r. r.row.parent) (option_map (λ r. if same_object x y then change r else r) o) ≡ option_map (λ r. r.row.parent) o
-  at_other y b None e f = refl
-  at_other y b (Some r) e f = ap (λ v. Some (cond v (change r) r).row.parent) (e ∙ f)
+  at_other y b o e f = grind arith
 
   other_parent : (y : ObjNo) → same_object x y ≡ false → parent_of moved y ≡ parent_of w y
   other_parent y e = at_other y false (w.object y) e refl
 
   at_itself : (y : ObjNo) (o : Option WorldObject) → same_object x y ≡ true → is_some o ≡ true → option_map (λ r. r.row.parent) (option_map (λ r. if same_object x y then change r else r) o) ≡ Some q
-  at_itself y None e h = absurd (false≢true h)
-  at_itself y (Some r) e h = ap (λ v. Some (cond v (change r) r).row.parent) e
+  at_itself y o e h = grind arith
 
   same_field : {A : Type 0} (f : WorldObject → A) → ((r : WorldObject) → f (change r) ≡ f r) → (y : ObjNo) (o : Option WorldObject) → option_map f (option_map (λ r. if same_object x y then change r else r) o) ≡ option_map f o
-  same_field f h y None = refl
-  same_field f h y (Some r) = by (same_object x y)
-    where
-      by : (b : Bool) → Some (f (cond b (change r) r)) ≡ Some (f r)
-      by true = ap Some (h r)
-      by false = refl
+  same_field f h y o = grind arith
 
   pub names_moved : property_names_of moved ≡ property_names_of w
   names_moved = λ i y. unwrap_or (same_field (λ r. r.defines) (λ r. refl) y (w.object y) i) []
@@ -40,11 +33,7 @@ module _ (w : World) (x q : ObjNo) where
   location_moved = λ i y. same_field (λ r. r.row.location) (λ r. refl) y (w.object y) i
 
   pub object_moved : (y : ObjNo) → is_object moved y ≡ is_object w y
-  object_moved y = by (w.object y)
-    where
-      by : (o : Option WorldObject) → is_some (option_map (λ r. if same_object x y then change r else r) o) ≡ is_some o
-      by None = refl
-      by (Some r) = refl
+  object_moved y = grind arith
 
   pub owed_moved : (l : List ObjNo) → defined_by_any moved l ≡ defined_by_any w l
   owed_moved l = ap (λ (names : ObjNo → List Name). flat_map (λ d. map (λ n. (d, n)) (names d)) l) names_moved

@@ -1,13 +1,12 @@
 -- The ascending lists of objects, and names that don't clash.
-use Rattle.moo_world.{proofs.Words.{◌≡◌, ℕ, zero, suc, ◌<◌, Bool, true, false, cond, ◌||◌, List, [], ◌∷◌, ◌++◌, map, refl, sym, ◌∙◌, ap, subst, ◌⊎◌, inl, inr, Option, Some, None, arith, pos, is_some, list_any, filter, false≢true, or_parts, or_right, or_cases, cases_eq, ObjNo, Property, object_at, same_object, same_property, folded, is_among, same_object-Decides, World, IsTree, is_object, chain, defined_by, defined_by_any, property_named, numbers_to, numbers_below, objects_of, subtree_of, shares_property_name}, proofs.Ancestry.Trees.{assigned, chain_of_none}, proofs.Inheritance.Owed.{any-append, is_among-append}, proofs.Inheritance.Keeping.{same_property-is}, proofs.Inheritance.ManualLaw.{NoClash}}
+use Rattle.moo_world.{proofs.Words.{◌≡◌, ℕ, zero, suc, ◌<◌, Bool, true, false, cond, ◌||◌, List, [], ◌∷◌, ◌++◌, map, refl, sym, ◌∙◌, ap, subst, ◌⊎◌, inl, inr, Option, None, arith, pos, is_some, list_any, filter, false≢true, or_parts, or_right, or_cases, cases_eq, ObjNo, Property, object_at, same_object, same_property, folded, is_among, same_object-Decides, World, IsTree, is_object, chain, defined_by, defined_by_any, property_named, numbers_to, numbers_below, objects_of, subtree_of, shares_property_name}, proofs.Ancestry.Trees.{assigned, chain_of_none}, proofs.Inheritance.Owed.{any-append, is_among-append}, proofs.Inheritance.Keeping.{same_property-is}, proofs.Inheritance.ManualLaw.{NoClash}}
 
 pub among_filter : (t : ObjNo → Bool) (l : List ObjNo) (d : ObjNo) → is_among d l ≡ true → t d ≡ true → is_among d (filter t l) ≡ true
 among_filter t [] d h k = h
 among_filter t (y ∷ l) d h k = by (same_object d y) refl h (among_filter t l d)
   where
     skip : (b : Bool) → is_among d (filter t l) ≡ true → is_among d (cond b (y ∷ filter t l) (filter t l)) ≡ true
-    skip true g = or_right (same_object d y) (is_among d (filter t l)) g
-    skip false g = g
+    skip b g = grind arith
 
     by : (b : Bool) → same_object d y ≡ b → (b || is_among d l) ≡ true → (is_among d l ≡ true → t d ≡ true → is_among d (filter t l) ≡ true) → is_among d (cond (t y) (y ∷ filter t l) (filter t l)) ≡ true
     by true e g r =
@@ -24,8 +23,7 @@ numbered (suc n) k d l e =
     mapped (i ∷ l) j = ap (λ r. object_at i ∷ r) (mapped l j)
 
     left : (a b : Bool) → a ≡ true → (a || b) ≡ true
-    left true b h = refl
-    left false b h = absurd (false≢true h)
+    left a b h = grind arith
 
     self : k ≡ n → d ≡ object_at n
     self g = λ i. record { 0 = (e ∙ ap pos g) i }
@@ -46,8 +44,7 @@ owed_listed w [] d p h k = absurd (false≢true h)
 owed_listed w (y ∷ l) d p h k = any-append (same_property p) (defined_by w y) (defined_by_any w l) ∙ by (or_cases _ _ h) (owed_listed w l d p)
   where
     left : (a b : Bool) → a ≡ true → (a || b) ≡ true
-    left true b e = refl
-    left false b e = absurd (false≢true e)
+    left a b e = grind arith
 
     by : (same_object d y ≡ true) ⊎ (is_among d l ≡ true) → (is_among d l ≡ true → list_any (same_property p) (defined_by w d) ≡ true → list_any (same_property p) (defined_by_any w l) ≡ true) → (list_any (same_property p) (defined_by w y) || list_any (same_property p) (defined_by_any w l)) ≡ true
     by (inl g) r = left _ _ (subst (λ z. list_any (same_property p) (defined_by w z) ≡ true) ((same_object-Decides d y).0 g) k)
@@ -60,8 +57,7 @@ none_passes t (y ∷ l) p h k =
     elim (or_cases _ _ k) [ inl g ↦ ap t (same_property-is p y g) ∙ parts.0 | inr g ↦ none_passes t l p parts.1 g ]
 
 is_none : (o : Option Property) → is_some o ≡ false → o ≡ None
-is_none None e = refl
-is_none (Some p) e = absurd (false≢true (sym e))
+is_none o e = grind arith
 
 -- the test of the call is the absence of clashes
 pub NoClash-from_meets : (w : World) (t : IsTree w) (x q : ObjNo) → shares_property_name w x q ≡ false → NoClash w x q

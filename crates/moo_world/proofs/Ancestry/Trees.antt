@@ -1,34 +1,24 @@
 -- The laws of chains in a world.
-use Rattle.moo_world.{proofs.Words.{◌≡◌, ℕ, zero, suc, ◌<◌, true, false, List, [], ◌∷◌, refl, sym, ◌∙◌, ap, subst, Option, Some, None, arith, ℤ, pos, negsuc, ◌≤ℤ◌, is_some, option_map, false≢true, ints, none-some, same_Some, ObjNo, nothing, is_among, World, WorldObject, IsTree, Chain, IsUnder, is_object, parent_of, climb, chain, numbers_to, ◌⊎◌, inl, inr}, proofs.Ancestry.Chains.{Climbs-unique, Climbs-bound, climb_is, NumbersBelow}}
+use Rattle.moo_world.{proofs.Words.{◌≡◌, ℕ, ◌<◌, true, false, List, [], ◌∷◌, refl, sym, ◌∙◌, ap, subst, Option, Some, None, arith, ℤ, pos, ◌≤ℤ◌, is_some, option_map, none-some, same_Some, ObjNo, nothing, is_among, World, WorldObject, IsTree, Chain, IsUnder, is_object, parent_of, chain, numbers_to, ◌⊎◌, inl, inr}, proofs.Ancestry.Chains.{Climbs-unique, Climbs-bound, climb_is, NumbersBelow}}
 
 pub assigned : (z top : ℤ) → pos 0 ≤ℤ z → z ≤ℤ top → (n : ℕ) × (z ≡ pos n) × (n < numbers_to top)
-assigned (pos n) (pos t) low high = (n, refl, omega (arith, ints))
-assigned (pos n) (negsuc t) low high = absurd (omega (arith, ints))
-assigned (negsuc n) top low high = absurd (omega (arith, ints))
+assigned z top low high = grind arith
 
 pub linked : (o : Option WorldObject) (f : WorldObject → ObjNo) (next : ObjNo) → option_map f o ≡ Some next → is_some o ≡ true
-linked None f next e = absurd (none-some next e)
-linked (Some r) f next e = refl
+linked o f next e = grind arith
 
 pub no_link : (o : Option WorldObject) (f : WorldObject → ObjNo) → is_some o ≡ false → option_map f o ≡ None
-no_link None f e = refl
-no_link (Some r) f e = absurd (false≢true (sym e))
+no_link o f e = grind arith
 
 module _ (w : World) (t : IsTree w) where
   pub nothing_is_no_object : is_object w nothing ≡ false
-  nothing_is_no_object =
-      elim (is_object w nothing) as (λ b. is_object w nothing ≡ b → b ≡ false) [
-        | true ↦ λ e. absurd (omega (arith, ints, (t.numbers nothing e).0))
-        | false ↦ λ e. refl
-      ] refl
+  nothing_is_no_object = grind arith
 
   pub no_parent : parent_of w nothing ≡ None
   no_parent = no_link (w.object nothing) (λ r. r.row.parent) nothing_is_no_object
 
   pub parents_below : NumbersBelow (parent_of w) (numbers_to w.top)
-  parents_below x next e =
-      let range = t.numbers x (linked (w.object x) (λ r. r.row.parent) next e) in
-      assigned x.0 w.top range.0 range.1
+  parents_below x next e = grind arith
 
   -- the chain is the list that `chain` computes
   pub chain_is : (x : ObjNo) (l : List ObjNo) → Chain w x l → chain w x ≡ l
@@ -58,11 +48,7 @@ module _ (w : World) (t : IsTree w) where
 -- what is no object has no chain but nothing's
 pub chain_of_none : (w : World) (x : ObjNo) → is_object w x ≡ false → chain w x ≡ []
 unfolding chain
-chain_of_none w x e = cut (numbers_to w.top)
-  where
-    cut : (n : ℕ) → climb n (parent_of w) x ≡ []
-    cut zero = refl
-    cut (suc n) = subst (λ (o : Option ObjNo). elim o [ None ↦ [] | Some next ↦ x ∷ climb n (parent_of w) next ] ≡ []) (sym (no_link (w.object x) (λ r. r.row.parent) e)) refl
+chain_of_none w x e = grind arith
 
 parent_seen : (o : Option WorldObject) (f : WorldObject → ObjNo) (r : WorldObject) → o ≡ Some r → option_map f o ≡ Some (f r)
 parent_seen o f r e = ap (option_map f) e

@@ -1,6 +1,5 @@
 -- What a call is given fits where all its arguments do, and a value changes no field but as it may.
-use Rattle.moo_world.proofs.Words.{◌≡◌, Bool, true, false, List, [], ◌∷◌, refl, sym, ◌∙◌, ap, Option, Some, None, Result, Ok, Err, pos, ◌&&◌, nat_le, unwrap_or, if◌then◌else◌, option_map, list_all, int_eq, and_parts, Code, ObjNo, Value, Int, Obj, Str, nesting, spread, Values, int, object, string, error, list, BuiltIn, Change, Info, is_integer, in_range, is_number, is_text, all_within_limits, is_within_limits, fits, beside_object, object_text_and_value, info_in, new_property, objects_among, object_and_accept, both, desc_of, verb_info_in, texts_in, new_verb, new_verb_info, Desc, is_allowed_change, Name, change_of, World}
-use Rattle.moo_world.specs.declared.built_in.BuiltIn.TheVariants as field
+use Rattle.moo_world.proofs.Words.{arith, ◌≡◌, Bool, true, List, [], ◌∷◌, refl, sym, ◌∙◌, ap, Option, Some, None, Result, Ok, Err, pos, ◌&&◌, nat_le, unwrap_or, if◌then◌else◌, option_map, list_all, int_eq, and_parts, Code, ObjNo, Value, Int, Obj, nesting, spread, Values, int, object, string, error, list, BuiltIn, Change, Info, is_integer, in_range, is_number, is_text, all_within_limits, is_within_limits, fits, beside_object, object_text_and_value, new_property, objects_among, object_and_accept, both, desc_of, verb_info_in, texts_in, new_verb, new_verb_info, Desc, is_allowed_change, Name, change_of, World}
 use Rattle.moo_value.{specs.declared.code.Code.TheVariants.{«Type» as wrong_type}, specs.declared.value.Value.TheVariants.{List as a_list}, specs.Values.{no_values as no_more}}
 
 -- what was read passes a test, where something was
@@ -21,32 +20,10 @@ abbrev new_value : Result (ObjNo × (Name × Value × Info)) Code → Bool
 new_value r = passes (λ a. fits a.1.1) r
 
 set_fits : (args : List Value) → list_all fits args ≡ true → set_value (object_text_and_value args) ≡ true
-set_fits (Obj x ∷ Str name ∷ v ∷ []) h = third (fits (Obj x)) (fits (Str name)) (fits v) true h
-set_fits [] h = refl
-set_fits (Obj x ∷ []) h = refl
-set_fits (a ∷ []) h = refl
-set_fits (Obj x ∷ Str name ∷ []) h = refl
-set_fits (a ∷ b ∷ []) h = refl
-set_fits (a ∷ b ∷ c ∷ []) h = refl
-set_fits (Obj x ∷ Str name ∷ v ∷ d ∷ args) h = refl
-set_fits (a ∷ b ∷ c ∷ d ∷ args) h = refl
+set_fits args h = grind arith
 
 new_fits : (args : List Value) → list_all fits args ≡ true → new_value (new_property args) ≡ true
-new_fits (Obj x ∷ Str name ∷ v ∷ a_list info ∷ []) h = by (info_in (spread info)) (third (fits (Obj x)) (fits (Str name)) (fits v) (fits (a_list info) && true) h)
-  where
-    by : (o : Option Info) → fits v ≡ true → new_value (beside_object x (option_map (λ i. (name, v, i)) o)) ≡ true
-    by None e = refl
-    by (Some i) e = e
-new_fits [] h = refl
-new_fits (Obj x ∷ []) h = refl
-new_fits (a ∷ []) h = refl
-new_fits (Obj x ∷ Str name ∷ []) h = refl
-new_fits (a ∷ b ∷ []) h = refl
-new_fits (Obj x ∷ Str name ∷ v ∷ []) h = refl
-new_fits (a ∷ b ∷ c ∷ []) h = refl
-new_fits (a ∷ b ∷ c ∷ d ∷ []) h = refl
-new_fits (Obj x ∷ Str name ∷ v ∷ a_list info ∷ e ∷ args) h = refl
-new_fits (a ∷ b ∷ c ∷ d ∷ e ∷ args) h = refl
+new_fits args h = grind arith
 
 -- the value that `set` is given
 pub set_value_fits : (args : List Value) (a : ObjNo × Name × Value) → object_text_and_value args ≡ Ok a → list_all fits args ≡ true → fits a.2 ≡ true
@@ -79,21 +56,18 @@ objects_numbered [] h = refl
 objects_numbered (Obj x ∷ vs) h = let parts = and_parts (in_range x.0) (list_all is_within_limits vs) h in by parts.0 (objects_among vs) (objects_numbered vs parts.1)
   where
     by : is_number x ≡ true → (o : Option (List ObjNo)) → unwrap_or (option_map (list_all is_number) o) true ≡ true → unwrap_or (option_map (list_all is_number) (option_map (λ l. x ∷ l) o)) true ≡ true
-    by n None e = refl
-    by n (Some l) e = λ i. n i && e i
+    by n o e = grind arith
 objects_numbered (v ∷ vs) h = refl
 
 accept_numbered : (args : List Value) → list_all fits args ≡ true → numbered (object_and_accept args) ≡ true
 accept_numbered (Obj x ∷ a_list l ∷ []) h = by (objects_among (spread l)) (objects_numbered (spread l) (each_within l (second (fits (Obj x)) (fits (a_list l)) true h)))
   where
     by : (o : Option (List ObjNo)) → unwrap_or (option_map (list_all is_number) o) true ≡ true → numbered (beside_object x (option_map Some o)) ≡ true
-    by None e = refl
-    by (Some objects) e = e
+    by o e = grind arith
 accept_numbered (Obj x ∷ Int n ∷ []) h = by (int_eq n (pos 0))
   where
     by : (b : Bool) → numbered (if b then Ok (x, None) else Err wrong_type) ≡ true
-    by true = refl
-    by false = refl
+    by b = grind arith
 accept_numbered [] h = refl
 accept_numbered (Obj x ∷ []) h = refl
 accept_numbered (a ∷ []) h = refl
@@ -112,14 +86,7 @@ abbrev names_texts : Option (Info × Name) → Bool
 names_texts o = unwrap_or (option_map (λ i. is_text i.1) o) true
 
 info_named : (vs : List Value) → list_all is_within_limits vs ≡ true → names_texts (verb_info_in vs) ≡ true
-info_named (Obj owner ∷ Str perms ∷ Str names ∷ []) h = third (in_range owner.0) (is_text perms) (is_text names) true h
-info_named [] h = refl
-info_named (Obj owner ∷ []) h = refl
-info_named (Obj owner ∷ Str perms ∷ []) h = refl
-info_named (Obj owner ∷ Str perms ∷ Str names ∷ d ∷ vs) h = refl
-info_named (Obj owner ∷ Str perms ∷ c ∷ vs) h = refl
-info_named (Obj owner ∷ b ∷ vs) h = refl
-info_named (a ∷ vs) h = refl
+info_named vs h = grind arith
 
 abbrev added : Result (ObjNo × ((Info × Name) × (Name × Name × Name))) Code → Bool
 added r = passes (λ a. is_text a.1.0.1) r
@@ -131,9 +98,7 @@ added_named : (args : List Value) → list_all fits args ≡ true → added (new
 added_named (Obj x ∷ a_list info ∷ a_list texts ∷ []) h = by (verb_info_in (spread info)) (texts_in (spread texts)) (info_named (spread info) (each_within info (second (fits (Obj x)) (fits (a_list info)) (fits (a_list texts) && true) h)))
   where
     by : (i : Option (Info × Name)) (t : Option (Name × Name × Name)) → names_texts i ≡ true → added (beside_object x (both i t)) ≡ true
-    by None t e = refl
-    by (Some i) None e = refl
-    by (Some i) (Some t) e = e
+    by i t e = grind arith
 added_named [] h = refl
 added_named (Obj x ∷ []) h = refl
 added_named (a ∷ []) h = refl
@@ -147,9 +112,7 @@ renamed_named : (args : List Value) → list_all fits args ≡ true → renamed 
 renamed_named (Obj x ∷ d ∷ a_list info ∷ []) h = by (desc_of d) (verb_info_in (spread info)) (info_named (spread info) (each_within info (third (fits (Obj x)) (fits d) (fits (a_list info)) true h)))
   where
     by : (o : Option Desc) (i : Option (Info × Name)) → names_texts i ≡ true → renamed (beside_object x (both o i)) ≡ true
-    by None i e = refl
-    by (Some o) None e = refl
-    by (Some o) (Some i) e = e
+    by o i e = grind arith
 renamed_named [] h = refl
 renamed_named (Obj x ∷ []) h = refl
 renamed_named (a ∷ []) h = refl
@@ -169,13 +132,7 @@ new_verb_info_named args a e h = sym (ap renamed e) ∙ renamed_named args h
 -- ---- fields
 
 field_allowed : (w : World) (x : ObjNo) (f : BuiltIn) (v : Value) → fits v ≡ true → passes (is_allowed_change w x) (change_of f v) ≡ true
-field_allowed w x field.Location v h = refl
-field_allowed w x field.Contents v h = refl
-field_allowed w x field.Name (Str s) h = h
-field_allowed w x field.Name v h = refl
-field_allowed w x field.Owner (Obj owner) h = h
-field_allowed w x field.Owner v h = refl
-field_allowed w x f v h = refl
+field_allowed w x f v h = grind arith
 
 -- what `set` changes of a field is allowed, where the value fits: it never is a place or an accept list
 pub change_allowed : (w : World) (x : ObjNo) (f : BuiltIn) (v : Value) (c : Change) → change_of f v ≡ Ok c → fits v ≡ true → is_allowed_change w x c ≡ true

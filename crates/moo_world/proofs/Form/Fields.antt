@@ -1,12 +1,12 @@
 -- An allowed change of one field of an object keeps the world well formed.
-use Rattle.moo_world.{proofs.Lemmas.{◌≡◌, Bool, true, false, cond, refl, sym, ◌∙◌, ap, subst, ◌⊎◌, inl, inr, List, [], Option, Some, None, not, ◌&&◌, ◌||◌, is_some, if◌then◌else◌, option_map, false≢true, and_parts, or_cases, ObjNo, ObjRow, Change, is_number, is_text, Name, nothing, same_object, same_object-Decides, World, WorldObject, IsTree, IsWellFormed, LocationChain, is_object, location_of, location_chain, accept_fits, row_fits, is_within, changed, with_row, field_changed, is_allowed_change, IsWellFormed-same_shape, both_true}, specs.declared.change.Change.TheVariants.{Owner, Location, Player, Programmer, Wizard, Readable, Writable, Fertile, Accept}, proofs.Ancestry.Locations.{places_is, LocationChain-location_chain}, proofs.Form.Rows.{same_objects, SameShape-with_row, same_places, fitting_rows}, proofs.Ancestry.Redirected.{redirected}}
+use Rattle.moo_world.{proofs.Lemmas.{arith, ◌≡◌, Bool, true, false, refl, sym, ◌∙◌, subst, ◌⊎◌, inl, inr, List, [], Option, Some, not, ◌&&◌, ◌||◌, and_parts, or_cases, ObjNo, ObjRow, Change, is_number, is_text, Name, nothing, same_object, same_object-Decides, World, IsTree, IsWellFormed, LocationChain, is_object, location_of, location_chain, accept_fits, row_fits, is_within, changed, with_row, field_changed, is_allowed_change, IsWellFormed-same_shape, both_true}, specs.declared.change.Change.TheVariants.{Owner, Location, Player, Programmer, Wizard, Readable, Writable, Fertile, Accept}, proofs.Ancestry.Locations.{places_is, LocationChain-location_chain}, proofs.Form.Rows.{same_objects, SameShape-with_row, same_directories, same_places, fitting_rows}, proofs.Ancestry.Redirected.{redirected}}
 use Rattle.moo_world.specs.declared.change.Change.TheVariants as to
 
 -- a change that keeps an object's parent and its place
 plain : (w : World) (x : ObjNo) (change : ObjRow → ObjRow) → ((r : ObjRow) → (change r).parent ≡ r.parent) → ((r : ObjRow) → (change r).location ≡ r.location) → ((r : ObjRow) → row_fits r ≡ true → row_fits (change r) ≡ true) → IsWellFormed w → IsWellFormed (with_row w x change)
 plain w x change parent location fits wf =
     IsWellFormed-same_shape w (with_row w x change) (SameShape-with_row w x change parent) wf (same_places w x change location wf)
-    (fitting_rows w x change fits wf)
+    (fitting_rows w x change fits wf) wf.limits.verbs (same_directories w x change wf)
 
 -- ---- a name, an owner and an accept list
 
@@ -14,14 +14,10 @@ named : (name : Name) (r : ObjRow) → is_text name ≡ true → row_fits r ≡ 
 named name r text e = both_true text (and_parts (is_text r.name) (is_number r.owner && accept_fits r.accept) e).1
 
 owned : (owner : ObjNo) (r : ObjRow) → is_number owner ≡ true → row_fits r ≡ true → row_fits (changed (Owner owner) r) ≡ true
-owned owner r number e =
-    let parts = and_parts (is_text r.name) (is_number r.owner && accept_fits r.accept) e in
-    both_true parts.0 (both_true number (and_parts (is_number r.owner) (accept_fits r.accept) parts.1).1)
+owned owner r number e = grind arith
 
 listed : (list : Option (List ObjNo)) (r : ObjRow) → accept_fits list ≡ true → row_fits r ≡ true → row_fits (changed (Accept list) r) ≡ true
-listed list r fits e =
-    let parts = and_parts (is_text r.name) (is_number r.owner && accept_fits r.accept) e in
-    both_true parts.0 (both_true (and_parts (is_number r.owner) (accept_fits r.accept) parts.1).0 fits)
+listed list r fits e = grind arith
 
 -- ---- a place
 
@@ -38,31 +34,22 @@ module _ (w : World) (x to : ObjNo) (there : is_object w x ≡ true) (valid_to :
   v = field_changed w x (Location to)
 
   other : (y : ObjNo) → same_object x y ≡ false → location_of v y ≡ location_of w y
-  other y e = by (w.object y)
-    where
-      by : (o : Option WorldObject) → option_map (λ r. r.row.location) (option_map (λ r. if same_object x y then (record r { row = changed (Location to) r.row }) else r) o) ≡ option_map (λ r. r.row.location) o
-      by None = refl
-      by (Some r) = ap (λ b. Some (cond b (record r { row = changed (Location to) r.row }) r).row.location) e
+  other y e = grind arith
 
   here : location_of v x ≡ Some to
-  here = by (w.object x) there
-    where
-      by : (o : Option WorldObject) → is_some o ≡ true → option_map (λ r. r.row.location) (option_map (λ r. if same_object x x then (record r { row = changed (Location to) r.row }) else r) o) ≡ Some to
-      by None e = absurd (false≢true e)
-      by (Some r) e = ap (λ b. Some (cond b (record r { row = changed (Location to) r.row }) r).row.location) ((same_object-Decides x x).1 refl)
+  here = let same = (same_object-Decides x x).1 refl in grind arith
 
   placed : IsWellFormed v
   placed =
       IsWellFormed-same_shape w v (SameShape-with_row w x (changed (Location to)) (λ r. refl)) wf
       (λ y e. let p = wf.tree.locations y (sym (same_objects w x (changed (Location to)) y) ∙ e) in redirected (location_of w) (location_of v) x to other here (location_chain w to) (has_places w wf.tree to valid_to) outside p.0 y p.1)
-      (fitting_rows w x (changed (Location to)) (λ r e. e) wf)
+      (fitting_rows w x (changed (Location to)) (λ r e. e) wf) wf.limits.verbs (same_directories w x (changed (Location to)) wf)
 
 -- ---- any field
 
 -- a test that is turned holds
 pub not_true : (b : Bool) → not b ≡ true → b ≡ false
-not_true false e = refl
-not_true true e = absurd (false≢true e)
+not_true b e = grind arith
 
 pub IsWellFormed-field_changed : (w : World) (x : ObjNo) (change : Change) → is_object w x ≡ true → is_allowed_change w x change ≡ true → IsWellFormed w → IsWellFormed (field_changed w x change)
 IsWellFormed-field_changed w x (Location to) there allowed wf =

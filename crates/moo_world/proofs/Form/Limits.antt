@@ -1,14 +1,9 @@
 -- What the limits of a well formed world say of numbers, of an object's row and of a fresh slot.
-use Rattle.moo_world.{proofs.Words.{◌≡◌, Bool, true, false, ◌||◌, refl, sym, ◌∙◌, ap, subst, inl, inr, Option, Some, None, ℤ, pos, FitsSigned, w32, arith, ◌&&◌, ◌≤ℤ◌, unwrap_or, if◌then◌else◌, option_map, and_parts, or_cases, ints, ObjNo, IsText, VerbRow, is_number, is_text, nothing, same_object, same_object-Decides, World, WorldObject, Slot, IsWellFormed, KeepsLimits, is_object, owner_of, fresh, has_word, accept_fits, row_fits, verb_fits, slot_fits, state_fits, with_slots, without_slots, both_true}, proofs.Form.Ranges.{range_of, text_of}}
+use Rattle.moo_world.{proofs.Words.{◌≡◌, true, ◌||◌, refl, sym, ◌∙◌, ap, subst, inl, inr, Option, Some, None, FitsSigned, w32, arith, ◌&&◌, unwrap_or, option_map, and_parts, or_cases, ObjNo, IsText, VerbRow, is_number, is_text, nothing, same_object, same_object-Decides, World, WorldObject, Slot, IsWellFormed, KeepsLimits, is_object, owner_of, fresh, has_word, accept_fits, row_fits, verb_fits, slot_fits, state_fits, with_slots, without_slots, both_true}, proofs.Form.Ranges.{range_of, text_of}}
 
 -- the number of an object has 32 bits
 pub object_numbered : (w : World) → IsWellFormed w → (x : ObjNo) → is_object w x ≡ true → is_number x ≡ true
-object_numbered w wf x o =
-    let h = wf.tree.numbers x o in
-    range_of x.0 (within x.0 w.top h.0 h.1 wf.limits.top.1)
-  where
-    within : (n top : ℤ) → pos 0 ≤ℤ n → n ≤ℤ top → top ≤ℤ pos 2147483647 → FitsSigned w32 n
-    within n top a b c = grind (arith, ints)
+object_numbered w wf x o = grind arith
 
 -- and so has what is an object or nothing
 pub known_numbered : (w : World) → IsWellFormed w → (x : ObjNo) → (is_object w x || same_object nothing x) ≡ true → is_number x ≡ true
@@ -26,11 +21,7 @@ row_owner r e = (and_parts (is_number r.row.owner) (accept_fits r.row.accept) (a
 
 -- the owner of an object has a number of 32 bits
 pub owner_numbered : (w : World) → KeepsLimits (without_slots w) → (x : ObjNo) → is_number (owner_of w x) ≡ true
-owner_numbered w limits x = by (w.object x) refl
-  where
-    by : (o : Option WorldObject) → w.object x ≡ o → is_number (unwrap_or (option_map (λ r. r.row.owner) o) nothing) ≡ true
-    by None e = refl
-    by (Some r) e = row_owner r (row_fitting w limits x r e)
+owner_numbered w limits x = grind arith
 
 pub slot_owner : (s : Slot) → slot_fits s ≡ true → is_number s.owner ≡ true
 slot_owner s f = (and_parts (is_number s.owner) (state_fits s.state) f).0
@@ -43,11 +34,7 @@ slot_within s n f = λ i. n i && f i
 
 -- a slot that is fresh from one that fits
 pub fresh_fits : (owner : ObjNo) (s : Slot) → is_number owner ≡ true → slot_fits s ≡ true → slot_fits (fresh owner s) ≡ true
-fresh_fits owner s o f = by s.bits.c
-  where
-    by : (c : Bool) → (is_number (if c then owner else s.owner) && true) ≡ true
-    by true = ap (λ b. b && true) o
-    by false = ap (λ b. b && true) (slot_owner s f)
+fresh_fits owner s o f = grind arith
 
 -- ---- what the types keep
 

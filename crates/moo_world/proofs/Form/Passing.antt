@@ -48,3 +48,6 @@ on_done P v next h = h
 pub on_failed : {S : Type 0} (P : Value → S → Type 0) (code : Code) → Holds P (Failed code)
 unfolding Holds
 on_failed P code = tt
+
+-- the checks of a call, one after another
+pub ruleset each_check = (on_check, on_room, on_given, on_found, on_next, on_field, on_done, on_failed)

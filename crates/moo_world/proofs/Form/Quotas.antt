@@ -1,5 +1,5 @@
 -- Quotas are moved within 64 bits, so that the world stays well formed.
-use Rattle.moo_world.{proofs.Lemmas.{◌≡◌, Bool, true, false, ◌||◌, List, [], ◌∷◌, refl, sym, ◌∙◌, ap, subst, inl, inr, Option, Some, None, ℤ, pos, negsuc, FitsSigned, w64, arith, ◌+ℤ◌, int_lt, nat_le, unwrap_or, if◌then◌else◌, option_map, both_ways, or_cases, and_parts, ints, none-some, same_Some, ObjNo, Value, Int, Obj, Str, Error, nesting, SlotState, Clear, Set, fits, is_integer, is_number, next_object, owner_or_self, created, Name, nothing, same_object, folded, quota_name, quota_in, quota_of, quota_changed, may_afford, has_quota_left, charged, quota_returned, set_slot, World, Slot, IsWellFormed, is_object, slot_of, chain, read_in, read_along, read_of, object_changed, state_fits, known_numbered, integer_of, integer_fits}, proofs.Form.Values.{set_formed}, proofs.Ownership.Created.{formed, new_numbered, read_old}}
+use Rattle.moo_world.{proofs.Lemmas.{◌≡◌, Bool, true, false, ◌||◌, List, [], ◌∷◌, refl, sym, ◌∙◌, ap, subst, inl, inr, Option, Some, None, ℤ, pos, negsuc, arith, ◌+ℤ◌, int_lt, nat_le, unwrap_or, if◌then◌else◌, option_map, both_ways, or_cases, and_parts, none-some, same_Some, ObjNo, Value, Int, Obj, Str, Error, nesting, SlotState, Clear, Set, fits, is_integer, is_number, next_object, owner_or_self, created, Name, nothing, same_object, folded, quota_name, quota_in, quota_of, quota_changed, may_afford, has_quota_left, charged, quota_returned, set_slot, World, Slot, IsWellFormed, is_object, slot_of, chain, read_in, read_along, read_of, object_changed, state_fits, known_numbered}, proofs.Form.Values.{set_formed}, proofs.Ownership.Created.{formed, new_numbered, read_old}}
 use Rattle.moo_value.specs.declared.value.Value.TheVariants.{List as a_list}
 
 -- ---- what is read
@@ -43,16 +43,10 @@ moved w o more room wf = by (quota_of w o) refl
     by (Some had) e = subst IsWellFormed (ap (λ n. object_changed w o (set_slot n (Set (Int (had +ℤ more))))) quota_spelled) (set_formed w o quota_name (Int (had +ℤ more)) (room had e) wf)
 
 less_fits : (k : ℤ) → is_integer k ≡ true → int_lt (pos 0) k ≡ true → is_integer (k +ℤ negsuc 0) ≡ true
-less_fits k f h = integer_of (k +ℤ negsuc 0) (less k (integer_fits k f) h)
-  where
-    less : (k : ℤ) → FitsSigned w64 k → int_lt (pos 0) k ≡ true → FitsSigned w64 (k +ℤ negsuc 0)
-    less k f h = grind (arith, ints)
+less_fits k f h = grind arith
 
 more_fits : (k : ℤ) → is_integer k ≡ true → int_lt k (pos 9223372036854775807) ≡ true → is_integer (k +ℤ pos 1) ≡ true
-more_fits k f h = integer_of (k +ℤ pos 1) (more k (integer_fits k f) h)
-  where
-    more : (k : ℤ) → FitsSigned w64 k → int_lt k (pos 9223372036854775807) ≡ true → FitsSigned w64 (k +ℤ pos 1)
-    more k f h = grind (arith, ints)
+more_fits k f h = grind arith
 
 -- a new object is paid for
 pub charged_formed : (w : World) → IsWellFormed w → (x q owner : ObjNo) → next_object w ≡ Some x → (is_object w q || same_object nothing q) ≡ true → (is_object w owner || same_object nothing owner) ≡ true → may_afford w owner ≡ true → IsWellFormed (charged (created w x q (owner_or_self x owner)) owner)

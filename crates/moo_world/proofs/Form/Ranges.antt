@@ -1,22 +1,18 @@
 -- The limits that the types of values keep, and the tests of them.
-use Rattle.moo_world.proofs.Words.{◌≡◌, ◌≤◌, ◌<◌, Bool, true, false, ◌&&◌, ◌↔◌, refl, sym, ℤ, pos, negsuc, FitsSigned, w32, w64, arith, ℕ, List, length, IsTrue, nat_le, list_all, false≢true, and_parts, le-leb, leb-true, lt-ltb, ltb-true, ints, Value, Int, Obj, Str, Error, IsText, is_allowed, nesting, Values, int, object, string, error, list, is_integer, in_range, is_text, all_within_limits, is_within_limits, fits, TextIsTested, FitsIsTested, both_true}
+use Rattle.moo_world.proofs.Words.{◌≡◌, ◌≤◌, Bool, true, false, ◌&&◌, ◌↔◌, refl, sym, ℤ, FitsSigned, w32, w64, arith, ℕ, List, length, IsTrue, nat_le, list_all, and_parts, le-leb, leb-true, Value, Int, Obj, Str, Error, IsText, is_allowed, nesting, Values, int, object, string, error, list, is_integer, in_range, is_text, all_within_limits, is_within_limits, fits, TextIsTested, FitsIsTested, both_true}
 use Rattle.moo_value.{specs.declared.value.Value.TheVariants.{List as a_list}, specs.Literal.{HoldInside, HoldIn, InRange, Fits}, specs.Values.{no_values}}
 
 pub range_of : (n : ℤ) → FitsSigned w32 n → in_range n ≡ true
-range_of (pos n) f = lt-ltb n 2147483648 (omega (arith, ints))
-range_of (negsuc n) f = lt-ltb n 2147483648 (omega (arith, ints))
+range_of n f = grind arith
 
 pub fits_signed : (n : ℤ) → in_range n ≡ true → FitsSigned w32 n
-fits_signed (pos n) e = let h : n < 2147483648 = ltb-true n 2147483648 e in grind (arith, ints)
-fits_signed (negsuc n) e = let h : n < 2147483648 = ltb-true n 2147483648 e in grind (arith, ints)
+fits_signed n e = grind arith
 
 pub integer_of : (n : ℤ) → FitsSigned w64 n → is_integer n ≡ true
-integer_of (pos n) f = lt-ltb n 9223372036854775808 (omega (arith, ints))
-integer_of (negsuc n) f = lt-ltb n 9223372036854775808 (omega (arith, ints))
+integer_of n f = grind arith
 
 pub integer_fits : (n : ℤ) → is_integer n ≡ true → FitsSigned w64 n
-integer_fits (pos n) e = let h : n < 9223372036854775808 = ltb-true n 9223372036854775808 e in grind (arith, ints)
-integer_fits (negsuc n) e = let h : n < 9223372036854775808 = ltb-true n 9223372036854775808 e in grind (arith, ints)
+integer_fits n e = grind arith
 
 pub text_of : (s : List ℕ) → IsText s → is_text s ≡ true
 text_of s t = both_true (le-leb (length s) 65535 t.short) t.allowed
@@ -64,8 +60,7 @@ fits_is v true depth limits = sym (fits_of v (limits refl))
 fits_is v false depth limits = by (nat_le (nesting v) 32) refl
   where
     by : (c : Bool) → nat_le (nesting v) 32 ≡ c → false ≡ (c && is_within_limits v)
-    by false e = refl
-    by true e = absurd (false≢true (depth.1 (leb-true (nesting v) 32 e)))
+    by c e = grind arith
 
 pub text_tested : TextIsTested
 text_tested s = (is_text_of s, text_of s)

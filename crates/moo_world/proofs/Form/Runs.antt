@@ -1,5 +1,5 @@
 -- A run of batches leaves a well formed world and petitions of such ones.
-use Rattle.moo_world.{proofs.Words.{◌≡◌, Bool, true, false, List, [], ◌∷◌, refl, nat_lt, if◌then◌else◌, list_all, and_parts, ObjNo, Value, Batch, Call, Ran, Through, FailedAt, FullAt, NoRoom, Stale, after_one, run_calls, is_due, last_seq, verdict_of, judge, left_by, arguments_fit, RunsKeepForm, Outcome, Done, Failed, Full, State, IsFormed, batch_call}, proofs.Form.Petitions.{requests_keep_form}}
+use Rattle.moo_world.{proofs.Words.{arith, ◌≡◌, Bool, true, false, List, [], ◌∷◌, refl, nat_lt, if◌then◌else◌, list_all, and_parts, ObjNo, Value, Batch, Call, Ran, Through, FailedAt, FullAt, NoRoom, Stale, after_one, run_calls, is_due, last_seq, verdict_of, judge, left_by, arguments_fit, RunsKeepForm, Outcome, Done, Failed, Full, State, IsFormed, batch_call}, proofs.Form.Petitions.{requests_keep_form}}
 
 -- calls that were all done leave them so
 abbrev LeavesForm : Ran → Type 0
@@ -8,9 +8,7 @@ LeavesForm (FailedAt k e) = Unit {0}
 LeavesForm (FullAt k) = Unit {0}
 
 one_more : (v : Value) (r : Ran) → LeavesForm r → LeavesForm (after_one v r)
-one_more v (Through vs s) h = h
-one_more v (FailedAt k e) h = h
-one_more v (FullAt k) h = h
+one_more v r h = grind arith
 
 calls_leave : (s : State) (p : ObjNo) (calls : List Call) → IsFormed s → list_all arguments_fit calls ≡ true → LeavesForm (run_calls s p calls)
 calls_leave s p [] formed fit = formed
@@ -26,9 +24,7 @@ calls_leave s p (call ∷ calls) formed fit = by (batch_call s p call) refl (λ 
     by Full e rest = tt
 
 verdict_leaves : (s : State) (r : Ran) → IsFormed s → LeavesForm r → IsFormed (left_by s (verdict_of s.seq r))
-verdict_leaves s (Through vs t) formed h = record { world = h.world; petitions = h.petitions }
-verdict_leaves s (FailedAt k e) formed h = formed
-verdict_leaves s (FullAt k) formed h = formed
+verdict_leaves s r formed h = grind arith
 
 judged_leaves : (s : State) (b : Batch) → IsFormed s → list_all arguments_fit b.calls ≡ true → IsFormed (left_by s (judge s b))
 unfolding judge

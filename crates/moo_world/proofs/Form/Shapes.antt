@@ -1,47 +1,33 @@
 -- Worlds of one shape: where one is well formed, so is the other.
-use Rattle.moo_world.proofs.Words.{◌≡◌, ◌≤◌, true, refl, sym, ◌∙◌, ap, subst, List, [], Option, Some, None, ◌<◌, ◌≤ℤ◌, pos, negsuc, map, unwrap_or, is_some, option_map, list_all, flat_map, ObjNo, ObjRow, World, WorldObject, IsWellFormed, KeepsLimits, IsTree, Climbs, Chain, LocationChain, NamesDiffer, is_object, parent_of, location_of, property_names_of, defined_by_any, property_named, slot_of, directory_of, row_of, without_slots, with_slots, is_property_name, verb_fits, row_fits}
+use Rattle.moo_world.proofs.Words.{arith, ◌≡◌, ◌≤◌, true, sym, ◌∙◌, ap, subst, List, ◌<◌, ◌≤ℤ◌, pos, negsuc, map, unwrap_or, option_map, list_all, flat_map, ObjNo, ObjRow, World, WorldObject, IsWellFormed, KeepsLimits, IsTree, Climbs, Chain, LocationChain, NamesDiffer, is_object, parent_of, location_of, property_names_of, defined_by_any, property_named, slot_of, directory_of, row_of, without_slots, is_property_name, verb_fits, row_fits}
 
--- the worlds differ in fields of rows alone, and not in parents
+-- the worlds differ in fields of rows and in verbs alone, and not in parents
 pub record SameShape (w v : World) : Type 0 where
   pub objects : is_object v ≡ is_object w
   pub top : v.top ≡ w.top
   pub next_prop : v.next_prop ≡ w.next_prop
-  pub next_verb : v.next_verb ≡ w.next_verb
   pub parents : parent_of v ≡ parent_of w
   pub names : property_names_of v ≡ property_names_of w
   pub slots : slot_of v ≡ slot_of w
-  pub verbs : directory_of v ≡ directory_of w
+
+-- functions that agree everywhere are one
+pub agree : {A B : Type 0} {f g : A → B} → ((x : A) → f x ≡ g x) → f ≡ g
+agree h = λ i x. h x i
 
 module _ (w : World) where
   bare_names : property_names_of (without_slots w) ≡ property_names_of w
-  bare_names = λ i x. by (w.object x) i
-    where
-      by : (o : Option WorldObject) → unwrap_or (option_map (λ r. r.defines) (option_map (with_slots (λ n. None)) o)) [] ≡ unwrap_or (option_map (λ r. r.defines) o) []
-      by None = refl
-      by (Some r) = refl
+  bare_names = agree λ x. grind arith
 
   bare_verbs : directory_of (without_slots w) ≡ directory_of w
-  bare_verbs = λ i x. by (w.object x) i
-    where
-      by : (o : Option WorldObject) → unwrap_or (option_map (λ r. r.verbs) (option_map (with_slots (λ n. None)) o)) [] ≡ unwrap_or (option_map (λ r. r.verbs) o) []
-      by None = refl
-      by (Some r) = refl
+  bare_verbs = agree λ x. grind arith
 
   pub bare_rows : row_of (without_slots w) ≡ row_of w
-  bare_rows = λ i x. by (w.object x) i
-    where
-      by : (o : Option WorldObject) → option_map (λ r. r.row) (option_map (with_slots (λ n. None)) o) ≡ option_map (λ r. r.row) o
-      by None = refl
-      by (Some r) = refl
+  bare_rows = agree λ x. grind arith
 
 -- worlds whose objects differ in what they define and in slots alone
 module _ (w v : World) (f : ObjNo → WorldObject → WorldObject) (is : (y : ObjNo) → v.object y ≡ option_map (f y) (w.object y)) (rows : (y : ObjNo) (r : WorldObject) → (f y r).row ≡ r.row) where
   alike : {A : Type 0} (g : WorldObject → A) → ((y : ObjNo) (r : WorldObject) → g (f y r) ≡ g r) → (y : ObjNo) → option_map g (v.object y) ≡ option_map g (w.object y)
-  alike g e y = ap (option_map g) (is y) ∙ by (w.object y)
-    where
-      by : (o : Option WorldObject) → option_map g (option_map (f y) o) ≡ option_map g o
-      by None = refl
-      by (Some r) = ap Some (e y r)
+  alike g e y = grind (arith, is y, e y)
 
   pub parents_alike : parent_of v ≡ parent_of w
   parents_alike = λ i y. alike (λ r. r.row.parent) (λ y r. ap (λ (k : ObjRow). k.parent) (rows y r)) y i
@@ -50,11 +36,7 @@ module _ (w v : World) (f : ObjNo → WorldObject → WorldObject) (is : (y : Ob
   locations_alike = λ i y. alike (λ r. r.row.location) (λ y r. ap (λ (k : ObjRow). k.location) (rows y r)) y i
 
   pub objects_alike : (y : ObjNo) → is_object v y ≡ is_object w y
-  objects_alike y = ap is_some (is y) ∙ by (w.object y)
-    where
-      by : (o : Option WorldObject) → is_some (option_map (f y) o) ≡ is_some o
-      by None = refl
-      by (Some r) = refl
+  objects_alike y = grind (arith, is y)
 
   pub tree_alike : v.top ≡ w.top → IsTree w → IsTree v
   tree_alike top tree = record {
@@ -65,20 +47,14 @@ module _ (w v : World) (f : ObjNo → WorldObject → WorldObject) (is : (y : Ob
 
   pub limits_alike : v.top ≡ w.top → (0 < v.next_prop) × (v.next_prop ≤ 4294967295) → v.next_verb ≡ w.next_verb → ((y : ObjNo) (r : WorldObject) → (f y r).verbs ≡ r.verbs)
       → ((y : ObjNo) → list_all is_property_name (property_names_of v y) ≡ true) → KeepsLimits (without_slots w) → KeepsLimits (without_slots v)
-  limits_alike top props next_verb verbs names limits = record {
-    top = subst (λ n. (negsuc 0 ≤ℤ n) × (n ≤ℤ pos 2147483647)) (sym top) limits.top;
-    props = props;
-    verbs = subst (λ n. (0 < n) × (n ≤ 4294967295)) (sym next_verb) limits.verbs;
-    names = λ y. ap (λ g. list_all is_property_name (g y)) (bare_names v) ∙ names y;
-    directories = λ y. ap (λ g. list_all verb_fits (g y)) (bare_verbs v) ∙ ap (λ o. list_all verb_fits (unwrap_or o [])) (alike (λ r. r.verbs) verbs y) ∙ ap (λ g. list_all verb_fits (g y)) (sym (bare_verbs w)) ∙ limits.directories y;
-    rows = λ y. ap (λ g. unwrap_or (option_map row_fits (g y)) true) (bare_rows v) ∙ ap (λ o. unwrap_or (option_map row_fits o) true) (alike (λ r. r.row) rows y) ∙ ap (λ g. unwrap_or (option_map row_fits (g y)) true) (sym (bare_rows w)) ∙ limits.rows y;
-  }
+  limits_alike top props next_verb verbs names limits = grind arith
 
 -- what an object of a well formed world defines has names that a property may have
 pub names_fit : (w : World) → KeepsLimits (without_slots w) → (y : ObjNo) → list_all is_property_name (property_names_of w y) ≡ true
 names_fit w limits y = ap (λ g. list_all is_property_name (g y)) (sym (bare_names w)) ∙ limits.names y
 
-module _ (w v : World) (same : SameShape w v) (wf : IsWellFormed w) (locations : (x : ObjNo) → is_object v x ≡ true → (l : List ObjNo) × LocationChain v x l) (rows : (x : ObjNo) → unwrap_or (option_map row_fits (row_of v x)) true ≡ true) where
+module _ (w v : World) (same : SameShape w v) (wf : IsWellFormed w) (locations : (x : ObjNo) → is_object v x ≡ true → (l : List ObjNo) × LocationChain v x l) (rows : (x : ObjNo) → unwrap_or (option_map row_fits (row_of v x)) true ≡ true)
+    (room : (0 < v.next_verb) × (v.next_verb ≤ 4294967295)) (directories : (x : ObjNo) → list_all verb_fits (directory_of v x) ≡ true) where
   object_was : (x : ObjNo) → is_object v x ≡ true → is_object w x ≡ true
   object_was x e = sym (ap (λ f. f x) same.objects) ∙ e
 
@@ -92,9 +68,9 @@ module _ (w v : World) (same : SameShape w v) (wf : IsWellFormed w) (locations :
   limits_kept = record {
     top = subst (λ t. (negsuc 0 ≤ℤ t) × (t ≤ℤ pos 2147483647)) (sym same.top) wf.limits.top;
     props = subst (λ n. (0 < n) × (n ≤ 4294967295)) (sym same.next_prop) wf.limits.props;
-    verbs = subst (λ n. (0 < n) × (n ≤ 4294967295)) (sym same.next_verb) wf.limits.verbs;
+    verbs = room;
     names = λ x. subst (λ f. list_all is_property_name (f x) ≡ true) (bare_names w ∙ sym same.names ∙ sym (bare_names v)) (wf.limits.names x);
-    directories = λ x. subst (λ f. list_all verb_fits (f x) ≡ true) (bare_verbs w ∙ sym same.verbs ∙ sym (bare_verbs v)) (wf.limits.directories x);
+    directories = λ x. subst (λ f. list_all verb_fits (f x) ≡ true) (sym (bare_verbs v)) (directories x);
     rows = λ x. subst (λ f. unwrap_or (option_map row_fits (f x)) true ≡ true) (sym (bare_rows v)) (rows x);
   }
 

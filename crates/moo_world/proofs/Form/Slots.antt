@@ -1,5 +1,5 @@
 -- A changed slot keeps the world well formed.
-use Rattle.moo_world.{proofs.Words.{◌≡◌, ◌≢◌, Bool, true, false, refl, sym, ◌∙◌, ap, subst, Option, Some, None, ◌&&◌, ◌≤ℤ◌, if◌then◌else◌, option_map, option_and_then, and_parts, none-some, same_Some, ObjNo, Clear, Name, Property, same_object, same_text, folded, same_object-Decides, same_text-Decides, World, WorldObject, Slot, IsTree, IsWellFormed, Climbs, NamesDiffer, is_object, location_of, slot_of, property_named, with_slots, KeepsLimits, SameButSlots, slot_fits, with_slot_of}, proofs.Inheritance.Rebuilding.{parents_same, objects_same, owed_same, Chain-same}}
+use Rattle.moo_world.{proofs.Words.{arith, ◌≡◌, ◌≢◌, Bool, true, false, refl, sym, ◌∙◌, ap, subst, Option, Some, None, ◌&&◌, ◌≤ℤ◌, if◌then◌else◌, option_map, and_parts, none-some, same_Some, ObjNo, Clear, Name, Property, same_object, same_text, folded, same_object-Decides, same_text-Decides, World, WorldObject, Slot, IsTree, IsWellFormed, Climbs, NamesDiffer, is_object, location_of, slot_of, property_named, with_slots, KeepsLimits, SameButSlots, slot_fits, with_slot_of}, proofs.Inheritance.Rebuilding.{parents_same, objects_same, owed_same, Chain-same}}
 
 -- worlds that differ in slots alone are well formed alike, where the slots have the same definers and those on them are set
 module _ (v w : World) (same : SameButSlots v w) (wf : IsWellFormed w) (definers : (y : ObjNo) (n : Name) → option_map (λ s. s.definer) (slot_of v y n) ≡ option_map (λ s. s.definer) (slot_of w y n)) (set : (y : ObjNo) (n : Name) (s : Slot) → slot_of v y n ≡ Some s → s.definer ≡ y → s.state ≢ Clear) (fit : (y : ObjNo) (n : Name) (s : Slot) → slot_of v y n ≡ Some s → slot_fits s ≡ true) where
@@ -7,8 +7,7 @@ module _ (v w : World) (same : SameButSlots v w) (wf : IsWellFormed w) (definers
   location_same = (λ i x. sym (bare (v.object x)) i) ∙ ap location_of same ∙ (λ i x. bare (w.object x) i)
     where
       bare : (o : Option WorldObject) → option_map (λ k. k.row.location) (option_map (with_slots (λ n. None)) o) ≡ option_map (λ k. k.row.location) o
-      bare None = refl
-      bare (Some k) = refl
+      bare o = grind arith
 
   back : (x : ObjNo) → is_object v x ≡ true → is_object w x ≡ true
   back x o = sym (objects_same v w same x) ∙ o
@@ -35,42 +34,18 @@ module _ (w : World) (x : ObjNo) (n : Name) (change : Slot → Slot) where
   v = with_slot_of w x n change
 
   pub same_links : SameButSlots v w
-  same_links = λ i. record w { object = λ y. bare (same_object x y) (w.object y) i }
-    where
-      bare : (b : Bool) (o : Option WorldObject) → option_map (with_slots (λ n. None)) (option_map (λ (r : WorldObject). if b then record r { slot = λ m. if same_text (folded n) m then option_map change (r.slot m) else r.slot m } else r) o) ≡ option_map (with_slots (λ n. None)) o
-      bare b None = refl
-      bare true (Some r) = refl
-      bare false (Some r) = refl
+  same_links = grind arith
 
   abbrev here : ObjNo → Name → Bool
   here y m = same_object x y && same_text (folded n) m
 
   -- the slot of x is the changed one, and every other slot is as it was
   pub slot_changed : (y : ObjNo) (m : Name) → slot_of v y m ≡ (if same_object x y && same_text (folded n) m then option_map change (slot_of w y m) else slot_of w y m)
-  slot_changed y m = by (same_object x y) (w.object y)
-    where
-      inner : (r : WorldObject) (b : Bool) → (if b then option_map change (r.slot m) else r.slot m) ≡ (if b then option_map change (option_and_then (λ (k : WorldObject). k.slot m) (Some r)) else option_and_then (λ (k : WorldObject). k.slot m) (Some r))
-      inner r true = refl
-      inner r false = refl
-
-      none : (b : Bool) → ◌≡◌ {A = Option Slot} None (if b then None else None)
-      none true = refl
-      none false = refl
-
-      by : (a : Bool) (o : Option WorldObject) → option_and_then (λ (r : WorldObject). r.slot m) (option_map (λ (r : WorldObject). if a then record r { slot = λ k. if same_text (folded n) k then option_map change (r.slot k) else r.slot k } else r) o) ≡ (if a && same_text (folded n) m then option_map change (option_and_then (λ (r : WorldObject). r.slot m) o) else option_and_then (λ (r : WorldObject). r.slot m) o)
-      by true None = none (same_text (folded n) m)
-      by false None = refl
-      by true (Some r) = inner r (same_text (folded n) m)
-      by false (Some r) = refl
+  slot_changed y m = grind arith
 
   module _ (wf : IsWellFormed w) (keeps : (s : Slot) → (change s).definer ≡ s.definer) (set : (s : Slot) → slot_of w x (folded n) ≡ Some s → s.definer ≡ x → (change s).state ≢ Clear) (fits_still : (s : Slot) → slot_fits s ≡ true → slot_fits (change s) ≡ true) where
     definers : (y : ObjNo) (m : Name) → option_map (λ s. s.definer) (slot_of v y m) ≡ option_map (λ s. s.definer) (slot_of w y m)
-    definers y m = ap (option_map (λ (s : Slot). s.definer)) (slot_changed y m) ∙ by (here y m) (slot_of w y m)
-      where
-        by : (b : Bool) (o : Option Slot) → option_map (λ s. s.definer) (if b then option_map change o else o) ≡ option_map (λ s. s.definer) o
-        by false o = refl
-        by true None = refl
-        by true (Some s) = ap Some (keeps s)
+    definers y m = grind arith
 
     set_still : (y : ObjNo) (m : Name) (s : Slot) → slot_of v y m ≡ Some s → s.definer ≡ y → s.state ≢ Clear
     set_still y m s e d = by (here y m) refl (slot_of w y m) refl (sym (slot_changed y m) ∙ e)
@@ -89,9 +64,7 @@ module _ (w : World) (x : ObjNo) (n : Name) (change : Slot → Slot) where
     fit_still y m s e = by (here y m) (slot_of w y m) refl (sym (slot_changed y m) ∙ e)
       where
         by : (b : Bool) (o : Option Slot) → slot_of w y m ≡ o → (if b then option_map change o else o) ≡ Some s → slot_fits s ≡ true
-        by false o g k = wf.fit y m s (g ∙ k)
-        by true None g k = absurd (none-some s k)
-        by true (Some t) g k = ap slot_fits (sym (same_Some (change t) s k)) ∙ fits_still t (wf.fit y m t g)
+        by b o g k = grind arith
 
     pub IsWellFormed-with_slot_of : IsWellFormed v
     IsWellFormed-with_slot_of = formed_alike v w same_links wf definers set_still fit_still

@@ -1,5 +1,5 @@
 -- A value that is set and a new name keep the world well formed, and worlds with other slots have names clash alike.
-use Rattle.moo_world.{proofs.Lemmas.{◌≡◌, true, false, ◌||◌, List, [], ◌∷◌, map, refl, ◌∙◌, ap, subst, ◌⊎◌, inl, inr, None, is_some, if◌then◌else◌, option_map, filter, flat_map, list_any, false≢true, or_cases, ObjNo, Value, Set, fits, clashes, property_renamed, with_slot_of, Name, object_at, same_object, same_text, same_property, folded, is_among, same_text-Decides, same_property-self, defines_name, numbers_below, World, WorldObject, IsWellFormed, SameButSlots, is_object, is_property_name, property_names_of, numbers_to, property_named, chain, IsWellFormed-with_slot_of, slot_owner, names_same, objects_same, both_true}, proofs.Ownership.Created.{chains_same}, proofs.Inheritance.Replacement.{IsWellFormed-property_renamed}}
+use Rattle.moo_world.{proofs.Lemmas.{arith, ◌≡◌, true, false, ◌||◌, List, [], ◌∷◌, map, refl, ◌∙◌, ap, subst, ◌⊎◌, inl, inr, is_some, filter, flat_map, list_any, false≢true, or_cases, ObjNo, Value, Set, fits, clashes, property_renamed, with_slot_of, Name, object_at, same_text, same_property, folded, is_among, same_text-Decides, same_property-self, defines_name, numbers_below, World, IsWellFormed, SameButSlots, is_object, is_property_name, property_names_of, numbers_to, property_named, IsWellFormed-with_slot_of, slot_owner, names_same, objects_same, both_true}, proofs.Ownership.Created.{chains_same}, proofs.Inheritance.Replacement.{IsWellFormed-property_renamed}}
 use Rattle.std.proofs.Math.Bool.{or-true}
 
 -- a slot that is set to a value
@@ -21,12 +21,7 @@ spelled x n (m ∷ l) e = by (or_cases _ _ e) (spelled x n l)
 
 -- a property is renamed alike however its name is spelled
 renamed_alike : (w : World) (x : ObjNo) (m n new : Name) → folded m ≡ folded n → property_renamed w x m new ≡ property_renamed w x n new
-renamed_alike w x m n new e = ap (λ (old : Name). record w {
-  object = λ y. option_map (λ (r : WorldObject). record r {
-    defines = if same_object x y then map (λ k. if same_text (folded k) old then new else k) r.defines else r.defines;
-    slot = λ k. if is_among x (chain w y) then (if same_text (folded new) k then r.slot old else (if same_text old k then None else r.slot k)) else r.slot k;
-  }) (w.object y);
-}) e
+renamed_alike w x m n new e = grind arith
 
 pub renamed_formed : (w : World) (x : ObjNo) (old new : Name) → is_object w x ≡ true → defines_name w x old ≡ true → is_property_name new ≡ true → clashes w x new ≡ false → IsWellFormed w → IsWellFormed (property_renamed w x old new)
 renamed_formed w x old new xo mine good free wf =

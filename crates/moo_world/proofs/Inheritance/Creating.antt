@@ -57,8 +57,7 @@ module _ (w : World) (x q owner : ObjNo) (wf : IsWellFormed w) (free : is_object
   unread g e y = by (same_object x y) refl
     where
       gone : (o : Option WorldObject) → is_some o ≡ false → g None ≡ g o
-      gone None h = refl
-      gone (Some r) h = absurd (false≢true (sym h))
+      gone o h = grind arith
 
       by : (b : Bool) → same_object x y ≡ b → g (if b then Some (plain_object q owner) else w.object y) ≡ g (w.object y)
       by true h = e ∙ gone (w.object y) (ap (is_object w) (sym ((same_object-Decides x y).0 h)) ∙ free)
@@ -71,11 +70,7 @@ module _ (w : World) (x q owner : ObjNo) (wf : IsWellFormed w) (free : is_object
   owed_still l = ap (λ (names : ObjNo → List Name). flat_map (λ d. map (λ n. (d, n)) (names d)) l) names_still
 
   no_names : property_names_of w x ≡ []
-  no_names = by (w.object x) free
-    where
-      by : (o : Option WorldObject) → is_some o ≡ false → unwrap_or (option_map (λ r. r.defines) o) [] ≡ []
-      by None h = refl
-      by (Some r) h = absurd (false≢true (sym h))
+  no_names = grind arith
 
   -- x has_property what q has_property
   pub owed_x : defined_by_any w (x ∷ chain w q) ≡ defined_by_any w (chain w q)

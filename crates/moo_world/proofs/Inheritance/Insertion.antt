@@ -1,5 +1,5 @@
 -- A property added to a well formed world.
-use Rattle.moo_world.proofs.Lemmas.{◌≡◌, ◌≢◌, ◌<◌, Bool, true, false, cond, ◌||◌, Option, None, Some, List, [], ◌∷◌, ◌++◌, map, refl, sym, ap, ◌∙◌, subst, ◌⊎◌, inl, inr, append_assoc, arith, ◌&&◌, is_some, unwrap_or, if◌then◌else◌, option_map, option_and_then, list_any, list_all, IsDistinct, AllByRecursion, false≢true, both_ways, or_parts, list_all-append, none-some, same_Some, ObjNo, Clear, clashes, property_added, subtree_of, objects_of, Name, Property, same_object, same_text, same_property, folded, is_among, same_object-Decides, same_text-Decides, World, WorldObject, Slot, IsTree, IsWellFormed, Climbs, Chain, NamesDiffer, is_object, parent_of, chain, property_names_of, defined_by, defined_by_any, property_named, slot_of, fresh, is_property_name, slot_fits, Climbs-once, row_fitting, row_owner, fresh_fits, named_owed, named_so, definer_among, some_named, among_filter, object_listed, owed_listed, chain_is, chain_of_none, no_parent, parents_alike, objects_alike, tree_alike, limits_alike, names_fit}
+use Rattle.moo_world.proofs.Lemmas.{◌≡◌, ◌≢◌, ◌<◌, Bool, true, false, cond, ◌||◌, Option, None, Some, List, [], ◌∷◌, ◌++◌, map, refl, sym, ap, ◌∙◌, subst, ◌⊎◌, inl, inr, append_assoc, arith, ◌&&◌, is_some, unwrap_or, if◌then◌else◌, option_map, option_and_then, list_any, list_all, IsDistinct, AllByRecursion, false≢true, both_ways, or_parts, list_all-append, none-some, ObjNo, Clear, clashes, property_added, subtree_of, objects_of, Name, Property, same_object, same_text, same_property, folded, is_among, same_object-Decides, same_text-Decides, World, WorldObject, Slot, IsTree, IsWellFormed, Climbs, Chain, NamesDiffer, is_object, parent_of, chain, property_names_of, defined_by, defined_by_any, property_named, slot_of, fresh, is_property_name, slot_fits, Climbs-once, named_owed, named_so, definer_among, some_named, among_filter, object_listed, owed_listed, chain_is, chain_of_none, no_parent, parents_alike, objects_alike, tree_alike, limits_alike, names_fit}
 
 -- ---- lists of pairs
 
@@ -39,8 +39,7 @@ named : (p : Property) (n : Name) (xs ys : List Property) → property_named (xs
 named p n [] ys none = by (same_text (folded p.1) n)
   where
     by : (b : Bool) → cond b (Some p) (property_named ys n) ≡ (if b then Some p else property_named ys n)
-    by true = refl
-    by false = refl
+    by b = grind arith
 named p n (x ∷ xs) ys none = by (same_text (folded x.1) n) refl (same_text (folded x.1) (folded p.1)) refl none (named p n xs ys)
   where
     by : (b : Bool) → same_text (folded x.1) n ≡ b → (c : Bool) → same_text (folded x.1) (folded p.1) ≡ c → cond c (Some x) (property_named (xs ++ ys) (folded p.1)) ≡ None
@@ -90,8 +89,7 @@ comparable w t (z ∷ l) y d x c h k = by (same_object d z) refl (same_object x 
     by false e false f u v r = r u v
 
 pub some_record : (o : Option WorldObject) → is_some o ≡ true → (r : WorldObject) × (o ≡ Some r)
-some_record None e = absurd (false≢true e)
-some_record (Some r) e = (r, refl)
+some_record o e = grind arith
 
 module _ (w : World) (wf : IsWellFormed w) (x : ObjNo) (name : Name) (s : Slot) (xo : is_object w x ≡ true) (free : clashes w x name ≡ false) where
   abbrev pub v : World
@@ -105,8 +103,7 @@ module _ (w : World) (wf : IsWellFormed w) (x : ObjNo) (name : Name) (s : Slot) 
       apart_both = or_parts _ _ free
 
       none : (o : Option Property) → is_some o ≡ false → o ≡ None
-      none None e = refl
-      none (Some p) e = absurd (false≢true (sym e))
+      none o e = grind arith
 
       by : (o : Option Property) → property_named (defined_by_any w l) (folded name) ≡ o → o ≡ None
       by None e = refl
@@ -208,11 +205,7 @@ module _ (w : World) (wf : IsWellFormed w) (x : ObjNo) (name : Name) (s : Slot) 
 
   module _ (mine : s.definer ≡ x) (set_here : s.state ≢ Clear) where
     definer_new : (y : ObjNo) (owner : ObjNo) → (if same_object x y then s else fresh owner s).definer ≡ x
-    definer_new y owner = by (same_object x y)
-      where
-        by : (b : Bool) → (if b then s else fresh owner s).definer ≡ x
-        by true = mine
-        by false = mine
+    definer_new y owner = grind arith
 
     slots : (y : ObjNo) (l : List ObjNo) (n : Name) → is_object v y ≡ true → Chain v y l → option_map (λ k. k.definer) (slot_of v y n) ≡ option_map (λ p. p.0) (property_named (defined_by_any v l) n)
     slots y l n o c =
@@ -224,8 +217,7 @@ module _ (w : World) (wf : IsWellFormed w) (x : ObjNo) (name : Name) (s : Slot) 
       where
         inner : (r : WorldObject) (b : Bool) → option_map (λ (k : Slot). k.definer) (r.slot n) ≡ option_map (λ (p : Property). p.0) (property_named (defined_by_any w l) n)
             → option_map (λ k. k.definer) (if b then Some (if same_object x y then s else fresh r.row.owner s) else r.slot n) ≡ option_map (λ p. p.0) (if b then Some (x, name) else property_named (defined_by_any w l) n)
-        inner r true old = ap Some (definer_new y r.row.owner)
-        inner r false old = old
+        inner r b old = grind arith
 
         by : (r : WorldObject) (d : Chain w y l) → option_map (λ (k : Slot). k.definer) (r.slot n) ≡ option_map (λ (p : Property). p.0) (property_named (defined_by_any w l) n) → (b : Bool) → is_among x l ≡ b
             → option_map (λ k. k.definer) ((new_record y r).slot n) ≡ option_map (λ p. p.0) (property_named (defined_by_any v l) n)
@@ -239,17 +231,7 @@ module _ (w : World) (wf : IsWellFormed w) (x : ObjNo) (name : Name) (s : Slot) 
 
     -- each slot was there, or is the new one, here or below
     new_or_old : (y : ObjNo) (n : Name) (k : Slot) → slot_of v y n ≡ Some k → (slot_of w y n ≡ Some k) ⊎ ((r : WorldObject) × (w.object y ≡ Some r) × ((if same_object x y then s else fresh r.row.owner s) ≡ k))
-    new_or_old y n k e = by (w.object y) refl e
-      where
-        test : (r : WorldObject) → w.object y ≡ Some r → (a b : Bool) → (if a then (if b then Some (if same_object x y then s else fresh r.row.owner s) else r.slot n) else r.slot n) ≡ Some k
-            → (slot_of w y n ≡ Some k) ⊎ ((r : WorldObject) × (w.object y ≡ Some r) × ((if same_object x y then s else fresh r.row.owner s) ≡ k))
-        test r g false b h = inl (ap (option_and_then (λ (z : WorldObject). z.slot n)) g ∙ h)
-        test r g true false h = inl (ap (option_and_then (λ (z : WorldObject). z.slot n)) g ∙ h)
-        test r g true true h = inr (r, g, same_Some _ k h)
-
-        by : (o : Option WorldObject) → w.object y ≡ o → option_and_then (λ (z : WorldObject). z.slot n) (option_map (new_record y) o) ≡ Some k → (slot_of w y n ≡ Some k) ⊎ ((r : WorldObject) × (w.object y ≡ Some r) × ((if same_object x y then s else fresh r.row.owner s) ≡ k))
-        by None g h = absurd (none-some k h)
-        by (Some r) g h = test r g (under y) (same_text (folded name) n) h
+    new_or_old y n k e = grind arith
 
     set : (y : ObjNo) (n : Name) (k : Slot) → slot_of v y n ≡ Some k → k.definer ≡ y → k.state ≢ Clear
     set y n k e d = elim (new_or_old y n k e) [ inl h ↦ wf.set y n k h d | inr h ↦ new h.0 (same_object x y) refl h.2 ]
@@ -263,8 +245,7 @@ module _ (w : World) (wf : IsWellFormed w) (x : ObjNo) (name : Name) (s : Slot) 
       fit y n k e = elim (new_or_old y n k e) [ inl h ↦ wf.fit y n k h | inr h ↦ new h.0 h.1 (same_object x y) h.2 ]
         where
           new : (r : WorldObject) → w.object y ≡ Some r → (b : Bool) → (if b then s else fresh r.row.owner s) ≡ k → slot_fits k ≡ true
-          new r g true h = ap slot_fits (sym h) ∙ fits_here
-          new r g false h = ap slot_fits (sym h) ∙ fresh_fits r.row.owner s (row_owner r (row_fitting w wf.limits y r g)) fits_here
+          new r g b h = grind arith
 
       all_names : (y : ObjNo) → list_all is_property_name (property_names_of v y) ≡ true
       all_names y = ap (list_all is_property_name) (names_now y) ∙ by (same_object x y)

@@ -1,5 +1,5 @@
 -- A rebuilt world is well formed, where its links and definitions are.
-use Rattle.moo_world.{proofs.Words.{◌≡◌, ◌≢◌, Bool, true, false, cond, List, [], ◌∷◌, refl, sym, ◌∙◌, ap, subst, ◌⊎◌, inl, inr, Option, Some, None, if◌then◌else◌, pos, ◌≤ℤ◌, option_map, list_any, IsDistinct, AllByRecursion, false≢true, both_ways, or_cases, and_parts, none-some, same_Some, ObjNo, Clear, Name, Property, same_object, same_text, same_property, folded, is_among, same_object-Decides, same_text-Decides, World, WorldObject, Slot, IsTree, IsWellFormed, Climbs, Chain, NamesDiffer, is_object, location_of, owner_of, slot_of, defined_by, defined_by_any, property_named, has_property, chain, fresh, slot_for, rebuilt, with_slots, without_slots, KeepsLimits, SameButSlots, slot_fits, nothing, ◌||◌}, proofs.Ancestry.Trees.{chain_is, Chain-chain, chain_of_none, nothing_is_no_object}, proofs.Form.Limits.{owner_numbered, fresh_fits}, proofs.Inheritance.Owed.{any-append, definer_among, in_owed, named_owed, named_so}, proofs.Inheritance.Rebuilding.{parents_same, objects_same, owed_same, Chain-same, SameButSlots-rebuilt, slot_of-rebuilt}}
+use Rattle.moo_world.{proofs.Words.{arith, ◌≡◌, ◌≢◌, Bool, true, false, cond, List, [], ◌∷◌, refl, sym, ◌∙◌, ap, subst, ◌⊎◌, inl, inr, Option, Some, None, if◌then◌else◌, pos, ◌≤ℤ◌, option_map, list_any, IsDistinct, AllByRecursion, false≢true, both_ways, or_cases, and_parts, none-some, same_Some, ObjNo, Clear, Name, Property, same_object, same_text, same_property, folded, is_among, same_object-Decides, same_text-Decides, World, WorldObject, Slot, IsTree, IsWellFormed, Climbs, Chain, NamesDiffer, is_object, location_of, owner_of, slot_of, defined_by, defined_by_any, property_named, has_property, chain, fresh, slot_for, rebuilt, with_slots, without_slots, KeepsLimits, SameButSlots, slot_fits, nothing, ◌||◌}, proofs.Ancestry.Trees.{chain_is, Chain-chain, chain_of_none, nothing_is_no_object}, proofs.Form.Limits.{owner_numbered, fresh_fits}, proofs.Inheritance.Owed.{any-append, definer_among, in_owed, named_owed, named_so}, proofs.Inheritance.Rebuilding.{parents_same, objects_same, owed_same, Chain-same, SameButSlots-rebuilt, slot_of-rebuilt}}
 
 pub same_property-is : (p q : Property) → same_property p q ≡ true → p ≡ q
 unfolding same_property
@@ -43,8 +43,7 @@ owed_is_object w q n p e = decide (is_object w q) refl
     decide false v = absurd (none-some p (sym (ap (λ l. property_named (defined_by_any w l) n) (chain_of_none w q v)) ∙ e))
 
 fresh_definer : (owner : ObjNo) (o : Option Slot) → option_map (λ s. s.definer) (option_map (fresh owner) o) ≡ option_map (λ s. s.definer) o
-fresh_definer owner None = refl
-fresh_definer owner (Some s) = refl
+fresh_definer owner o = grind arith
 
 -- What the links and definitions of s have to be, over a well formed w, for its rebuilt slots to be well formed
 pub record MayBeRebuilt (w s : World) (q : ObjNo) : Type 0 where
@@ -136,8 +135,7 @@ module _ (w s : World) (q : ObjNo) (wf : IsWellFormed w) (may : MayBeRebuilt w s
   location_same = (λ i x. sym (bare (r.object x)) i) ∙ ap location_of same ∙ (λ i x. bare (s.object x) i)
     where
       bare : (o : Option WorldObject) → option_map (λ k. k.row.location) (option_map (with_slots (λ n. None)) o) ≡ option_map (λ k. k.row.location) o
-      bare None = refl
-      bare (Some k) = refl
+      bare o = grind arith
 
   pub IsTree-rebuilt : IsTree r
   IsTree-rebuilt = record {

@@ -1,19 +1,16 @@
 -- The manual's wording of a change of parent gives the rebuilt world.
-use Rattle.moo_world.{proofs.Words.{◌≡◌, Bool, true, false, cond, ◌||◌, List, [], ◌∷◌, ◌++◌, drop, refl, sym, ◌∙◌, ap, subst, ◌⊎◌, inl, inr, Option, Some, None, append_assoc, unwrap_or, if◌then◌else◌, option_map, option_or, list_any, find, false≢true, both_ways, or_parts, or_right, or_cases, false_from_ne_true, none-some, same_Some, ObjNo, Name, Property, nothing, same_object, same_property, folded, is_among, same_object-Decides, World, Slot, IsWellFormed, Chain, NamesDiffer, is_object, parent_of, owner_of, slot_of, defined_by, defined_by_any, property_named, has_property, chain, fresh, slot_for, reparented, with_parent, ancestors, common, except, lost, gained, unless_defined_by, manual_slot}, proofs.Ancestry.Chains.{front_of, Climbs-split, Climbs-among}, proofs.Ancestry.Trees.{chain_is, Chain-chain, chain-nothing, no_parent}, proofs.Inheritance.Owed.{is_among-append, defined_by_any-append, named-append, find_passes, found_among, in_owed, in_owed-append, definer_among, named_owed, named_so, named_once}, proofs.Ancestry.Ancestors.{same_object-self, apart_in_chain, except_end, front_fails, all_fail, front_within}, proofs.Ancestry.Moving.{moved, owner_moved, owed_moved, Chain-new, chain_unmoved, chain_moved}, proofs.Inheritance.Rebuilding.{slot_of-rebuilt}}
+use Rattle.moo_world.{proofs.Words.{arith, ◌≡◌, Bool, true, false, cond, ◌||◌, List, [], ◌∷◌, ◌++◌, drop, refl, sym, ◌∙◌, ap, subst, ◌⊎◌, inl, inr, Option, Some, None, append_assoc, unwrap_or, if◌then◌else◌, option_map, option_or, list_any, find, false≢true, both_ways, or_parts, or_right, or_cases, false_from_ne_true, none-some, ObjNo, Name, Property, nothing, same_object, same_property, folded, is_among, same_object-Decides, World, Slot, IsWellFormed, Chain, NamesDiffer, is_object, parent_of, owner_of, slot_of, defined_by, defined_by_any, property_named, has_property, chain, fresh, slot_for, reparented, with_parent, ancestors, common, except, lost, gained, unless_defined_by, manual_slot}, proofs.Ancestry.Chains.{front_of, Climbs-split, Climbs-among}, proofs.Ancestry.Trees.{chain_is, Chain-chain, chain-nothing, no_parent}, proofs.Inheritance.Owed.{is_among-append, defined_by_any-append, named-append, find_passes, found_among, in_owed, in_owed-append, definer_among, named_owed, named_so, named_once}, proofs.Ancestry.Ancestors.{same_object-self, apart_in_chain, except_end, front_fails, all_fail, front_within}, proofs.Ancestry.Moving.{moved, owner_moved, owed_moved, Chain-new, chain_unmoved, chain_moved}, proofs.Inheritance.Rebuilding.{slot_of-rebuilt}}
 
 -- ---- a slot and the ones that are lost
 
 pub slot_kept : (gone : List ObjNo) (o : Option Slot) (d : ObjNo) → option_map (λ s. s.definer) o ≡ Some d → is_among d gone ≡ false → unless_defined_by gone o ≡ o
-slot_kept gone None d e h = refl
-slot_kept gone (Some s) d e h = ap (λ b. if b then None else Some s) (ap (λ k. is_among k gone) (same_Some s.definer d e) ∙ h)
+slot_kept gone o d e h = grind arith
 
 pub slot_lost : (gone : List ObjNo) (o : Option Slot) (d : ObjNo) → option_map (λ s. s.definer) o ≡ Some d → is_among d gone ≡ true → unless_defined_by gone o ≡ None
-slot_lost gone None d e h = absurd (none-some d e)
-slot_lost gone (Some s) d e h = ap (λ b. if b then None else Some s) (ap (λ k. is_among k gone) (same_Some s.definer d e) ∙ h)
+slot_lost gone o d e h = grind arith
 
 pub slot_absent : (o : Option Slot) → option_map (λ s. s.definer) o ≡ None → o ≡ None
-slot_absent None e = refl
-slot_absent (Some s) e = absurd (none-some s.definer (sym e))
+slot_absent o e = grind arith
 
 -- no object under x defines a name that q or an ancestor of q defines
 abbrev pub NoClash : World → ObjNo → ObjNo → Type 0
@@ -30,11 +27,7 @@ module _ (w : World) (x q : ObjNo) (wf : IsWellFormed w) (xo : is_object w x ≡
   shared = chain w c
 
   starts : (l : List ObjNo) → Chain w x l → l ≡ x ∷ drop 1 l
-  starts [] p = absurd (false≢true (sym (sym xo ∙ ap (is_object w) p ∙ nothing_is_none)))
-    where
-      nothing_is_none : is_object w nothing ≡ false
-      nothing_is_none = Rattle.moo_world.proofs.Ancestry.Trees.nothing_is_no_object w wf.tree
-  starts (y ∷ l) p = λ i. sym p.0 i ∷ l
+  starts l p = grind arith
 
   pub chain_starts : chain w x ≡ x ∷ above
   chain_starts = starts (chain w x) (Chain-chain w wf.tree x xo)

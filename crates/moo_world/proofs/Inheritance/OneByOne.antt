@@ -1,5 +1,5 @@
 -- The children of a recycled object, moved one by one in the manual's words, leave the world that recycling leaves.
-use Rattle.moo_world.{proofs.Lemmas.{◌≡◌, Bool, true, false, cond, ◌||◌, List, [], ◌∷◌, ◌++◌, refl, sym, ◌∙◌, ap, subst, ◌⊎◌, inl, inr, Option, Some, None, is_some, unwrap_or, if◌then◌else◌, option_map, option_and_then, false≢true, both_ways, or_right, false_from_ne_true, none-some, same_Some, ObjNo, Name, Property, nothing, same_object, same_object-Decides, is_among, World, WorldObject, Slot, IsTree, IsWellFormed, Chain, is_object, parent_of, slot_of, defined_by_any, property_named, chain, with_slots, without_slots, with_parent, reparented, SameButSlots, MayReparent, unless_defined_by, manual_slot, is_parent_of, children_of, objects_of, manually_moved, moved_one_by_one, MayMoveOneByOne, emptied, taken_out, ChildrenMoveOneByOne, ChildrenMoveAscending, released, object_removed, recycled, Climbs-once, Chain-chain, chain-step, linked, no_parent, definer_among, named_owed, same_object-self, manual_law, slot_kept, slot_absent, no_slot, objects_same, same_world, SameButSlots-rebuilt, NoClash-from_meets, among_filter, object_listed}, proofs.Inheritance.Recycling.{stays, recycle_law}, proofs.Inheritance.Reparenting.{IsWellFormed-reparented}, proofs.Ancestry.Upward.{filter_passes, may_climb, climbed_slot}}
+use Rattle.moo_world.{proofs.Lemmas.{arith, ◌≡◌, Bool, true, false, ◌||◌, List, [], ◌∷◌, ◌++◌, refl, sym, ◌∙◌, ap, subst, ◌⊎◌, inl, inr, Option, Some, None, unwrap_or, if◌then◌else◌, option_map, false≢true, both_ways, false_from_ne_true, none-some, same_Some, ObjNo, Name, Property, nothing, same_object, same_object-Decides, is_among, World, WorldObject, Slot, IsTree, IsWellFormed, Chain, is_object, parent_of, slot_of, defined_by_any, property_named, chain, with_slots, without_slots, with_parent, reparented, SameButSlots, MayReparent, unless_defined_by, manual_slot, is_parent_of, children_of, objects_of, manually_moved, moved_one_by_one, MayMoveOneByOne, emptied, taken_out, ChildrenMoveOneByOne, ChildrenMoveAscending, released, object_removed, recycled, Climbs-once, Chain-chain, chain-step, linked, no_parent, definer_among, named_owed, same_object-self, manual_law, slot_kept, slot_absent, no_slot, objects_same, same_world, SameButSlots-rebuilt, NoClash-from_meets, among_filter, object_listed}, proofs.Inheritance.Recycling.{stays, recycle_law}, proofs.Inheritance.Reparenting.{IsWellFormed-reparented}, proofs.Ancestry.Upward.{filter_passes, may_climb, climbed_slot}}
 
 -- worlds that are the same but for slots, and whose objects have the same slots, are one
 one_world : (a b : World) → SameButSlots a b → ((y : ObjNo) (n : Name) → is_object a y ≡ true → slot_of a y n ≡ slot_of b y n) → a ≡ b
@@ -17,36 +17,16 @@ module _ (w : World) (c q : ObjNo) where
   under_q r = record r { row = record r.row { parent = q } }
 
   pub parent_moved : (y : ObjNo) → parent_of (manually_moved w c q) y ≡ option_map (λ p. if same_object c y then q else p) (parent_of w y)
-  parent_moved y = of (w.object y)
-    where
-      of : (o : Option WorldObject) → option_map (λ r. r.row.parent) (option_map (with_slots (manual_slot w c q y)) (option_map (λ r. if same_object c y then under_q r else r) o)) ≡ option_map (λ p. if same_object c y then q else p) (option_map (λ r. r.row.parent) o)
-      of None = refl
-      of (Some r) = by (same_object c y)
-        where
-          by : (b : Bool) → Some (cond b (under_q r) r).row.parent ≡ Some (cond b q r.row.parent)
-          by true = refl
-          by false = refl
+  parent_moved y = grind arith
 
   slot_moved : (y : ObjNo) (n : Name) → is_object w y ≡ true → slot_of (manually_moved w c q) y n ≡ manual_slot w c q y n
-  slot_moved y n o = of (w.object y) o
-    where
-      of : (k : Option WorldObject) → is_some k ≡ true → option_and_then (λ r. r.slot n) (option_map (with_slots (manual_slot w c q y)) (option_map (λ r. if same_object c y then under_q r else r) k)) ≡ manual_slot w c q y n
-      of None h = absurd (false≢true h)
-      of (Some r) h = refl
+  slot_moved y n o = grind arith
 
   object_stays : (y : ObjNo) → is_object (manually_moved w c q) y ≡ is_object w y
-  object_stays y = of (w.object y)
-    where
-      of : (k : Option WorldObject) → is_some (option_map (with_slots (manual_slot w c q y)) (option_map (λ r. if same_object c y then under_q r else r) k)) ≡ is_some k
-      of None = refl
-      of (Some r) = refl
+  object_stays y = grind arith
 
   SameButSlots-moved : SameButSlots (manually_moved w c q) (with_parent w c q)
-  SameButSlots-moved = λ i. record w { object = λ y. twice (manual_slot w c q y) ((with_parent w c q).object y) i }
-    where
-      twice : (f : Name → Option Slot) (o : Option WorldObject) → option_map (with_slots (λ n. None)) (option_map (with_slots f) o) ≡ option_map (with_slots (λ n. None)) o
-      twice f None = refl
-      twice f (Some r) = refl
+  SameButSlots-moved = grind arith
 
   module _ (m : MayReparent w c q) where
     new : (is_object w q ≡ true) ⊎ (q ≡ nothing)
@@ -117,28 +97,16 @@ module _ (w : World) (x q : ObjNo) (wf : IsWellFormed w) (xp : parent_of w x ≡
     form_moved = IsWellFormed-moved w c q may_move
 
     pub heir_moved : parent_of v x ≡ Some q
-    heir_moved = parent_moved w c q x ∙ ap (option_map (λ p. if same_object c x then q else p)) xp ∙ either (same_object c x)
-      where
-        either : (b : Bool) → Some (if b then q else q) ≡ Some q
-        either true = refl
-        either false = refl
+    heir_moved = grind arith
 
     kept_twice : (k : (parent_of w c ≡ Some x) ⊎ (parent_of w c ≡ Some q)) (o : Option Slot) → unless_defined_by (x ∷ []) (unless_defined_by (between k) o) ≡ unless_defined_by (x ∷ []) o
-    kept_twice (inl h) None = refl
-    kept_twice (inr h) None = refl
-    kept_twice (inr h) (Some s) = refl
-    kept_twice (inl h) (Some s) = by (is_among s.definer (x ∷ [])) refl
-      where
-        by : (b : Bool) → is_among s.definer (x ∷ []) ≡ b → unless_defined_by (x ∷ []) (if b then None else Some s) ≡ unless_defined_by (x ∷ []) (Some s)
-        by true e = sym (ap (λ b. if b then None else Some s) e)
-        by false e = refl
+    kept_twice k o = grind arith
 
     same_kept : (y : ObjNo) (n : Name) → is_object w y ≡ true → unless_defined_by (x ∷ []) (slot_of v y n) ≡ unless_defined_by (x ∷ []) (slot_of w y n)
     same_kept y n o = ap (unless_defined_by (x ∷ [])) (slot_moved w c q y n o ∙ climbed_slot w c q (between cp) wf child heir_is (climbs cp) y n) ∙ by (is_among c (chain w y))
       where
         by : (b : Bool) → unless_defined_by (x ∷ []) (if b then unless_defined_by (between cp) (slot_of w y n) else slot_of w y n) ≡ unless_defined_by (x ∷ []) (slot_of w y n)
-        by true = kept_twice cp (slot_of w y n)
-        by false = refl
+        by b = grind arith
 
     -- what is left when x goes has the same links, whether or not c was moved
     abbrev linked_to : WorldObject → ObjNo → WorldObject
@@ -151,8 +119,7 @@ module _ (w : World) (x q : ObjNo) (wf : IsWellFormed w) (xp : parent_of w x ≡
     ])
       where
         either : (b : Bool) → (if b then q else q) ≡ q
-        either true = refl
-        either false = refl
+        either b = grind arith
 
     left : (f : Name → Option Slot) (o : Option WorldObject) (a b : Bool) → (b ≡ true → (option_map (λ r. r.row.parent) o ≡ Some x) ⊎ (option_map (λ r. r.row.parent) o ≡ Some q))
         → option_map (with_slots (λ n. None)) (if a then None else option_map (released x q) (option_map (with_slots f) (option_map (λ r. if b then under_q w c q r else r) o)))
@@ -215,11 +182,7 @@ module _ (w : World) (x : ObjNo) (wf : IsWellFormed w) (xo : is_object w x ≡ t
       by (Some p) g = slot_kept (x ∷ []) (slot_of w y n) p.0 (definer ∙ ap (option_map (λ k. k.0)) g) (apart p.0 (definer_among w p (chain w y) (named_owed w (chain w y) n p g)).0)
 
   slot_left : (y : ObjNo) (n : Name) → same_object x y ≡ false → slot_of (taken_out w x) y n ≡ slot_of w y n
-  slot_left y n e = ap (λ b. option_and_then (λ (r : WorldObject). r.slot n) (if b then None else option_map (emptied x) (w.object y))) e ∙ of (w.object y)
-    where
-      of : (o : Option WorldObject) → option_and_then (λ r. r.slot n) (option_map (emptied x) o) ≡ option_and_then (λ r. r.slot n) o
-      of None = refl
-      of (Some r) = refl
+  slot_left y n e = grind arith
 
   -- where x has no child, taking it out is recycling it
   pub taken_out_is : taken_out w x ≡ recycled w x
@@ -248,13 +211,7 @@ moved_all (c ∷ l) w x q wf xp each all =
     cp = each c (ap (λ b. b || is_among c l) (same_object-self c))
 
     still : AreMovable (manually_moved w c q) x q l
-    still y h = by (same_object c y) refl (each y (or_right (same_object y c) (is_among y l) h))
-      where
-        by : (b : Bool) → same_object c y ≡ b → (parent_of w y ≡ Some x) ⊎ (parent_of w y ≡ Some q) → (parent_of (manually_moved w c q) y ≡ Some x) ⊎ (parent_of (manually_moved w c q) y ≡ Some q)
-        by true e (inl g) = inr (parent_moved w c q y ∙ ap (option_map (λ p. if same_object c y then q else p)) g ∙ ap (λ b. Some (if b then q else x)) e)
-        by true e (inr g) = inr (parent_moved w c q y ∙ ap (option_map (λ p. if same_object c y then q else p)) g ∙ ap (λ b. Some (if b then q else q)) e)
-        by false e (inl g) = inl (parent_moved w c q y ∙ ap (option_map (λ p. if same_object c y then q else p)) g ∙ ap (λ b. Some (if b then q else x)) e)
-        by false e (inr g) = inr (parent_moved w c q y ∙ ap (option_map (λ p. if same_object c y then q else p)) g ∙ ap (λ b. Some (if b then q else q)) e)
+    still y h = grind arith
 
     others : HasChildren (manually_moved w c q) x l
     others y h = by (same_object c y) refl (parent_of w y) refl (sym (parent_moved w c q y) ∙ h)

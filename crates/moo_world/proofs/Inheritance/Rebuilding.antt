@@ -1,5 +1,5 @@
 -- A rebuilt world exists, and there is one only.
-use Rattle.moo_world.{proofs.Words.{◌≡◌, true, false, List, [], refl, sym, ◌∙◌, ap, subst, map, Option, Some, None, is_some, unwrap_or, if◌then◌else◌, option_map, option_and_then, Decides, list_any, flat_map, false≢true, both_ways, false_from_ne_true, none-some, same_Some, ObjNo, Name, Property, nothing, same_property, World, WorldObject, Slot, IsTree, Climbs, Chain, HasProperty, Rebuilt, is_object, parent_of, property_names_of, owner_of, slot_of, defined_by_any, property_named, has_property, chain, fresh, slot_for, rebuilt_slot, rebuilt, with_slots, SameButSlots}, proofs.Ancestry.Trees.{chain_is, Chain-chain, chain_of_none}}
+use Rattle.moo_world.{proofs.Words.{arith, ◌≡◌, true, false, List, [], refl, sym, ◌∙◌, ap, subst, map, Option, Some, None, is_some, unwrap_or, if◌then◌else◌, option_map, option_and_then, Decides, list_any, flat_map, false≢true, both_ways, false_from_ne_true, none-some, same_Some, ObjNo, Name, Property, nothing, same_property, World, WorldObject, IsTree, Climbs, Chain, HasProperty, Rebuilt, is_object, parent_of, property_names_of, owner_of, slot_of, defined_by_any, property_named, has_property, chain, fresh, slot_for, rebuilt_slot, rebuilt, with_slots, SameButSlots}, proofs.Ancestry.Trees.{chain_is, Chain-chain, chain_of_none}}
 
 -- what is owed, as a test
 pub HasProperty-Decides : (w : World) → IsTree w → (x : ObjNo) (p : Property) → Decides (has_property w x p) (HasProperty w x p)
@@ -12,26 +12,21 @@ HasProperty-Decides w t x p = (
 )
 
 pub no_slot : (o : Option WorldObject) (n : Name) → is_some o ≡ false → option_and_then (λ r. r.slot n) o ≡ None
-no_slot None n e = refl
-no_slot (Some r) n e = absurd (false≢true (sym e))
+no_slot o n e = grind arith
 
 -- ---- what doesn't read slots
 
 same_parent : (o : Option WorldObject) → option_map (λ r. r.row.parent) (option_map (with_slots (λ n. None)) o) ≡ option_map (λ r. r.row.parent) o
-same_parent None = refl
-same_parent (Some r) = refl
+same_parent o = grind arith
 
 same_names : (o : Option WorldObject) → option_map (λ r. r.defines) (option_map (with_slots (λ n. None)) o) ≡ option_map (λ r. r.defines) o
-same_names None = refl
-same_names (Some r) = refl
+same_names o = grind arith
 
 same_owner : (o : Option WorldObject) → option_map (λ r. r.row.owner) (option_map (with_slots (λ n. None)) o) ≡ option_map (λ r. r.row.owner) o
-same_owner None = refl
-same_owner (Some r) = refl
+same_owner o = grind arith
 
 same_some : (o : Option WorldObject) → is_some (option_map (with_slots (λ n. None)) o) ≡ is_some o
-same_some None = refl
-same_some (Some r) = refl
+same_some o = grind arith
 
 module _ (a b : World) (same : SameButSlots a b) where
   pub parents_same : parent_of a ≡ parent_of b
@@ -57,19 +52,11 @@ module _ (a b : World) (same : SameButSlots a b) where
 module _ (w s : World) (q : ObjNo) where
   pub SameButSlots-rebuilt : SameButSlots (rebuilt w s q) s
   unfolding rebuilt
-  SameButSlots-rebuilt = λ i. record s { object = λ x. twice (rebuilt_slot w s q x) (s.object x) i }
-    where
-      twice : (f : Name → Option Slot) (o : Option WorldObject) → option_map (with_slots (λ n. None)) (option_map (with_slots f) o) ≡ option_map (with_slots (λ n. None)) o
-      twice f None = refl
-      twice f (Some r) = refl
+  SameButSlots-rebuilt = grind arith
 
   slot_rebuilt : (x : ObjNo) (n : Name) → is_object s x ≡ true → slot_of (rebuilt w s q) x n ≡ rebuilt_slot w s q x n
   unfolding rebuilt
-  slot_rebuilt x n e = of (s.object x) e
-    where
-      of : (o : Option WorldObject) → is_some o ≡ true → option_and_then (λ r. r.slot n) (option_map (with_slots (rebuilt_slot w s q x)) o) ≡ rebuilt_slot w s q x n
-      of None h = absurd (false≢true h)
-      of (Some r) h = refl
+  slot_rebuilt x n e = grind arith
 
   no_slot_rebuilt : (x : ObjNo) (n : Name) → is_object s x ≡ false → slot_of (rebuilt w s q) x n ≡ rebuilt_slot w s q x n
   unfolding rebuilt
@@ -95,11 +82,11 @@ module _ (w s : World) (q : ObjNo) where
     -- the rebuilt world is one
     pub Rebuilt-rebuilt : Rebuilt w (rebuilt w s q) q
     Rebuilt-rebuilt = record {
-      kept = λ x l n p c e o. by_pair x l n (Some p) c e ∙ ap (λ b. if b then slot_of w x n else option_map (fresh (owner_of s x)) (slot_of w q n)) ((HasProperty-Decides w tw x p).1 o);
-      added = λ x l n p c e o.
-          by_pair x l n (Some p) c e ∙ ap (λ b. if b then slot_of w x n else option_map (fresh (owner_of s x)) (slot_of w q n)) (false_from_ne_true (has_property w x p) (λ h. o ((HasProperty-Decides w tw x p).0 h)))
+      kept = λ x n p k o. by_pair x k.0 n (Some p) k.1 k.2 ∙ ap (λ b. if b then slot_of w x n else option_map (fresh (owner_of s x)) (slot_of w q n)) ((HasProperty-Decides w tw x p).1 o);
+      added = λ x n p k o.
+          by_pair x k.0 n (Some p) k.1 k.2 ∙ ap (λ b. if b then slot_of w x n else option_map (fresh (owner_of s x)) (slot_of w q n)) (false_from_ne_true (has_property w x p) (λ h. o ((HasProperty-Decides w tw x p).0 h)))
           ∙ ap (λ (owner : ObjNo → ObjNo). option_map (fresh (owner x)) (slot_of w q n)) (sym (owners_same (rebuilt w s q) s SameButSlots-rebuilt));
-      no_other = λ x l n c e. by_pair x l n None c e;
+      no_other = λ x n k. by_pair x k.0 n None k.1 k.2;
     }
 
 -- ---- there is one only
@@ -130,13 +117,13 @@ module _ (w a b : World) (q : ObjNo) (tw : IsTree w) (ta : IsTree a) (same : Sam
       by o e k d
     where
       by : (o : Option Property) → property_named (defined_by_any a (chain a x)) n ≡ o → property_named (defined_by_any b (chain a x)) n ≡ o → Chain b x (chain a x) → slot_of a x n ≡ slot_of b x n
-      by None e k d = ra.no_other x (chain a x) n c e ∙ sym (rb.no_other x (chain a x) n d k)
+      by None e k d = ra.no_other x n (chain a x, c, e) ∙ sym (rb.no_other x n (chain a x, d, k))
       by (Some p) e k d =
           elim (has_property w x p) as (λ v. has_property w x p ≡ v → slot_of a x n ≡ slot_of b x n) [
-            | true ↦ λ v. let o = (HasProperty-Decides w tw x p).0 v in ra.kept x (chain a x) n p c e o ∙ sym (rb.kept x (chain a x) n p d k o)
+            | true ↦ λ v. let o = (HasProperty-Decides w tw x p).0 v in ra.kept x n p (chain a x, c, e) o ∙ sym (rb.kept x n p (chain a x, d, k) o)
             | false ↦ λ v.
                 let o = λ (h : HasProperty w x p). both_ways (has_property w x p) v ((HasProperty-Decides w tw x p).1 h) in
-                ra.added x (chain a x) n p c e o ∙ ap (λ (owner : ObjNo → ObjNo). option_map (fresh (owner x)) (slot_of w q n)) (owners_same a b same) ∙ sym (rb.added x (chain a x) n p d k o)
+                ra.added x n p (chain a x, c, e) o ∙ ap (λ (owner : ObjNo → ObjNo). option_map (fresh (owner x)) (slot_of w q n)) (owners_same a b same) ∙ sym (rb.added x n p (chain a x, d, k) o)
           ] refl
 
   -- from w, links and definitions, there is one rebuilt world

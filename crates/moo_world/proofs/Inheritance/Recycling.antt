@@ -1,5 +1,5 @@
 -- What the loss of one object does to chains.
-use Rattle.moo_world.{proofs.Lemmas.{◌≡◌, Bool, true, false, cond, ◌||◌, List, [], ◌∷◌, ◌++◌, map, refl, sym, ◌∙◌, ap, subst, ◌⊎◌, inl, inr, Option, Some, None, is_some, unwrap_or, if◌then◌else◌, option_map, list_any, list_all, IsDistinct, AllByRecursion, false≢true, both_ways, or_parts, or_right, or_cases, false_from_ne_true, none-some, same_Some, ObjNo, Name, Property, nothing, same_object, same_text, same_property, folded, is_among, same_object-Decides, World, WorldObject, IsTree, IsWellFormed, Chain, LocationChain, NamesDiffer, is_object, parent_of, chain, property_names_of, owner_of, slot_of, defined_by, defined_by_any, property_named, has_property, fresh, slot_for, with_slots, is_property_name, verb_fits, row_fits, unless_defined_by, released, object_removed, recycled, front_of, Climbs-once, any-append, all_right, own_pair, in_owed, definer_among, named_owed, named_so, some_named, slot_of-rebuilt, slot_kept, slot_lost, slot_absent, MayBeRebuilt, IsWellFormed-rebuilt, named_is, chain_is, Chain-chain, linked, no_parent, nothing_is_no_object, own_owed}, proofs.Inheritance.Reparenting.{all_join, all_left}}
+use Rattle.moo_world.{proofs.Lemmas.{arith, ◌≡◌, Bool, true, false, cond, ◌||◌, List, [], ◌∷◌, ◌++◌, map, refl, sym, ◌∙◌, ap, subst, ◌⊎◌, inl, inr, Option, Some, None, unwrap_or, if◌then◌else◌, option_map, list_any, list_all, IsDistinct, AllByRecursion, false≢true, both_ways, or_parts, or_right, or_cases, false_from_ne_true, ObjNo, Name, Property, nothing, same_object, same_text, same_property, folded, is_among, same_object-Decides, World, WorldObject, IsTree, IsWellFormed, Chain, LocationChain, NamesDiffer, is_object, parent_of, chain, property_names_of, owner_of, slot_of, defined_by, defined_by_any, property_named, has_property, fresh, slot_for, with_slots, is_property_name, verb_fits, row_fits, unless_defined_by, released, object_removed, recycled, front_of, Climbs-once, any-append, all_right, own_pair, in_owed, definer_among, named_owed, named_so, some_named, slot_of-rebuilt, slot_kept, slot_lost, slot_absent, MayBeRebuilt, IsWellFormed-rebuilt, named_is, chain_is, Chain-chain, linked, no_parent, nothing_is_no_object, own_owed}, proofs.Inheritance.Reparenting.{all_join, all_left}}
 
 -- a list without one object
 abbrev pub left_out : ObjNo → List ObjNo → List ObjNo
@@ -21,16 +21,10 @@ module _ (w : World) (x : ObjNo) (t : IsTree w) (xo : is_object w x ≡ true) wh
   link_by f y o = option_map f (if same_object x y then None else option_map (released x heir) o)
 
   kept_parent : (y next : ObjNo) (o : Option WorldObject) → same_object x y ≡ false → option_map (λ r. r.row.parent) o ≡ Some next → link_by (λ r. r.row.parent) y o ≡ Some (if same_object x next then heir else next)
-  kept_parent y next None e h = absurd (none-some next h)
-  kept_parent y next (Some r) e h =
-      ap (λ b. option_map (λ (k : WorldObject). k.row.parent) (if b then None else Some (released x heir r))) e
-      ∙ ap (λ k. Some (if same_object x k then heir else k)) (same_Some r.row.parent next h)
+  kept_parent y next o e h = grind arith
 
   kept_location : (y next : ObjNo) (o : Option WorldObject) → same_object x y ≡ false → option_map (λ r. r.row.location) o ≡ Some next → link_by (λ r. r.row.location) y o ≡ Some (if same_object x next then nothing else next)
-  kept_location y next None e h = absurd (none-some next h)
-  kept_location y next (Some r) e h =
-      ap (λ b. option_map (λ (k : WorldObject). k.row.location) (if b then None else Some (released x heir r))) e
-      ∙ ap (λ k. Some (if same_object x k then nothing else k)) (same_Some r.row.location next h)
+  kept_location y next o e h = grind arith
 
   -- a chain goes on without x, whose place its parent takes
   pub Climbs-left_out : (l : List ObjNo) (z : ObjNo) → Chain w z l → Chain lessened (if same_object x z then heir else z) (left_out x l)
@@ -74,12 +68,7 @@ module _ (w : World) (x : ObjNo) (t : IsTree w) (xo : is_object w x ≡ true) wh
       by false h r = front (p.0, p.1, kept_location z p.1 (w.object z) e p.2 ∙ ap (λ b. Some (if b then nothing else p.1)) h, r h)
 
   pub stays : (y : ObjNo) → is_object lessened y ≡ true → (same_object x y ≡ false) × (is_object w y ≡ true)
-  stays y h = by (same_object x y) refl (w.object y) refl h
-    where
-      by : (b : Bool) → same_object x y ≡ b → (o : Option WorldObject) → w.object y ≡ o → is_some (if b then None else option_map (released x heir) o) ≡ true → (b ≡ false) × (is_some o ≡ true)
-      by true e o f g = absurd (false≢true g)
-      by false e None f g = absurd (false≢true g)
-      by false e (Some r) f g = (refl, refl)
+  stays y h = grind arith
 
   -- what stays is a tree
   pub IsTree-lessened : IsTree lessened
@@ -104,11 +93,7 @@ module _ (w : World) (x : ObjNo) (t : IsTree w) (xo : is_object w x ≡ true) wh
 
 module _ (w : World) (x : ObjNo) where
   kept_names : (d : ObjNo) → same_object x d ≡ false → property_names_of (object_removed w x) d ≡ property_names_of w d
-  kept_names d e = ap (λ b. unwrap_or (option_map (λ (r : WorldObject). r.defines) (if b then None else option_map (released x (unwrap_or (parent_of w x) nothing)) (w.object d))) []) e ∙ by (w.object d)
-    where
-      by : (o : Option WorldObject) → unwrap_or (option_map (λ (r : WorldObject). r.defines) (option_map (released x (unwrap_or (parent_of w x) nothing)) o)) [] ≡ unwrap_or (option_map (λ (r : WorldObject). r.defines) o) []
-      by None = refl
-      by (Some r) = refl
+  kept_names d e = grind arith
 
   kept_defined : (d : ObjNo) → same_object x d ≡ false → defined_by (object_removed w x) d ≡ defined_by w d
   kept_defined d e = ap (map (λ n. (d, n))) (kept_names d e)
@@ -118,8 +103,7 @@ module _ (w : World) (x : ObjNo) where
   owed_lessened (y ∷ l) = by (same_object x y) refl (owed_lessened l)
     where
       by : (b : Bool) → same_object x y ≡ b → defined_by_any (object_removed w x) (left_out x l) ≡ defined_by_any w (left_out x l) → defined_by_any (object_removed w x) (cond b (left_out x l) (y ∷ left_out x l)) ≡ defined_by_any w (cond b (left_out x l) (y ∷ left_out x l))
-      by true e r = r
-      by false e r = λ i. kept_defined y e i ++ r i
+      by b e r = grind arith
 
   -- what the rest of a list has_property the list has_property
   pub owed_more : (p : Property) (l : List ObjNo) → in_owed w p (left_out x l) ≡ true → in_owed w p l ≡ true
@@ -127,8 +111,7 @@ module _ (w : World) (x : ObjNo) where
   owed_more p (y ∷ l) h = any-append (same_property p) (defined_by w y) (defined_by_any w l) ∙ by (same_object x y) h (owed_more p l)
     where
       left : (a b : Bool) → a ≡ true → (a || b) ≡ true
-      left true b e = refl
-      left false b e = absurd (false≢true e)
+      left a b e = grind arith
 
       by : (b : Bool) → in_owed w p (cond b (left_out x l) (y ∷ left_out x l)) ≡ true → (in_owed w p (left_out x l) ≡ true → in_owed w p l ≡ true) → (list_any (same_property p) (defined_by w y) || in_owed w p l) ≡ true
       by true k r = or_right _ _ (r k)
@@ -140,8 +123,7 @@ module _ (w : World) (x : ObjNo) where
   owed_less p (y ∷ l) h e = by (same_object x y) refl (or_cases _ _ (sym (any-append (same_property p) (defined_by w y) (defined_by_any w l)) ∙ h)) (owed_less p l)
     where
       left : (a b : Bool) → a ≡ true → (a || b) ≡ true
-      left true b g = refl
-      left false b g = absurd (false≢true g)
+      left a b g = grind arith
 
       by : (b : Bool) → same_object x y ≡ b → (list_any (same_property p) (defined_by w y) ≡ true) ⊎ (in_owed w p l ≡ true) → (in_owed w p l ≡ true → same_object x p.0 ≡ false → in_owed w p (left_out x l) ≡ true) → in_owed w p (cond b (left_out x l) (y ∷ left_out x l)) ≡ true
       by true g (inl k) r = absurd (both_ways (same_object x p.0) e (ap (same_object x) ((same_object-Decides p.0 y).0 (own_pair y (property_names_of w y) p k)) ∙ g))
@@ -196,16 +178,7 @@ module _ (w : World) (x : ObjNo) (wf : IsWellFormed w) (xo : is_object w x ≡ t
 
   unread : {A : Type 0} (P : A → Type 0) (g : Option WorldObject → A) → P (g None) → ((r : WorldObject) → g (Some (with_slots (λ n. None) (released x (unwrap_or (parent_of w x) nothing) r))) ≡ g (Some (with_slots (λ n. None) r))) → (y : ObjNo) (o : Option WorldObject) → P (g (option_map (with_slots (λ n. None)) o))
       → P (g (option_map (with_slots (λ n. None)) (if same_object x y then None else option_map (released x (unwrap_or (parent_of w x) nothing)) o)))
-  unread P g z h y None k = by (same_object x y)
-    where
-      by : (b : Bool) → P (g (option_map (with_slots (λ n. None)) (if b then None else None)))
-      by true = z
-      by false = z
-  unread P g z h y (Some r) k = by (same_object x y)
-    where
-      by : (b : Bool) → P (g (option_map (with_slots (λ n. None)) (if b then None else Some (released x (unwrap_or (parent_of w x) nothing) r))))
-      by true = z
-      by false = subst P (sym (h r)) k
+  unread P g z h y o k = grind arith
 
   differ_at : (y : ObjNo) (l : List ObjNo) → Chain s y l → NamesDiffer (defined_by_any s l)
   unfolding IsDistinct

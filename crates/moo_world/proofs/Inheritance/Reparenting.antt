@@ -1,5 +1,5 @@
 -- A change of parent keeps the world well formed.
-use Rattle.moo_world.{proofs.Lemmas.{◌≡◌, Bool, true, false, cond, ◌||◌, List, [], ◌∷◌, ◌++◌, map, refl, sym, ◌∙◌, ap, subst, ◌⊎◌, inl, Option, Some, None, append_assoc, unwrap_or, if◌then◌else◌, option_map, option_or, list_any, list_all, IsDistinct, AllByRecursion, both_ways, or_right, none-some, same_Some, ObjNo, Name, Property, nothing, same_object, same_text, same_property, folded, is_among, same_text-Decides, same_property-self, World, WorldObject, with_slots, is_property_name, verb_fits, row_fits, IsWellFormed, Chain, NamesDiffer, is_object, parent_of, slot_of, defined_by, defined_by_any, property_named, has_property, chain, with_parent, reparented, front_of, Climbs-split, chain_is, Chain-chain, linked, no_parent, nothing_is_no_object, defined_by_any-append, named-append, in_owed, in_owed-append, definer_among, named_owed, NoClash, under_x, MayBeRebuilt, IsWellFormed-rebuilt, own_owed, owed_is_object}, proofs.Ancestry.Moving.{names_moved, object_moved, owed_moved, Chain-new, IsTree-moved, chain_unmoved, chain_moved}}
+use Rattle.moo_world.{proofs.Lemmas.{arith, ◌≡◌, Bool, true, false, cond, ◌||◌, List, [], ◌∷◌, ◌++◌, map, refl, sym, ◌∙◌, ap, subst, ◌⊎◌, inl, Option, Some, None, append_assoc, unwrap_or, if◌then◌else◌, option_map, option_or, list_any, list_all, IsDistinct, AllByRecursion, both_ways, or_right, none-some, same_Some, ObjNo, Name, Property, nothing, same_object, same_text, same_property, folded, is_among, same_text-Decides, same_property-self, World, WorldObject, with_slots, is_property_name, verb_fits, row_fits, IsWellFormed, Chain, NamesDiffer, is_object, parent_of, slot_of, defined_by, defined_by_any, property_named, has_property, chain, with_parent, reparented, front_of, Climbs-split, chain_is, Chain-chain, linked, no_parent, nothing_is_no_object, defined_by_any-append, named-append, in_owed, in_owed-append, definer_among, named_owed, NoClash, under_x, MayBeRebuilt, IsWellFormed-rebuilt, own_owed, owed_is_object}, proofs.Ancestry.Moving.{names_moved, object_moved, owed_moved, Chain-new, IsTree-moved, chain_unmoved, chain_moved}}
 
 -- ---- lists of names that differ, joined
 
@@ -124,12 +124,7 @@ module _ (w : World) (x q : ObjNo) (wf : IsWellFormed w) (xo : is_object w x ≡
   -- what reads neither slots nor the parent is as it was
   unread : {A : Type 0} (y : ObjNo) (g : Option WorldObject → A) → ((r : WorldObject) → g (Some (with_slots (λ n. None) (record r { row = record r.row { parent = q } }))) ≡ g (Some (with_slots (λ n. None) r))) → (o : Option WorldObject)
       → g (option_map (with_slots (λ n. None)) (option_map (λ r. if same_object x y then (record r { row = record r.row { parent = q } }) else r) o)) ≡ g (option_map (with_slots (λ n. None)) o)
-  unread y g h None = refl
-  unread y g h (Some r) = by (same_object x y)
-    where
-      by : (b : Bool) → g (Some (with_slots (λ n. None) (cond b (record r { row = record r.row { parent = q } }) r))) ≡ g (Some (with_slots (λ n. None) r))
-      by true = h r
-      by false = refl
+  unread y g h o = grind arith
 
   pub MayBeRebuilt-moved : MayBeRebuilt w s q
   MayBeRebuilt-moved = record {

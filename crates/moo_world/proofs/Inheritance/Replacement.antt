@@ -1,5 +1,5 @@
 -- A property of a well formed world under another name.
-use Rattle.moo_world.{proofs.Lemmas.{◌≡◌, Bool, true, false, cond, ◌||◌, Option, None, Some, List, [], ◌∷◌, ◌++◌, map, refl, sym, ap, ◌∙◌, subst, ◌⊎◌, inl, inr, append_assoc, ◌&&◌, unwrap_or, if◌then◌else◌, option_map, option_and_then, list_any, list_all, IsDistinct, AllByRecursion, false≢true, both_ways, or_parts, or_cases, and_parts, none-some, ObjNo, Clear, clashes, property_renamed, Name, Property, nothing, same_object, same_text, same_property, folded, is_among, same_object-Decides, same_text-Decides, World, WorldObject, Slot, IsWellFormed, Climbs, Chain, NamesDiffer, is_object, parent_of, chain, property_names_of, defined_by, defined_by_any, property_named, slot_of, is_property_name, Climbs-once, none_named, chain_is, Chain-chain, no_parent, nothing_is_no_object, parents_alike, objects_alike, tree_alike, limits_alike, names_fit}, proofs.Shown.PairLists.{distinct_map, pairs_left}, proofs.Inheritance.Insertion.{Inserted, still_apart, named_after, further, none_owed, some_record}}
+use Rattle.moo_world.{proofs.Lemmas.{arith, ◌≡◌, Bool, true, false, cond, ◌||◌, Option, None, Some, List, [], ◌∷◌, ◌++◌, map, refl, sym, ap, ◌∙◌, subst, ◌⊎◌, inl, inr, append_assoc, ◌&&◌, if◌then◌else◌, option_map, option_and_then, list_any, list_all, IsDistinct, AllByRecursion, false≢true, both_ways, or_parts, or_cases, and_parts, none-some, ObjNo, Clear, clashes, property_renamed, Name, Property, nothing, same_object, same_text, same_property, folded, is_among, same_object-Decides, same_text-Decides, World, WorldObject, Slot, IsWellFormed, Climbs, Chain, NamesDiffer, is_object, parent_of, chain, property_names_of, defined_by, defined_by_any, property_named, slot_of, is_property_name, Climbs-once, none_named, chain_is, Chain-chain, no_parent, nothing_is_no_object, parents_alike, objects_alike, tree_alike, limits_alike, names_fit}, proofs.Shown.PairLists.{distinct_map, pairs_left}, proofs.Inheritance.Insertion.{Inserted, still_apart, named_after, further, none_owed, some_record}}
 
 -- ---- lists of pairs
 
@@ -26,13 +26,11 @@ none_fewer : (p : Property) (n : Name) (xs ys : List Property) → property_name
 none_fewer p n [] ys e = by (same_text (folded p.1) n) e
   where
     by : (b : Bool) → cond b (Some p) (property_named ys n) ≡ None → property_named ys n ≡ None
-    by true h = absurd (none-some p (sym h))
-    by false h = h
+    by b h = grind arith
 none_fewer p n (x ∷ xs) ys e = by (same_text (folded x.1) n) e (none_fewer p n xs ys)
   where
     by : (b : Bool) → cond b (Some x) (property_named (xs ++ (p ∷ ys)) n) ≡ None → (property_named (xs ++ (p ∷ ys)) n ≡ None → property_named (xs ++ ys) n ≡ None) → cond b (Some x) (property_named (xs ++ ys) n) ≡ None
-    by true h r = absurd (none-some x (sym h))
-    by false h r = r h
+    by b h r = grind arith
 
 -- b is a with q in the place of p
 record Replaced (p q : Property) (a b : List Property) : Type 0 where
@@ -123,9 +121,7 @@ listed_name x old [] h = h
 listed_name x old (n ∷ l) h = by (same_object x x) (same_text old n) h (listed_name x old l)
   where
     by : (a b : Bool) → ((a && b) || list_any (same_property (x, old)) (map (λ n. (x, n)) l)) ≡ true → (list_any (same_property (x, old)) (map (λ n. (x, n)) l) ≡ true → list_any (same_text old) l ≡ true) → (b || list_any (same_text old) l) ≡ true
-    by a true e r = refl
-    by true false e r = r e
-    by false false e r = r e
+    by a b e r = grind arith
 
 -- ---- the world
 
@@ -157,15 +153,7 @@ module _ (w : World) (wf : IsWellFormed w) (x : ObjNo) (old new : Name) (xo : is
   -- ---- what is owed
 
   names_now : (y : ObjNo) → property_names_of v y ≡ (if same_object x y then map (renames old new) (property_names_of w y) else property_names_of w y)
-  names_now y = by (w.object y)
-    where
-      alone : (b : Bool) → [] ≡ (if b then map (renames old new) [] else [])
-      alone true = refl
-      alone false = refl
-
-      by : (o : Option WorldObject) → unwrap_or (option_map (λ r. r.defines) (option_map (new_record y) o)) [] ≡ (if same_object x y then map (renames old new) (unwrap_or (option_map (λ r. r.defines) o) []) else unwrap_or (option_map (λ r. r.defines) o) [])
-      by None = alone (same_object x y)
-      by (Some r) = refl
+  names_now y = grind arith
 
   own_distinct : IsDistinct (λ a b. same_text (folded a) (folded b)) (property_names_of w x)
   own_distinct = first (chain w x) (Chain-chain w wf.tree x xo) (wf.names x (chain w x) (Chain-chain w wf.tree x xo))
@@ -310,8 +298,7 @@ module _ (w : World) (wf : IsWellFormed w) (x : ObjNo) (old new : Name) (xo : is
         each (n ∷ l) h = let parts = and_parts (is_property_name n) (list_all is_property_name l) h in one (same_text (folded n) (folded old)) parts.0 (each l parts.1)
           where
             one : (b : Bool) → is_property_name n ≡ true → list_all is_property_name (map (renames old new) l) ≡ true → (is_property_name (if b then new else n) && list_all is_property_name (map (renames old new) l)) ≡ true
-            one true k r = λ i. good_name i && r i
-            one false k r = λ i. k i && r i
+            one b k r = grind arith
 
         by : (b : Bool) → list_all is_property_name (if b then map (renames old new) (property_names_of w y) else property_names_of w y) ≡ true
         by false = names_fit w wf.limits y

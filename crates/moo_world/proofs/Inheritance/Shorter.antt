@@ -1,5 +1,5 @@
 -- A property taken from a well formed world.
-use Rattle.moo_world.proofs.Lemmas.{◌≡◌, Bool, true, false, cond, ◌||◌, Option, None, Some, List, [], ◌∷◌, ◌++◌, map, refl, sym, ap, ◌∙◌, subst, ◌&&◌, not, unwrap_or, if◌then◌else◌, option_map, filter, list_any, list_all, IsDistinct, AllByRecursion, both_ways, or_right, and_parts, none-some, same_Some, ObjNo, property_removed, Name, Property, nothing, same_object, same_text, same_property, folded, same_object-Decides, same_text-Decides, World, WorldObject, Slot, IsWellFormed, Climbs, Chain, NamesDiffer, is_object, parent_of, chain, climb, numbers_to, property_names_of, defined_by, defined_by_any, has_property, owner_of, property_named, slot_of, slot_for, fresh, object_changed, is_property_name, MayBeRebuilt, IsWellFormed-rebuilt, named_owed, named_so, none_named, slot_of-rebuilt, Chain-chain, parents_alike, objects_alike, tree_alike, limits_alike, names_fit, own_owed}
+use Rattle.moo_world.proofs.Lemmas.{arith, ◌≡◌, Bool, true, false, cond, ◌||◌, Option, None, Some, List, [], ◌∷◌, ◌++◌, map, refl, sym, ap, ◌∙◌, subst, ◌&&◌, not, if◌then◌else◌, option_map, filter, list_any, list_all, IsDistinct, AllByRecursion, both_ways, and_parts, none-some, same_Some, ObjNo, property_removed, Name, Property, nothing, same_object, same_text, same_property, folded, same_object-Decides, same_text-Decides, World, WorldObject, Slot, IsWellFormed, Climbs, Chain, NamesDiffer, is_object, parent_of, chain, climb, numbers_to, property_names_of, defined_by, defined_by_any, has_property, owner_of, property_named, slot_of, slot_for, fresh, object_changed, is_property_name, MayBeRebuilt, IsWellFormed-rebuilt, named_owed, named_so, none_named, slot_of-rebuilt, Chain-chain, parents_alike, objects_alike, tree_alike, limits_alike, names_fit, own_owed}
 
 -- ---- lists
 
@@ -8,28 +8,21 @@ filter-append test [] m = refl
 filter-append test (a ∷ l) m = by (test a) (filter-append test l m)
   where
     by : (b : Bool) → filter test (l ++ m) ≡ filter test l ++ filter test m → cond b (a ∷ filter test (l ++ m)) (filter test (l ++ m)) ≡ cond b (a ∷ filter test l) (filter test l) ++ filter test m
-    by true r = ap (λ k. a ∷ k) r
-    by false r = r
+    by b r = grind arith
 
 all_of_filter : {A : Type 0} (P : A → Type 0) (test : A → Bool) (l : List A) → AllByRecursion P l → AllByRecursion P (filter test l)
 all_of_filter P test [] h = tt
 all_of_filter P test (a ∷ l) h = by (test a) (all_of_filter P test l h.1)
   where
     by : (b : Bool) → AllByRecursion P (filter test l) → AllByRecursion P (cond b (a ∷ filter test l) (filter test l))
-    by true r = (h.0, r)
-    by false r = r
+    by b r = grind arith
 
 any_of_filter : {A : Type 0} (t test : A → Bool) (l : List A) → list_any t (filter test l) ≡ true → list_any t l ≡ true
 any_of_filter t test [] h = h
 any_of_filter t test (a ∷ l) h = by (test a) h (any_of_filter t test l)
   where
     by : (b : Bool) → list_any t (cond b (a ∷ filter test l) (filter test l)) ≡ true → (list_any t (filter test l) ≡ true → list_any t l ≡ true) → (t a || list_any t l) ≡ true
-    by false k r = or_right (t a) (list_any t l) (r k)
-    by true k r = both (t a) k
-      where
-        both : (c : Bool) → (c || list_any t (filter test l)) ≡ true → (c || list_any t l) ≡ true
-        both true e = refl
-        both false e = r e
+    by b k r = grind arith
 
 fewer_differ : (test : Property → Bool) (l : List Property) → NamesDiffer l → NamesDiffer (filter test l)
 unfolding IsDistinct
@@ -49,9 +42,7 @@ none_of_filter test n [] e = refl
 none_of_filter test n (p ∷ l) e = by (same_text (folded p.1) n) refl e (test p) (none_of_filter test n l)
   where
     by : (b : Bool) → same_text (folded p.1) n ≡ b → cond b (Some p) (property_named l n) ≡ None → (c : Bool) → (property_named l n ≡ None → property_named (filter test l) n ≡ None) → property_named (cond c (p ∷ filter test l) (filter test l)) n ≡ None
-    by true f g c r = absurd (none-some p (sym g))
-    by false f g true r = ap (λ b. cond b (Some p) (property_named (filter test l) n)) f ∙ r g
-    by false f g false r = r g
+    by b f g c r = grind arith
 
 named_in_filter : (test : Property → Bool) (n : Name) (l : List Property) → NamesDiffer l → property_named (filter test l) n ≡ kept_pair test (property_named l n)
 unfolding IsDistinct
@@ -80,11 +71,7 @@ module _ (w : World) (wf : IsWellFormed w) (x : ObjNo) (name : Name) where
   less y r = if same_object x y then record r { defines = fewer r.defines } else r
 
   kept : {A : Type 0} (g : WorldObject → A) → ((r : WorldObject) → g (record r { defines = fewer r.defines }) ≡ g r) → (y : ObjNo) (r : WorldObject) → g (less y r) ≡ g r
-  kept g e y r = by (same_object x y)
-    where
-      by : (b : Bool) → g (if b then record r { defines = fewer r.defines } else r) ≡ g r
-      by true = e r
-      by false = refl
+  kept g e y r = grind arith
 
   parents : parent_of s ≡ parent_of w
   parents = parents_alike w s less (λ y. refl) (kept (λ r. r.row) (λ r. refl))
@@ -97,13 +84,7 @@ module _ (w : World) (wf : IsWellFormed w) (x : ObjNo) (name : Name) where
   same_chain y = λ i. climb (numbers_to w.top) (parents i) y
 
   names_now : (y : ObjNo) → property_names_of s y ≡ (if same_object x y then filter (λ m. not (same_text (folded m) (folded name))) (property_names_of w y) else property_names_of w y)
-  names_now y = by (same_object x y) (w.object y)
-    where
-      by : (b : Bool) (o : Option WorldObject) → unwrap_or (option_map (λ r. r.defines) (option_map (λ r. if b then record r { defines = filter (λ m. not (same_text (folded m) (folded name))) r.defines } else r) o)) [] ≡ (if b then filter (λ m. not (same_text (folded m) (folded name))) (unwrap_or (option_map (λ r. r.defines) o) []) else unwrap_or (option_map (λ r. r.defines) o) [])
-      by true None = refl
-      by false None = refl
-      by true (Some r) = refl
-      by false (Some r) = refl
+  names_now y = grind arith
 
   turned : (a b : ObjNo) → same_object a b ≡ same_object b a
   turned a b = by (same_object a b) refl (same_object b a) refl
@@ -125,8 +106,7 @@ module _ (w : World) (wf : IsWellFormed w) (x : ObjNo) (name : Name) where
           ∙ ap (λ b. cond (not (b && same_text (folded n) (folded name))) ((y, n) ∷ filter stays (map {B = Property} (λ n. (y, n)) l)) (filter stays (map {B = Property} (λ n. (y, n)) l))) (sym (sym (turned x y) ∙ e))
         where
           one : (c : Bool) → map {B = Property} (λ n. (y, n)) (filter (λ m. not (same_text (folded m) (folded name))) l) ≡ filter stays (map {B = Property} (λ n. (y, n)) l) → map {B = Property} (λ n. (y, n)) (cond (not c) (n ∷ filter (λ m. not (same_text (folded m) (folded name))) l) (filter (λ m. not (same_text (folded m) (folded name))) l)) ≡ cond (not c) ((y, n) ∷ filter stays (map {B = Property} (λ n. (y, n)) l)) (filter stays (map {B = Property} (λ n. (y, n)) l))
-          one true r = r
-          one false r = ap (λ k. (y, n) ∷ k) r
+          one c r = grind arith
       by false e (n ∷ l) =
           ap (λ k. (y, n) ∷ k) (by false e l)
           ∙ ap (λ b. cond (not (b && same_text (folded n) (folded name))) ((y, n) ∷ filter stays (map {B = Property} (λ n. (y, n)) l)) (filter stays (map {B = Property} (λ n. (y, n)) l))) (sym (sym (turned x y) ∙ e))
@@ -149,8 +129,7 @@ module _ (w : World) (wf : IsWellFormed w) (x : ObjNo) (name : Name) where
       each (n ∷ l) h = one (not (same_text (folded n) (folded name))) (and_parts (is_property_name n) (list_all is_property_name l) h) (each l)
         where
           one : (c : Bool) → (is_property_name n ≡ true) × (list_all is_property_name l ≡ true) → (list_all is_property_name l ≡ true → list_all is_property_name (fewer l) ≡ true) → list_all is_property_name (cond c (n ∷ fewer l) (fewer l)) ≡ true
-          one true k r = λ i. k.0 i && r k.1 i
-          one false k r = r k.1
+          one c k r = grind arith
 
       by : (b : Bool) → list_all is_property_name (if b then fewer (property_names_of w y) else property_names_of w y) ≡ true
       by true = each (property_names_of w y) (names_fit w wf.limits y)

@@ -1,5 +1,5 @@
 -- Nobody's ownership changes by a field, a quota, or a property that is added or has another name.
-use Rattle.moo_world.{proofs.Lemmas.{◌≡◌, Bool, true, false, List, [], ◌∷◌, ◌++◌, map, refl, sym, ◌∙◌, ap, Option, Some, None, ℤ, pos, negsuc, ◌+ℤ◌, ◌&&◌, if◌then◌else◌, option_map, option_and_then, false≢true, none-some, same_Some, ObjNo, Int, Bits, SlotState, Set, Change, clashes, property_added, property_renamed, info_set, changed, field_changed, Name, Property, nothing, same_object, same_text, folded, is_among, same_text-Decides, KeepsOwnership, name_changed, quota_name, quota_of, quota_changed, set_slot, charged, quota_returned, World, WorldObject, Slot, IsWellFormed, is_object, chain, slot_of, fresh, object_changed, same_links, rank, face, faced, on_record, on_slot, unchanged, slotted, Chain-chain}, proofs.Inheritance.Insertion.{none_owed}, proofs.Ownership.Created.{chains_same}, proofs.Ownership.Kept.{after}}
+use Rattle.moo_world.{proofs.Lemmas.{arith, ◌≡◌, Bool, true, false, List, [], ◌∷◌, ◌++◌, map, refl, sym, ◌∙◌, ap, Option, Some, None, ℤ, pos, negsuc, ◌+ℤ◌, ◌&&◌, if◌then◌else◌, option_map, option_and_then, none-some, same_Some, ObjNo, Int, Bits, SlotState, Set, Change, clashes, property_added, property_renamed, info_set, changed, field_changed, Name, Property, nothing, same_object, same_text, folded, is_among, same_text-Decides, KeepsOwnership, name_changed, quota_name, quota_of, quota_changed, set_slot, charged, quota_returned, World, WorldObject, Slot, IsWellFormed, is_object, chain, slot_of, fresh, object_changed, same_links, rank, face, faced, on_record, on_slot, unchanged, slotted, Chain-chain}, proofs.Inheritance.Insertion.{none_owed}, proofs.Ownership.Created.{chains_same}, proofs.Ownership.Kept.{after}}
 use Rattle.moo_world.specs.declared.change.Change.TheVariants as to
 
 -- no field that says who owns or may what is changed
@@ -11,20 +11,10 @@ is_modest (to.Wizard a) = false
 is_modest change = true
 
 modest_rank : (c : Change) (r : WorldObject) → is_modest c ≡ true → rank (record r { row = changed c r.row }) ≡ rank r
-modest_rank (to.Name a) r e = refl
-modest_rank (to.Owner a) r e = absurd (false≢true e)
-modest_rank (to.Location a) r e = refl
-modest_rank (to.Player a) r e = absurd (false≢true e)
-modest_rank (to.Programmer a) r e = absurd (false≢true e)
-modest_rank (to.Wizard a) r e = absurd (false≢true e)
-modest_rank (to.Readable a) r e = refl
-modest_rank (to.Writable a) r e = refl
-modest_rank (to.Fertile a) r e = refl
-modest_rank (to.Accept a) r e = refl
+modest_rank c r e = grind arith
 
 ranks_still : (f : WorldObject → List Name) (g : WorldObject → Name → Option Slot) (o : Option WorldObject) → option_map rank (option_map (λ (r : WorldObject). record r { defines = f r; slot = g r }) o) ≡ option_map rank o
-ranks_still f g None = refl
-ranks_still f g (Some r) = refl
+ranks_still f g o = grind arith
 
 module _ (w : World) (p : ObjNo) where
   pub by_field_change : (x : ObjNo) (c : Change) → is_modest c ≡ true → KeepsOwnership w (field_changed w x c) p (λ y n. n)
@@ -36,13 +26,7 @@ module _ (w : World) (p : ObjNo) where
   by_quota v o more k = by (quota_of v o)
     where
       kept : (state : SlotState) (b : Bool) (s : Option Slot) → option_map face (if b then option_map (λ (z : Slot). record z { state = state }) s else s) ≡ option_map face s
-      kept state b None = none b
-        where
-          none : (b : Bool) → option_map face (if b then None else None) ≡ None
-          none true = refl
-          none false = refl
-      kept state true (Some s) = refl
-      kept state false (Some s) = refl
+      kept state b s = grind arith
 
       by : (q : Option ℤ) → KeepsOwnership w (elim q [ None ↦ v | Some had ↦ object_changed v o (set_slot quota_name (Set (Int (had +ℤ more)))) ]) p (λ y n. n)
       by None = k

@@ -1,5 +1,5 @@
 -- What stays of a world, and what is new, when an object is made.
-use Rattle.moo_world.{proofs.Lemmas.{◌≡◌, Bool, true, false, ◌||◌, List, [], ◌∷◌, refl, sym, ◌∙◌, ap, ◌⊎◌, inl, inr, Option, Some, None, ℤ, pos, negsuc, FitsSigned, w32, arith, ◌+ℤ◌, ◌<ℤ◌, ◌≤ℤ◌, int_lt, is_some, unwrap_or, if◌then◌else◌, option_map, or_cases, ints, none-some, same_Some, ObjNo, is_number, plain_object, next_object, object_added, created, Name, Property, nothing, same_object, same_object-Decides, World, WorldObject, Slot, IsWellFormed, SameButSlots, Chain, is_object, owner_of, chain, climb, numbers_to, slot_of, defined_by_any, property_named, slot_for, fresh, read_in, read_along, read_of, named_owed, range_of, SameButSlots-rebuilt, objects_same, owners_same, parents_same, slot_of-rebuilt, Chain-chain, linked}, proofs.Inheritance.Creating.{IsWellFormed-created, chain_other, owed_still}}
+use Rattle.moo_world.{proofs.Lemmas.{◌≡◌, Bool, true, false, ◌||◌, List, [], ◌∷◌, refl, sym, ◌∙◌, ap, ◌⊎◌, inl, inr, Option, Some, None, pos, arith, ◌+ℤ◌, ◌<ℤ◌, is_some, unwrap_or, if◌then◌else◌, option_map, or_cases, none-some, ObjNo, is_number, plain_object, next_object, object_added, created, Name, Property, nothing, same_object, same_object-Decides, World, WorldObject, Slot, IsWellFormed, SameButSlots, Chain, is_object, owner_of, chain, climb, numbers_to, slot_of, defined_by_any, property_named, slot_for, fresh, read_in, read_along, read_of, named_owed, SameButSlots-rebuilt, objects_same, owners_same, parents_same, slot_of-rebuilt, Chain-chain, linked}, proofs.Inheritance.Creating.{IsWellFormed-created, chain_other, owed_still}}
 
 -- worlds that differ in slots alone have the same chains
 pub chains_same : (a b : World) → SameButSlots a b → (y : ObjNo) → chain a y ≡ chain b y
@@ -16,28 +16,17 @@ module _ (w : World) (x q owner : ObjNo) (wf : IsWellFormed w) (is_next : next_o
   -- ---- what the number says
 
   next_is : (w.top <ℤ pos 2147483647) × (x.0 ≡ w.top +ℤ pos 1)
-  next_is = by (int_lt w.top (pos 2147483647)) refl is_next
-    where
-      by : (b : Bool) → int_lt w.top (pos 2147483647) ≡ b → (if b then Some (record { 0 = w.top +ℤ pos 1 }) else None) ≡ Some x → (w.top <ℤ pos 2147483647) × (x.0 ≡ w.top +ℤ pos 1)
-      by true e h = (grind (arith, ints), ap (λ (y : ObjNo). y.0) (sym (same_Some (record { 0 = w.top +ℤ pos 1 }) x h)))
-      by false e h = absurd (none-some x h)
+  next_is = grind arith
 
   pub free : is_object w x ≡ false
-  free = by (is_object w x) refl
-    where
-      by : (b : Bool) → is_object w x ≡ b → b ≡ false
-      by false e = refl
-      by true e = let h = wf.tree.numbers x e in let n = next_is.1 in absurd (omega (arith, ints, h.1, n))
+  free = grind arith
 
   parent_is : (is_object w q ≡ true) ⊎ (q ≡ nothing)
   parent_is = elim (or_cases _ _ parent) [ inl e ↦ inl e | inr e ↦ inr (sym ((same_object-Decides nothing q).0 e)) ]
 
   -- the number of the new object has 32 bits
   pub new_numbered : is_number x ≡ true
-  new_numbered = range_of x.0 (within x.0 w.top wf.limits.top.0 next_is.0 next_is.1)
-    where
-      within : (n top : ℤ) → negsuc 0 ≤ℤ top → top <ℤ pos 2147483647 → n ≡ top +ℤ pos 1 → FitsSigned w32 n
-      within n top a b c = grind (arith, ints)
+  new_numbered = grind arith
 
   pub formed : is_number owner ≡ true → IsWellFormed (created w x q owner)
   formed = IsWellFormed-created w x q owner wf free next_is.1 next_is.0 parent_is
@@ -48,8 +37,7 @@ module _ (w : World) (x q owner : ObjNo) (wf : IsWellFormed w) (is_next : next_o
   objects_now y = objects_same (created w x q owner) s same y ∙ by (same_object x y)
     where
       by : (b : Bool) → is_some (if b then Some (plain_object q owner) else w.object y) ≡ (b || is_object w y)
-      by true = refl
-      by false = refl
+      by b = grind arith
 
   pub owner_new : owner_of (created w x q owner) x ≡ owner
   owner_new =
@@ -80,8 +68,7 @@ module _ (w : World) (x q owner : ObjNo) (wf : IsWellFormed w) (is_next : next_o
       ∙ by (property_named (defined_by_any w (chain w y)) n) refl
     where
       none : (v : Option Slot) → option_map (λ k. k.definer) v ≡ None → None ≡ v
-      none None h = refl
-      none (Some k) h = absurd (none-some k.definer (sym h))
+      none v h = grind arith
 
       by : (v : Option Property) → property_named (defined_by_any w (chain w y)) n ≡ v → slot_for w s q y n v ≡ slot_of w y n
       by None e = none (slot_of w y n) (wf.slots y (chain w y) n o (Chain-chain w wf.tree y o) ∙ ap (option_map (λ p. p.0)) e)

@@ -1,5 +1,5 @@
 -- What a change of the world has to keep for nobody's ownership to change.
-use Rattle.moo_world.proofs.Words.{◌≡◌, Bool, true, false, refl, sym, ◌∙◌, ap, Option, Some, None, is_some, unwrap_or, if◌then◌else◌, option_map, option_and_then, both_ways, none-some, same_Some, ObjNo, ObjRow, Name, nothing, same_object, same_text, folded, same_object-Decides, same_text-Decides, with_slot_of, SameRights, KeepsOwnership, World, WorldObject, Slot, is_object, slot_of, object_changed, with_slots, rebuilt_slot, rebuilt}
+use Rattle.moo_world.proofs.Words.{arith, ◌≡◌, Bool, true, false, refl, sym, ◌∙◌, ap, Option, Some, None, is_some, unwrap_or, if◌then◌else◌, option_map, option_and_then, same_Some, ObjNo, ObjRow, Name, nothing, same_object, same_text, folded, same_object-Decides, same_text-Decides, with_slot_of, SameRights, KeepsOwnership, World, WorldObject, Slot, is_object, slot_of, object_changed, rebuilt}
 
 -- whose an object is and what its bits let it do
 abbrev pub rank : WorldObject → ObjNo × Bool × Bool × Bool
@@ -22,32 +22,20 @@ abbrev owner_in : Option WorldObject → ObjNo
 owner_in o = unwrap_or (option_map (λ (r : WorldObject). r.row.owner) o) nothing
 
 rights_in : (a b : Option WorldObject) → option_map rank a ≡ option_map rank b → (owner_in a ≡ owner_in b) × (passes (λ r. r.player) a ≡ passes (λ r. r.player) b) × (passes (λ r. r.programmer) a ≡ passes (λ r. r.programmer) b) × (passes (λ r. r.wizard) a ≡ passes (λ r. r.wizard) b)
-rights_in None None e = (refl, refl, refl, refl)
-rights_in None (Some r) e = absurd (none-some (rank r) e)
-rights_in (Some r) None e = absurd (none-some (rank r) (sym e))
-rights_in (Some r) (Some s) e = let h = same_Some (rank r) (rank s) e in (λ i. (h i).0, λ i. (h i).1, λ i. (h i).2, λ i. (h i).3)
+rights_in a b e = grind arith
 
 pub some_in : (a b : Option WorldObject) → option_map rank a ≡ option_map rank b → is_some a ≡ is_some b
-some_in None None e = refl
-some_in None (Some r) e = absurd (none-some (rank r) e)
-some_in (Some r) None e = absurd (none-some (rank r) (sym e))
-some_in (Some r) (Some s) e = refl
+some_in a b e = grind arith
 
 pub rights_from : (w next : World) (y : ObjNo) → ranked next y ≡ ranked w y → SameRights w next y
 rights_from w next y e = rights_in (next.object y) (w.object y) e
 
 same_face : (a b : Option Slot) (t : Slot) → option_map face a ≡ option_map face b → a ≡ Some t → (u : Slot) × (b ≡ Some u) × (face t ≡ face u)
-same_face None b t e h = absurd (none-some t h)
-same_face (Some s) None t e h = absurd (none-some (face s) (sym e))
-same_face (Some s) (Some u) t e h = (u, refl, ap face (sym (same_Some s t h)) ∙ same_Some (face s) (face u) e)
+same_face a b t e h = grind arith
 
 -- what has a slot is an object
 pub slotted : (w : World) (y : ObjNo) (n : Name) (s : Slot) → slot_of w y n ≡ Some s → is_object w y ≡ true
-slotted w y n s e = by (w.object y) e
-  where
-    by : (o : Option WorldObject) → option_and_then (λ (r : WorldObject). r.slot n) o ≡ Some s → is_some o ≡ true
-    by None h = absurd (none-some s h)
-    by (Some r) h = refl
+slotted w y n s e = grind arith
 
 pub same_owner : (s t : Slot) (o : Option Slot) → o ≡ Some s → o ≡ Some t → t.owner ≡ s.owner
 same_owner s t o e f = ap (λ (k : Slot). k.owner) (same_Some t s (sym f ∙ e))
@@ -55,51 +43,26 @@ same_owner s t o e f = ap (λ (k : Slot). k.owner) (same_Some t s (sym f ∙ e))
 -- the rebuilt world has the rows of the world with other links and definitions
 pub ranked_rebuilt : (w s : World) (q y : ObjNo) → ranked (rebuilt w s q) y ≡ ranked s y
 unfolding rebuilt
-ranked_rebuilt w s q y = by (s.object y)
-  where
-    by : (o : Option WorldObject) → option_map rank (option_map (with_slots (rebuilt_slot w s q y)) o) ≡ option_map rank o
-    by None = refl
-    by (Some r) = refl
+ranked_rebuilt w s q y = grind arith
 
 module _ (w : World) (p : ObjNo) where
   -- what has changed no rank, and no owner of a slot with its definer
   pub from_slots : (v : World) (names : ObjNo → Name → Name) → ((y : ObjNo) → is_object v y ≡ true → ranked v y ≡ ranked w y) → ((y : ObjNo) (n : Name) (s t : Slot) → slot_of w y n ≡ Some s → slot_of v y (names y n) ≡ Some t → s.definer ≡ t.definer → t.owner ≡ s.owner) → KeepsOwnership w v p names
-  from_slots v names ranks slots = record {
-    rights = λ y e f. rights_from w v y (ranks y f);
-    slots = slots;
-    made = λ y e f. absurd (both_ways (is_object w y) e (sym (some_in (v.object y) (w.object y) (ranks y f)) ∙ f));
-  }
+  from_slots v names ranks slots = grind arith
 
   pub unchanged : KeepsOwnership w w p (λ y n. n)
   unchanged = from_slots w (λ y n. n) (λ y f. refl) (λ y n s t e f d. same_owner s t (slot_of w y n) e f)
 
   -- a further change of neither ranks nor faces
   pub after : (v next : World) (was now : ObjNo → Name → Name) → ((y : ObjNo) → ranked next y ≡ ranked v y) → ((y : ObjNo) (n : Name) (s : Slot) → slot_of w y n ≡ Some s → faced next y (now y n) ≡ faced v y (was y n)) → KeepsOwnership w v p was → KeepsOwnership w next p now
-  after v next was now ranks faces k = record {
-    rights = λ y e f.
-        let r = rights_from v next y (ranks y) in
-        let h = k.rights y e (there y f) in
-        (r.0 ∙ h.0, r.1 ∙ h.1, r.2 ∙ h.2, r.3 ∙ h.3);
-    slots = λ y n s t e f d.
-        let u = same_face (slot_of next y (now y n)) (slot_of v y (was y n)) t (faces y n s e) f in
-        (λ i. (u.2 i).1) ∙ k.slots y n s u.0 e u.1 (d ∙ (λ i. (u.2 i).0));
-    made = λ y e f.
-        let r = rights_from v next y (ranks y) in
-        let h = k.made y e (there y f) in
-        (r.0 ∙ h.0, r.1 ∙ h.1, r.2 ∙ h.2, r.3 ∙ h.3);
-  }
-    where
-      there : (y : ObjNo) → is_object next y ≡ true → is_object v y ≡ true
-      there y f = sym (some_in (next.object y) (v.object y) (ranks y)) ∙ f
+  after v next was now ranks faces k = grind arith
 
   -- a change of one record
   pub on_record : (v : World) (x : ObjNo) (change : WorldObject → WorldObject) → ((r : WorldObject) → rank (change r) ≡ rank r) → ((r : WorldObject) (n : Name) → v.object x ≡ Some r → option_map face ((change r).slot n) ≡ option_map face (r.slot n)) → KeepsOwnership w v p (λ y n. n) → KeepsOwnership w (object_changed v x change) p (λ y n. n)
   on_record v x change ranks faces k = after v (object_changed v x change) (λ y n. n) (λ y n. n) (λ y. of_rank (same_object x y) (v.object y)) (λ y n s e. of_face y n (same_object x y) refl (v.object y) refl) k
     where
       of_rank : (b : Bool) (o : Option WorldObject) → option_map rank (option_map (λ (r : WorldObject). if b then change r else r) o) ≡ option_map rank o
-      of_rank b None = refl
-      of_rank true (Some r) = ap Some (ranks r)
-      of_rank false (Some r) = refl
+      of_rank b o = grind arith
 
       of_face : (y : ObjNo) (n : Name) (b : Bool) → same_object x y ≡ b → (o : Option WorldObject) → v.object y ≡ o → option_map face (option_and_then (λ (r : WorldObject). r.slot n) (option_map (λ (r : WorldObject). if b then change r else r) o)) ≡ option_map face (option_and_then (λ (r : WorldObject). r.slot n) o)
       of_face y n b e None f = refl

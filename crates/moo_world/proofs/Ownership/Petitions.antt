@@ -1,26 +1,18 @@
 -- The calls of petitions change no world, unless a wizard grants.
-use Rattle.moo_world.{proofs.Lemmas.{◌≡◌, true, false, Option, Some, None, refl, sym, ◌∙◌, nat_lt, is_some, ◌||◌, list_all, false≢true, ObjNo, spread, Call, PetitionCall, no_values, petition_call, same_object, PetitionsLeaveTheWorld, is_named, are_few, are_shallow, State, are_on_world, in_world, number_limit, one_integer, one_list, petition_at, petition_call_by, batch_call, is_wizard, named_call, is_object, Value, Leaves, of_done, on_check, on_done, on_found, on_given, on_room}, specs.declared.name.PetitionCall.TheVariants.{Petition as to_petition, Petitions as to_list, Grant as to_grant, Decline as to_decline}}
+use Rattle.moo_world.{proofs.Lemmas.{◌≡◌, true, false, Option, Some, None, sym, ◌∙◌, is_some, false≢true, ObjNo, Call, PetitionCall, petition_call, PetitionsLeaveTheWorld, State, in_world, petition_call_by, batch_call, is_wizard, named_call, is_object, Value, Leaves, of_done, on_check, Outcome}, proofs.Form.Passing.{each_check}, specs.declared.name.PetitionCall.TheVariants.{Petition as to_petition, Petitions as to_list, Grant as to_grant, Decline as to_decline}}
 
 module _ (s : State) (p : ObjNo) (call : Call) (none : is_wizard s.world p ≡ false) where
   abbrev Same : State → Type 0
   Same next = next.world ≡ s.world
 
+  not_granted : (o : Outcome State) → is_wizard s.world p ≡ true → Leaves Same o
+  not_granted o wizard = absurd (false≢true (sym none ∙ wizard))
+
   one : (c : PetitionCall) → Leaves Same (petition_call_by s p c call.args)
-  one to_petition =
-      on_given _ (one_list call.args) _ (λ calls e.
-      on_check _ (list_all is_named (spread calls)) _ _ (λ named.
-      on_check _ (are_few calls) _ _ (λ few.
-      on_check _ (are_on_world calls) _ _ (λ world.
-      on_check _ (are_shallow calls) _ _ (λ shallow.
-      on_room _ (nat_lt s.next_petition number_limit) _ (λ left. on_done _ _ _ refl))))))
-  one to_list = on_given _ (no_values call.args) _ (λ a e. on_done _ _ s refl)
-  one to_grant =
-      on_given _ (one_integer call.args) _ (λ n e.
-      on_check _ (is_wizard s.world p) _ _ (λ wizard. absurd (false≢true (sym none ∙ wizard))))
-  one to_decline =
-      on_given _ (one_integer call.args) _ (λ n e.
-      on_found _ (petition_at s n) _ _ (λ found f.
-      on_check _ (same_object found.1.who p || is_wizard s.world p) _ _ (λ may. on_done _ _ _ refl)))
+  one to_petition = search each_check depth 12
+  one to_list = search each_check
+  one to_grant = search (each_check, not_granted)
+  one to_decline = search each_check
 
   leaves : is_some (petition_call call.name) ≡ true → Leaves Same (batch_call s p call)
   unfolding batch_call

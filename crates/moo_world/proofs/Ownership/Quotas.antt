@@ -1,5 +1,5 @@
 -- What a quota reads as after it is moved, and what stays.
-use Rattle.moo_world.proofs.Lemmas.{◌≡◌, Bool, true, false, refl, sym, ◌∙◌, ap, Option, Some, None, ℤ, ◌+ℤ◌, is_some, unwrap_or, if◌then◌else◌, option_map, option_and_then, none-some, ObjNo, Int, SlotState, Set, nothing, same_object, same_object-Decides, same_text-Decides, quota_name, quota_in, quota_of, quota_changed, set_slot, World, WorldObject, Slot, IsTree, is_object, owner_of, parent_of, chain, climb, numbers_to, read_in, read_along, read_of, slot_of, object_changed, chain-step, chain_of_none}
+use Rattle.moo_world.proofs.Lemmas.{arith, ◌≡◌, refl, sym, ◌∙◌, ap, Option, Some, None, ℤ, ◌+ℤ◌, is_some, if◌then◌else◌, option_map, option_and_then, none-some, ObjNo, Int, SlotState, Set, same_object, same_object-Decides, same_text-Decides, quota_name, quota_in, quota_of, quota_changed, set_slot, World, WorldObject, Slot, IsTree, is_object, owner_of, parent_of, chain, climb, numbers_to, read_in, read_along, read_of, slot_of, object_changed, chain-step, chain_of_none}
 
 module _ (w : World) (o : ObjNo) (state : SlotState) where
   abbrev v : World
@@ -9,12 +9,7 @@ module _ (w : World) (o : ObjNo) (state : SlotState) where
   put y r = if same_object o y then set_slot quota_name state r else r
 
   parents : parent_of v ≡ parent_of w
-  parents = λ i y. by (same_object o y) (w.object y) i
-    where
-      by : (b : Bool) (k : Option WorldObject) → option_map (λ (r : WorldObject). r.row.parent) (option_map (λ (r : WorldObject). if b then set_slot quota_name state r else r) k) ≡ option_map (λ (r : WorldObject). r.row.parent) k
-      by b None = refl
-      by true (Some r) = refl
-      by false (Some r) = refl
+  parents = grind arith
 
   same_chain : (y : ObjNo) → chain v y ≡ chain w y
   unfolding chain
@@ -48,24 +43,7 @@ quota_read w t o had more e =
 
 -- objects and their owners stay
 pub objects_stay : (w : World) (o : ObjNo) (more : ℤ) (y : ObjNo) → is_object (quota_changed w o more) y ≡ is_object w y
-objects_stay w o more y = by (quota_of w o)
-  where
-    one : (b : Bool) (state : SlotState) (k : Option WorldObject) → is_some (option_map (λ (r : WorldObject). if b then set_slot quota_name state r else r) k) ≡ is_some k
-    one b state None = refl
-    one b state (Some r) = refl
-
-    by : (q : Option ℤ) → is_object (elim q [ None ↦ w | Some k ↦ object_changed w o (set_slot quota_name (Set (Int (k +ℤ more)))) ]) y ≡ is_object w y
-    by None = refl
-    by (Some k) = one (same_object o y) (Set (Int (k +ℤ more))) (w.object y)
+objects_stay w o more y = grind arith
 
 pub owners_stay : (w : World) (o : ObjNo) (more : ℤ) (y : ObjNo) → owner_of (quota_changed w o more) y ≡ owner_of w y
-owners_stay w o more y = by (quota_of w o)
-  where
-    one : (b : Bool) (state : SlotState) (k : Option WorldObject) → unwrap_or (option_map (λ (r : WorldObject). r.row.owner) (option_map (λ (r : WorldObject). if b then set_slot quota_name state r else r) k)) nothing ≡ unwrap_or (option_map (λ (r : WorldObject). r.row.owner) k) nothing
-    one b state None = refl
-    one true state (Some r) = refl
-    one false state (Some r) = refl
-
-    by : (q : Option ℤ) → owner_of (elim q [ None ↦ w | Some k ↦ object_changed w o (set_slot quota_name (Set (Int (k +ℤ more)))) ]) y ≡ owner_of w y
-    by None = refl
-    by (Some k) = one (same_object o y) (Set (Int (k +ℤ more))) (w.object y)
+owners_stay w o more y = grind arith

@@ -1,17 +1,9 @@
 -- Nobody's ownership changes where slots are rebuilt, and by a new object, the loss of one, or a change of parent.
-use Rattle.moo_world.{proofs.Lemmas.{◌≡◌, Bool, true, false, ◌||◌, [], ◌∷◌, map, refl, sym, ◌∙◌, ap, ◌⊎◌, inl, inr, Option, Some, None, ◌&&◌, not, is_some, unwrap_or, if◌then◌else◌, option_map, filter, list_any, false≢true, both_ways, or_cases, none-some, same_Some, ObjNo, property_removed, plain_object, next_object, object_added, created, unless_defined_by, Name, Property, nothing, same_object, same_text, same_property, folded, is_among, KeepsOwnership, released, object_removed, recycled, World, WorldObject, Slot, IsWellFormed, is_object, parent_of, owner_of, chain, slot_of, defined_by, defined_by_any, has_property, property_named, slot_for, fresh, rebuilt, with_parent, reparented, MayBeRebuilt, NoClash, definer_among, named_owed, rank, ranked, from_slots, rights_from, same_owner, slotted, ranked_rebuilt, SameButSlots-rebuilt, objects_same, slot_of-rebuilt, owed_listed, Chain-chain}, proofs.Ownership.Created.{record_old, slot_old, objects_now}, proofs.Inheritance.Recycling.{recycle_law}, proofs.Inheritance.Reparenting.{MayBeRebuilt-moved}, proofs.Inheritance.Shorter.{s as less, kept_slot, undefined_law}}
+use Rattle.moo_world.{proofs.Lemmas.{arith, ◌≡◌, Bool, true, false, ◌||◌, [], ◌∷◌, refl, sym, ◌∙◌, ap, ◌⊎◌, inl, inr, Option, Some, None, ◌&&◌, not, is_some, unwrap_or, if◌then◌else◌, option_map, filter, list_any, both_ways, or_cases, none-some, same_Some, ObjNo, property_removed, plain_object, next_object, object_added, created, unless_defined_by, Name, Property, nothing, same_object, same_text, same_property, folded, is_among, KeepsOwnership, released, object_removed, recycled, World, WorldObject, Slot, IsWellFormed, is_object, parent_of, owner_of, chain, slot_of, defined_by, defined_by_any, has_property, property_named, slot_for, fresh, rebuilt, with_parent, reparented, MayBeRebuilt, NoClash, definer_among, named_owed, rank, ranked, from_slots, rights_from, same_owner, slotted, ranked_rebuilt, SameButSlots-rebuilt, objects_same, slot_of-rebuilt, owed_listed, Chain-chain}, proofs.Ownership.Created.{record_old, slot_old, objects_now}, proofs.Inheritance.Recycling.{recycle_law}, proofs.Inheritance.Reparenting.{MayBeRebuilt-moved}, proofs.Inheritance.Shorter.{s as less, kept_slot, undefined_law}}
 
 -- what defines is an object
 definer_exists : (w : World) (d : ObjNo) (p : Property) → list_any (same_property p) (defined_by w d) ≡ true → is_object w d ≡ true
-definer_exists w d p h = by (is_object w d) refl
-  where
-    none : (o : Option WorldObject) → is_some o ≡ false → unwrap_or (option_map (λ (r : WorldObject). r.defines) o) [] ≡ []
-    none None e = refl
-    none (Some r) e = absurd (false≢true (sym e))
-
-    by : (b : Bool) → is_object w d ≡ b → b ≡ true
-    by true e = refl
-    by false e = absurd (false≢true (sym (ap (λ names. list_any (same_property p) (map (λ n. (d, n)) names)) (none (w.object d) e)) ∙ h))
+definer_exists w d p h = grind arith
 
 -- a slot that is there before and after, with its definer, has its owner
 module _ (w s : World) (q : ObjNo) (wf : IsWellFormed w) (may : MayBeRebuilt w s q) (y : ObjNo) (n : Name) (a b : Slot) (had : slot_of w y n ≡ Some a) (has : slot_of (rebuilt w s q) y n ≡ Some b) (same : a.definer ≡ b.definer) where
@@ -26,8 +18,7 @@ module _ (w s : World) (q : ObjNo) (wf : IsWellFormed w) (may : MayBeRebuilt w s
   s_object = sym (objects_same (rebuilt w s q) s (SameButSlots-rebuilt w s q) y) ∙ slotted (rebuilt w s q) y n b has
 
   fresh_definer : (owner d : ObjNo) (o : Option Slot) → option_map (fresh owner) o ≡ Some b → option_map (λ k. k.definer) o ≡ Some d → b.definer ≡ d
-  fresh_definer owner d None e f = absurd (none-some b e)
-  fresh_definer owner d (Some k) e f = ap (λ (z : Slot). z.definer) (sym (same_Some (fresh owner k) b e)) ∙ same_Some k.definer d f
+  fresh_definer owner d o e f = grind arith
 
   -- what was owed by its definer was owed to y
   was_owed : (p : Property) → property_named (defined_by_any s (chain s y)) n ≡ Some p → b.definer ≡ p.0 → has_property w y p ≡ true
@@ -54,9 +45,7 @@ module _ (w : World) (wf : IsWellFormed w) (p : ObjNo) where
       (λ y n a b e f d. owner_kept w (with_parent w x q) q wf (MayBeRebuilt-moved w x q wf xo qo outside apart) y n a b e f d)
     where
       by : (b : Bool) (o : Option WorldObject) → option_map rank (option_map (λ (r : WorldObject). if b then record r { row = record r.row { parent = q } } else r) o) ≡ option_map rank o
-      by b None = refl
-      by true (Some r) = refl
-      by false (Some r) = refl
+      by b o = grind arith
 
   pub by_recycling : (x : ObjNo) → is_object w x ≡ true → KeepsOwnership w (recycled w x) p (λ y n. n)
   by_recycling x xo = from_slots w p (recycled w x) (λ y n. n) (λ y f. ranks y (here y f)) slots
@@ -65,16 +54,13 @@ module _ (w : World) (wf : IsWellFormed w) (p : ObjNo) where
       here y f = sym (objects_same (recycled w x) (object_removed w x) (SameButSlots-rebuilt w (object_removed w x) nothing) y) ∙ f
 
       by : (b : Bool) (o : Option WorldObject) → is_some (if b then None else option_map (released x (unwrap_or (parent_of w x) nothing)) o) ≡ true → option_map rank (if b then None else option_map (released x (unwrap_or (parent_of w x) nothing)) o) ≡ option_map rank o
-      by true o h = absurd (false≢true h)
-      by false None h = refl
-      by false (Some r) h = refl
+      by b o h = grind arith
 
       ranks : (y : ObjNo) → is_object (object_removed w x) y ≡ true → ranked (recycled w x) y ≡ ranked w y
       ranks y o = ranked_rebuilt w (object_removed w x) nothing y ∙ by (same_object x y) (w.object y) o
 
       kept : (a b : Slot) (gone : Bool) → (if gone then None else Some a) ≡ Some b → b.owner ≡ a.owner
-      kept a b true g = absurd (none-some b g)
-      kept a b false g = same_owner a b (Some a) refl g
+      kept a b gone g = grind arith
 
       slots : (y : ObjNo) (n : Name) (a b : Slot) → slot_of w y n ≡ Some a → slot_of (recycled w x) y n ≡ Some b → a.definer ≡ b.definer → b.owner ≡ a.owner
       slots y n a b e f d = kept a b (is_among a.definer (x ∷ [])) (sym (recycle_law w x wf xo y n (here y (slotted (recycled w x) y n b f)) ∙ ap (unless_defined_by (x ∷ [])) e) ∙ f)
@@ -83,13 +69,10 @@ module _ (w : World) (wf : IsWellFormed w) (p : ObjNo) where
   by_undefining x name = from_slots w p (property_removed w x name) (λ y n. n) (λ y f. ranked_rebuilt w (less w wf x name) nothing y ∙ by (same_object x y) (w.object y)) slots
     where
       by : (b : Bool) (o : Option WorldObject) → option_map rank (option_map (λ (r : WorldObject). if b then record r { defines = filter (λ m. not (same_text (folded m) (folded name))) r.defines } else r) o) ≡ option_map rank o
-      by b None = refl
-      by true (Some r) = refl
-      by false (Some r) = refl
+      by b o = grind arith
 
       kept : (a b : Slot) (gone : Bool) → (if gone then None else Some a) ≡ Some b → b.owner ≡ a.owner
-      kept a b true g = absurd (none-some b g)
-      kept a b false g = same_owner a b (Some a) refl g
+      kept a b gone g = grind arith
 
       slots : (y : ObjNo) (n : Name) (a b : Slot) → slot_of w y n ≡ Some a → slot_of (property_removed w x name) y n ≡ Some b → a.definer ≡ b.definer → b.owner ≡ a.owner
       slots y n a b e f d = kept a b (same_object a.definer x && same_text n (folded name)) (sym (undefined_law w wf x name y n (slotted w y n a e) ∙ ap (kept_slot w wf x name n) e) ∙ f)

@@ -1,9 +1,8 @@
 -- What an object takes in: the relation and the test agree.
-use Rattle.moo_world.proofs.Lemmas.{◌≡◌, Bool, true, false, List, [], ◌∷◌, refl, sym, ◌∙◌, ap, subst, Option, Some, None, ◌||◌, unwrap_or, option_map, option_and_then, option_or, list_any, Any, false≢true, Any-from_list_any, list_any-from_Any, none-some, same_Some, ObjNo, ObjRow, nothing, same_object, is_among, same_object-Decides, World, WorldObject, IsTree, Chain, IsUnder, is_object, row_of, chain, accept_along, accepts, HasList, own, inherited, Accepts, anything, listed, AcceptsIsTested, Chain-chain, chain-step, chain_of_none, under_from_among, among_from_under}
+use Rattle.moo_world.proofs.Lemmas.{arith, ◌≡◌, Bool, true, false, List, [], ◌∷◌, refl, sym, ◌∙◌, ap, subst, Option, Some, None, ◌||◌, unwrap_or, option_map, option_and_then, option_or, list_any, Any, false≢true, Any-from_list_any, list_any-from_Any, none-some, same_Some, ObjNo, ObjRow, nothing, same_object, is_among, same_object-Decides, World, WorldObject, IsTree, Chain, IsUnder, is_object, row_of, chain, accept_along, accepts, HasList, own, inherited, Accepts, anything, listed, AcceptsIsTested, Chain-chain, chain-step, chain_of_none, under_from_among, among_from_under}
 
 some_parent : (o : Option WorldObject) (next : ObjNo) → option_map (λ r. r.row.parent) o ≡ Some next → (r : WorldObject) × (o ≡ Some r) × (r.row.parent ≡ next)
-some_parent None next e = absurd (none-some next e)
-some_parent (Some r) next e = (r, refl, same_Some r.row.parent next e)
+some_parent o next e = grind arith
 
 module _ (w : World) where
   accept_at : (x : ObjNo) (r : WorldObject) → w.object x ≡ Some r → option_and_then (λ r. r.accept) (row_of w x) ≡ r.row.accept
@@ -64,8 +63,7 @@ module _ (w : World) where
       to_test x (listed {list = list} h a) = or_true (same_object nothing x) (ap listed_by (along_list x list h) ∙ tested list a)
         where
           or_true : (b : Bool) {c : Bool} → c ≡ true → (b || c) ≡ true
-          or_true true e = refl
-          or_true false e = e
+          or_true b e = grind arith
 
 pub accepted : AcceptsIsTested
 accepted w x thing t there = (from_test w t thing there x, to_test w t thing there x)

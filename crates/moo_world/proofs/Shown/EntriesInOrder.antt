@@ -1,10 +1,9 @@
 -- Lists of entries in the order of their keys.
-use Rattle.moo_world.proofs.Words.{◌≡◌, Bool, true, false, cond, T, ◌&&◌, None, Some, List, [], ◌∷◌, ◌++◌, map, Ordering, Less, refl, sym, ap, ◌∙◌, subst, IsTotalOrder, tied_itself, is_eq, is_lt, ordering_reverse, filter, AllByRecursion, is_sorted, below_all, first_of, second_of, less_of, elsewhere, here}
+use Rattle.moo_world.proofs.Words.{arith, ◌≡◌, Bool, true, cond, T, ◌&&◌, None, Some, List, [], ◌∷◌, ◌++◌, map, Ordering, Less, refl, sym, ap, ◌∙◌, subst, IsTotalOrder, tied_itself, is_eq, is_lt, ordering_reverse, filter, AllByRecursion, is_sorted, below_all, first_of, second_of, less_of, elsewhere, here}
 use Rattle.std.specs.FinMap.{find}
 
 both_of : (a b : Bool) → T a → T b → T (a && b)
-both_of true b p q = q
-both_of false b p q = p
+both_of a b p q = grind arith
 
 pub all_then : {A : Type 0} (P : A → Type 0) (l : List A) (x : A) → AllByRecursion P l → P x → AllByRecursion P (l ++ x ∷ [])
 all_then P [] x a p = (p, tt)
@@ -43,8 +42,7 @@ filter_map-read read test [] = refl
 filter_map-read read test (x ∷ l) = by (test (read x)) (filter_map-read read test l)
   where
     by : (b : Bool) → filter test (map read l) ≡ map read (filter (λ a. test (read a)) l) → cond b (read x ∷ filter test (map read l)) (filter test (map read l)) ≡ map read (cond b (x ∷ filter (λ a. test (read a)) l) (filter (λ a. test (read a)) l))
-    by true r = ap (λ m. read x ∷ m) r
-    by false r = r
+    by b r = grind arith
 
 -- tests that answer alike on a list let the same pass
 pub filter_alike : {A : Type 0} (p q : A → Bool) (l : List A) → AllByRecursion (λ a. p a ≡ q a) l → filter p l ≡ filter q l

@@ -1,5 +1,5 @@
 -- What stands in a list made of the entries of a finite map.
-use Rattle.moo_world.{proofs.Lemmas.{◌≡◌, Bool, true, false, cond, T, ◌||◌, None, Some, List, [], ◌∷◌, map, Ordering, refl, sym, ap, ◌∙◌, unwrap_or, option_map, IsTotalOrder, eq_by_cmp, filter, list_any, AllByRecursion, is_sorted, CmpEqualImpliesEq, first_of, second_of, not_held, key-Decides}, proofs.Shown.EntriesInOrder.{own_entries as each_held}}
+use Rattle.moo_world.{proofs.Lemmas.{arith, ◌≡◌, Bool, true, false, cond, T, ◌||◌, None, Some, List, [], ◌∷◌, map, Ordering, refl, sym, ap, ◌∙◌, unwrap_or, option_map, IsTotalOrder, eq_by_cmp, filter, list_any, AllByRecursion, is_sorted, CmpEqualImpliesEq, first_of, second_of, not_held, key-Decides}, proofs.Shown.EntriesInOrder.{own_entries as each_held}}
 use Rattle.std.specs.FinMap.{find}
 
 module _ {K X : Type 0} (cmp : K → K → Ordering) (total : IsTotalOrder cmp) (exact : CmpEqualImpliesEq cmp) where
@@ -33,5 +33,4 @@ all_made P Q test made h [] a = tt
 all_made P Q test made h (x ∷ l) a = by (test x) refl (all_made P Q test made h l a.1)
   where
     by : (b : Bool) → test x ≡ b → AllByRecursion Q (map made (filter test l)) → AllByRecursion Q (map made (cond b (x ∷ filter test l) (filter test l)))
-    by true e r = (h x a.0 e, r)
-    by false e r = r
+    by b e r = grind arith

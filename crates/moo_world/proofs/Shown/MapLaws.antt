@@ -1,12 +1,9 @@
 -- What a put or a removal in the maps does to the world that they show.
-use Rattle.moo_world.proofs.Words.{◌≡◌, ℕ, Bool, true, false, cond, refl, sym, ◌∙◌, ap, subst, Some, Ordering, eqb, ◌&&◌, Decides, IsTotalOrder, Equal-is, tied_itself, eq_by_cmp, is_eq, get, insert, get-insert, CmpEqualImpliesEq, and_parts, eqb-true, eq-eqb, ObjNo, ObjRow, SlotRow, PropId, Maps, object_cmp, slot_cmp, object_exact, slot_exact, object_total, slot_total, same_object, same_object-Decides, look_ups, prop_id, with_object_row, with_slot_row}
+use Rattle.moo_world.proofs.Words.{arith, ◌≡◌, ℕ, Bool, true, cond, sym, ◌∙◌, ap, subst, Some, Ordering, eqb, ◌&&◌, Decides, IsTotalOrder, Equal-is, tied_itself, eq_by_cmp, is_eq, get, insert, get-insert, CmpEqualImpliesEq, and_parts, eqb-true, eq-eqb, ObjNo, ObjRow, SlotRow, PropId, Maps, object_cmp, slot_cmp, object_exact, slot_exact, object_total, slot_total, same_object, same_object-Decides, look_ups, prop_id, with_object_row, with_slot_row}
 
 -- two tests of one thing answer alike
 pub decided_alike : (a b : Bool) (P : Type 0) → Decides a P → Decides b P → a ≡ b
-decided_alike true true P d e = refl
-decided_alike true false P d e = sym (e.1 (d.0 refl))
-decided_alike false true P d e = d.1 (e.0 refl)
-decided_alike false false P d e = refl
+decided_alike a b P d e = grind arith
 
 pub key-Decides : {K : Type 0} (cmp : K → K → Ordering) → IsTotalOrder cmp → CmpEqualImpliesEq cmp → (a b : K) → Decides (eq_by_cmp cmp a b) (a ≡ b)
 key-Decides cmp total exact a b = (λ e. exact a b ((Equal-is (cmp a b)).0 e), λ e. subst (λ c. is_eq (cmp a c) ≡ true) e (ap is_eq (tied_itself total a)))

@@ -1,5 +1,5 @@
 -- Lists made from the numbers below a bound.
-use Rattle.moo_world.proofs.Lemmas.{◌≡◌, ℕ, zero, suc, ◌<◌, Bool, true, false, ◌||◌, Option, None, Some, List, [], ◌∷◌, ◌++◌, refl, sym, ap, ◌∙◌, subst, ◌⊎◌, inl, inr, arith, slice_get, filter_map, cons_option, list_any, IsDistinct, AllByRecursion, false≢true, both_ways, or_right, cases_eq, filter_map-append, none-some, same_Some, numbers_below, any-append}
+use Rattle.moo_world.proofs.Lemmas.{◌≡◌, ℕ, zero, suc, ◌<◌, Bool, true, false, ◌||◌, Option, None, Some, List, [], ◌∷◌, ◌++◌, refl, sym, ap, ◌∙◌, subst, ◌⊎◌, inl, inr, arith, slice_get, filter_map, cons_option, list_any, IsDistinct, AllByRecursion, false≢true, both_ways, or_right, cases_eq, filter_map-append, none-some, numbers_below, any-append}
 
 first_append : {X : Type 0} (l m : List X) (v : X) → slice_get (l ++ m) 0 ≡ Some v → (slice_get l 0 ≡ Some v) ⊎ (slice_get m 0 ≡ Some v)
 first_append [] m v e = inr e
@@ -11,11 +11,7 @@ no_first (x ∷ l) e = absurd (none-some x (sym e))
 
 module _ {X : Type 0} (h : ℕ → Option X) where
   from_last : (n : ℕ) (v : X) → slice_get (filter_map h (n ∷ [])) 0 ≡ Some v → h n ≡ Some v
-  from_last n v e = by (h n) e
-    where
-      by : (o : Option X) → slice_get (cons_option o []) 0 ≡ Some v → o ≡ Some v
-      by None k = absurd (none-some v k)
-      by (Some u) k = k
+  from_last n v e = grind arith
 
   -- the first value is that of a number
   pub first_from : (n : ℕ) (v : X) → slice_get (filter_map h (numbers_below n)) 0 ≡ Some v → (k : ℕ) × (k < n) × (h k ≡ Some v)
@@ -34,12 +30,10 @@ module _ {X : Type 0} (h : ℕ → Option X) where
       ∙ by (cases_eq k n) (any_from test n k v)
     where
       left : (a b : Bool) → a ≡ true → (a || b) ≡ true
-      left true b g = refl
-      left false b g = absurd (false≢true g)
+      left a b g = grind arith
 
       alone : (o : Option X) → o ≡ Some v → list_any test (cons_option o []) ≡ true
-      alone None g = absurd (none-some v g)
-      alone (Some u) g = left (test u) false (ap test (same_Some u v g) ∙ t)
+      alone o g = grind arith
 
       by : (k ≡ n) ⊎ (k ≡ n → ⊥) → (k < n → h k ≡ Some v → test v ≡ true → list_any test (filter_map h (numbers_below n)) ≡ true) → (list_any test (filter_map h (numbers_below n)) || list_any test (filter_map h (n ∷ []))) ≡ true
       by (inl g) r = or_right _ _ (alone (h n) (sym (ap h g) ∙ e))

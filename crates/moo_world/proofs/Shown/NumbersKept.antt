@@ -1,5 +1,5 @@
 -- Numbers that stay, over one call and over many.
-use Rattle.moo_world.{proofs.Lemmas.{◌≡◌, ℕ, ◌+◌, ◌<◌, ◌≤◌, ◌⊎◌, inl, inr, Bool, true, false, Option, Some, None, List, [], ◌∷◌, refl, sym, ap, ◌∙◌, subst, arith, is_some, if◌then◌else◌, FinMap, get, insert, remove, false≢true, none-some, same_Some, ObjNo, Value, spread, PropId, PropRow, VerbRow, prop_exact, verb_exact, Maps, prop_cmp, verb_cmp, prop_total, verb_total, Call, is_grant, same_object, PetitionsStay, state_of, prop_id, verb_id, world_of, put_or_old, none_or_old}, specs.Between.{CallsLead, HeldCallsLead, CallKeepsNumbers, BatchesKeepNumbers}, specs.Numbers.{KeepsProps, props_stay, prop_added, prop_renamed, prop_removed, props_dropped, KeepsVerbs, verbs_stay, verb_added, verb_changed, verb_removed, verbs_dropped, KeepsNumbers, IsSameButSlots, NumbersStay, not_of}, proofs.Batches.PetitionNumbers.{less_still, most_still, petitions_same, petitions_joined, petitions_kept}}
+use Rattle.moo_world.{proofs.Lemmas.{◌≡◌, ℕ, ◌+◌, ◌<◌, ◌≤◌, ◌⊎◌, inl, inr, Bool, true, false, Some, List, [], ◌∷◌, refl, sym, ap, ◌∙◌, subst, arith, is_some, FinMap, get, insert, remove, same_Some, ObjNo, Value, spread, PropId, PropRow, VerbRow, prop_exact, verb_exact, Maps, prop_cmp, verb_cmp, prop_total, verb_total, Call, is_grant, PetitionsStay, state_of, prop_id, verb_id, world_of, put_or_old, none_or_old}, specs.Between.{CallsLead, HeldCallsLead, CallKeepsNumbers, BatchesKeepNumbers}, specs.Numbers.{KeepsProps, props_stay, prop_added, prop_renamed, prop_removed, props_dropped, KeepsVerbs, verbs_stay, verb_added, verb_changed, verb_removed, verbs_dropped, KeepsNumbers, IsSameButSlots, NumbersStay}, proofs.Batches.PetitionNumbers.{petitions_same, petitions_joined, petitions_kept}}
 use Rattle.moo_rows.specs.declared.row.VerbId.{VerbId}
 
 -- ---- one call
@@ -31,58 +31,23 @@ slots_only old new e = numbers_same old new (ap (λ (m : Maps). m.props) e) (ap 
 abbrev Stood : FinMap prop_cmp PropRow → PropId → PropRow → Type 0
 Stood old id row = (was : PropRow) × (get old id ≡ Some was) × (was.definer ≡ row.definer)
 
-not_new : (n k : ℕ) → n < k → n ≡ k → ⊥
-not_new n k less e = omega (arith, less, e)
-
 prop_stood : (next : ℕ) (old new : FinMap prop_cmp PropRow) → KeepsProps next old new → (id : PropId) (row : PropRow) → id.0 < next → get new id ≡ Some row → Stood old id row
-prop_stood next old new (props_stay e) id row less h = (row, sym (ap (λ m. get m id) e) ∙ h, refl)
-prop_stood next old new (prop_added more e) id row less h = by (put_or_old prop_total prop_exact old (prop_id next) id more)
-  where
-    by : ((id ≡ prop_id next) × (get (insert old (prop_id next) more) id ≡ Some more)) ⊎ (get (insert old (prop_id next) more) id ≡ get old id) → Stood old id row
-    by (inl s) = absurd (not_new id.0 next less (ap (λ (i : PropId). i.0) s.0))
-    by (inr s) = (row, sym s ∙ sym (ap (λ m. get m id) e) ∙ h, refl)
+prop_stood next old new (props_stay e) id row less h = grind (arith, ap (λ m. get m id) e)
+prop_stood next old new (prop_added more e) id row less h = grind (arith, ap (λ m. get m id) e, put_or_old prop_total prop_exact old (prop_id next) id more)
 prop_stood next old new (prop_renamed key was name here e) id row less h = by (put_or_old prop_total prop_exact old key id (record was { name = name }))
   where
     by : ((id ≡ key) × (get (insert old key (record was { name = name })) id ≡ Some (record was { name = name }))) ⊎ (get (insert old key (record was { name = name })) id ≡ get old id) → Stood old id row
     by (inl s) = (was, ap (get old) s.0 ∙ here, ap (λ (r : PropRow). r.definer) (same_Some _ _ (sym s.1 ∙ sym (ap (λ m. get m id) e) ∙ h)))
     by (inr s) = (row, sym s ∙ sym (ap (λ m. get m id) e) ∙ h, refl)
-prop_stood next old new (prop_removed key e) id row less h = by (none_or_old prop_total prop_exact old key id)
-  where
-    by : (get (remove old key) id ≡ None) ⊎ (get (remove old key) id ≡ get old id) → Stood old id row
-    by (inl s) = absurd (none-some row (sym s ∙ sym (ap (λ m. get m id) e) ∙ h))
-    by (inr s) = (row, sym s ∙ sym (ap (λ m. get m id) e) ∙ h, refl)
-prop_stood next old new (props_dropped x left) id row less h = by (get old id) refl (sym (left id) ∙ h)
-  where
-    by : (o : Option PropRow) → get old id ≡ o → not_of x o ≡ Some row → Stood old id row
-    by None e f = absurd (none-some row f)
-    by (Some p) e f = own (same_object p.definer x) f
-      where
-        own : (b : Bool) → (if b then None else Some p) ≡ Some row → Stood old id row
-        own true f = absurd (none-some row f)
-        own false f = (p, e, ap (λ (r : PropRow). r.definer) (same_Some _ _ f))
+prop_stood next old new (prop_removed key e) id row less h = grind (arith, ap (λ m. get m id) e, none_or_old prop_total prop_exact old key id)
+prop_stood next old new (props_dropped x left) id row less h = grind (arith, left id)
 
 verb_stood : (next : ℕ) (old new : FinMap verb_cmp VerbRow) → KeepsVerbs next old new → (x : ObjNo) (id : VerbId) → id.0 < next → is_some (get new (x, id)) ≡ true → is_some (get old (x, id)) ≡ true
-verb_stood next old new (verbs_stay e) x id less h = sym (ap (λ m. is_some (get m (x, id))) e) ∙ h
-verb_stood next old new (verb_added y row e) x id less h = by (put_or_old verb_total verb_exact old (y, verb_id next) (x, id) row)
-  where
-    by : (◌≡◌ {A = ObjNo × VerbId} (x, id) (y, verb_id next) × (get (insert old (y, verb_id next) row) (x, id) ≡ Some row)) ⊎ (get (insert old (y, verb_id next) row) (x, id) ≡ get old (x, id)) → is_some (get old (x, id)) ≡ true
-    by (inl s) = absurd (not_new id.0 next less (ap (λ (k : ObjNo × VerbId). k.1.0) s.0))
-    by (inr s) = ap is_some (sym s) ∙ sym (ap (λ m. is_some (get m (x, id))) e) ∙ h
-verb_stood next old new (verb_changed key row here e) x id less h = by (put_or_old verb_total verb_exact old key (x, id) row)
-  where
-    by : (◌≡◌ {A = ObjNo × VerbId} (x, id) key × (get (insert old key row) (x, id) ≡ Some row)) ⊎ (get (insert old key row) (x, id) ≡ get old (x, id)) → is_some (get old (x, id)) ≡ true
-    by (inl s) = ap (λ k. is_some (get old k)) s.0 ∙ here
-    by (inr s) = ap is_some (sym s) ∙ sym (ap (λ m. is_some (get m (x, id))) e) ∙ h
-verb_stood next old new (verb_removed key e) x id less h = by (none_or_old verb_total verb_exact old key (x, id))
-  where
-    by : (get (remove old key) (x, id) ≡ None) ⊎ (get (remove old key) (x, id) ≡ get old (x, id)) → is_some (get old (x, id)) ≡ true
-    by (inl s) = absurd (false≢true (ap is_some (sym s) ∙ sym (ap (λ m. is_some (get m (x, id))) e) ∙ h))
-    by (inr s) = ap is_some (sym s) ∙ sym (ap (λ m. is_some (get m (x, id))) e) ∙ h
-verb_stood next old new (verbs_dropped y left) x id less h = by (same_object y x) (ap is_some (sym (left (x, id))) ∙ h)
-  where
-    by : (b : Bool) → is_some (if b then None else get old (x, id)) ≡ true → is_some (get old (x, id)) ≡ true
-    by true f = absurd (false≢true f)
-    by false f = f
+verb_stood next old new (verbs_stay e) x id less h = grind (arith, ap (λ m. get m (x, id)) e)
+verb_stood next old new (verb_added y row e) x id less h = grind (arith, ap (λ m. get m (x, id)) e, put_or_old verb_total verb_exact old (y, verb_id next) (x, id) row)
+verb_stood next old new (verb_changed key row here e) x id less h = grind (arith, ap (λ m. get m (x, id)) e, put_or_old verb_total verb_exact old key (x, id) row)
+verb_stood next old new (verb_removed key e) x id less h = grind (arith, ap (λ m. get m (x, id)) e, none_or_old verb_total verb_exact old key (x, id))
+verb_stood next old new (verbs_dropped y left) x id less h = grind (arith, left (x, id))
 
 pub numbers_stay : (old new : Maps) → KeepsNumbers old new → NumbersStay old new
 numbers_stay old new k = record {
@@ -93,12 +58,7 @@ numbers_stay old new k = record {
 }
 
 pub stay_joined : (a b c : Maps) → NumbersStay a b → NumbersStay b c → NumbersStay a c
-stay_joined a b c s t = record {
-  props = λ id row less h. let was = t.props id row (less_still id.0 a.head.next_prop b.head.next_prop less s.next_prop) h in let before = s.props id was.0 less was.1 in (before.0, before.1, before.2 ∙ was.2);
-  verbs = λ x id less h. s.verbs x id less (t.verbs x id (less_still id.0 a.head.next_verb b.head.next_verb less s.next_verb) h);
-  next_prop = most_still a.head.next_prop b.head.next_prop c.head.next_prop s.next_prop t.next_prop;
-  next_verb = most_still a.head.next_verb b.head.next_verb c.head.next_verb s.next_verb t.next_verb;
-}
+stay_joined a b c s t = grind arith
 
 pub stay_itself : (m : Maps) → NumbersStay m m
 stay_itself m = numbers_stay m m (numbers_same m m refl refl refl refl)

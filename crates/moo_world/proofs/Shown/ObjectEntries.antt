@@ -57,15 +57,10 @@ module _ (t : Maps) where
       old = cond (is_among q (objects_below n)) (get t.objects q) None
 
       absent : (a b : Bool) (o : Option ObjRow) → (b ≡ true → o ≡ None) → cond a o None ≡ cond (a || (b || false)) o None
-      absent true b o f = refl
-      absent false true o f = sym (f refl)
-      absent false false o f = refl
+      absent a b o f = grind arith
 
       present : (a b : Bool) (o : Option ObjRow) (r : ObjRow) → (b ≡ true → o ≡ Some r) → cond b (Some r) (cond a o None) ≡ cond (a || (b || false)) o None
-      present true true o r f = sym (f refl)
-      present false true o r f = sym (f refl)
-      present true false o r f = refl
-      present false false o r f = refl
+      present a b o r f = grind arith
 
       by : (o : Option ObjRow) → get t.objects (object_at n) ≡ o → find object_cmp q (entries_below n) ≡ cond (is_among q (objects_below n)) (get t.objects q) None
           → find object_cmp q (entries_below n ++ cons_option (option_map (λ r. (object_at n, r)) o) []) ≡ cond (is_among q (objects_below n) || (same_object q (object_at n) || false)) (get t.objects q) None
@@ -101,8 +96,7 @@ module _ (t : Maps) where
             numbered size n.0 q n.2 n.1
 
         none : (b : Bool) → ◌≡◌ {A = Option ObjRow} (cond b None None) None
-        none true = refl
-        none false = refl
+        none b = grind arith
 
         by : (o : Option ObjRow) → get t.objects q ≡ o → cond (is_among q (objects_below size)) o None ≡ o
         by None e = none (is_among q (objects_below size))

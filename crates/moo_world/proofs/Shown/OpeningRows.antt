@@ -1,5 +1,5 @@
 -- The opening rows are sound, and their world is well formed.
-use Rattle.moo_world.proofs.Words.{◌≡◌, ◌≢◌, ℕ, pos, Bool, true, false, cond, List, [], ◌∷◌, ◌++◌, map, Option, Some, None, is_some, Less, Equal, Greater, Ordering, refl, sym, ap, ◌∙◌, subst, arith, ◌≤ℤ◌, unwrap_or, option_map, option_and_then, list_all, IsDistinct, eq_by_cmp, is_eq, get, get-insert, get-empty, empty, ObjNo, ObjRow, object_cmp, prop_cmp, slot_cmp, verb_cmp, petition_cmp, object_exact, object_total, Name, Property, nothing, World, WorldObject, Slot, IsTree, IsWellFormed, KeepsLimits, Chain, LocationChain, is_object, slot_of, property_names_of, defined_by_any, property_named, is_property_name, verb_fits, row_fits, without_slots, with_slots, NamesDiffer, PetitionsStand, IsGood, LookUps, AreSound, world_shown, look_ups, prop_id, verb_id, object_shown}
+use Rattle.moo_world.proofs.Words.{◌≡◌, ◌≢◌, ℕ, pos, Bool, true, false, cond, List, [], ◌∷◌, ◌++◌, map, Option, Some, None, is_some, Equal, Ordering, refl, sym, ap, ◌∙◌, subst, arith, ◌≤ℤ◌, unwrap_or, option_map, option_and_then, list_all, IsDistinct, eq_by_cmp, is_eq, get, get-insert, get-empty, empty, ObjNo, ObjRow, object_cmp, prop_cmp, slot_cmp, verb_cmp, petition_cmp, object_total, Name, Property, nothing, World, WorldObject, Slot, IsTree, IsWellFormed, KeepsLimits, Chain, LocationChain, is_object, slot_of, property_names_of, defined_by_any, property_named, is_property_name, verb_fits, row_fits, without_slots, with_slots, NamesDiffer, PetitionsStand, IsGood, LookUps, AreSound, world_shown, look_ups, prop_id, verb_id, object_shown}
 use Rattle.moo_rows.specs.Opening.{opening_maps, system_object, root_class, first_room, wizard}
 
 abbrev no : ℕ → ObjNo
@@ -39,43 +39,21 @@ none_some : {X : Type 0} (x : X) → None ≢ Some x
 none_some x e = cc
 
 equal_of : (o : Ordering) → is_eq o ≡ true → o ≡ Equal
-equal_of Less p = cc
-equal_of Equal p = refl
-equal_of Greater p = cc
+equal_of o p = grind arith
 
 sound : AreSound opening_look_ups
-sound = record {
-  props_below = λ id h. absurd (false_true h);
-  definers = λ id p h. absurd (none_some p h);
-  slots = λ x id h. absurd (false_true h);
-  one_name = λ x i j p q h. absurd (false_true h);
-  verbs = λ x id h. absurd (false_true h);
-}
+sound = grind arith
 
 abbrev world : World
 world = world_shown opening_look_ups
 
 of_row : (x : ObjNo) (o : Option ObjRow) → is_some (option_map (object_shown opening_look_ups x) o) ≡ true → is_some o ≡ true
-of_row x None h = h
-of_row x (Some row) h = refl
+of_row x o h = grind arith
 
 -- what holds of the four holds of each object
 each : (P : ObjNo → Type 0) → P (no 0) → P (no 1) → P (no 2) → P (no 3) → (x : ObjNo) → is_object world x ≡ true → P x
 unfolding world_shown
-each P p0 p1 p2 p3 x h =
-    elim (eq_by_cmp object_cmp x (no 3)) as (λ b. eq_by_cmp object_cmp x (no 3) ≡ b → is_some (row_by b (eq_by_cmp object_cmp x (no 2)) (eq_by_cmp object_cmp x (no 1)) (eq_by_cmp object_cmp x (no 0))) ≡ true → P x) [
-      | true ↦ λ t _. subst P (sym (object_exact x (no 3) (equal_of _ t))) p3
-      | false ↦ λ _. elim (eq_by_cmp object_cmp x (no 2)) as (λ b. eq_by_cmp object_cmp x (no 2) ≡ b → is_some (row_by false b (eq_by_cmp object_cmp x (no 1)) (eq_by_cmp object_cmp x (no 0))) ≡ true → P x) [
-        | true ↦ λ t _. subst P (sym (object_exact x (no 2) (equal_of _ t))) p2
-        | false ↦ λ _. elim (eq_by_cmp object_cmp x (no 1)) as (λ b. eq_by_cmp object_cmp x (no 1) ≡ b → is_some (row_by false false b (eq_by_cmp object_cmp x (no 0))) ≡ true → P x) [
-          | true ↦ λ t _. subst P (sym (object_exact x (no 1) (equal_of _ t))) p1
-          | false ↦ λ _. elim (eq_by_cmp object_cmp x (no 0)) as (λ b. eq_by_cmp object_cmp x (no 0) ≡ b → is_some (row_by false false false b) ≡ true → P x) [
-            | true ↦ λ t _. subst P (sym (object_exact x (no 0) (equal_of _ t))) p0
-            | false ↦ λ _ h. absurd (false_true h)
-          ] refl
-        ] refl
-      ] refl
-    ] refl (of_row x (row_at x) h)
+each P p0 p1 p2 p3 x h = grind arith
 
 tree : IsTree world
 unfolding world_shown
@@ -95,8 +73,7 @@ tree = record {
 
 -- no names, no slots, no verbs
 no_names_by : (x : ObjNo) (o : Option ObjRow) → unwrap_or (option_map (λ (r : WorldObject). r.defines) (option_map (object_shown opening_look_ups x) o)) [] ≡ []
-no_names_by x None = refl
-no_names_by x (Some row) = refl
+no_names_by x o = grind arith
 
 no_names : (x : ObjNo) → property_names_of world x ≡ []
 unfolding world_shown
@@ -107,8 +84,7 @@ none_owed [] = refl
 none_owed (d ∷ l) = λ i. map (λ n. (d, n)) (no_names d i) ++ none_owed l i
 
 no_slot_by : (x : ObjNo) (n : Name) (o : Option ObjRow) → option_and_then (λ (r : WorldObject). r.slot n) (option_map (object_shown opening_look_ups x) o) ≡ None
-no_slot_by x n None = refl
-no_slot_by x n (Some row) = refl
+no_slot_by x n o = grind arith
 
 no_slot : (x : ObjNo) (n : Name) → slot_of world x n ≡ None
 unfolding world_shown
@@ -126,19 +102,13 @@ limits = record {
 }
   where
     names_by : (x : ObjNo) (o : Option ObjRow) → list_all is_property_name (unwrap_or (option_map (λ (r : WorldObject). r.defines) (option_map (with_slots (λ n. None)) (option_map (object_shown opening_look_ups x) o))) []) ≡ true
-    names_by x None = refl
-    names_by x (Some row) = refl
+    names_by x o = grind arith
 
     directories_by : (x : ObjNo) (o : Option ObjRow) → list_all verb_fits (unwrap_or (option_map (λ (r : WorldObject). r.verbs) (option_map (with_slots (λ n. None)) (option_map (object_shown opening_look_ups x) o))) []) ≡ true
-    directories_by x None = refl
-    directories_by x (Some row) = refl
+    directories_by x o = grind arith
 
     rows_by : (x : ObjNo) (b3 b2 b1 b0 : Bool) → unwrap_or (option_map row_fits (option_map (λ (r : WorldObject). r.row) (option_map (with_slots (λ n. None)) (option_map (object_shown opening_look_ups x) (row_by b3 b2 b1 b0))))) true ≡ true
-    rows_by x true b2 b1 b0 = refl
-    rows_by x false true b1 b0 = refl
-    rows_by x false false true b0 = refl
-    rows_by x false false false true = refl
-    rows_by x false false false false = refl
+    rows_by x b3 b2 b1 b0 = grind arith
 
 none_differ : NamesDiffer []
 unfolding IsDistinct

@@ -1,9 +1,8 @@
 -- Lists of properties, and of other things.
-use Rattle.moo_world.proofs.Words.{◌≡◌, Bool, true, false, ◌||◌, Option, None, Some, List, [], ◌∷◌, ◌++◌, map, refl, ap, is_some, list_any, IsDistinct, AllByRecursion, false≢true, Property, same_text, folded, NamesDiffer}
+use Rattle.moo_world.proofs.Words.{arith, ◌≡◌, Bool, true, false, ◌||◌, Option, Some, List, [], ◌∷◌, ◌++◌, map, refl, ap, is_some, list_any, IsDistinct, AllByRecursion, Property, same_text, folded, NamesDiffer}
 
 pub some_of : {A : Type 0} (o : Option A) → is_some o ≡ true → (a : A) × (o ≡ Some a)
-some_of None e = absurd (false≢true e)
-some_of (Some a) e = (a, refl)
+some_of o e = grind arith
 
 pub any_map : {A B : Type 0} (test : B → Bool) (f : A → B) (l : List A) → list_any test (map f l) ≡ list_any (λ a. test (f a)) l
 any_map test f [] = refl

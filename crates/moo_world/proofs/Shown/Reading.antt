@@ -1,5 +1,5 @@
 -- What is read: the relation and the list agree.
-use Rattle.moo_world.{proofs.Lemmas.{◌≡◌, List, [], ◌∷◌, refl, sym, ◌∙◌, ap, Option, Some, None, option_map, option_and_then, none-some, same_Some, ObjNo, Value, SlotState, Clear, Set, Name, World, WorldObject, Slot, IsTree, Chain, Reads, above, slot_of, read_in, read_along, read_of, chain-step}, specs.World.{here}}
+use Rattle.moo_world.{proofs.Lemmas.{arith, ◌≡◌, List, [], ◌∷◌, refl, sym, ◌∙◌, ap, Option, Some, None, option_map, option_and_then, none-some, same_Some, ObjNo, Value, SlotState, Clear, Set, Name, World, WorldObject, Slot, IsTree, Chain, Reads, above, slot_of, read_in, read_along, read_of, chain-step}, specs.World.{here}}
 
 -- what is read along a chain is what the relation says
 pub Reads-from_along : (w : World) (n : Name) (l : List ObjNo) (x : ObjNo) (v : Value) → Chain w x l → read_along w n l ≡ Some v → Reads w n x v
@@ -18,8 +18,7 @@ Reads-from_along w n (y ∷ l) x v p e = slot (slot_of w y n) refl e (Reads-from
         state (Set u) c e = here found (c ∙ ap Set (same_Some u v e))
 
 slotted : (o : Option WorldObject) (n : Name) (k : Slot) → option_and_then (λ r. r.slot n) o ≡ Some k → (r : WorldObject) × (o ≡ Some r)
-slotted None n k e = absurd (none-some k e)
-slotted (Some r) n k e = (r, refl)
+slotted o n k e = grind arith
 
 -- one object's part of what is read
 pub read_step : (w : World) (t : IsTree w) (n : Name) (x : ObjNo) (k : Slot) → slot_of w x n ≡ Some k → (r : WorldObject) × (w.object x ≡ Some r) × (read_of w x n ≡ read_in (Some k) (read_of w r.row.parent n))

@@ -1,5 +1,5 @@
 -- What rows say of the world that they show, and what one more row says.
-use Rattle.moo_world.proofs.Words.{◌≡◌, ◌≢◌, ℕ, zero, suc, ◌<◌, ◌+◌, Bool, true, false, eqb, [], ◌∷◌, ◌++◌, refl, sym, ◌∙◌, ap, subst, ◌⊎◌, inl, inr, Option, Some, None, arith, append-nil, add-one, ◌&&◌, is_some, unwrap_or, slice_get, if◌then◌else◌, option_map, option_and_then, filter_map, cons_option, and_parts, eqb-true, cases_eq, eq-eqb, ne_eqb, filter_map-append, none-some, same_Some, ObjNo, ObjRow, PropRow, SlotRow, Name, same_object, same_text, folded, same_object-Decides, same_text-Decides, WorldObject, slot_of, property_names_of, object_changed, LookUps, AreSound, with_object_row, with_slot_row, numbers_below, name_on, slot_on, slot_seen, object_shown, world_shown}
+use Rattle.moo_world.proofs.Words.{◌≡◌, ◌≢◌, ℕ, zero, suc, ◌<◌, ◌+◌, Bool, true, false, eqb, [], ◌∷◌, ◌++◌, refl, sym, ◌∙◌, ap, subst, ◌⊎◌, inl, inr, Option, Some, None, arith, append-nil, add-one, ◌&&◌, is_some, unwrap_or, slice_get, if◌then◌else◌, option_map, option_and_then, filter_map, cons_option, cases_eq, eq-eqb, ne_eqb, filter_map-append, none-some, same_Some, ObjNo, ObjRow, PropRow, SlotRow, Name, same_object, same_text, folded, same_object-Decides, same_text-Decides, WorldObject, slot_of, property_names_of, object_changed, LookUps, AreSound, with_object_row, with_slot_row, numbers_below, name_on, slot_on, slot_seen, object_shown, world_shown}
 
 module _ {X : Type 0} (h : ℕ → Option X) where
   none_below : (n : ℕ) → ((j : ℕ) → j < n → h j ≡ None) → filter_map h (numbers_below n) ≡ []
@@ -44,8 +44,7 @@ module _ (m : LookUps) (sound : AreSound m) (x : ObjNo) (row : ObjRow) (here : m
       by (Some r) g = test (same_text (folded r.name) (folded p.name)) refl
         where
           slotless : (o : Option SlotRow) → m.slot x j ≡ o → folded r.name ≡ folded p.name → option_map (slot_seen r.definer) o ≡ None
-          slotless None u v = refl
-          slotless (Some k) u v = absurd (ne (sound.one_name x j id r p (ap is_some u) s g e v))
+          slotless o u v = grind arith
 
           test : (b : Bool) → same_text (folded r.name) (folded p.name) ≡ b → (if b then option_map (slot_seen r.definer) (m.slot x j) else None) ≡ None
           test true v = slotless (m.slot x j) refl ((same_text-Decides (folded r.name) (folded p.name)).0 v)
@@ -89,8 +88,7 @@ module _ (m : LookUps) (p : PropRow) where
       ∙ (λ i. sym (names_shown m x row e) i ++ one b i)
     where
       one : (v : Bool) → cons_option (if v then Some p.name else None) [] ≡ (if v then p.name ∷ [] else [])
-      one true = refl
-      one false = refl
+      one v = grind arith
 
   -- its definer has its name last
   pub names_with_prop : (row : ObjRow) → m.object p.definer ≡ Some row → property_names_of (world_shown (with_prop m p)) p.definer ≡ property_names_of (world_shown m) p.definer ++ p.name ∷ []
@@ -124,31 +122,18 @@ module _ (m : LookUps) (x : ObjNo) (id : ℕ) (k : SlotRow) (p : PropRow) (there
   put_other y n j e = ap (λ b. option_and_then (λ (r : PropRow). if same_text (folded r.name) n then option_map (slot_seen r.definer) (if b then Some k else m.slot y j) else None) (m.prop j)) e
 
   put_here : (y : ObjNo) (n : Name) (j : ℕ) → (same_object x y && eqb id j) ≡ true → slot_on put y n j ≡ (if same_text (folded p.name) n then Some (slot_seen p.definer k) else None)
-  put_here y n j e =
-      let parts = and_parts (same_object x y) (eqb id j) e in
-      ap (λ b. option_and_then (λ (r : PropRow). if same_text (folded r.name) n then option_map (slot_seen r.definer) (if b then Some k else m.slot y j) else None) (m.prop j)) e
-      ∙ ap (option_and_then (λ (r : PropRow). if same_text (folded r.name) n then Some (slot_seen r.definer k) else None)) (ap m.prop (sym (eqb-true id j parts.1)) ∙ there)
+  put_here y n j e = grind arith
 
   -- under another name nothing changes
   other_name : (n : Name) (j : ℕ) → same_text (folded p.name) n ≡ false → slot_on put x n j ≡ slot_on m x n j
-  other_name n j e = by (same_object x x && eqb id j) refl
-    where
-      before : eqb id j ≡ true → slot_on m x n j ≡ None
-      before h =
-          ap (option_and_then (λ (r : PropRow). if same_text (folded r.name) n then option_map (slot_seen r.definer) (m.slot x j) else None)) (ap m.prop (sym (eqb-true id j h)) ∙ there)
-          ∙ ap (λ b. if b then option_map (slot_seen p.definer) (m.slot x j) else None) e
-
-      by : (b : Bool) → (same_object x x && eqb id j) ≡ b → slot_on put x n j ≡ slot_on m x n j
-      by true h = put_here x n j h ∙ ap (λ b. if b then Some (slot_seen p.definer k) else None) e ∙ sym (before (and_parts (same_object x x) (eqb id j) h).1)
-      by false h = put_other x n j h
+  other_name n j e = grind arith
 
   -- under its own name nothing else is there
   own_name : (n : Name) (j : ℕ) → same_text (folded p.name) n ≡ true → j ≢ id → slot_on put x n j ≡ None
   own_name n j e ne = put_other x n j (apart (same_object x x)) ∙ by (m.prop j) refl
     where
       apart : (b : Bool) → (b && eqb id j) ≡ false
-      apart true = ne_eqb id j (λ h. ne (sym h))
-      apart false = refl
+      apart b = grind arith
 
       by : (o : Option PropRow) → m.prop j ≡ o → option_and_then (λ (r : PropRow). if same_text (folded r.name) n then option_map (slot_seen r.definer) (m.slot x j) else None) o ≡ None
       by None g = refl

@@ -1,5 +1,5 @@
 -- What the rows' look-ups say of the world that they show.
-use Rattle.moo_world.{proofs.Words.{◌≡◌, Bool, false, [], ◌∷◌, refl, sym, ap, Option, Some, None, is_some, unwrap_or, option_map, ObjNo, ObjRow, WorldObject, IsTree, is_object, row_passes, chain, LookUps, world_shown, object_shown}, proofs.Ancestry.Trees.{chain-step, chain_of_none}}
+use Rattle.moo_world.{proofs.Words.{arith, ◌≡◌, Bool, false, [], ◌∷◌, sym, ap, Some, None, is_some, unwrap_or, option_map, ObjNo, ObjRow, WorldObject, IsTree, is_object, row_passes, chain, LookUps, world_shown, object_shown}, proofs.Ancestry.Trees.{chain-step, chain_of_none}}
 
 pub object_seen : (m : LookUps) (x : ObjNo) (row : ObjRow) → m.object x ≡ Some row → (world_shown m).object x ≡ Some (object_shown m x row)
 unfolding world_shown
@@ -20,11 +20,7 @@ chain_of_no_row m x e = chain_of_none (world_shown m) x (no_object_seen m x (sym
 
 pub is_object_seen : (m : LookUps) (x : ObjNo) → is_object (world_shown m) x ≡ is_some (m.object x)
 unfolding world_shown
-is_object_seen m x = by (m.object x)
-  where
-    by : (o : Option ObjRow) → is_some (option_map (object_shown m x) o) ≡ is_some o
-    by None = refl
-    by (Some r) = refl
+is_object_seen m x = grind arith
 
 pub passes_seen : (test : ObjRow → Bool) (m : LookUps) (x : ObjNo) (row : ObjRow) → Some row ≡ m.object x → row_passes test (world_shown m) x ≡ test row
 unfolding world_shown

@@ -1,4 +1,4 @@
-use Rattle.moo_tables.proofs.InsideLemmas.{always}
+use Rattle.moo_tables_rows.proofs.InsideLemmas.{always}
 use Rattle.moo_cells.proofs.CellsLemmas.{one_good}
 use Rattle.moo_tables.proofs.ReadCauseLemmas.{cause_of_first}
 use Rattle.moo_cells.proofs.in_turn.read_in_turn.Goals as goal

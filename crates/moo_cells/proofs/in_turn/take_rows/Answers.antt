@@ -1,15 +1,24 @@
-use Rattle.moo_cells.proofs.Words.{◌∙◌, ◌<◌, List, find, sym, ap, subst, Row, has_rowid, Head, Maps, version_number, HeadIs, ReadsHead, ReadsCounter}
+use Rattle.moo_cells.proofs.Words.{rules, ◌∙◌, ◌<◌, List, find, sym, ap, subst, Row, has_rowid, Head, Maps, version_number, HeadIs, ReadsHead, ReadsCounter}
+use Rattle.moo_cells.proofs.{Apart.{numbered}, FillLemmas.{petitions_keep}}
+use Rattle.moo_tables_rows.specs.Inside.{AreKeyed}
 use Rattle.moo_cells.proofs.TakenLemmas.{no_petition, same_head, taken_shown, taken_within}
 use Rattle.moo_rows.specs.Maps.{no_maps}
-use Rattle.moo_tables.proofs.{InsideLemmas.{always}, ReadLemmas.{reads_then, fails_then, rests_read}}
+use Rattle.moo_tables.proofs.ReadLemmas.{reads_then, fails_then}
+use Rattle.moo_tables_rows.proofs.InsideLemmas.{always}
 use Rattle.moo_tables.proofs.ReadCauseLemmas.{cause_of_first, cause_of_later}
 use Rattle.moo_cells.proofs.in_turn.take_rows.Goals as goal
 
 pub take_tables-requires : goal.take_tables-requires
 take_tables-requires g c = c.under.ensures ∙ ap (λ (h : Head). record no_maps { head = h }) (sym (ap (λ (m : Maps). m.head) c.under.ensures))
 
-pub read_petitions-requires-clause-none : goal.read_petitions-requires-clause-none
-read_petitions-requires-clause-none g c = no_petition (rw c.in-Some.is at c.in_ok-all.ensures.taken) ∙ ap (λ (m : Maps). m.petitions) c.under.ensures
+pub read_table-requires-clause-keeps : goal.read_table-requires-clause-keeps
+read_table-requires-clause-keeps g c = petitions_keep c.args.version
+
+pub read_table-requires-clause-apart : goal.read_table-requires-clause-apart
+read_table-requires-clause-apart g c = let keyed : AreKeyed c.in_ok-head.petition.items = search rules in numbered c.in_ok-head.petition.items keyed
+
+pub read_table-requires-clause-none : goal.read_table-requires-clause-none
+read_table-requires-clause-none g c = no_petition (rw c.in-Some.is at c.in_ok-all.ensures.taken) ∙ ap (λ (m : Maps). m.petitions) c.under.ensures
 
 pub returns-in_err-all-clause-failed : goal.returns-in_err-all-clause-failed
 returns-in_err-all-clause-failed g c = always c.from_residual-in_err-all.result (fails_then c.in_ok-head.ensures.read c.in_err-all.ensures.failed)
@@ -23,29 +32,29 @@ returns-in_err-head-clause-cause g c = cause_of_first c.from_residual.result _ c
 pub returns-in_err-all-clause-cause : goal.returns-in_err-all-clause-cause
 returns-in_err-all-clause-cause g c = cause_of_later c.from_residual-in_err-all.result _ c.in_ok-head.ensures.read c.in_err-all.ensures.failed c.from_residual-in_err-all.ensures.1 c.in_err-all.ensures.cause
 
-pub returns-in-Ok-read_petitions-clause-read : goal.returns-in-Ok-read_petitions-clause-read
-returns-in-Ok-read_petitions-clause-read g c = reads_then c.in_ok-head.ensures.read c.in_ok-all.ensures.read
+pub returns-in-Ok-read_table-clause-read : goal.returns-in-Ok-read_table-clause-read
+returns-in-Ok-read_table-clause-read g c = reads_then c.in_ok-head.ensures.read c.in_ok-all.ensures.read
 
 -- the head of the rows is the one that was read
 
-pub returns-in-Ok-read_petitions-clause-shown : goal.returns-in-Ok-read_petitions-clause-shown
-returns-in-Ok-read_petitions-clause-shown g c clean tables was is =
+pub returns-in-Ok-read_table-clause-shown : goal.returns-in-Ok-read_table-clause-shown
+returns-in-Ok-read_table-clause-shown g c clean tables was is =
     let read = subst (λ (rows : List Row). (cells : Row) × HeadIs (λ n. find (has_rowid n) rows) cells × ReadsHead (version_number c.args.version) c.in-Ok.first cells) c.deref-4.ensures.value c.in-Ok.ensures.ok in
     let head = subst (λ (h : Head). (cells : Row) × HeadIs (λ n. find (has_rowid n) c.in_ok-head.head.items) cells × ReadsHead (version_number c.args.version) h cells) (sym (ap (λ (m : Maps). m.head) c.under.ensures)) read in
     let counted = subst (λ (rows : List Row). ReadsCounter c.args.version (λ n. find (has_rowid n) rows) c.in-Ok.first.next_petition) c.deref-5.ensures.value c.in-Ok.ensures.counter in
     let next = subst (λ (h : Head). ReadsCounter c.args.version (λ n. find (has_rowid n) c.in_ok-head.petition_head.items) h.next_petition) (sym (ap (λ (m : Maps). m.head) c.under.ensures)) counted in
-    taken_shown (rw c.in-Some.is at c.in_ok-all.ensures.taken) c.in_ok-head.head c.in_ok-head.petition c.in_ok-head.petition_head _ head next c.in-Ok-read_petitions.ensures.kept c.in-Ok-read_petitions.ensures.holds
+    taken_shown (rw c.in-Some.is at c.in_ok-all.ensures.taken) c.in_ok-head.head c.in_ok-head.petition c.in_ok-head.petition_head _ head next c.in-Ok-read_table.ensures.kept c.in-Ok-read_table.ensures.holds
     c.in_ok-head.ensures.read c.in_ok-head.ensures.listed c.in_ok-all.ensures.read clean tables was is
 
-pub returns-in-Ok-read_petitions-clause-within : goal.returns-in-Ok-read_petitions-clause-within
-returns-in-Ok-read_petitions-clause-within g c =
+pub returns-in-Ok-read_table-clause-within : goal.returns-in-Ok-read_table-clause-within
+returns-in-Ok-read_table-clause-within g c =
     let read = subst (λ (rows : List Row). (cells : Row) × HeadIs (λ n. find (has_rowid n) rows) cells × ReadsHead (version_number c.args.version) c.in-Ok.first cells) c.deref-4.ensures.value c.in-Ok.ensures.ok in
     let head = subst (λ (h : Head). (cells : Row) × HeadIs (λ n. find (has_rowid n) c.in_ok-head.head.items) cells × ReadsHead (version_number c.args.version) h cells) (sym (ap (λ (m : Maps). m.head) c.under.ensures)) read in
     let counted = subst (λ (rows : List Row). ReadsCounter c.args.version (λ n. find (has_rowid n) rows) c.in-Ok.first.next_petition) c.deref-5.ensures.value c.in-Ok.ensures.counter in
     let next = subst (λ (h : Head). ReadsCounter c.args.version (λ n. find (has_rowid n) c.in_ok-head.petition_head.items) h.next_petition) (sym (ap (λ (m : Maps). m.head) c.under.ensures)) counted in
-    taken_within (rw c.in-Some.is at c.in_ok-all.ensures.taken) c.in_ok-head.head c.in_ok-head.petition c.in_ok-head.petition_head _ head next c.in-Ok-read_petitions.ensures.kept c.in-Ok-read_petitions.ensures.holds
+    taken_within (rw c.in-Some.is at c.in_ok-all.ensures.taken) c.in_ok-head.head c.in_ok-head.petition c.in_ok-head.petition_head _ head next c.in-Ok-read_table.ensures.kept c.in-Ok-read_table.ensures.holds
 
-pub returns-in-Ok-read_petitions-clause-limit : goal.returns-in-Ok-read_petitions-clause-limit
-returns-in-Ok-read_petitions-clause-limit g c =
+pub returns-in-Ok-read_table-clause-limit : goal.returns-in-Ok-read_table-clause-limit
+returns-in-Ok-read_table-clause-limit g c =
     subst (λ (h : Head). h.seq < 9223372036854775808)
-    (sym (ap (λ (m : Maps). m.head) c.in-Ok-read_petitions.ensures.kept ∙ same_head (rw c.in-Some.is at c.in_ok-all.ensures.taken) ∙ ap (λ (m : Maps). m.head) c.under.ensures)) c.in-Ok.ensures.limit
+    (sym (ap (λ (m : Maps). m.head) c.in-Ok-read_table.ensures.kept ∙ same_head (rw c.in-Some.is at c.in_ok-all.ensures.taken) ∙ ap (λ (m : Maps). m.head) c.under.ensures)) c.in-Ok.ensures.limit

@@ -1,12 +1,9 @@
-use Rattle.moo_cells.proofs.Words.{Option, Some, None, IfSome, sym, ap, ◌∙◌, Maps}
-use Rattle.moo_tables.proofs.{InsideLemmas.{always}, ReadLemmas.{reads_then, fails_then}}
-use Rattle.moo_cells.proofs.TakenLemmas.{takes_all}
+use Rattle.moo_cells.proofs.Words.{ap, ◌∙◌, Maps}
+use Rattle.moo_tables.proofs.ReadLemmas.{reads_then, fails_then}
+use Rattle.moo_tables_rows.proofs.InsideLemmas.{always}
+use Rattle.moo_cells.proofs.TakenLemmas.{if_some, takes_all}
 use Rattle.moo_tables.proofs.ReadCauseLemmas.{cause_of_first, cause_of_later}
 use Rattle.moo_cells.proofs.in_turn.take_tables.Goals as goal
-
-if_some : {T : Type 0} (P Q : T → Type 0) (o : Option T) → IfSome o P → ((x : T) → P x → Q x) → IfSome o Q
-if_some P Q (Some x) p f = f x p
-if_some P Q None p f = tt
 
 -- the tables that are read later have no rows yet
 

@@ -1,7 +1,7 @@
-use Rattle.moo_cells.{proofs.Words.{◌≡◌, [], refl, sym, subst}, proofs.Apart.{alike_pairs}, proofs.FillLemmas.{pairs_keyed, fills_none, fills_again}, proofs.Keys.{verbs_bear}, specs.Filled.{FillsVerbs}}
+use Rattle.moo_cells.{proofs.Words.{[], refl, ap}, proofs.FillLemmas.{verbs_keep, filled_in_turn, put_none}, proofs.TakenLemmas.{if_some}}
 use Rattle.std.proofs.lemmas.List.Sorted.{IsPermutation-refl}
 use Rattle.moo_rows.specs.Maps.{Held}
-use Rattle.moo_tables.proofs.InsideLemmas.{always}
+use Rattle.moo_tables_rows.proofs.InsideLemmas.{always}
 use Rattle.moo_tables.proofs.ReadCauseLemmas.{cause_of_first}
 use Rattle.moo_cells.proofs.in_turn.take_verbs.Goals as goal
 
@@ -14,16 +14,6 @@ returns-in_err-whole-clause-cause g c = cause_of_first c.from_residual.result _ 
 pub returns-clause-taken : goal.returns-clause-taken
 returns-clause-taken g c =
     let first = c.new-filling.result in
-    let last = c.feed_verbs.new.taker in
-    let none : FillsVerbs first.version first.rows.maps [] first.rows.maps = record { fills = λ none. fills_none (verbs_bear first.version) pairs_keyed alike_pairs first.rows.maps.verbs none; kept = refl } in
-    let it = c.in_ok-whole.ensures.taken (refl, ([], IsPermutation-refl [], none)) c.if-not-whole.false in
-    let put = it.1.1.0 in
-    let at_version : FillsVerbs c.args.version first.rows.maps put last.rows.maps = subst (λ w. FillsVerbs w first.rows.maps put last.rows.maps) c.new-filling.ensures.version it.1.1.2 in
-    let at_first : FillsVerbs c.args.version c.args.rows.maps put last.rows.maps = subst (λ (h : Held). FillsVerbs c.args.version h.maps put last.rows.maps) c.new-filling.ensures.rows at_version in
-    let filled : FillsVerbs c.args.version c.args.rows.maps put c.into_rows.result.maps = subst (λ (h : Held). FillsVerbs c.args.version c.args.rows.maps put h.maps) (sym c.into_rows.ensures) at_first in
-    record {
-      cells = it.0;
-      listed = it.2;
-      fills = fills_again (verbs_bear c.args.version) pairs_keyed alike_pairs it.0 put it.1.1.1 (filled.fills c.requires);
-      kept = filled.kept;
-    }
+    if_some _ _ c.into_rows.result c.into_rows.ensures (λ after is.
+    let it = c.in_ok-whole.ensures.taken (refl, λ keeps. ([], IsPermutation-refl [], put_none keeps (λ m. m.verbs) (λ m rows. record m { verbs = rows }) (λ m. refl) first.rows.maps)) is.0 in
+    filled_in_turn verbs_keep c.new-filling.ensures.version (ap (λ (h : Held). h.maps) c.new-filling.ensures.rows) (ap (λ (h : Held). h.maps) is.1) c.requires it.0 it.1.1 it.2)

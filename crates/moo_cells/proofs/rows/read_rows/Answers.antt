@@ -1,12 +1,12 @@
-use Rattle.moo_cells.{proofs.Words.{◌∙◌, ◌<◌, List, find, sym, ap, subst, err_from_is_err_and, Row, has_rowid, Head, Maps, tables_of, version_number, greatest, HeadIs, ReadsHead, HasHead, IsNewerThan, ReadsCounter, HasCounter, SaysOfHead, SaysOfCells}, proofs.RowsLemmas.{says_head}}
+use Rattle.moo_cells.{proofs.Words.{◌∙◌, ◌<◌, List, find, sym, ap, subst, err_from_is_err_and, Row, has_rowid, Head, Maps, tables_of, version_number, greatest_version, HeadIs, ReadsHead, HasHead, IsNewerThan, ReadsCounter, HasCounter, SaysOfHead, SaysOfCells}, proofs.RowsLemmas.{says_head}}
 use Rattle.moo_cells.proofs.rows.read_rows.Goals as goal
 use Rattle.moo_rows.specs.Maps.{no_maps}
 
 pub returns-in_err-head-clause-fault : goal.returns-in_err-head-clause-fault
 returns-in_err-head-clause-fault c =
     let p = err_from_is_err_and c.from_residual.result c.from_residual.ensures.1 in
-    let said = subst (λ (rows : List Row). SaysOfHead (HasHead (version_number c.args.lists.version) (λ n. find (has_rowid n) rows) × HasCounter c.args.lists.version (λ n. find (has_rowid n) c.deref-2.result.now)) (IsNewerThan greatest (λ n. find (has_rowid n) rows)) c.in_err-head.field-0.0) c.deref.ensures.value c.in_err-head.ensures.err in
-    let says = subst (λ (rows : List Row). SaysOfHead (HasHead (version_number c.args.lists.version) (λ n. find (has_rowid n) c.args.lists.head.items) × HasCounter c.args.lists.version (λ n. find (has_rowid n) rows)) (IsNewerThan greatest (λ n. find (has_rowid n) c.args.lists.head.items)) c.in_err-head.field-0.0) c.deref-2.ensures.value said in
+    let said = subst (λ (rows : List Row). SaysOfHead (HasHead (version_number c.args.lists.version) (λ n. find (has_rowid n) rows) × HasCounter c.args.lists.version (λ n. find (has_rowid n) c.deref-2.result.now)) (IsNewerThan greatest_version (λ n. find (has_rowid n) rows)) c.in_err-head.field-0.0) c.deref.ensures.value c.in_err-head.ensures.err in
+    let says = subst (λ (rows : List Row). SaysOfHead (HasHead (version_number c.args.lists.version) (λ n. find (has_rowid n) c.args.lists.head.items) × HasCounter c.args.lists.version (λ n. find (has_rowid n) rows)) (IsNewerThan greatest_version (λ n. find (has_rowid n) c.args.lists.head.items)) c.in_err-head.field-0.0) c.deref-2.ensures.value said in
     rw p.1 (subst (SaysOfCells (tables_of c.args.lists)) (sym p.2) (says_head c.args.lists c.in_err-head.field-0.0 says))
 
 -- the head of the rows is the one that was read

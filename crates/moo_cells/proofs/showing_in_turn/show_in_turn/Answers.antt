@@ -1,5 +1,6 @@
 use Rattle.moo_cells.{proofs.Words.{List, find, refl, subst, entries, petition_total, petition_exact, Row, has_rowid, Head, version_number, ShowEach, HeadIs, ReadsHead, ReadsCounter, ReadsPetition}, proofs.Beside.{each_held}, proofs.Keys.{petitions_bear}, proofs.TakenLemmas.{taken_shown}}
-use Rattle.moo_tables.proofs.{InsideLemmas.{always}, ReadLemmas.{reads_then, fails_then}}
+use Rattle.moo_tables.proofs.ReadLemmas.{reads_then, fails_then}
+use Rattle.moo_tables_rows.proofs.InsideLemmas.{always}
 use Rattle.moo_cells.proofs.showing_in_turn.show_in_turn.Goals as goal
 
 pub returns-in_err-head-clause-failed : goal.returns-in_err-head-clause-failed

@@ -1,4 +1,5 @@
-use Rattle.moo_tables.proofs.{InsideLemmas.{always}, ReadLemmas.{reads_then, fails_then}}
+use Rattle.moo_tables.proofs.ReadLemmas.{reads_then, fails_then}
+use Rattle.moo_tables_rows.proofs.InsideLemmas.{always}
 use Rattle.moo_cells.proofs.TakenLemmas.{takes_all}
 use Rattle.moo_cells.proofs.showing_in_turn.show_tables.Goals as goal
 

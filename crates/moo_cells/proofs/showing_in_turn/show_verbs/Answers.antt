@@ -1,5 +1,5 @@
 use Rattle.moo_cells.{proofs.Words.{List, refl, subst, entries, Row, ShowEach, ReadsVerb, verb_total, verb_exact}, proofs.Beside.{each_held}, proofs.FillLemmas.{held_fills}, proofs.Keys.{verbs_bear}}
-use Rattle.moo_tables.proofs.InsideLemmas.{always}
+use Rattle.moo_tables_rows.proofs.InsideLemmas.{always}
 use Rattle.moo_cells.proofs.showing_in_turn.show_verbs.Goals as goal
 
 pub returns-in_err-cells-clause-failed : goal.returns-in_err-cells-clause-failed

@@ -1,8 +1,7 @@
-use Rattle.moo_damage.{proofs.Words.{rules, entries, object_exact, object_total, objects_left, is_lost}, proofs.Found.{least_found, walks}}
+use Rattle.moo_damage.{proofs.Words.{◌≡◌, rules, is_lost}, proofs.Firsts.{least_so}}
 use Rattle.moo_damage.proofs.checks.first_lost.Goals as goal
 
 pub returns : goal.returns
 returns g c =
     let m = (g.R.Rows.held c.args.rows.now).maps in
-    least_found _ _ (λ _ r. is_lost c.args.link m r) (λ b k r says. search rules) object_total object_exact m.objects _
-    (c.first_bad.ensures _ (walks (λ p. (p.0, p.1.now)) (λ w. objects_left w.last (g.R.Rows.held w.rows.now).maps) c.each_object.result (entries m.objects) c.each_object.ensures))
+    least_so _ _ m.objects _ (λ b _ row. is_lost c.args.link m row ≡ b) (λ b key row says. search rules) c.first_bad.ensures

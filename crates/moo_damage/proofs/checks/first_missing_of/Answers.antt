@@ -1,8 +1,7 @@
-use Rattle.moo_damage.{proofs.Words.{rules, entries, prop_exact, prop_total, props_left, is_missing}, proofs.Found.{least_found, walks}}
+use Rattle.moo_damage.{proofs.Words.{◌≡◌, rules, is_missing}, proofs.Firsts.{least_so}}
 use Rattle.moo_damage.proofs.checks.first_missing_of.Goals as goal
 
 pub returns : goal.returns
 returns g c =
     let m = (g.R.Rows.held c.args.rows.now).maps in
-    least_found _ _ (λ k _. is_missing m (c.args.x, k)) (λ b k r says. search rules) prop_total prop_exact m.props _
-    (c.first_bad.ensures _ (walks (λ p. (p.0, p.1.now)) (λ w. props_left w.last (g.R.Rows.held w.rows.now).maps) c.each_prop.result (entries m.props) c.each_prop.ensures))
+    least_so _ _ m.props _ (λ b k _. is_missing m (c.args.x, k) ≡ b) (λ b k r says. search rules) c.first_bad.ensures

@@ -1,5 +1,6 @@
-use Rattle.moo_dump.{proofs.Words.{◌≡◌, ◌≤◌, ◌<◌, ◌+◌, ◌-◌, ◌++◌, ℕ, List, length, take, drop, sym, ap, ◌∙◌, arith, slice_get, take_rest, length-drop, take_all}, proofs.Compared.{taken_to, departs}}
+use Rattle.moo_dump.{proofs.Words.{◌≡◌, ◌≤◌, ◌<◌, ◌+◌, ◌-◌, ◌++◌, ℕ, List, length, take, drop, sym, ap, ◌∙◌, arith, slice_get, take_rest, length-drop, take_all}, proofs.Compared.{departs}}
 use Rattle.moo_dump.proofs.comparing.after_piece.Goals as goal
+use Rattle.std.proofs.Math.Seq.{take-add}
 
 pub returns-then-count-piece-clause-err : goal.returns-then-count-piece-clause-err
 returns-then-count-piece-clause-err c =
@@ -19,5 +20,5 @@ returns-clause-ok c =
     let count = c.shared_length-count.result in
     let tail : take (length text - at) (drop at text) ≡ drop at text = take_rest text at in
     let all : take count c.args.piece.now ≡ c.args.piece.now = take_all count c.args.piece.now (omega arith) in
-    taken_to text at count c.requires
+    take-add at count text
     ∙ ap (λ (t : List ℕ). take at text ++ t) (sym (ap (take count) tail) ∙ c.shared_length-count.ensures.shared ∙ all)

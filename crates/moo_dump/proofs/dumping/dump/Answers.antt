@@ -1,17 +1,17 @@
-use Rattle.moo_dump.{proofs.Words.{ℕ, take, ◌∙◌, Appends, dump, state_of}, proofs.Writing.{Appends-nothing, on_err, all_written, at_end, at_heading, at_objects, at_petitions}}
+use Rattle.moo_dump.{proofs.Words.{ℕ, take, ◌∙◌, Appends, dump, state_of}, proofs.Writing.{on_err, all_written, at_end, at_heading, at_objects, at_petitions}}
 use Rattle.moo_dump.proofs.dumping.dump.Goals as goal
-use Rattle.std.proofs.lemmas.Result.{on_ok_weaker, on_err_weaker}
+use Rattle.std.proofs.KnownBytes.{Appends-nil}
 
 pub returns-in_err-outline-clause-err : goal.returns-in_err-outline-clause-err
 returns-in_err-outline-clause-err g c =
     let old = g.W.Write.contents c.args.output.now in
-    let none : (count : ℕ) × Appends old old (take count (dump (state_of (g.R.Rows.held c.args.rows.now).maps))) = (0, Appends-nothing old) in
+    let none : (count : ℕ) × Appends old old (take count (dump (state_of (g.R.Rows.held c.args.rows.now).maps))) = (0, Appends-nil old) in
     on_err c.from_residual.result none
 
 pub returns-in_err-heading-clause-err : goal.returns-in_err-heading-clause-err
 returns-in_err-heading-clause-err g c =
     let old = g.W.Write.contents c.args.output.now in
-    let none : (count : ℕ) × Appends old old (take count (dump (state_of (g.R.Rows.held c.args.rows.now).maps))) = (0, Appends-nothing old) in
+    let none : (count : ℕ) × Appends old old (take count (dump (state_of (g.R.Rows.held c.args.rows.now).maps))) = (0, Appends-nil old) in
     on_err c.from_residual-in_err-heading.result none
 
 pub returns-in_err-put_all-clause-err : goal.returns-in_err-put_all-clause-err
@@ -27,12 +27,9 @@ returns-in_err-put_petitions-clause-err g c =
     on_err c.from_residual-in_err-put_petitions.result
     (at_petitions (g.R.Rows.held c.args.rows.now).maps (g.W.Write.contents c.args.output.now) (g.W.Write.contents c.put_all.new.writer) c.deref.result.now (c.deref.ensures.value ∙ c.in_ok-heading.ensures) c.in_ok-put_all.ensures.ok (g.W.Write.contents c.put_objects.new.output) c.in_ok-put_objects.ensures.ok (g.W.Write.contents c.put_petitions.new.output) c.in_err-put_petitions.ensures.err)
 
-pub returns-clause-ok : goal.returns-clause-ok
-returns-clause-ok g c =
-    on_ok_weaker c.put_all-2.result
-    (all_written (g.R.Rows.held c.args.rows.now).maps (g.W.Write.contents c.args.output.now) (g.W.Write.contents c.put_all.new.writer) c.deref.result.now (c.deref.ensures.value ∙ c.in_ok-heading.ensures) c.in_ok-put_all.ensures.ok (g.W.Write.contents c.put_objects.new.output) c.in_ok-put_objects.ensures.ok (g.W.Write.contents c.put_petitions.new.output) c.in_ok-put_petitions.ensures.ok (g.W.Write.contents c.put_all-2.new.writer)) c.put_all-2.ensures.ok
+pub returns-in_err-put_all-2-clause-err : goal.returns-in_err-put_all-2-clause-err
+returns-in_err-put_all-2-clause-err g c =
+    on_err c.from_residual-in_err-put_all-2.result (at_end (g.R.Rows.held c.args.rows.now).maps (g.W.Write.contents c.args.output.now) (g.W.Write.contents c.put_all.new.writer) c.deref.result.now (c.deref.ensures.value ∙ c.in_ok-heading.ensures) c.in_ok-put_all.ensures.ok (g.W.Write.contents c.put_objects.new.output) c.in_ok-put_objects.ensures.ok (g.W.Write.contents c.put_petitions.new.output) c.in_ok-put_petitions.ensures.ok (g.W.Write.contents c.put_all-2.new.writer) c.in_err-put_all-2.ensures.err)
 
-pub returns-clause-err : goal.returns-clause-err
-returns-clause-err g c =
-    on_err_weaker c.put_all-2.result
-    (at_end (g.R.Rows.held c.args.rows.now).maps (g.W.Write.contents c.args.output.now) (g.W.Write.contents c.put_all.new.writer) c.deref.result.now (c.deref.ensures.value ∙ c.in_ok-heading.ensures) c.in_ok-put_all.ensures.ok (g.W.Write.contents c.put_objects.new.output) c.in_ok-put_objects.ensures.ok (g.W.Write.contents c.put_petitions.new.output) c.in_ok-put_petitions.ensures.ok (g.W.Write.contents c.put_all-2.new.writer)) c.put_all-2.ensures.err
+pub returns-clause-ok : goal.returns-clause-ok
+returns-clause-ok g c = all_written (g.R.Rows.held c.args.rows.now).maps (g.W.Write.contents c.args.output.now) (g.W.Write.contents c.put_all.new.writer) c.deref.result.now (c.deref.ensures.value ∙ c.in_ok-heading.ensures) c.in_ok-put_all.ensures.ok (g.W.Write.contents c.put_objects.new.output) c.in_ok-put_objects.ensures.ok (g.W.Write.contents c.put_petitions.new.output) c.in_ok-put_petitions.ensures.ok (g.W.Write.contents c.put_all-2.new.writer) c.in_ok-put_all-2.ensures.ok

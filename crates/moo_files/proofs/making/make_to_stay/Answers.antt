@@ -1,6 +1,7 @@
 use Rattle.std.proofs.Common.{true, refl, subst}
 use Rattle.moo_world.specs.Judge.{state_of}
-use Rattle.moo_store.{specs.Stand.{Works}, specs.States.{LeavesState}}
+use Rattle.moo_store.specs.Stand.{Works}
+use Rattle.moo_store_rows.specs.States.{LeavesState}
 use Rattle.moo_files.specs.Making.{rows_made}
 use Rattle.moo_files.proofs.making.make_to_stay.Goals as goal
 

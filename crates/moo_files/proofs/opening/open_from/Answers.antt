@@ -1,5 +1,6 @@
-use Rattle.moo_files.{proofs.Words.{inl, inr, ◌≡◌, refl, sym, subst, over_files, file_state, image_at, Adopts, store_of}, specs.Contents.{HoldsState, HoldsEarlier}, specs.Opened.{Contents, Nothing, Database, Unfit}, proofs.ContentsLemmas.{was_clean, earlier_held, rests_held, shows_held, shows_trees, left_held, left_none, empty_other, foreign_other, unsound_other, reads_ours, reads_something, own_tables, kept_or_migrated}, proofs.RefusalLemmas.{unfit_sound, unfit_of_store, says_nothing, refuses_unconnected, unconnected_cause, stops_over}}
-use Rattle.moo_store.{specs.Current.{RestsCurrent}, proofs.AdoptLemmas.{left_still}}
+use Rattle.moo_files.{proofs.Words.{inl, inr, refl, subst, over_files, file_state, image_at, Adopts, store_of}, specs.Contents.{HoldsState, HoldsEarlier}, specs.Opened.{Nothing, Database, Unfit}, proofs.ContentsLemmas.{was_clean, earlier_held, rests_held, shows_held, shows_trees, left_held, left_none, empty_other, foreign_other, unsound_other, reads_ours, reads_something, own_tables, kept_or_migrated}, proofs.RefusalLemmas.{unfit_sound, unfit_of_store, says_nothing, refuses_unconnected, unconnected_cause, stops_over}}
+use Rattle.moo_store.proofs.AdoptLemmas.{left_still}
+use Rattle.moo_store_rows.specs.Current.{RestsCurrent}
 use Rattle.moo_files.proofs.opening.open_from.Goals as goal
 
 -- ---- a World was opened

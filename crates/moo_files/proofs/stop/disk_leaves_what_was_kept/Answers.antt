@@ -1,5 +1,5 @@
 use Rattle.std.proofs.Common.{inl, refl}
-use Rattle.moo_store.specs.States.{LeavesState}
+use Rattle.moo_store_rows.specs.States.{LeavesState}
 use Rattle.moo_files.{specs.Contents.{IsKept}, proofs.StopLemmas.{such_by_bytes, state_is_database}}
 use Rattle.moo_files.proofs.stop.disk_leaves_what_was_kept.Goals as goal
 

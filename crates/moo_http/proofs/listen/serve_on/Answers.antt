@@ -1,4 +1,4 @@
-use Rattle.moo_http.{proofs.Words.{◌≡◌, ◌+◌, sym, ◌∙◌, Attended}, proofs.Turns.{ends_as, attended_all, settles_all_sum}}
+use Rattle.moo_http.{proofs.Words.{sym, ◌∙◌, Attended}, proofs.Turns.{ends_as, attended_all, settles_all_sum}}
 use Rattle.moo_http.proofs.listen.serve_on.Goals as goal
 
 pub returns-clause-count : goal.returns-clause-count

@@ -1,4 +1,4 @@
-use Rattle.moo_http_request.{proofs.Words.{◌≡◌, body_size, plan_by, subst, sym, refl, ap, ◌+◌, rules}, specs.Whole.{IsWholeFrom}, proofs.HeadLemmas.{lacks-long, lacks_all}, proofs.WholeLemmas.{ends_after_body, ends_here}}
+use Rattle.moo_http_request.{proofs.Words.{subst, sym, refl, ◌+◌, rules}, specs.Whole.{IsWholeFrom}, proofs.HeadLemmas.{lacks-long}, proofs.WholeLemmas.{ends_after_body, ends_here}}
 use Rattle.moo_http_request.proofs.whole.wants.Goals as goal
 
 pub returns-in-Some-Whole-clause-shows : goal.returns-in-Some-Whole-clause-shows

@@ -1,4 +1,4 @@
-use Rattle.moo_load.{proofs.Words.{◌≡◌, ◌+◌, ℤ, pos, negsuc, ◌≤ℤ◌, ℕ, List, ◌∷◌, ◌++◌, length, drop, refl, sym, ap, subst, ◌∙◌, arith, err_from_is_err_and, heading, State, w32, to_z, of_z, to_z-of_z}, proofs.Headed.{top_of, seq_line, top_line, seq_plain, top_plain, lines_are, after_line}, proofs.Within.{none_read}}
+use Rattle.moo_load.{proofs.Words.{◌≡◌, ◌+◌, ℤ, pos, negsuc, ◌≤ℤ◌, ℕ, List, ◌∷◌, ◌++◌, length, drop, refl, sym, ap, subst, ◌∙◌, arith, from_err, heading, State, w32, to_z, of_z, to_z-of_z}, proofs.Headed.{top_of, seq_line, top_line, seq_plain, top_plain, lines_are, after_line}, proofs.Within.{none_read}}
 use Rattle.moo_load.proofs.heading.read_heading.Goals as goal
 
 -- the second line is where the first one ends
@@ -14,9 +14,7 @@ returns-clause-read c =
     (omega arith, omega arith) (omega arith, omega arith) (omega arith, omega arith)
 
 pub returns-in_err-first-clause-err : goal.returns-in_err-first-clause-err
-returns-in_err-first-clause-err c =
-    let p = err_from_is_err_and c.from_residual.result c.from_residual.ensures.1 in
-    rw p.1 (λ some s rest held is. c.in_err-first.ensures.found (seq_line s) (top_line s ++ 10 ∷ rest) (seq_plain s held) (is ∙ lines_are s rest))
+returns-in_err-first-clause-err c = from_err c.from_residual.result c.from_residual.ensures.1 (λ fault own some s rest held is. c.in_err-first.ensures.found (seq_line s) (top_line s ++ 10 ∷ rest) (seq_plain s held) (is ∙ lines_are s rest))
 
 pub returns-in-Err-clause-err : goal.returns-in-Err-clause-err
 returns-in-Err-clause-err c some s rest held is =
@@ -24,8 +22,7 @@ returns-in-Err-clause-err c some s rest held is =
 
 pub returns-in_err-second-clause-err : goal.returns-in_err-second-clause-err
 returns-in_err-second-clause-err c =
-    let p = err_from_is_err_and c.from_residual-in_err-second.result c.from_residual-in_err-second.ensures.1 in
-    rw p.1 (λ some s rest held is.
+    from_err c.from_residual-in_err-second.result c.from_residual-in_err-second.ensures.1 (λ fault own some s rest held is.
     let own = c.in_ok-first.ensures.found (seq_line s) (top_line s ++ 10 ∷ rest) (seq_plain s held) (is ∙ lines_are s rest) in
     c.in_err-second.ensures.found (top_line s) rest (top_plain s held) (second_at c.args.text.now c.in_ok-first.first.now s rest _ is own refl))
 

@@ -1,13 +1,11 @@
-use Rattle.moo_load.{proofs.Words.{◌≡◌, sym, ap, ◌∙◌, err_from_is_err_and, ObjNo, Obj, IfErr-weaker, IfOk-weaker}, proofs.Headed.{assigned_fits}, proofs.One.Values.{object_in}}
+use Rattle.moo_load.{proofs.Words.{◌≡◌, sym, ap, ◌∙◌, from_err, ObjNo, Obj, IfErr-weaker, IfOk-weaker}, proofs.Headed.{assigned_fits}, proofs.One.Values.{object_in}}
 use Rattle.moo_load.proofs.heading.top_of.Goals as goal
 
 one_number : (x y : ObjNo) → Obj x ≡ Obj y → x.0 ≡ y.0
 one_number x y e = ap (λ v. (object_in v).0) e
 
 pub returns-in_err-value-clause-err : goal.returns-in_err-value-clause-err
-returns-in_err-value-clause-err c =
-    let p = err_from_is_err_and c.from_residual.result c.from_residual.ensures.1 in
-    rw p.1 (λ unreadable x low high same. c.in_err-value.ensures.err (λ none. unreadable (p.2 ∙ none)) (Obj x) (assigned_fits x low high) same)
+returns-in_err-value-clause-err c = from_err c.from_residual.result c.from_residual.ensures.1 (λ fault own unreadable x low high same. c.in_err-value.ensures.err (λ none. unreadable (own ∙ none)) (Obj x) (assigned_fits x low high) same)
 
 pub returns-clause-ok : goal.returns-clause-ok
 returns-clause-ok c = IfOk-weaker c.assigned_of.result _ _ (λ top is x low high same. one_number (record { 0 = top }) x (sym is ∙ c.in_ok-value.ensures.ok (Obj x) (assigned_fits x low high) same)) c.assigned_of.ensures.ok

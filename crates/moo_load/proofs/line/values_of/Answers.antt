@@ -1,18 +1,14 @@
-use Rattle.moo_load.{proofs.Words.{rules, ◌≡◌, false, ◌∷◌, List, ◌-◌, [], ◌++◌, length, take, drop, sym, ◌∙◌, subst, false≢true, take_rest, bytes_eq, err_from_is_err_and, bytes_eq-Decides, print, Value}, proofs.Listed.{next_front, refused, last_read, one_more, no_other, left_first, Left}}
+use Rattle.moo_load.{proofs.Words.{rules, ◌≡◌, false, ◌∷◌, List, ◌-◌, [], ◌++◌, length, take, drop, sym, ◌∙◌, subst, false≢true, take_rest, bytes_eq, from_err, bytes_eq-Decides, print, Value}, proofs.Listed.{next_front, refused, last_read, one_more, no_other, left_first, Left}}
 use Rattle.moo_load.proofs.line.values_of.Goals as goal
 
 pub returns-in_err-rest-clause-err : goal.returns-in_err-rest-clause-err
-returns-in_err-rest-clause-err c =
-    let p = err_from_is_err_and c.from_residual.result c.from_residual.ensures.1 in
-    rw p.1 (λ unreadable v vs are. c.in_err-rest.ensures.err _ are.printed)
+returns-in_err-rest-clause-err c = from_err c.from_residual.result c.from_residual.ensures.1 (λ fault own unreadable v vs are. c.in_err-rest.ensures.err _ are.printed)
 
 pub loop-values-init : goal.loop-values-init
 loop-values-init c v vs are = rw c.new-values.ensures.items (left_first v vs c.args.literal.now c.in_ok-rest.rest.now are c.in_ok-rest.ensures.ok)
 
 pub returns-in_err-value-clause-err : goal.returns-in_err-value-clause-err
-returns-in_err-value-clause-err c =
-    let p = err_from_is_err_and c.from_residual-in_err-value.result c.from_residual-in_err-value.ensures.1 in
-    rw p.1 (λ unreadable v vs are. let l = c.loop-values.invariant v vs are in refused c.in_err-value.field-0.0 (l.next, length (print l.next)) (c.in_err-value.ensures.only l.next (length (print l.next)) (next_front l)) (p.2 unreadable))
+returns-in_err-value-clause-err c = from_err c.from_residual-in_err-value.result c.from_residual-in_err-value.ensures.1 (λ fault own unreadable v vs are. let l = c.loop-values.invariant v vs are in refused c.in_err-value.field-0.0 (l.next, length (print l.next)) (c.in_err-value.ensures.only l.next (length (print l.next)) (next_front l)) (own unreadable))
 
 pub returns-then-eq-clause-ok : goal.returns-then-eq-clause-ok
 returns-then-eq-clause-ok c v vs are =
@@ -24,11 +20,10 @@ returns-then-eq-clause-ok c v vs are =
 
 pub returns-in_err-rest-2-clause-err : goal.returns-in_err-rest-2-clause-err
 returns-in_err-rest-2-clause-err c =
-    let p = err_from_is_err_and c.from_residual-in_err-rest-2.result c.from_residual-in_err-rest-2.ensures.1 in
     let tail = take (length c.loop-values.rest.now - c.in_ok-value.used) (drop c.in_ok-value.used c.loop-values.rest.now) in
     let own : tail ≡ drop c.in_ok-value.used c.loop-values.rest.now = take_rest c.loop-values.rest.now c.in_ok-value.used in
     let no : bytes_eq tail (125 ∷ []) ≡ false = search rules in
-    rw p.1 (λ unreadable v vs are.
+    from_err c.from_residual-in_err-rest-2.result c.from_residual-in_err-rest-2.ensures.1 (λ fault from unreadable v vs are.
     let l = c.loop-values.invariant v vs are in
     no_other l c.in_ok-value.value c.in_ok-value.used (c.in_ok-value.ensures.only l.next (length (print l.next)) (next_front l)) (λ end. false≢true (sym no ∙ (bytes_eq-Decides tail (125 ∷ [])).1 (own ∙ end))) (λ after on. c.in_err-rest-2.ensures.err after (own ∙ on)))
 

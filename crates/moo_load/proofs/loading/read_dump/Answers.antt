@@ -1,17 +1,15 @@
-use Rattle.moo_load.{proofs.Words.{List, ℕ, ◌<◌, length, sym, subst, ◌∙◌, err_from_is_err_and, state_of}, proofs.Shown.Counts.{has_numbers}}
+use Rattle.moo_load.{proofs.Words.{List, ℕ, ◌<◌, length, sym, subst, ◌∙◌, from_err, state_of}, proofs.Shown.Counts.{has_numbers}}
 use Rattle.moo_load.proofs.loading.read_dump.Goals as goal
 
 pub returns-in_err-rows-clause-complete : goal.returns-in_err-rows-clause-complete
 returns-in_err-rows-clause-complete c =
-    let p = err_from_is_err_and c.from_residual.result c.from_residual.ensures.1 in
-    rw p.1 (λ some short s held same.
-    c.in_err-rows.ensures.err (λ e. some (p.2 ∙ e)) s held (has_numbers s (subst (λ (t : List ℕ). length t < 4294967295) (sym same) short)) same)
+    from_err c.from_residual.result c.from_residual.ensures.1 (λ fault own some short s held same.
+    c.in_err-rows.ensures.err (λ e. some (own ∙ e)) s held (has_numbers s (subst (λ (t : List ℕ). length t < 4294967295) (sym same) short)) same)
 
 pub returns-in_err-judge_rows-clause-complete : goal.returns-in_err-judge_rows-clause-complete
 returns-in_err-judge_rows-clause-complete c =
-    let p = err_from_is_err_and c.from_residual-in_err-judge_rows.result c.from_residual-in_err-judge_rows.ensures.1 in
-    rw p.1 (λ some short s held same.
-    c.in_err-judge_rows.ensures.complete (λ e. some (p.2 ∙ e)) s held (has_numbers s (subst (λ (t : List ℕ). length t < 4294967295) (sym same) short)) same (c.in_ok-rows.ensures.put s held same))
+    from_err c.from_residual-in_err-judge_rows.result c.from_residual-in_err-judge_rows.ensures.1 (λ fault own some short s held same.
+    c.in_err-judge_rows.ensures.complete (λ e. some (own ∙ e)) s held (has_numbers s (subst (λ (t : List ℕ). length t < 4294967295) (sym same) short)) same (c.in_ok-rows.ensures.put s held same))
 
 -- the rows are those of their own state, whose dump the text is
 pub returns-clause-numbered : goal.returns-clause-numbered

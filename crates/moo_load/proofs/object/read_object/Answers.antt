@@ -1,4 +1,4 @@
-use Rattle.moo_load.{proofs.Words.{◌≤◌, length, ap, sym, ◌∙◌, arith, Str, get_or, err_from_is_err_and, and_parts, ◌&&◌, is_text, is_number, accept_fits}, proofs.Items.{item, no_item}}
+use Rattle.moo_load.{proofs.Words.{◌≤◌, length, ap, sym, ◌∙◌, arith, Str, get_or, from_err, and_parts, ◌&&◌, is_text, is_number, accept_fits}, proofs.Items.{item, no_item}}
 use Rattle.moo_load.proofs.object.read_object.Goals as goal
 
 pub returns-clause-shown : goal.returns-clause-shown
@@ -21,64 +21,41 @@ returns-clause-shown c =
     (no_item values 12 short))))))))))))
 
 pub returns-in_err-number-clause-err : goal.returns-in_err-number-clause-err
-returns-in_err-number-clause-err c =
-    let p = err_from_is_err_and c.from_residual.result c.from_residual.ensures.1 in
-    rw p.1 (λ unreadable x row fits is. c.in_err-number.ensures.err x (c.number-item.is ∙ ap (λ l. get_or l 0 c.number-item.result) is))
+returns-in_err-number-clause-err c = from_err c.from_residual.result c.from_residual.ensures.1 (λ fault own unreadable x row fits is. c.in_err-number.ensures.err x (c.number-item.is ∙ ap (λ l. get_or l 0 c.number-item.result) is))
 
 pub returns-in_err-name-clause-err : goal.returns-in_err-name-clause-err
-returns-in_err-name-clause-err c =
-    let p = err_from_is_err_and c.from_residual-in_err-name.result c.from_residual-in_err-name.ensures.1 in
-    rw p.1 (λ unreadable x row fits is. c.in_err-name.ensures.err row.name (c.name-item.is ∙ ap (λ l. get_or l 1 c.name-item.result) is))
+returns-in_err-name-clause-err c = from_err c.from_residual-in_err-name.result c.from_residual-in_err-name.ensures.1 (λ fault own unreadable x row fits is. c.in_err-name.ensures.err row.name (c.name-item.is ∙ ap (λ l. get_or l 1 c.name-item.result) is))
 
 pub returns-in_err-owner-clause-err : goal.returns-in_err-owner-clause-err
-returns-in_err-owner-clause-err c =
-    let p = err_from_is_err_and c.from_residual-in_err-owner.result c.from_residual-in_err-owner.ensures.1 in
-    rw p.1 (λ unreadable x row fits is. c.in_err-owner.ensures.err row.owner (c.owner-item.is ∙ ap (λ l. get_or l 2 c.owner-item.result) is))
+returns-in_err-owner-clause-err c = from_err c.from_residual-in_err-owner.result c.from_residual-in_err-owner.ensures.1 (λ fault own unreadable x row fits is. c.in_err-owner.ensures.err row.owner (c.owner-item.is ∙ ap (λ l. get_or l 2 c.owner-item.result) is))
 
 pub returns-in_err-parent-clause-err : goal.returns-in_err-parent-clause-err
-returns-in_err-parent-clause-err c =
-    let p = err_from_is_err_and c.from_residual-in_err-parent.result c.from_residual-in_err-parent.ensures.1 in
-    rw p.1 (λ unreadable x row fits is. c.in_err-parent.ensures.err row.parent (c.parent-item.is ∙ ap (λ l. get_or l 3 c.parent-item.result) is))
+returns-in_err-parent-clause-err c = from_err c.from_residual-in_err-parent.result c.from_residual-in_err-parent.ensures.1 (λ fault own unreadable x row fits is. c.in_err-parent.ensures.err row.parent (c.parent-item.is ∙ ap (λ l. get_or l 3 c.parent-item.result) is))
 
 pub returns-in_err-location-clause-err : goal.returns-in_err-location-clause-err
-returns-in_err-location-clause-err c =
-    let p = err_from_is_err_and c.from_residual-in_err-location.result c.from_residual-in_err-location.ensures.1 in
-    rw p.1 (λ unreadable x row fits is. c.in_err-location.ensures.err row.location (c.location-item.is ∙ ap (λ l. get_or l 4 c.location-item.result) is))
+returns-in_err-location-clause-err c = from_err c.from_residual-in_err-location.result c.from_residual-in_err-location.ensures.1 (λ fault own unreadable x row fits is. c.in_err-location.ensures.err row.location (c.location-item.is ∙ ap (λ l. get_or l 4 c.location-item.result) is))
 
 pub returns-in_err-player-clause-err : goal.returns-in_err-player-clause-err
-returns-in_err-player-clause-err c =
-    let p = err_from_is_err_and c.from_residual-in_err-player.result c.from_residual-in_err-player.ensures.1 in
-    rw p.1 (λ unreadable x row fits is. c.in_err-player.ensures.err row.player (c.player-item.is ∙ ap (λ l. get_or l 5 c.player-item.result) is))
+returns-in_err-player-clause-err c = from_err c.from_residual-in_err-player.result c.from_residual-in_err-player.ensures.1 (λ fault own unreadable x row fits is. c.in_err-player.ensures.err row.player (c.player-item.is ∙ ap (λ l. get_or l 5 c.player-item.result) is))
 
 pub returns-in_err-programmer-clause-err : goal.returns-in_err-programmer-clause-err
-returns-in_err-programmer-clause-err c =
-    let p = err_from_is_err_and c.from_residual-in_err-programmer.result c.from_residual-in_err-programmer.ensures.1 in
-    rw p.1 (λ unreadable x row fits is. c.in_err-programmer.ensures.err row.programmer (c.programmer-item.is ∙ ap (λ l. get_or l 6 c.programmer-item.result) is))
+returns-in_err-programmer-clause-err c = from_err c.from_residual-in_err-programmer.result c.from_residual-in_err-programmer.ensures.1 (λ fault own unreadable x row fits is. c.in_err-programmer.ensures.err row.programmer (c.programmer-item.is ∙ ap (λ l. get_or l 6 c.programmer-item.result) is))
 
 pub returns-in_err-wizard-clause-err : goal.returns-in_err-wizard-clause-err
-returns-in_err-wizard-clause-err c =
-    let p = err_from_is_err_and c.from_residual-in_err-wizard.result c.from_residual-in_err-wizard.ensures.1 in
-    rw p.1 (λ unreadable x row fits is. c.in_err-wizard.ensures.err row.wizard (c.wizard-item.is ∙ ap (λ l. get_or l 7 c.wizard-item.result) is))
+returns-in_err-wizard-clause-err c = from_err c.from_residual-in_err-wizard.result c.from_residual-in_err-wizard.ensures.1 (λ fault own unreadable x row fits is. c.in_err-wizard.ensures.err row.wizard (c.wizard-item.is ∙ ap (λ l. get_or l 7 c.wizard-item.result) is))
 
 pub returns-in_err-r-clause-err : goal.returns-in_err-r-clause-err
-returns-in_err-r-clause-err c =
-    let p = err_from_is_err_and c.from_residual-in_err-r.result c.from_residual-in_err-r.ensures.1 in
-    rw p.1 (λ unreadable x row fits is. c.in_err-r.ensures.err row.r (c.r-item.is ∙ ap (λ l. get_or l 8 c.r-item.result) is))
+returns-in_err-r-clause-err c = from_err c.from_residual-in_err-r.result c.from_residual-in_err-r.ensures.1 (λ fault own unreadable x row fits is. c.in_err-r.ensures.err row.r (c.r-item.is ∙ ap (λ l. get_or l 8 c.r-item.result) is))
 
 pub returns-in_err-w-clause-err : goal.returns-in_err-w-clause-err
-returns-in_err-w-clause-err c =
-    let p = err_from_is_err_and c.from_residual-in_err-w.result c.from_residual-in_err-w.ensures.1 in
-    rw p.1 (λ unreadable x row fits is. c.in_err-w.ensures.err row.w (c.w-item.is ∙ ap (λ l. get_or l 9 c.w-item.result) is))
+returns-in_err-w-clause-err c = from_err c.from_residual-in_err-w.result c.from_residual-in_err-w.ensures.1 (λ fault own unreadable x row fits is. c.in_err-w.ensures.err row.w (c.w-item.is ∙ ap (λ l. get_or l 9 c.w-item.result) is))
 
 pub returns-in_err-f-clause-err : goal.returns-in_err-f-clause-err
-returns-in_err-f-clause-err c =
-    let p = err_from_is_err_and c.from_residual-in_err-f.result c.from_residual-in_err-f.ensures.1 in
-    rw p.1 (λ unreadable x row fits is. c.in_err-f.ensures.err row.f (c.f-item.is ∙ ap (λ l. get_or l 10 c.f-item.result) is))
+returns-in_err-f-clause-err c = from_err c.from_residual-in_err-f.result c.from_residual-in_err-f.ensures.1 (λ fault own unreadable x row fits is. c.in_err-f.ensures.err row.f (c.f-item.is ∙ ap (λ l. get_or l 10 c.f-item.result) is))
 
 pub returns-in_err-accept-clause-err : goal.returns-in_err-accept-clause-err
 returns-in_err-accept-clause-err c =
-    let p = err_from_is_err_and c.from_residual-in_err-accept.result c.from_residual-in_err-accept.ensures.1 in
-    rw p.1 (λ unreadable x row fits is.
+    from_err c.from_residual-in_err-accept.result c.from_residual-in_err-accept.ensures.1 (λ fault own unreadable x row fits is.
     let rest = and_parts (is_text row.name) (is_number row.owner && accept_fits row.accept) fits in
     let accept = and_parts (is_number row.owner) (accept_fits row.accept) rest.1 in
-    c.in_err-accept.ensures.err (λ none. unreadable (p.2 ∙ none)) row.accept accept.1 (c.accept-item.is ∙ ap (λ l. get_or l 11 c.accept-item.result) is))
+    c.in_err-accept.ensures.err (λ none. unreadable (own ∙ none)) row.accept accept.1 (c.accept-item.is ∙ ap (λ l. get_or l 11 c.accept-item.result) is))

@@ -1,10 +1,8 @@
-use Rattle.moo_load.{proofs.Words.{rules, ◌≡◌, ◌≢◌, sym, ◌∙◌, err_from_is_err_and, print, list_of, entry_values, IfErr-weaker, IfOk-weaker, SlotIsNext, slot_line_put}, specs.declared.line.Word.TheVariants.{Slot}, proofs.Taken.{word_of, line_is, split_is, no_slot_put, of_values, of_line}}
+use Rattle.moo_load.{proofs.Words.{rules, ◌≡◌, ◌≢◌, sym, ◌∙◌, from_err, print, list_of, entry_values, IfErr-weaker, IfOk-weaker, SlotIsNext, slot_line_put}, specs.declared.line.Word.TheVariants.{Slot}, proofs.Taken.{word_of, line_is, split_is, no_slot_put, of_values, of_line}}
 use Rattle.moo_load.proofs.reading.take_slot_line.Goals as goal
 
 pub returns-in_err-word-clause-err : goal.returns-in_err-word-clause-err
-returns-in_err-word-clause-err c =
-    let p = err_from_is_err_and c.from_residual.result c.from_residual.ensures.1 in
-    rw p.1 (λ unreadable number e within next same. c.in_err-word.ensures.err (word_of e) (print (list_of (entry_values e))) (line_is c.args.line.now e same))
+returns-in_err-word-clause-err c = from_err c.from_residual.result c.from_residual.ensures.1 (λ fault own unreadable number e within next same. c.in_err-word.ensures.err (word_of e) (print (list_of (entry_values e))) (line_is c.args.line.now e same))
 
 pub returns-else-eq-clause-put : goal.returns-else-eq-clause-put
 returns-else-eq-clause-put c number e within next same =
@@ -13,9 +11,8 @@ returns-else-eq-clause-put c number e within next same =
 
 pub returns-in_err-values-clause-err : goal.returns-in_err-values-clause-err
 returns-in_err-values-clause-err c =
-    let p = err_from_is_err_and c.from_residual-in_err-values.result c.from_residual-in_err-values.ensures.1 in
-    rw p.1 (λ unreadable number e within next same.
-    of_values (λ l. ⊥) c.in_ok-word.literal.now (c.in_err-values.ensures.err (λ none. unreadable (p.2 ∙ none))) e (split_is c.args.line.now c.in_ok-word.literal.now c.in_ok-word.word e within c.in_ok-word.ensures.ok same).1)
+    from_err c.from_residual-in_err-values.result c.from_residual-in_err-values.ensures.1 (λ fault own unreadable number e within next same.
+    of_values (λ l. ⊥) c.in_ok-word.literal.now (c.in_err-values.ensures.err (λ none. unreadable (own ∙ none))) e (split_is c.args.line.now c.in_ok-word.literal.now c.in_ok-word.word e within c.in_ok-word.ensures.ok same).1)
 
 pub returns-in_ok-values-clause-put : goal.returns-in_ok-values-clause-put
 returns-in_ok-values-clause-put c =

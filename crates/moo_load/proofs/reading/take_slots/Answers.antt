@@ -1,13 +1,11 @@
-use Rattle.moo_load.{proofs.Words.{◌+◌, List, ℕ, length, drop, sym, ap, subst, ◌∙◌, arith, false≢true, drop-drop, err_from_is_err_and, Maps, LastSlot, no_slot, SlotIsNext, slot_line_put}, proofs.Ahead.{Ahead, Nothing, nothing_needed, all_ahead, some_line, at_end, not_refused, one_taken}}
+use Rattle.moo_load.{proofs.Words.{◌+◌, List, ℕ, length, drop, sym, ap, subst, ◌∙◌, arith, false≢true, drop-drop, from_err, Maps, LastSlot, no_slot, SlotIsNext, slot_line_put}, proofs.Ahead.{Ahead, Nothing, nothing_needed, all_ahead, some_line, at_end, not_refused, one_taken}}
 use Rattle.moo_load.proofs.reading.take_slots.Goals as goal
 
 pub loop-line-init : goal.loop-line-init
 loop-line-init c = record { within = c.requires.start; read = c.requires.read; ahead = λ number es fit next same. all_ahead es (no_slot, c.args.rows.now.maps) (drop c.args.start c.args.text.now) fit next same }
 
 pub returns-in_err-line-clause-err : goal.returns-in_err-line-clause-err
-returns-in_err-line-clause-err c =
-    let p = err_from_is_err_and c.from_residual.result c.from_residual.ensures.1 in
-    rw p.1 (λ some number es fit next same. some_line (c.loop-line.invariant.ahead number es fit next same) (λ l r one is. c.in_err-line.ensures.found l r one is))
+returns-in_err-line-clause-err c = from_err c.from_residual.result c.from_residual.ensures.1 (λ fault own some number es fit next same. some_line (c.loop-line.invariant.ahead number es fit next same) (λ l r one is. c.in_err-line.ensures.found l r one is))
 
 pub returns-then-is_end-clause-put : goal.returns-then-is_end-clause-put
 returns-then-is_end-clause-put c number es fit next same =

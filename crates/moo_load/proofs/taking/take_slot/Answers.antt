@@ -1,4 +1,4 @@
-use Rattle.moo_load.{proofs.Words.{◌≡◌, refl, sym, ap, subst, ◌∙◌, none-some, same_Some, err_from_is_err_and, ObjNo, PropId, SlotRow, Held, Maps, with_slot, Name, Property, Slot, LastSlot, slot_values, AreRead, dumped_slot, IsNextProperty}, proofs.One.Values.{one_slot}, proofs.Within.{slot_put}}
+use Rattle.moo_load.{proofs.Words.{◌≡◌, refl, sym, ap, subst, ◌∙◌, none-some, same_Some, from_err, ObjNo, PropId, SlotRow, Held, Maps, with_slot, Name, Property, Slot, LastSlot, slot_values, AreRead, dumped_slot, IsNextProperty}, proofs.One.Values.{one_slot}, proofs.Within.{slot_put}}
 use Rattle.moo_load.proofs.taking.take_slot.Goals as goal
 
 as_slot : ObjNo → SlotRow → Slot
@@ -25,9 +25,7 @@ returns-clause-put c x p k id is next =
     ((λ i. record { object = o.0 i; definer = (o.1 i).0; id = mine i }), c.in_ok-put_slot.ensures.ok ∙ (λ i. with_slot c.args.rows.now (o.0 i, mine i) (o.2 i)))
 
 pub returns-in_err-slot-clause-err : goal.returns-in_err-slot-clause-err
-returns-in_err-slot-clause-err c =
-    let p = err_from_is_err_and c.from_residual.result c.from_residual.ensures.1 in
-    rw p.1 (λ unreadable x q k id fits next. c.in_err-slot.ensures.err (λ none. unreadable (p.2 ∙ none)) x q.0 q.1 (dumped_slot k) fits)
+returns-in_err-slot-clause-err c = from_err c.from_residual.result c.from_residual.ensures.1 (λ fault own unreadable x q k id fits next. c.in_err-slot.ensures.err (λ none. unreadable (own ∙ none)) x q.0 q.1 (dumped_slot k) fits)
 
 pub returns-in_default-clause-err : goal.returns-in_default-clause-err
 returns-in_default-clause-err c unreadable x p k id fits next is =

@@ -1,4 +1,4 @@
-use Rattle.moo_load.{proofs.Words.{◌≡◌, ◌+◌, ap, sym, subst, ◌∙◌, refl, arith, Head, Held, AreRead, insert, err_from_is_err_and}, proofs.Within.{verb_put, counted, IsNext}, proofs.One.Values.{one_verb}}
+use Rattle.moo_load.{proofs.Words.{◌≡◌, ◌+◌, ap, sym, subst, ◌∙◌, refl, arith, Head, Held, AreRead, insert, from_err}, proofs.Within.{verb_put, counted, IsNext}, proofs.One.Values.{one_verb}}
 use Rattle.moo_load.proofs.taking.take_verb.Goals as goal
 
 pub returns-clause-read : goal.returns-clause-read
@@ -23,6 +23,4 @@ returns-clause-put c x row is =
     ∙ (λ i. record maps { head = record (maps.head) { next_verb = maps.head.next_verb + 1 }; verbs = insert maps.verbs (o.0 i, record { 0 = (own i).next_verb }) (o.1 i) })
 
 pub returns-in_err-object-clause-err : goal.returns-in_err-object-clause-err
-returns-in_err-object-clause-err c =
-    let p = err_from_is_err_and c.from_residual.result c.from_residual.ensures.1 in
-    rw p.1 (λ unreadable left x row fitting. c.in_err-object.ensures.err (λ none. unreadable (p.2 ∙ none)) x row fitting)
+returns-in_err-object-clause-err c = from_err c.from_residual.result c.from_residual.ensures.1 (λ fault own unreadable left x row fitting. c.in_err-object.ensures.err (λ none. unreadable (own ∙ none)) x row fitting)

@@ -1,7 +1,5 @@
-use Rattle.moo_load.{proofs.Words.{sym, ◌∙◌, err_from_is_err_and}, proofs.Accepting.{not_accept}}
+use Rattle.moo_load.{proofs.Words.{sym, ◌∙◌, from_err}, proofs.Accepting.{not_accept}}
 use Rattle.moo_load.proofs.value.accept_of.Goals as goal
 
 pub returns-in_err-objects-in-List-clause-err : goal.returns-in_err-objects-in-List-clause-err
-returns-in_err-objects-in-List-clause-err c =
-    let p = err_from_is_err_and c.from_residual.result c.from_residual.ensures.1 in
-    rw p.1 (λ unreadable accept fits is. not_accept c.in-List.list c.items.result.now c.items.ensures.plain (c.in_err-objects-in-List.ensures.err (λ none. unreadable (p.2 ∙ none))) accept fits (sym c.in-List.is ∙ is))
+returns-in_err-objects-in-List-clause-err c = from_err c.from_residual.result c.from_residual.ensures.1 (λ fault own unreadable accept fits is. not_accept c.in-List.list c.items.result.now c.items.ensures.plain (c.in_err-objects-in-List.ensures.err (λ none. unreadable (own ∙ none))) accept fits (sym c.in-List.is ∙ is))

@@ -1,4 +1,4 @@
-use Rattle.moo_load.{proofs.Words.{rules, ◌≡◌, ◌<◌, ◌++◌, [], ◌∷◌, length, arith, err_from_is_err_and, sym, ◌∙◌}, proofs.Accepting.{not_objects, objects_more, numbers_more, all_objects, few_objects, too_many}}
+use Rattle.moo_load.{proofs.Words.{rules, ◌≡◌, ◌<◌, ◌++◌, [], ◌∷◌, length, arith, from_err, sym, ◌∙◌}, proofs.Accepting.{not_objects, objects_more, numbers_more, all_objects, few_objects, too_many}}
 use Rattle.moo_load.proofs.value.objects_of.Goals as goal
 
 pub returns-then-values-gt-MAX_ACCEPTED-clause-err : goal.returns-then-values-gt-MAX_ACCEPTED-clause-err
@@ -6,9 +6,8 @@ returns-then-values-gt-MAX_ACCEPTED-clause-err c = λ unreadable objects short s
 
 pub returns-in_err-object-clause-err : goal.returns-in_err-object-clause-err
 returns-in_err-object-clause-err c =
-    let p = err_from_is_err_and c.from_residual.result c.from_residual.ensures.1 in
     let within : c.loop-value.value-index < length c.args.values.now = omega arith in
-    rw p.1 (λ unreadable objects short same. not_objects c.args.values.now c.loop-value.value-index c.value-item.result within c.value-item.is c.in_err-object.ensures.err objects same)
+    from_err c.from_residual.result c.from_residual.ensures.1 (λ fault own unreadable objects short same. not_objects c.args.values.now c.loop-value.value-index c.value-item.result within c.value-item.is c.in_err-object.ensures.err objects same)
 
 pub loop-value-preserved : goal.loop-value-preserved
 loop-value-preserved c =
@@ -28,6 +27,4 @@ returns-clause-fits c =
     rw c.from_vec.ensures (few_objects c.args.values.now c.loop-value.objects.items read (omega arith) c.loop-value.invariant.fits)
 
 pub returns-in_err-map_err-clause-err : goal.returns-in_err-map_err-clause-err
-returns-in_err-map_err-clause-err c =
-    let p = err_from_is_err_and c.from_residual-in_err-map_err.result c.from_residual-in_err-map_err.ensures.1 in
-    rw p.1 (λ unreadable objects short same. absurd (unreadable p.2))
+returns-in_err-map_err-clause-err c = from_err c.from_residual-in_err-map_err.result c.from_residual-in_err-map_err.ensures.1 (λ fault own unreadable objects short same. absurd (unreadable own))

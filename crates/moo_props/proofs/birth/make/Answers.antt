@@ -1,4 +1,4 @@
-use Rattle.moo_props.{proofs.Words.{FitsSigned, w32, rules, ◌≡◌, refl, ap, ◌∙◌, Maps, Held, created, look_ups, world_of, world_shown, World, read_of, number_within, with_new_row, origins_among, with_fresh, numbers_same, beside_world}, proofs.Shared.{good_by, keeps-fresh, same_base, same_maps, walk}, proofs.NewSlots.{with_new, look_ups-new}, proofs.NewObject.{world_new, formed_new, sound_new, reads_new, no_row}}
+use Rattle.moo_props.{proofs.Words.{FitsSigned, w32, rules, ◌≡◌, refl, ap, ◌∙◌, Maps, Held, look_ups, world_shown, World, read_of, number_within, with_new_row, origins_among, with_fresh, numbers_same, beside_world}, proofs.Shared.{good_by, keeps-fresh, same_base, same_maps, walk}, proofs.NewSlots.{with_new, look_ups-new}, proofs.NewObject.{world_new, formed_new, sound_new, reads_new, no_row}}
 use Rattle.moo_props.proofs.birth.make.Goals as goal
 
 abbrev t : (g : _) → goal.After-drop-inherited-2 g → Maps
@@ -12,11 +12,8 @@ shown g c =
     let free = no_row (look_ups (t g c)) c.requires.good.sound c.requires.good.formed c.args.x c.args.parent c.args.owner c.requires.next c.requires.parent in
     ap (λ (h : Held). look_ups h.maps) (ends g c) ∙ look_ups-new (t g c) c.requires.good.sound c.args.x c.args.parent c.args.owner free (g.R.Rows.held c.args.rows.now) refl
 
-world : (g : _) (c : goal.After-drop-inherited-2 g) → world_of (g.R.Rows.held c.put_fresh.new.rows).maps ≡ created (world_of (t g c)) c.args.x c.args.parent c.args.owner
-world g c = ap world_shown (shown g c) ∙ world_new (look_ups (t g c)) c.requires.good.sound c.requires.good.formed c.args.x c.args.parent c.args.owner c.requires.next c.requires.parent
-
 pub returns-clause-world : goal.returns-clause-world
-returns-clause-world g c = world g c
+returns-clause-world g c = ap world_shown (shown g c) ∙ world_new (look_ups (t g c)) c.requires.good.sound c.requires.good.formed c.args.x c.args.parent c.args.owner c.requires.next c.requires.parent
 
 pub returns-clause-kept : goal.returns-clause-kept
 returns-clause-kept g c =
@@ -34,5 +31,5 @@ returns-clause-kept g c =
 
 pub returns-clause-reads : goal.returns-clause-reads
 returns-clause-reads g c o n h =
-    ap (λ (w : World). read_of w o n) (world g c)
+    ap (λ (w : World). read_of w o n) (returns-clause-world g c)
     ∙ reads_new (look_ups (t g c)) c.requires.good.sound c.requires.good.formed c.args.x c.args.parent c.args.owner c.requires.next c.requires.parent o n h

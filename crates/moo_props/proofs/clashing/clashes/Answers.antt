@@ -1,4 +1,4 @@
-use Rattle.moo_props.{proofs.Words.{◌≡◌, true, false, ◌||◌, sym, ap, ◌∙◌, is_some, folded, subtree_of, world_of, defined_by_any, property_named, slot_of, slot_seen}, proofs.NameClashes.{slot_or_under, taken_above, taken_under}}
+use Rattle.moo_props.{proofs.Words.{◌||◌, ◌≡◌, true, false, sym, ap, ◌∙◌, is_some, folded, subtree_of, world_of, defined_by_any, property_named, slot_of, slot_seen}, proofs.NameClashes.{slot_or_under, taken_above}}
 use Rattle.moo_props.proofs.clashing.clashes.Goals as goal
 
 pub returns-in-Some-clause-exact : goal.returns-in-Some-clause-exact
@@ -19,8 +19,3 @@ returns-in-None-clause-exact g c =
     let n = folded c.args.name.now in
     let lacks : is_some (slot_of w c.args.x n) ≡ false = sym (ap is_some c.in-None.ensures.slot) in
     c.is_defined_under.ensures.exact ∙ sym (ap (λ b. b || is_some (property_named (defined_by_any w (subtree_of w c.args.x)) n)) lacks) ∙ slot_or_under w c.requires.formed c.args.x c.args.name.now
-
-pub returns-in-None-clause-taken : goal.returns-in-None-clause-taken
-returns-in-None-clause-taken g c =
-    let under = c.is_defined_under.ensures in
-    taken_under (world_of (g.R.Rows.held c.args.rows.now).maps) c.args.x c.args.name.now c.is_defined_under.result under.under under.defines

@@ -1,4 +1,4 @@
-use Rattle.moo_props.{proofs.Words.{◌≡◌, Bool, true, IfSome, sym, ap, ◌∙◌, subst, list_any, or_left, ObjNo, is_among, chain, subtree_of, defines_name, world_of, walk_after, from_here}, proofs.NameClashes.{any_defines}}
+use Rattle.moo_props.{proofs.Words.{Bool, true, sym, ap, ◌∙◌, list_any, or_left, ObjNo, subtree_of, defines_name, world_of, walk_after, from_here}, proofs.NameClashes.{any_defines}}
 use Rattle.moo_props.proofs.clashing.is_defined_under.Goals as goal
 
 pub returns-then-defines_named-clause-exact : goal.returns-then-defines_named-clause-exact
@@ -10,11 +10,6 @@ returns-then-defines_named-clause-exact g c =
     ∙ ap (λ at. list_any test (from_here t c.args.x at)) (sym c.in-Some.is)
     ∙ c.loop-at.invariant.any
     ∙ any_defines w (subtree_of w c.args.x) c.args.name.now
-
-pub returns-then-defines_named-clause-under : goal.returns-then-defines_named-clause-under
-returns-then-defines_named-clause-under g c =
-    let w = world_of (g.R.Rows.held c.args.rows.now).maps in
-    subst (λ at. IfSome at (λ y. is_among c.args.x (chain w y) ≡ true)) c.in-Some.is c.loop-at.invariant.under
 
 pub returns-clause-exact : goal.returns-clause-exact
 returns-clause-exact g c =

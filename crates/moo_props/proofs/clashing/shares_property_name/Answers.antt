@@ -1,4 +1,4 @@
-use Rattle.moo_props.{proofs.Words.{◌≡◌, true, IfSome, sym, ap, ◌∙◌, subst, is_among, chain, list_any, or_left, world_of, meets_on, walk_after, from_here}, proofs.NameClashes.{any_meets}}
+use Rattle.moo_props.{proofs.Words.{sym, ap, ◌∙◌, list_any, or_left, world_of, meets_on, walk_after, from_here}, proofs.NameClashes.{any_meets}}
 use Rattle.moo_props.proofs.clashing.shares_property_name.Goals as goal
 
 pub returns-in-Some-meets_on-clause-exact : goal.returns-in-Some-meets_on-clause-exact
@@ -9,11 +9,6 @@ returns-in-Some-meets_on-clause-exact g c =
     ∙ ap (λ at. list_any (meets_on w c.args.new) (from_here t c.args.x at)) (sym c.in-Some.is)
     ∙ c.loop-at.invariant.any
     ∙ any_meets w c.args.x c.args.new
-
-pub returns-in-Some-meets_on-clause-shared : goal.returns-in-Some-meets_on-clause-shared
-returns-in-Some-meets_on-clause-shared g c =
-    let w = world_of (g.R.Rows.held c.args.rows.now).maps in
-    (subst (λ at. IfSome at (λ y. is_among c.args.x (chain w y) ≡ true)) c.in-Some.is c.loop-at.invariant.under, c.in-Some-meets_on.ensures.shared)
 
 pub returns-clause-exact : goal.returns-clause-exact
 returns-clause-exact g c =

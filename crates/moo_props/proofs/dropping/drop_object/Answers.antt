@@ -1,8 +1,7 @@
-use Rattle.moo_props.{proofs.Words.{IfOk, ◌≡◌, refl, sym, ap, ◌∙◌, subst, [], ◌∷◌, length, arith, Some, is_some, get, entries, false≢true, Held, without_object, object_cmp, prop_cmp, slot_cmp, verb_cmp, recycled, look_ups, world_of, world_shown, is_object_seen, dropped_keys, linked_among, dropped_over, slots_dropped, ids_among, owners_under, props_removed, verbs_removed, rows_released, ArePresent, AreAbsent, AreAscending, props_of, as_high, beside_world}, proofs.Kept.{good_by}, proofs.Walked.{walk}, proofs.Lessened.{world_less, sound_less, formed_less, less_object}, proofs.LessRows.{look_ups-less, held1, held5, only5, base5}, proofs.Ascending.{ascend, props_rise, verbs_ascend, linked_ascend}, proofs.DroppedKeys.{dropped_list, dropped_ascend, dropped_had}, proofs.LeftRows.{writes5, slots_left, props_left, verbs_left, objects_left, head5, left_is, dropped_gone, relinked_there}, specs.declared.dropping.Dropped.{Dropped}}
+use Rattle.moo_props.{proofs.Words.{◌≡◌, refl, sym, ap, ◌∙◌, subst, [], ◌∷◌, length, arith, Some, is_some, get, entries, false≢true, Held, without_object, object_cmp, prop_cmp, slot_cmp, verb_cmp, recycled, look_ups, world_of, world_shown, is_object_seen, dropped_keys, linked_among, ids_among, owners_under, props_removed, verbs_removed, rows_released, ArePresent, AreAbsent, AreAscending, props_of, as_high, beside_world, slots_moved, keys_by, ids_for}, proofs.Kept.{good_by}, proofs.Walked.{walk}, proofs.Lessened.{world_less, sound_less, formed_less, less_object}, proofs.LessRows.{look_ups-less, held1, held5, only5, base5}, proofs.Ascending.{ascend, props_rise, verbs_ascend, linked_ascend}, proofs.DroppedKeys.{dropped_list, dropped_ascend, dropped_had}, proofs.LeftRows.{writes5, slots_left, props_left, verbs_left, objects_left, head5, left_is, dropped_gone, relinked_there}}
 use Rattle.moo_props.proofs.dropping.drop_object.Goals as goal
 use Rattle.moo_rows.specs.declared.row.Head.{Head}
 use Rattle.moo_world.specs.Numbers.{props_dropped, verbs_dropped}
-use Rattle.std.proofs.lemmas.Result.{IfOk-from_err}
 
 abbrev before : (g : _) → goal.After-from_vec g → Held
 before g c = g.R.Rows.held c.args.rows.now
@@ -10,20 +9,17 @@ before g c = g.R.Rows.held c.args.rows.now
 here : (g : _) (c : goal.After-from_vec g) → get (before g c).maps.objects c.args.x ≡ Some c.in-Some.row.now
 here g c = sym c.in-Some.ensures
 
-own_is : (g : _) (c : goal.After-from_vec g) → c.in_ok-own.own.items ≡ props_of (c.args.x ∷ []) (before g c).maps.props
-own_is g c = c.in_ok-own.ensures
-
 first : (g : _) (c : goal.After-from_vec g) → g.R.Rows.held c.drop_under.new.rows ≡ held1 (before g c).maps c.requires.good c.args.x c.in-Some.row.now (here g c) (before g c) refl
 first g c =
     c.in_ok-removed.ensures.rows
-    ∙ (λ i. slots_dropped c.args.x (ids_among (walk (before g c).maps c.args.x)) ((c.as_slice.ensures.value ∙ own_is g c) i) (owners_under (before g c).maps c.args.x) (before g c))
+    ∙ (λ i. slots_moved (ids_for c.args.x (ids_among (walk (before g c).maps c.args.x)) ((c.as_slice.ensures.value ∙ c.in_ok-own.ensures) i)) [] (owners_under (before g c).maps c.args.x) (before g c))
 
 ends : (g : _) (c : goal.After-from_vec g) → g.R.Rows.held c.drop_rows.new.rows ≡ held5 (before g c).maps c.requires.good c.args.x c.in-Some.row.now (here g c) (before g c) refl
 ends g c =
     c.in_ok-drop_rows.ensures
     ∙ (λ i. without_object (rows_released c.args.x c.in-Some.row.now.parent ((c.as_slice-4.ensures.value ∙ c.in_ok-relinked.ensures) i)
     (verbs_removed ((c.as_slice-3.ensures.value ∙ c.in_ok-verbs.ensures) i)
-    (props_removed ((c.as_slice-2.ensures.value ∙ own_is g c) i) (first g c i)))) c.args.x)
+    (props_removed ((c.as_slice-2.ensures.value ∙ c.in_ok-own.ensures) i) (first g c i)))) c.args.x)
 
 shown : (g : _) (c : goal.After-from_vec g) → look_ups (g.R.Rows.held c.drop_rows.new.rows).maps ≡ less_object (look_ups (before g c).maps) c.args.x c.in-Some.row.now.parent
 shown g c = ap (λ (h : Held). look_ups h.maps) (ends g c) ∙ look_ups-less (before g c).maps c.requires.good c.args.x c.in-Some.row.now (here g c) (before g c) refl
@@ -45,7 +41,7 @@ beside g c = ap (λ (h : Held). beside_world h.maps) (ends g c) ∙ ap beside_wo
 removed_is : (g : _) (c : goal.After-from_vec g) → c.in_ok-removed.removed ≡ dropped_keys (before g c).maps c.args.x
 removed_is g c =
     c.in_ok-removed.ensures.list
-    ∙ (λ i. dropped_over c.args.x (ids_among (walk (before g c).maps c.args.x)) ((c.as_slice.ensures.value ∙ own_is g c) i) (owners_under (before g c).maps c.args.x))
+    ∙ (λ i. keys_by (ids_for c.args.x (ids_among (walk (before g c).maps c.args.x)) ((c.as_slice.ensures.value ∙ c.in_ok-own.ensures) i)) (owners_under (before g c).maps c.args.x))
     ∙ dropped_list (before g c).maps c.requires.good c.args.x c.in-Some.row.now (here g c)
 
 relinked_is : (g : _) (c : goal.After-from_vec g) → c.from_vec.result ≡ linked_among c.args.x (entries (before g c).maps.objects)
@@ -55,11 +51,11 @@ pub returns : goal.returns
 returns g c = record {
   lists = record {
     removed = removed_is g c;
-    props = own_is g c;
+    props = c.in_ok-own.ensures;
     verbs = c.in_ok-verbs.ensures;
     relinked = relinked_is g c;
     removed_order = subst (AreAscending slot_cmp) (sym (removed_is g c)) (dropped_ascend (before g c).maps c.requires.good c.args.x c.in-Some.row.now (here g c));
-    props_order = subst (AreAscending prop_cmp) (sym (own_is g c)) (ascend prop_cmp (props_of (c.args.x ∷ []) (before g c).maps.props) (props_rise (before g c).maps (c.args.x ∷ [])));
+    props_order = subst (AreAscending prop_cmp) (sym c.in_ok-own.ensures) (ascend prop_cmp (props_of (c.args.x ∷ []) (before g c).maps.props) (props_rise (before g c).maps (c.args.x ∷ [])));
     verbs_order = subst (AreAscending verb_cmp) (sym c.in_ok-verbs.ensures) (verbs_ascend (before g c).maps c.args.x);
     relinked_order = subst (AreAscending object_cmp) (sym (relinked_is g c)) (linked_ascend (before g c).maps c.args.x);
     had = dropped_had (before g c).maps c.requires.good c.args.x c.in-Some.row.now (here g c);
@@ -90,34 +86,8 @@ returns g c = record {
       let total = ap (λ (h : Held). h.writes) (ends g c) in
       let most = writes5 t c.requires.good c.args.x c.in-Some.row.now (here g c) (before g c) refl in
       let removed = ap length (removed_is g c ∙ sym (dropped_list t c.requires.good c.args.x c.in-Some.row.now (here g c))) in
-      let props = ap length (own_is g c) in
+      let props = ap length c.in_ok-own.ensures in
       let verbs = ap length c.in_ok-verbs.ensures in
       let relinked = ap length (relinked_is g c) in
       omega (arith, total, most, removed, props, verbs, relinked);
 }
-
--- after an error nothing is promised
-pub returns-in_err-own : goal.returns-in_err-own
-returns-in_err-own g c =
-    let none : (P : Dropped → Type 0) → IfOk c.from_residual.result P = λ P. IfOk-from_err c.from_residual.result P c.from_residual.ensures.0 in
-    record { lists = none _; leaves = none _; world = none _; kept = none _; writes = none _ }
-
-pub returns-in_err-verbs : goal.returns-in_err-verbs
-returns-in_err-verbs g c =
-    let none : (P : Dropped → Type 0) → IfOk c.from_residual-in_err-verbs.result P = λ P. IfOk-from_err c.from_residual-in_err-verbs.result P c.from_residual-in_err-verbs.ensures.0 in
-    record { lists = none _; leaves = none _; world = none _; kept = none _; writes = none _ }
-
-pub returns-in_err-relinked : goal.returns-in_err-relinked
-returns-in_err-relinked g c =
-    let none : (P : Dropped → Type 0) → IfOk c.from_residual-in_err-relinked.result P = λ P. IfOk-from_err c.from_residual-in_err-relinked.result P c.from_residual-in_err-relinked.ensures.0 in
-    record { lists = none _; leaves = none _; world = none _; kept = none _; writes = none _ }
-
-pub returns-in_err-removed : goal.returns-in_err-removed
-returns-in_err-removed g c =
-    let none : (P : Dropped → Type 0) → IfOk c.from_residual-in_err-removed.result P = λ P. IfOk-from_err c.from_residual-in_err-removed.result P c.from_residual-in_err-removed.ensures.0 in
-    record { lists = none _; leaves = none _; world = none _; kept = none _; writes = none _ }
-
-pub returns-in_err-drop_rows : goal.returns-in_err-drop_rows
-returns-in_err-drop_rows g c =
-    let none : (P : Dropped → Type 0) → IfOk c.from_residual-in_err-drop_rows.result P = λ P. IfOk-from_err c.from_residual-in_err-drop_rows.result P c.from_residual-in_err-drop_rows.ensures.0 in
-    record { lists = none _; leaves = none _; world = none _; kept = none _; writes = none _ }

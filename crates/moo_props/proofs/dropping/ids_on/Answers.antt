@@ -1,13 +1,5 @@
-use Rattle.moo_props.{proofs.Words.{◌++◌, ap, ◌∙◌, slots_of_left, ids_among}, proofs.Steps.{listed, all_listed}}
+use Rattle.moo_props.{proofs.Words.{◌∙◌}, proofs.Steps.{listed}}
 use Rattle.moo_props.proofs.dropping.ids_on.Goals as goal
-
-pub loop-key-init : goal.loop-key-init
-loop-key-init g c =
-    let left = ap (λ walk. slots_of_left walk.object walk.last (g.R.Rows.held walk.rows.now).maps) c.into_iter-key-iterator.ensures.into_iter_gives ∙ c.each_slot_of-key-items.ensures in
-    λ i. c.new-found.ensures.items i ++ ids_among (left i)
 
 pub loop-key-preserved : goal.loop-key-preserved
 loop-key-preserved g c = listed (λ e. e.0.1) c.loop-key.found.items _ _ (c.in-Some.key, c.in-Some._slot.now) _ c.in-Some.ensures.steps c.in_ok-push.ensures.items ∙ c.loop-key.invariant
-
-pub returns : goal.returns
-returns g c = all_listed (λ e. e.0.1) c.loop-key.found.items _ c.in-None.ensures.steps.0 ∙ c.loop-key.invariant

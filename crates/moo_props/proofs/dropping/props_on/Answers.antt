@@ -1,4 +1,4 @@
-use Rattle.moo_props.{proofs.Words.{◌++◌, map, ap, ◌∙◌, defined_left}, proofs.Steps.{listed, all_listed}, proofs.WholeWalks.{defined_keys}}
+use Rattle.moo_props.{proofs.Words.{◌++◌, map, ap, ◌∙◌, defined_left}, proofs.Steps.{listed}, proofs.WholeWalks.{defined_keys}}
 use Rattle.moo_props.proofs.dropping.props_on.Goals as goal
 
 pub loop-id-init : goal.loop-id-init
@@ -8,6 +8,3 @@ loop-id-init g c =
 
 pub loop-id-preserved : goal.loop-id-preserved
 loop-id-preserved g c = listed (λ e. e.0) c.loop-id.found.items _ _ (c.in-Some.id, c.in-Some._row.now) _ c.in-Some.ensures.steps c.in_ok-push.ensures.items ∙ c.loop-id.invariant
-
-pub returns : goal.returns
-returns g c = all_listed (λ e. e.0) c.loop-id.found.items _ c.in-None.ensures.steps.0 ∙ c.loop-id.invariant

@@ -1,7 +1,6 @@
-use Rattle.moo_props.proofs.Words.{◌≡◌, drop, verbs_removed}
+use Rattle.moo_props.proofs.Words.{◌≡◌, take, verbs_removed}
 use Rattle.moo_props.proofs.dropping.remove_verbs.Given as goal
 
--- without those that are left, it is as without all
+-- without those so far
 abbrev pub invariant-loop-key : goal.invariant-loop-key
-invariant-loop-key g l =
-    verbs_removed (drop l.key-index l.keys) (g.R.Rows.held l.rows) ≡ verbs_removed l.keys (g.R.Rows.held l.fn.rows)
+invariant-loop-key g l = g.R.Rows.held l.rows ≡ verbs_removed (take l.key-index l.keys) (g.R.Rows.held l.fn.rows)

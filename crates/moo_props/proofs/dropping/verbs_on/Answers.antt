@@ -1,4 +1,4 @@
-use Rattle.moo_props.{proofs.Words.{◌++◌, map, ap, ◌∙◌, verbs_of_left}, proofs.Steps.{listed, all_listed}, proofs.WholeWalks.{verb_keys}}
+use Rattle.moo_props.{proofs.Words.{◌++◌, map, ap, ◌∙◌, verbs_of_left}, proofs.Steps.{listed}, proofs.WholeWalks.{verb_keys}}
 use Rattle.moo_props.proofs.dropping.verbs_on.Goals as goal
 
 pub loop-key-init : goal.loop-key-init
@@ -8,6 +8,3 @@ loop-key-init g c =
 
 pub loop-key-preserved : goal.loop-key-preserved
 loop-key-preserved g c = listed (λ e. e.0) c.loop-key.found.items _ _ (c.in-Some.key, c.in-Some._row.now) _ c.in-Some.ensures.steps c.in_ok-push.ensures.items ∙ c.loop-key.invariant
-
-pub returns : goal.returns
-returns g c = all_listed (λ e. e.0) c.loop-key.found.items _ c.in-None.ensures.steps.0 ∙ c.loop-key.invariant

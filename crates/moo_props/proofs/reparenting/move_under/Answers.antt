@@ -1,17 +1,11 @@
-use Rattle.moo_props.proofs.Words.{◌++◌, map, ◌∙◌, slots_moved, id_of, keys_over}
+use Rattle.moo_props.{proofs.Words.{◌∙◌, keys_by, slots_moved}, proofs.Folding.{ids_same}}
 use Rattle.moo_props.proofs.reparenting.move_under.Goals as goal
 
 pub returns : goal.returns
 returns g c = record {
   rows =
-      c.in_ok-move_slots.ensures.rows
-      ∙ (λ i. slots_moved c.args.lost.now c.args.gained.now ((c.as_slice.ensures.value ∙ c.in_ok-under.ensures) i) (g.R.Rows.held c.args.rows.now));
-  removed =
-      c.from_vec.ensures
-      ∙ c.in_ok-move_slots.ensures.removed
-      ∙ (λ i. c.new-removed.ensures.items i ++ keys_over c.args.lost.now ((c.as_slice.ensures.value ∙ c.in_ok-under.ensures) i));
-  added =
-      c.from_vec-2.ensures
-      ∙ c.in_ok-move_slots.ensures.added
-      ∙ (λ i. c.new-added.ensures.items i ++ keys_over (map id_of c.args.gained.now) ((c.as_slice.ensures.value ∙ c.in_ok-under.ensures) i));
+      c.in_ok-move_slots.ensures
+      ∙ (λ i. slots_moved (ids_same c.args.x c.args.lost.now i) ((c.as_slice-2.ensures.value ∙ c.in_ok-fresh.ensures) i) ((c.as_slice.ensures.value ∙ c.in_ok-under.ensures) i) (g.R.Rows.held c.args.rows.now));
+  removed = c.in_ok-removed.ensures ∙ (λ i. keys_by (ids_same c.args.x c.args.lost.now i) ((c.as_slice-3.ensures.value ∙ c.in_ok-under.ensures) i));
+  added = c.in_ok-added.ensures ∙ (λ i. keys_by (ids_same c.args.x c.args.gained.now i) ((c.as_slice-4.ensures.value ∙ c.in_ok-under.ensures) i));
 }

@@ -1,7 +1,6 @@
-use Rattle.moo_props.{proofs.Words.{IfOk, ◌≡◌, map, length, Some, sym, ap, subst, ◌∙◌, arith, is_some, unwrap_or, [], option_map, get, false≢true, or_right, ObjNo, ObjRow, PropId, Maps, Held, slot_cmp, lost, gained, same_object, is_among, IsGood, IsWellFormed, MayReparent, chain, look_ups, world_of, IsSound, chain_of_row, is_object_seen, owners_under, slots_moved, relinked, relinked_list, props_of, removed_keys, added_keys, slot_after, IsSameButSlotsAndObjects, AreAscending, id_of, origins, keys_over, numbers_same, beside_world, petitions_stay}, proofs.Shared.{new_is, no_clash}, proofs.Moved.{lost_list, gained_list, all_on_new, held2, slots2, objects2, rest2, world2, sound2, base2, writes2}, proofs.Ascending.{removed_ascend, added_ascend}, proofs.Presence.{removed_had, added_had, removed_gone, added_there}, specs.declared.reparenting.Touched.{Touched}}
+use Rattle.moo_props.{proofs.Words.{◌≡◌, length, Some, sym, ap, subst, ◌∙◌, arith, is_some, unwrap_or, [], option_map, get, false≢true, or_right, ObjNo, ObjRow, PropId, Maps, Held, slot_cmp, lost, gained, same_object, is_among, IsGood, IsWellFormed, MayReparent, chain, look_ups, world_of, IsSound, chain_of_row, is_object_seen, owners_under, slots_moved, relinked, relinked_list, props_of, removed_keys, added_keys, slot_after, IsSameButSlotsAndObjects, AreAscending, origins, keys_over, numbers_same, beside_world, petitions_stay}, proofs.Shared.{new_is, no_clash}, proofs.Moved.{lost_list, gained_list, held2, slots2, objects2, rest2, world2, sound2, base2, writes2}, proofs.Ascending.{removed_ascend, added_ascend}, proofs.Presence.{removed_had, added_had, removed_gone, added_there}}
 use Rattle.moo_props.proofs.reparenting.reparent.Goals as goal
 use Rattle.moo_world.{specs.Keeps.{Keeps}, specs.World.{reparented}, proofs.Inheritance.Reparenting.{IsWellFormed-reparented}}
-use Rattle.std.proofs.lemmas.Result.{IfOk-from_err}
 
 -- what is kept where the rows after it are known
 module _ (old : Held) (good : IsGood old.maps) (x q : ObjNo) (may : MayReparent (world_of old.maps) x q) (row : ObjRow) (here : get old.maps.objects x ≡ Some row) (new : Held) (ends : new ≡ held2 old.maps good.sound x q may row here old (λ i. old.maps)) where
@@ -35,25 +34,20 @@ here g c = sym c.in-Some.ensures ∙ ap Some (sym c.in_ok-row-in-Some.ensures)
 lost_is : (g : _) (c : goal.After-drop-lost-2 g) → c.in_ok-lost.lost.items ≡ props_of (lost (world_of (before g c).maps) c.args.x c.args.new) (before g c).maps.props
 lost_is g c = c.in_ok-lost.ensures.lost ∙ lost_list (before g c).maps c.requires.good.sound c.args.x c.args.new c.requires.may c.in_ok-row-in-Some.row (here g c)
 
-gained_is : (g : _) (c : goal.After-drop-lost-2 g) → c.in_ok-lost.gained.items ≡ origins (before g c).maps.slots c.args.new (props_of (gained (world_of (before g c).maps) c.args.x c.args.new) (before g c).maps.props)
-gained_is g c =
-    c.in_ok-lost.ensures.gained
-    ∙ ap (origins (before g c).maps.slots c.args.new) (gained_list (before g c).maps c.requires.good.sound c.args.x c.args.new c.requires.may c.in_ok-row-in-Some.row (here g c))
-
-ids_are : (g : _) (c : goal.After-drop-lost-2 g) → map id_of c.in_ok-lost.gained.items ≡ props_of (gained (world_of (before g c).maps) c.args.x c.args.new) (before g c).maps.props
-ids_are g c = ap (map id_of) (gained_is g c) ∙ all_on_new (before g c).maps c.requires.good.sound c.args.x c.args.new c.requires.may c.in_ok-row-in-Some.row (here g c)
+gained_is : (g : _) (c : goal.After-drop-lost-2 g) → c.in_ok-lost.gained.items ≡ props_of (gained (world_of (before g c).maps) c.args.x c.args.new) (before g c).maps.props
+gained_is g c = c.in_ok-lost.ensures.gained ∙ gained_list (before g c).maps c.requires.good.sound c.args.x c.args.new c.requires.may c.in_ok-row-in-Some.row (here g c)
 
 ends : (g : _) (c : goal.After-drop-lost-2 g) → g.R.Rows.held c.relink.new.rows ≡ held2 (before g c).maps c.requires.good.sound c.args.x c.args.new c.requires.may c.in_ok-row-in-Some.row (here g c) (before g c) (λ i. (before g c).maps)
 ends g c =
     c.in_ok-relinked.ensures.rows
     ∙ ap (relinked c.args.x c.in_ok-row-in-Some.row c.args.new) (c.in_ok-removed.ensures.rows
-    ∙ (λ i. slots_moved ((c.as_slice.ensures.value ∙ lost_is g c) i) ((c.as_slice-2.ensures.value ∙ gained_is g c) i) (owners_under (before g c).maps c.args.x) (before g c)))
+    ∙ (λ i. slots_moved (λ y. (c.as_slice.ensures.value ∙ lost_is g c) i) (origins (before g c).maps.slots c.args.new ((c.as_slice-2.ensures.value ∙ gained_is g c) i)) (owners_under (before g c).maps c.args.x) (before g c)))
 
 removed_is : (g : _) (c : goal.After-drop-lost-2 g) → c.in_ok-removed.removed ≡ removed_keys (before g c).maps c.args.x c.args.new
 removed_is g c = c.in_ok-removed.ensures.removed ∙ (λ i. keys_over ((c.as_slice.ensures.value ∙ lost_is g c) i) (owners_under (before g c).maps c.args.x))
 
 added_is : (g : _) (c : goal.After-drop-lost-2 g) → c.in_ok-removed.added ≡ added_keys (before g c).maps c.args.x c.args.new
-added_is g c = c.in_ok-removed.ensures.added ∙ (λ i. keys_over ((ap (map id_of) c.as_slice-2.ensures.value ∙ ids_are g c) i) (owners_under (before g c).maps c.args.x))
+added_is g c = c.in_ok-removed.ensures.added ∙ (λ i. keys_over ((c.as_slice-2.ensures.value ∙ gained_is g c) i) (owners_under (before g c).maps c.args.x))
 
 pub unreachable-requires : goal.unreachable-requires
 unreachable-requires g c =
@@ -92,27 +86,6 @@ returns g c = record {
   world = world_is (before g c) c.requires.good c.args.x c.args.new c.requires.may c.in_ok-row-in-Some.row (here g c) (g.R.Rows.held c.relink.new.rows) (ends g c);
   kept = kept (before g c) c.requires.good c.args.x c.args.new c.requires.may c.in_ok-row-in-Some.row (here g c) (g.R.Rows.held c.relink.new.rows) (ends g c);
   writes =
-      let total = ap (λ (h : Held). h.writes) (ends g c) ∙ writes2 (before g c).maps c.requires.good.sound c.args.x c.args.new c.requires.may c.in_ok-row-in-Some.row (here g c) (before g c) (λ i. (before g c).maps) in
-      omega (arith, total, ap length (removed_is g c), ap length (added_is g c), ap length c.in_ok-relinked.ensures.list);
+      let most = writes2 (before g c).maps c.requires.good.sound c.args.x c.args.new c.requires.may c.in_ok-row-in-Some.row (here g c) (before g c) (λ i. (before g c).maps) in
+      omega (arith, ap (λ (h : Held). h.writes) (ends g c), most, ap length (removed_is g c), ap length (added_is g c), ap length c.in_ok-relinked.ensures.list);
 }
-
--- after an error nothing is promised
-pub returns-in_err-row-in-Some : goal.returns-in_err-row-in-Some
-returns-in_err-row-in-Some g c =
-    let none : (P : Touched → Type 0) → IfOk c.from_residual.result P = λ P. IfOk-from_err c.from_residual.result P c.from_residual.ensures.0 in
-    record { lists = none _; leaves = none _; world = none _; kept = none _; writes = none _ }
-
-pub returns-in_err-lost : goal.returns-in_err-lost
-returns-in_err-lost g c =
-    let none : (P : Touched → Type 0) → IfOk c.from_residual-in_err-lost.result P = λ P. IfOk-from_err c.from_residual-in_err-lost.result P c.from_residual-in_err-lost.ensures.0 in
-    record { lists = none _; leaves = none _; world = none _; kept = none _; writes = none _ }
-
-pub returns-in_err-removed : goal.returns-in_err-removed
-returns-in_err-removed g c =
-    let none : (P : Touched → Type 0) → IfOk c.from_residual-in_err-removed.result P = λ P. IfOk-from_err c.from_residual-in_err-removed.result P c.from_residual-in_err-removed.ensures.0 in
-    record { lists = none _; leaves = none _; world = none _; kept = none _; writes = none _ }
-
-pub returns-in_err-relinked : goal.returns-in_err-relinked
-returns-in_err-relinked g c =
-    let none : (P : Touched → Type 0) → IfOk c.from_residual-in_err-relinked.result P = λ P. IfOk-from_err c.from_residual-in_err-relinked.result P c.from_residual-in_err-relinked.ensures.0 in
-    record { lists = none _; leaves = none _; world = none _; kept = none _; writes = none _ }

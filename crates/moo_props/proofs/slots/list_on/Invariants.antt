@@ -1,6 +1,6 @@
-use Rattle.moo_props.proofs.Words.{◌≡◌, ◌++◌, drop, map, keys_on, id_of}
+use Rattle.moo_props.proofs.Words.{◌≡◌, ◌++◌, take, keys_on}
 use Rattle.moo_props.proofs.slots.list_on.Given as goal
 
--- with the keys of what is left, the list is as with all
-abbrev pub invariant-loop-origin : goal.invariant-loop-origin
-invariant-loop-origin l = l.keys.items ++ keys_on l.y (map id_of (drop l.origin-index l.origins)) ≡ l.fn.keys.items ++ keys_on l.y (map id_of l.origins)
+-- the keys of those so far
+abbrev pub invariant-loop-id : goal.invariant-loop-id
+invariant-loop-id l = l.keys.items ≡ l.fn.keys.items ++ keys_on l.y (take l.id-index l.ids)

@@ -1,4 +1,4 @@
-use Rattle.moo_run.{proofs.Words.{◌≡◌, Bool, true, false, inl, inr, refl, ap, subst, sym, RehearsesText}, proofs.Tasks.{done_rehearsal, stops_rehearsal, text_opened}}
+use Rattle.moo_run.{proofs.Words.{subst, sym, RehearsesText}, proofs.Tasks.{done_rehearsal, stops_rehearsal, text_opened}}
 use Rattle.moo_run.proofs.commands.rehearse_batches.Goals as goal
 
 pub returns-in-Ok-clause-rehearses : goal.returns-in-Ok-clause-rehearses

@@ -1,6 +1,5 @@
 use Rattle.std.proofs.Common.{map}
 use Rattle.sqlite.specs.WalFiles.{image_at}
-use Rattle.moo_run_laws.specs.FileRuns.{FileRun}
 use Rattle.moo_run_laws.proofs.HaltedLemmas.{goes_on}
 use Rattle.moo_run_laws.proofs.halted.run_halted.Goals as goal
 

@@ -1,4 +1,5 @@
-use Rattle.moo_store.{proofs.Words.{◌≡◌, true, false, sym, subst, subst₂, state, IsGood, state_of, ShowsRows, StandsFor}, specs.Current.{RestsCurrent}, proofs.AdoptLemmas.{stands, clean_at, survives_at}}
+use Rattle.moo_store.{proofs.Words.{◌≡◌, true, false, sym, subst, subst₂, state, IsGood, state_of, ShowsRows, StandsFor}, proofs.AdoptLemmas.{stands, clean_at, survives_at}}
+use Rattle.moo_store_rows.specs.Current.{RestsCurrent}
 use Rattle.moo_store.proofs.adopting.adopt.Goals as goal
 
 pub returns-in-Ok : goal.returns-in-Ok

@@ -1,4 +1,4 @@
-use Rattle.moo_store.{proofs.Words.{inl, inr, rules, refl, subst}, specs.Loading.{Loads}}
+use Rattle.moo_store.{proofs.Words.{inl, rules, refl, subst}, specs.Loading.{Loads}}
 use Rattle.moo_store.proofs.creating.create_in.Goals as goal
 
 pub load_in-requires-clause-good : goal.load_in-requires-clause-good

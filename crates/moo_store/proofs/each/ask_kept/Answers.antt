@@ -1,5 +1,4 @@
-use Rattle.moo_store.proofs.Words.{◌∙◌}
-use Rattle.moo_store.proofs.Alone.{judged_alone}
+use Rattle.moo_store.{proofs.Words.{◌∙◌}, proofs.Alone.{judged_alone}}
 use Rattle.std.proofs.lemmas.Result.{IfOk-weaker}
 use Rattle.moo_store.proofs.each.ask_kept.Goals as goal
 

@@ -1,4 +1,5 @@
-use Rattle.moo_store.{proofs.Words.{IsTrue, true, inl, inr, rules, refl, sym, subst, HasCleanDisk, Survives, state, state_of, KeepsRows, LeavesState, ShowsItsRows}, proofs.Opened.{has_no_tables, keeps_all, survives_all}}
+use Rattle.moo_store.proofs.Words.{IsTrue, true, inl, inr, rules, refl, sym, subst, HasCleanDisk, Survives, state, state_of, KeepsRows, LeavesState, ShowsItsRows}
+use Rattle.moo_store_rows.proofs.Opened.{has_no_tables, keeps_all, survives_all}
 use Rattle.moo_store.proofs.loading.load_in.Goals as goal
 
 pub over-requires-clause-outside : goal.over-requires-clause-outside

@@ -1,4 +1,4 @@
-use Rattle.moo_tables.proofs.Words.{length}
+use Rattle.moo_tables_rows.proofs.Words.{length}
 use Rattle.moo_tables.proofs.columns.+are_required.Given as goal
 
 abbrev pub decreases-are_required : goal.decreases-are_required

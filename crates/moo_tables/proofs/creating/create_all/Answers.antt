@@ -1,7 +1,6 @@
-use Rattle.moo_tables.{proofs.Words.{rules, ◌≡◌, Result, Ok, Err, Error, OnOk, OnErr, IfErr, IsTrue, false, state, State, HasCleanDisk, KeepsCommit, Survives, survives_then, Rests, Sees, Leaves, HasNoTables, no_tables, tables_with}, specs.Inside.{RestsAt}, specs.Transaction.{HasMade, HasNotMade}, proofs.InsideLemmas.{always, no_ok, stays_begun, on_ok, clean_before, commits, leaves, restores, restored}, proofs.creating.create_all.Given.{Over}}
+use Rattle.moo_tables.{proofs.Words.{rules, ◌≡◌, Result, Ok, Err, Error, OnOk, OnErr, IfErr, IsTrue, false, state, State, HasCleanDisk, KeepsCommit, Survives, survives_then, Rests, Sees, Leaves, HasNoTables, no_tables, tables_with, RestsAt, always, no_ok, stays_begun, on_ok, clean_before, commits, leaves, restores, restored, CellChanges}, specs.Transaction.{HasMade, HasNotMade}, proofs.creating.create_all.Given.{Over}}
 use Rattle.moo_tables.proofs.creating.create_all.Goals as goal
 use Rattle.sqlite.specs.Steps.{FailsToCommit}
-use Rattle.moo_tables.specs.declared.cells.CellChanges.{CellChanges}
 
 -- the connection that is handed back is the one that the transaction had
 

@@ -1,4 +1,4 @@
-use Rattle.moo_tables.{proofs.CreateLemmas.{makes_head, makes_object, makes_prop, makes_slot, makes_verb}, proofs.InsideLemmas.{clean_before, on_ok, stays_then}}
+use Rattle.moo_tables.{proofs.Words.{clean_before, on_ok, stays_then}, proofs.CreateLemmas.{makes_head, makes_object, makes_prop, makes_slot, makes_verb}}
 use Rattle.moo_tables.proofs.creating.create_first_tables.Goals as goal
 
 pub returns-in_err-run-2-clause-inside : goal.returns-in_err-run-2-clause-inside

@@ -1,4 +1,4 @@
-use Rattle.moo_tables.{proofs.Words.{rules, ◌≡◌, inl, [], ◌++◌, ◌∷◌, refl, ◌∙◌}, proofs.InsideLemmas.{always}, proofs.ReadCauseLemmas.{handed_on}, proofs.StreamLemmas.{begins, refused, why_failed, gives_on, shown_on}, proofs.feeding.feed_rows.Given.{Over}}
+use Rattle.moo_tables.{proofs.Words.{rules, ◌≡◌, inl, [], ◌++◌, ◌∷◌, refl, ◌∙◌, always}, proofs.ReadCauseLemmas.{handed_on}, proofs.StreamLemmas.{begins, refused, why_failed, gives_on, shown_on}, proofs.feeding.feed_rows.Given.{Over}}
 use Rattle.moo_tables.proofs.feeding.feed_rows.Goals as goal
 
 -- the connection that is handed back is the one that the query had

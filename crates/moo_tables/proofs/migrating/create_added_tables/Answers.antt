@@ -1,4 +1,4 @@
-use Rattle.moo_tables.{proofs.GrowLemmas.{makes_slot2, makes_petition, makes_petition_head, three_made}, proofs.StopMigrateLemmas.{first_fails, second_fails, third_fails}, proofs.InsideLemmas.{stays_then}}
+use Rattle.moo_tables.{proofs.Words.{stays_then}, proofs.GrowLemmas.{makes_slot2, makes_petition, makes_petition_head, three_made}, proofs.StopMigrateLemmas.{first_fails, second_fails, third_fails}}
 use Rattle.moo_tables.proofs.migrating.create_added_tables.Goals as goal
 
 pub returns-clause-made : goal.returns-clause-made

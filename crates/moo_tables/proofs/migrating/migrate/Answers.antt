@@ -1,4 +1,4 @@
-use Rattle.moo_tables.{proofs.Words.{rules, ◌≡◌, ◌≤◌, ◌∙◌, inl, inr, refl, sym, subst, true, false, IfErr, Result, Ok, Err, Error, StopsChange, state, State, HasCleanDisk, survives_then, migrated, HasNoSlot, Tables, Holds, Rests, Sees, IsEarlier}, proofs.InsideLemmas.{always, no_ok, stays_begun, on_ok, clean_before, commits, earlier_too, leaves, restores, restored, rest_again}, proofs.StoppedLemmas.{fails_so}, proofs.CauseLemmas.{err_again, stops_since, stops_to}, proofs.migrating.migrate.Given.{Over}}
+use Rattle.moo_tables.{proofs.Words.{rules, ◌≡◌, ◌≤◌, ◌∙◌, inl, inr, refl, sym, subst, true, false, IfErr, Result, Ok, Err, Error, StopsChange, state, State, HasCleanDisk, survives_then, migrated, HasNoSlot, Tables, Holds, Rests, Sees, IsEarlier, always, no_ok, stays_begun, on_ok, clean_before, commits, earlier_too, leaves, restores, restored, rest_again, fails_so, err_again, stops_since, stops_to}, proofs.migrating.migrate.Given.{Over}}
 use Rattle.moo_tables.proofs.migrating.migrate.Goals as goal
 use Rattle.sqlite.specs.Steps.{FailsToCommit}
 

@@ -1,4 +1,4 @@
-use Rattle.moo_tables.{proofs.Words.{[]}, proofs.GrowLemmas.{becomes_then}, proofs.TextLemmas.{empty_slots_text}, proofs.MigrateLemmas.{all_migrated, empties, empties_beside, goes_on}, proofs.StopMigrateLemmas.{emptying_fails, comes_grown, comes_more, fails_then, fails_on}, proofs.InsideLemmas.{stays_then}}
+use Rattle.moo_tables.{proofs.Words.{[], empty_slots_text, stays_then}, proofs.GrowLemmas.{becomes_then}, proofs.MigrateLemmas.{all_migrated, empties, empties_beside, goes_on}, proofs.StopMigrateLemmas.{emptying_fails, comes_grown, comes_more, fails_then, fails_on}}
 use Rattle.moo_tables.proofs.migrating.write_migrated.Goals as goal
 
 pub returns-clause-goes_on : goal.returns-clause-goes_on

@@ -1,4 +1,4 @@
-use Rattle.moo_tables.{proofs.Words.{rules, ◌+◌, ◌≡◌, refl, inl, ◌∙◌}, proofs.InsideLemmas.{always}, proofs.ReadCauseLemmas.{handed_on}, proofs.StreamLemmas.{IsGiving, begins, refused, survives_on, failed_on, why_failed, unchanged_on, gives_on, shown_on}, proofs.query.all_rows.Given.{Over}}
+use Rattle.moo_tables.{proofs.Words.{rules, ◌+◌, ◌≡◌, refl, inl, ◌∙◌, always}, proofs.ReadCauseLemmas.{handed_on}, proofs.StreamLemmas.{IsGiving, begins, refused, survives_on, failed_on, why_failed, unchanged_on, gives_on, shown_on}, proofs.query.all_rows.Given.{Over}}
 use Rattle.moo_tables.proofs.query.all_rows.Goals as goal
 
 -- the connection that is handed back is the one that the query had

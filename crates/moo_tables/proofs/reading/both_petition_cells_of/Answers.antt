@@ -1,4 +1,4 @@
-use Rattle.moo_tables.{proofs.Words.{inr, refl, sym, ap, ◌∙◌, select_text, petition_table, petition_head_table, has_petitions}, proofs.InsideLemmas.{always}, proofs.SelectLemmas.{select_petition, select_counter}, proofs.ReadCauseLemmas.{cause_of_first, cause_of_later}, proofs.QueryCauseLemmas.{list_stops}, proofs.ReadLemmas.{rests_read, has_read, has_failed, reads_then, fails_then, none_listed, plain_of, petition_lists, counter_lists}}
+use Rattle.moo_tables.{proofs.Words.{inr, refl, sym, ap, ◌∙◌, select_text, petition_table, petition_head_table, has_petitions, always}, proofs.SelectLemmas.{select_petition, select_counter}, proofs.ReadCauseLemmas.{cause_of_first, cause_of_later}, proofs.QueryCauseLemmas.{list_stops}, proofs.ReadLemmas.{rests_read, has_read, has_failed, reads_then, fails_then, none_listed, plain_of, petition_lists, counter_lists}}
 use Rattle.moo_tables.proofs.reading.both_petition_cells_of.Goals as goal
 
 pub returns-then-not-has_petitions-clause-listed : goal.returns-then-not-has_petitions-clause-listed

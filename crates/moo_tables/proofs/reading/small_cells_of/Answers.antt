@@ -1,4 +1,4 @@
-use Rattle.moo_tables.{proofs.Words.{refl, state, select_text, head_table}, proofs.InsideLemmas.{always}, proofs.SelectLemmas.{select_head}, proofs.ReadCauseLemmas.{cause_of_first, cause_of_later}, proofs.QueryCauseLemmas.{list_stops}, proofs.ReadLemmas.{rests_read, has_read, has_failed, fails_then, reads_or, clean_or, plain_of, head_lists}}
+use Rattle.moo_tables.{proofs.Words.{refl, state, select_text, head_table, always}, proofs.SelectLemmas.{select_head}, proofs.ReadCauseLemmas.{cause_of_first, cause_of_later}, proofs.QueryCauseLemmas.{list_stops}, proofs.ReadLemmas.{rests_read, has_read, has_failed, fails_then, reads_or, clean_or, plain_of, head_lists}}
 use Rattle.moo_tables.proofs.reading.small_cells_of.Goals as goal
 
 pub returns-in_err-head-clause-failed : goal.returns-in_err-head-clause-failed

@@ -1,4 +1,4 @@
-use Rattle.moo_text.{proofs.Shared.{◌≡◌, ◌++◌, [], ◌∷◌, Some, arith, rules, sym, ap, ◌∙◌, front_of}, proofs.Reading.{one_read, closed_read, comma_read, front_shorter, mark_shorter, fits_push}}
+use Rattle.moo_text.{proofs.Shared.{◌≡◌, ◌++◌, [], ◌∷◌, Some, arith, rules, sym, ap, ◌∙◌}, proofs.Reading.{one_read, closed_read, comma_read, front_shorter, mark_shorter, fits_push}}
 use Rattle.moo_text.proofs.call_text.values_of.Goals as goal
 
 pub returns-then-is_all_blank : goal.returns-then-is_all_blank
@@ -8,9 +8,7 @@ returns-then-is_all_blank c =
     ap Some made ∙ sym (closed_read one (sym c.in-Some-after_mark.ensures) (sym c.if-is_all_blank.ensures))
 
 pub loop-values-smaller : goal.loop-values-smaller
-loop-values-smaller c =
-    let front : front_of c.loop-values.rest.now ≡ Some (c.in-Some.value, c.in-Some.after.now) = search rules in
-    omega (arith, front_shorter _ _ _ front, mark_shorter 44 c.in-Some.after.now c.in-Some-after_mark-2.others.now (sym c.in-Some-after_mark-2.ensures))
+loop-values-smaller c = grind (arith, front_shorter, mark_shorter)
 
 pub loop-values-preserved : goal.loop-values-preserved
 loop-values-preserved c =

@@ -1,4 +1,4 @@
-use Rattle.moo_text.{proofs.Shared.{rules, arith, ◌<◌, [], refl, between, within, skipping, lines_room}, proofs.Giving.{handed_on, ReadsOn-breaks}, proofs.Carrying.{along_end, along_refused, breaks_after, first_after, first_is_next, between_blank, between_end, between_header, between_none}}
+use Rattle.moo_text.{proofs.Shared.{rules, arith, [], refl, between, within, skipping}, proofs.Giving.{handed_on, ReadsOn-breaks}, proofs.Carrying.{along_end, along_refused, breaks_after, first_after, first_is_next, between_blank, between_end, between_header, between_none}}
 use Rattle.moo_text.proofs.feed.next_item.Goals as goal
 
 pub returns-in_err-line-clause-cause : goal.returns-in_err-line-clause-cause
@@ -8,12 +8,7 @@ pub returns-in_default-clause-item : goal.returns-in_default-clause-item
 returns-in_default-clause-item g c = along_end between between (λ rest. []) c.loop-line.invariant.along (search rules) refl
 
 pub loop-line-preserved : goal.loop-line-preserved
-loop-line-preserved g c =
-    let less : lines_room c.next_line.new.self < lines_room c.loop-line.lines = search rules in
-    record {
-      along = between_blank c.in-Some.line.items c.loop-line.invariant.along (search rules) (search rules);
-      falls = omega (arith, c.loop-line.invariant.falls, less);
-    }
+loop-line-preserved g c = grind (arith, between_blank)
 
 pub returns-then-is_end_line-clause-item : goal.returns-then-is_end_line-clause-item
 returns-then-is_end_line-clause-item g c = between_end c.in-Some.line.items c.loop-line.invariant.along (search rules) (search rules) (search rules)

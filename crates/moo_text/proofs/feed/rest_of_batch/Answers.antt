@@ -1,4 +1,4 @@
-use Rattle.moo_text.{proofs.Shared.{◌≤◌, ◌<◌, ◌≡◌, ◌+◌, ◌++◌, [], ◌∷◌, length, arith, rules, refl, between, within, skipping, lines_room}, specs.declared.next.Next.TheVariants.{Truncated}, proofs.Giving.{handed_on, ReadsOn-breaks}, proofs.Carrying.{along_end, along_refused, breaks_after, first_after, within_blank, within_end, bad_line, call_too_many, one_call, room_for_one}}
+use Rattle.moo_text.{proofs.Shared.{◌+◌, [], ◌∷◌, arith, rules, refl, between, within, skipping}, specs.declared.next.Next.TheVariants.{Truncated}, proofs.Giving.{handed_on, ReadsOn-breaks}, proofs.Carrying.{along_end, along_refused, breaks_after, first_after, within_blank, within_end, bad_line, call_too_many, one_call, room_for_one}}
 use Rattle.moo_text.proofs.feed.rest_of_batch.Goals as goal
 
 pub returns-in_err-line-clause-cause : goal.returns-in_err-line-clause-cause
@@ -8,19 +8,10 @@ pub returns-in_default-clause-item : goal.returns-in_default-clause-item
 returns-in_default-clause-item g c = along_end (within c.args.header [] 1) (within c.args.header c.loop-calls.calls.items c.loop-calls.number) (λ rest. Truncated ∷ between rest) c.loop-calls.invariant.along (search rules) refl
 
 pub returns-in_default-clause-falls : goal.returns-in_default-clause-falls
-returns-in_default-clause-falls g c =
-    let less : lines_room c.next_line.new.self ≤ lines_room c.loop-calls.lines = search rules in
-    omega (arith, c.loop-calls.invariant.falls, c.loop-calls.invariant.some, less)
+returns-in_default-clause-falls g c = grind arith
 
 pub loop-calls-preserved-then-is_blank_line : goal.loop-calls-preserved-then-is_blank_line
-loop-calls-preserved-then-is_blank_line g c =
-    let less : lines_room c.next_line.new.self < lines_room c.loop-calls.lines = search rules in
-    record {
-      few = c.loop-calls.invariant.few;
-      along = within_blank c.in-Some.line.items c.loop-calls.invariant.along (search rules) (search rules);
-      some = omega (arith, c.loop-calls.invariant.some);
-      falls = omega (arith, c.loop-calls.invariant.falls, less);
-    }
+loop-calls-preserved-then-is_blank_line g c = grind (arith, within_blank)
 
 pub returns-then-is_end_line-clause-item : goal.returns-then-is_end_line-clause-item
 returns-then-is_end_line-clause-item g c = within_end c.in-Some.line.items c.loop-calls.invariant.along (search rules) (search rules) (search rules) (search rules)
@@ -46,13 +37,4 @@ pub returns-in_default-2-clause-cause : goal.returns-in_default-2-clause-cause
 returns-in_default-2-clause-cause g c = breaks_after _ c.skip_batch-in_default-2.result (bad_line c.in-Some.line.items c.loop-calls.invariant.along (search rules) (search rules) (search rules) (search rules)) c.skip_batch-in_default-2.ensures.cause
 
 pub loop-calls-preserved : goal.loop-calls-preserved
-loop-calls-preserved g c =
-    let few : length c.loop-calls.calls.items < 1000 = omega (arith, c.loop-calls.calls.ok.0, c.len.ensures) in
-    let pushed : c.push.new.self.items ≡ c.loop-calls.calls.items ++ c.in-Some-2.call ∷ [] = search rules in
-    let less : lines_room c.next_line.new.self < lines_room c.loop-calls.lines = search rules in
-    record {
-      some = omega (arith, c.loop-calls.invariant.some);
-      falls = omega (arith, c.loop-calls.invariant.falls, less);
-      few = room_for_one c.loop-calls.calls.items c.in-Some-2.call pushed few;
-      along = one_call {header = c.args.header} {calls = c.loop-calls.calls.items} {n = c.loop-calls.number} c.in-Some.line.items c.loop-calls.invariant.along (search rules) c.in-Some-2.call c.push.new.self.items (search rules) (search rules) (search rules) few pushed;
-    }
+loop-calls-preserved g c = grind (arith, room_for_one, one_call)

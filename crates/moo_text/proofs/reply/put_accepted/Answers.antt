@@ -1,4 +1,4 @@
-use Rattle.std.{proofs.Common.{◌++◌, ◌∷◌, [], List, ap, ◌∙◌}, specs.Prelude.{codes}, specs.Fmt.{decimal}, specs.List.{flat_map}}
+use Rattle.std.{proofs.Common.{arith, ◌++◌, ◌∷◌, [], List, ap, ◌∙◌}, specs.Prelude.{codes}, specs.Fmt.{decimal}, specs.List.{flat_map}}
 use Rattle.moo_value.{specs.declared.value.Value.{Value}, proofs.Printed.{kept_on}}
 use Rattle.moo_text.{specs.Replies.{answer_line, accepted_text}, proofs.Putting.{put_last, kept_last, line_and_two}}
 use Rattle.moo_text.proofs.reply.put_accepted.Goals as goal
@@ -10,8 +10,7 @@ pub returns-in_err-put_answers-clause-kept : goal.returns-in_err-put_answers-cla
 returns-in_err-put_answers-clause-kept c = kept_on _ _ _ c.in_err-put_answers.ensures.kept c.in_ok-put_line.ensures.kept
 
 pub returns-clause-kept : goal.returns-clause-kept
-returns-clause-kept c =
-    kept_last c.extend_from_slice.result _ _ _ _ c.extend_from_slice.ensures.items (kept_on _ _ _ c.in_ok-put_answers.ensures.kept c.in_ok-put_line.ensures.kept)
+returns-clause-kept c = grind (arith, kept_last, kept_on)
 
 pub returns-clause-ok : goal.returns-clause-ok
 returns-clause-ok c =

@@ -1,4 +1,4 @@
-use Rattle.std.proofs.Common.{refl, ◌∙◌}
+use Rattle.std.proofs.Common.{arith, refl, ◌∙◌}
 use Rattle.moo_value.proofs.Printed.{starts, starts_alike, starts_behind}
 use Rattle.moo_text.proofs.Putting.{kept_last}
 use Rattle.moo_text.proofs.reply.put_number.Goals as goal
@@ -13,6 +13,4 @@ pub returns-in_err-extend_from_slice-2-clause-kept : goal.returns-in_err-extend_
 returns-in_err-extend_from_slice-2-clause-kept c = starts _ _ c.args.word.now (c.in_err-extend_from_slice-2.ensures.items ∙ c.in_ok-extend_from_slice.ensures.items)
 
 pub returns-clause-kept : goal.returns-clause-kept
-returns-clause-kept c =
-    kept_last c.extend_from_slice-3.result _ _ _ _ c.extend_from_slice-3.ensures.items
-    (starts_behind _ _ _ c.as_bytes.result.now c.args.word.now c.in_ok-extend_from_slice-2.ensures.items c.in_ok-extend_from_slice.ensures.items)
+returns-clause-kept c = grind (arith, kept_last, starts_behind)

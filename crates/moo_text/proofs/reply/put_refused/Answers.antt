@@ -1,4 +1,4 @@
-use Rattle.std.proofs.Common.{◌∙◌}
+use Rattle.std.proofs.Common.{arith, ◌∙◌}
 use Rattle.moo_value.proofs.Printed.{starts, starts_behind}
 use Rattle.moo_text.proofs.Putting.{kept_last}
 use Rattle.moo_text.proofs.reply.put_refused.Goals as goal
@@ -7,6 +7,4 @@ pub returns-in_err-extend_from_slice-clause-kept : goal.returns-in_err-extend_fr
 returns-in_err-extend_from_slice-clause-kept c = starts _ _ _ (c.in_err-extend_from_slice.ensures.items ∙ c.in_ok-put_number.ensures.ok)
 
 pub returns-clause-kept : goal.returns-clause-kept
-returns-clause-kept c =
-    kept_last c.extend_from_slice-2.result _ _ _ _ c.extend_from_slice-2.ensures.items
-    (starts_behind _ _ _ _ _ c.in_ok-extend_from_slice.ensures.items c.in_ok-put_number.ensures.ok)
+returns-clause-kept c = grind (arith, kept_last, starts_behind)

@@ -1,11 +1,6 @@
 use Rattle.moo_tree.{proofs.Words.{◌++◌, [], ◌∷◌, sym, ap, ◌∙◌, append_assoc, append-nil, map, linked_left}, proofs.Listing.{linked_first, linked_end}}
 use Rattle.moo_tree.proofs.lists.list_linked.Goals as goal
 
-pub loop-y-init : goal.loop-y-init
-loop-y-init g c =
-    let t = (g.R.Rows.held c.args.rows.now).maps in
-    λ i. c.args.list.now.items ++ map (λ e. e.0) (linked_left c.args.link (c.nothing-last.ensures i) t)
-
 pub loop-y-preserved : goal.loop-y-preserved
 loop-y-preserved g c =
     let t = (g.R.Rows.held c.args.rows.now).maps in

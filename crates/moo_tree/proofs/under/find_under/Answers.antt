@@ -1,4 +1,5 @@
-use Rattle.moo_tree.{proofs.Words.{◌≡◌, ◌≢◌, suc, ◌+◌, ◌<◌, ◌≤◌, [], ◌∷◌, ◌++◌, length, drop, sym, ap, ◌∙◌, subst, rules, slice_index_or, get, insert, get-empty, from_entries, object_cmp, contents, is_among, children_of, world_of, chain}, proofs.Searching.{Search, AreAt, begun, nothing_under, step, ended, is_there, rank-smaller, deeper, rest_of, at_end, in_list, alone, a_row, among-first, no_items}}
+use Rattle.moo_tree.{proofs.Words.{◌≡◌, ◌≢◌, suc, ◌+◌, ◌<◌, ◌≤◌, [], ◌∷◌, ◌++◌, length, drop, sym, ap, ◌∙◌, subst, rules, slice_index_or, get, insert, get-empty, from_entries, object_cmp, contents, is_among, children_of, world_of, chain}, proofs.Searching.{Search, AreAt, begun, nothing_under, step, ended, is_there, rank-smaller, deeper, rest_of, in_list, alone, a_row, among-first, no_items}}
+use Rattle.std.proofs.lemmas.List.{drop_all}
 use Rattle.moo_tree.proofs.under.find_under.Goals as goal
 
 pub returns-then-not-valid : goal.returns-then-not-valid
@@ -63,7 +64,7 @@ loop-alloc-preserved g c =
     let items = c.as_slice-y-items.result.now in
     let past : length items ≤ c.loop-y.y-index = search rules in
     record {
-      search = subst (λ l. Search t c.args.x (contents object_cmp c.loop-y.found) (l ++ c.loop-y.below.items)) (at_end items c.loop-y.y-index past) c.loop-y.invariant.search;
+      search = subst (λ l. Search t c.args.x (contents object_cmp c.loop-y.found) (l ++ c.loop-y.below.items)) (drop_all c.loop-y.y-index items past) c.loop-y.invariant.search;
       depth = (suc c.loop-y.invariant.depth.0, c.loop-y.invariant.depth.2);
     }
 

@@ -1,15 +1,10 @@
-use Rattle.moo_tree.{proofs.Words.{◌++◌, sym, ap, ◌∙◌, is_some, insert, same_Some, true≢false, ObjRow, object_cmp, contents, look_ups, is_object_seen}, proofs.Listing.{children_listed}}
+use Rattle.moo_tree.{proofs.Words.{◌++◌, sym, ap, ◌∙◌, is_some, true≢false, look_ups, is_object_seen}, proofs.Listing.{children_listed}}
 use Rattle.moo_tree.proofs.under.visit.Goals as goal
 use Rattle.moo_rows.proofs.Firsts.{on_ok}
 
 pub unreachable-requires : goal.unreachable-requires
 unreachable-requires g c =
     true≢false (sym c.requires.object ∙ is_object_seen (look_ups (g.R.Rows.held c.args.rows.now).maps) c.args.y ∙ ap is_some (sym c.in-None.ensures))
-
-pub returns-clause-found : goal.returns-clause-found
-returns-clause-found g c =
-    on_ok c.list_linked.result
-    (λ listed row e. c.in_ok-put.ensures.ok ∙ ap (λ (r : ObjRow). insert (contents object_cmp c.args.found.now) c.args.y r.owner) (same_Some c.in-Some.row.now row (c.in-Some.ensures ∙ e))) c.list_linked.ensures
 
 pub returns-clause-below : goal.returns-clause-below
 returns-clause-below g c =

@@ -1,5 +1,4 @@
-use Rattle.std.proofs.lemmas.Grind.{common_steps}
-use Rattle.moo_value.{proofs.Words.{arith, ◌≡◌, ◌≤◌, ◌++◌, ◌∷◌, ℕ, List, [], length, take, ap, ◌∙◌, rules, append_assoc, take_all, flat_map, escape}, specs.Literal.{print_string}, proofs.Printed.{starts, starts_alike, starts_behind}, proofs.writing.put_string.Goals.{then-byte-eq34+in_ok-push-2, else-byte-eq34+else-byte-eq92}}
+use Rattle.moo_value.{proofs.Words.{◌≡◌, ◌≤◌, ◌++◌, ◌∷◌, ℕ, List, [], length, take, ap, ◌∙◌, rules, append_assoc, take_all, flat_map, escape}, specs.Literal.{print_string}, proofs.Printed.{starts, starts_alike, starts_behind}, proofs.writing.put_string.Goals.{then-byte-eq34+in_ok-push-2, else-byte-eq34+else-byte-eq92}}
 use Rattle.moo_value.proofs.writing.put_string.Goals as goal
 
 -- the last quote ends the string
@@ -25,9 +24,6 @@ returns-in_err-push-4-clause-kept c = starts _ _ _ (c.in_err-push-4.ensures.item
 
 pub returns-clause-kept : goal.returns-clause-kept
 returns-clause-kept c = starts_behind _ _ _ _ _ c.in_ok-push-4.ensures.items c.loop-byte.invariant
-
-pub loop-byte-preserved : goal.loop-byte-preserved
-loop-byte-preserved c = grind (arith, common_steps)
 
 pub returns-clause-ok : goal.returns-clause-ok
 returns-clause-ok c =

@@ -1,4 +1,4 @@
-use Rattle.std.proofs.Common.{sym, subst, inl, ◌∙◌}
+use Rattle.std.proofs.Common.{subst, inl, ◌∙◌}
 use Rattle.std.proofs.Math.Logic.{∥∥₁_map}
 use Rattle.moo_desk.specs.Ripe.{IsKnownFrom}
 use Rattle.moo_desk.proofs.Ripening.{known_grown, ripe_if, not_ripe}

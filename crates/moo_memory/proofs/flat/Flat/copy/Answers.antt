@@ -2,7 +2,7 @@ use Rattle.moo_memory.proofs.Words.{rules, ap, ◌∙◌, sym, subst, refl, ⊤,
 use Rattle.moo_memory.proofs.flat.Flat.copy.Goals as goal
 use Rattle.std.proofs.lemmas.Map.Entries.{entries_from_clone}
 use Rattle.std.specs.FinMap as map
-use Rattle.moo_rows.{specs.declared.row.VerbId.{VerbId}, specs.declared.row.PetitionId.{PetitionId}, specs.ObjectRow.{object_clone}, specs.SameClones.{prop_clone, slot_clone, verb_clone, petition_clone}}
+use Rattle.moo_rows.{specs.declared.row.VerbId.{VerbId}, specs.declared.row.PetitionId.{PetitionId}, specs.ObjectRow.{object_clone}, specs.SameRows.{prop_clone, slot_clone, verb_clone, petition_clone}}
 
 -- clones of equal keys and rows leave equal maps
 pub returns : goal.returns

@@ -1,4 +1,4 @@
-use Rattle.moo_rows.{proofs.Words.{◌≡◌, Option, None, Some, List, ObjNo, refl, ⊤}, specs.SameClones.{text_clone, list_clone}}
+use Rattle.moo_rows.{proofs.Words.{◌≡◌, Option, None, Some, List, ObjNo, refl, ⊤}, specs.SameRows.{text_clone, list_clone}}
 use Rattle.moo_rows.specs.contracts.row.ObjListClone.TheImpl as list
 use Rattle.moo_rows.proofs.row.ObjRowClone.clone.Goals as goal
 

@@ -1,4 +1,4 @@
-use Rattle.moo_rows.specs.SameClones.{text_clone}
+use Rattle.moo_rows.specs.SameRows.{text_clone}
 use Rattle.moo_rows.proofs.row.VerbRowClone.clone.Goals as goal
 
 pub returns : goal.returns

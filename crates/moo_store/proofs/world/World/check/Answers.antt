@@ -1,4 +1,5 @@
-use Rattle.moo_store.{proofs.Words.{sym, subst, state, stays, refl, World, store_of, StandsFor}, specs.Checked.{Checks, KeepsTables}, proofs.CheckLemmas.{works_on, stands_on, rests_checked, whole_checked}}
+use Rattle.moo_store.{proofs.Words.{sym, subst, state, stays, refl, World, store_of, StandsFor}, proofs.CheckLemmas.{works_on, stands_on, rests_checked, whole_checked}}
+use Rattle.moo_store_rows.specs.Checked.{Checks, KeepsTables}
 use Rattle.moo_store.proofs.world.World.check.Goals as goal
 
 pub returns-clause-checks : goal.returns-clause-checks

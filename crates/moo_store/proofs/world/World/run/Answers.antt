@@ -1,5 +1,5 @@
 use Rattle.std.proofs.lemmas.Bool.{true≢false}
-use Rattle.moo_store.{proofs.Words.{◌≡◌, ◌+◌, inl, inr, vec_len, refl, sym, ◌∙◌, subst, arith, true, false, Ok, Err, ⊤, OutOfMemory, Closed, acknowledged, added, LeavesLed, store_of, World, IsGood}, proofs.Running.{when_ok, starts, goes_on, answers, is_at_end, stops, left_at, fails_of, runs_one, runs_through, runs_stopped, next_in_hand, fewer, stood, all_answered, has_failed, no_memory, same_fault, never_failed}, proofs.Untouched.{is_over, wrote_at_start, wrote_on, wrote_stopped, same_stopped, led_over, led_stopped}, proofs.Stopped.{faults_same, faults_then, stopped_since, was_open}}
+use Rattle.moo_store.{proofs.Words.{StoreFault, Result, MatchStore, IsAt, HasCleanDisk, Left, LeftOrNext, State, after, drop, length, IsTrue, ◌≡◌, ◌+◌, inl, inr, vec_len, refl, sym, ◌∙◌, subst, arith, true, false, Ok, Err, ⊤, OutOfMemory, Closed, acknowledged, added, LeavesLed, store_of, World, IsGood}, proofs.Crashes.{left_at_rest}, proofs.Running.{when_ok, starts, goes_on, answers, is_at_end, stops, by_fault, fails_of, runs_one, runs_through, runs_stopped, next_in_hand, fewer, stood, all_answered, has_failed, no_memory, same_fault, never_failed}, proofs.Untouched.{is_over, wrote_at_start, wrote_on, wrote_stopped, same_stopped, led_over, led_stopped}, proofs.Stopped.{faults_same, faults_then, stopped_since, was_open}}
 use Rattle.moo_store.proofs.world.World.run.Goals as goal
 
 -- before the first batch
@@ -17,7 +17,7 @@ returns-then-self g c =
         turns = runs_through g.S.Store old old all 0 before before (Err Closed) (λ P Q p. p) p;
         states = λ known s it. record { answered = answers g.S.Store old old all 0 before before p known s it; at = at known s it };
         leaves = λ s it. record {
-          left = left_at {T = Unit {0}} g.S.Store old _ (Err Closed) ⊤ (g.met.S.Store.settled old.connection.store) (at true s it);
+          left = λ clean. left_at_rest (store_of g.S.Store old) _ (g.met.S.Store.settled old.connection.store) ((at true s it).tables refl clean);
           cells = λ clean known tables rests. (wrote_at_start g.S.Store old all before before refl).written clean tables (is_over g.S.Store true old s tables refl it clean rests);
           cause = λ clean. tt;
         };
@@ -47,7 +47,7 @@ returns-then-is_err g c =
         turns = runs_through g.S.Store old old all 0 before behind (Err OutOfMemory) (λ P Q p. p) p;
         states = λ known s it. record { answered = answers g.S.Store old old all 0 before behind p known s it; at = at known s it };
         leaves = λ s it. record {
-          left = left_at {T = Unit {0}} g.S.Store old _ (Err OutOfMemory) ⊤ (g.met.S.Store.settled old.connection.store) (at true s it);
+          left = λ clean. left_at_rest (store_of g.S.Store old) _ (g.met.S.Store.settled old.connection.store) ((at true s it).tables refl clean);
           cells = λ clean known tables rests. cells.written clean tables (is_over g.S.Store true old s tables refl it clean rests);
           cause = λ clean. tt;
         };
@@ -100,14 +100,18 @@ returns-in-Err g c =
     let fails = fails_of g.S.Store mid new (Err fault) c.in-Err.ensures.closed c.in-Err.ensures.fails in
     let runs = runs_one g.S.Store mid new batch (Err fault) fails c.in-Err.ensures.stands in
     let works : old.failed ≡ false = subst (λ (w : World _). w.failed ≡ false) c.self.view_is c.if-self.false in
-    let stopped = stops (Unit {0}) g.S.Store old mid new all count before behind batch fault low c.batch-item.is p runs in
+    let stopped = stops (Unit {0}) g.S.Store old mid new all count before behind batch fault low c.batch-item.is p fails runs in
+    let end = λ (s : State). after s (acknowledged all (added before behind)) in
+    let next = λ (s : State). IsTrue true → HasCleanDisk (store_of g.S.Store new) → LeftOrNext (store_of g.S.Store new) (end s) (drop (length (added before behind)) all) in
     record {
       runs = record {
         adds = record { stood = stood g.S.Store old mid all count before behind p; each = tt; fewer = λ works other. fewer g.S.Store old mid all count before behind low p };
         turns = runs_stopped g.S.Store old mid new all count before behind batch fault low c.batch-item.is fails c.in-Err.ensures.stands p;
         states = λ known s it. record { answered = answers g.S.Store old mid all count before behind p known s it; at = stopped known s it };
         leaves = λ s it. record {
-          left = left_at {T = Unit {0}} g.S.Store new _ (Err fault) _ (g.met.S.Store.settled new.connection.store) (stopped true s it);
+          left = by_fault g.S.Store mid new
+              (λ f. (let r : Result (Unit {0}) StoreFault = Err f in MatchStore r (IsAt g.S.Store true new (end s)) (next s)) → (let r : Result (Unit {0}) StoreFault = Err f in MatchStore r (HasCleanDisk (store_of g.S.Store new) → Left (store_of g.S.Store new) (end s)) ⊤))
+              fault fails (λ error works failed one. tt) (λ shut same one clean. left_at_rest (store_of g.S.Store new) (end s) (g.met.S.Store.settled new.connection.store) (one.tables refl clean)) (stopped true s it);
           cells = λ clean known tables rests.
               wrote_stopped (Unit {0}) g.S.Store old mid new all (added before behind) batch fault cells fails c.in-Err.ensures.cells clean known tables
               (is_over g.S.Store true old s tables refl it (cells.clean (c.in-Err.ensures.cells.clean clean)) rests);
@@ -157,7 +161,7 @@ returns g c =
         turns = runs_through g.S.Store old new all count before behind (Ok tt) (λ P Q p. p) p;
         states = λ known s it. record { answered = answers g.S.Store old new all count before behind p known s it; at = at known s it };
         leaves = λ s it. record {
-          left = left_at {T = Unit {0}} g.S.Store new _ (Ok tt) ⊤ (g.met.S.Store.settled new.connection.store) (at true s it);
+          left = λ clean. left_at_rest (store_of g.S.Store new) _ (g.met.S.Store.settled new.connection.store) ((at true s it).tables refl clean);
           cells = λ clean known tables rests. cells.written clean tables (is_over g.S.Store true old s tables refl it (cells.clean clean) rests);
           cause = λ clean. tt;
         };

@@ -1,8 +1,0 @@
-use Rattle.moo_damage.proofs.Words.{◌≡◌, list_any, entries, props_left, has_clear}
-use Rattle.moo_damage.proofs.checks.any_clear_own.Given as goal
-
--- one of those that are left has one just where one of all does
-abbrev pub invariant-loop-id : goal.invariant-loop-id
-invariant-loop-id g l =
-    let m = (g.R.Rows.held l.rows).maps in
-    list_any (λ e. has_clear m e.1.definer e.0) (props_left l.id-iterator.last (g.R.Rows.held l.id-iterator.rows.now).maps) ≡ list_any (λ e. has_clear m e.1.definer e.0) (entries m.props)

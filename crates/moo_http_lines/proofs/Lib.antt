@@ -1,0 +1,3 @@
+pub mod Words
+pub mod LineLemmas
+pub mod NumberLemmas

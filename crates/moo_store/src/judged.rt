@@ -1,0 +1,39 @@
+//! What rows answer to a batch, before anything of it is kept.
+
+ghost use Rattle.std.specs.Prelude.{◌≡◌, ◌⊎◌, [], ◌∷◌, IfOk, IfErr};
+ghost use Rattle.moo_batch.specs.Judge.{IsVerdict};
+ghost use Rattle.moo_batch.specs.declared.judging.Verdict.TheVariants.{Accepted};
+ghost use Rattle.moo_world.specs.Judge.{judge as verdict, state_of};
+ghost use Rattle.moo_world.specs.Rows.{IsGood};
+ghost use Rattle.moo_store.specs.Answered.{IsRun, acknowledged, answer_of};
+ghost use Rattle.moo_store.specs.Stand.{Works, RunsBatch};
+
+use moo_batch::{Verdict, Witness, judge};
+use moo_memory::{Changes, Flat};
+use moo_text::{Answer, Reply};
+use moo_world::{Answers, Batch};
+use std::alloc::Global;
+
+/// The answers and the changes of a batch that is accepted, or the reply to one that isn't. If it is refused, the witness sees why.
+pub(crate) fn judged<N: Witness>(
+    alloc: Global,
+    rows: &Flat,
+    batch: &Batch,
+    witness: &mut N,
+) -> Result<(Answers, Changes), Reply>
+    requires { IsGood rows.now.maps }
+    ensures accepted { IfOk result (λ taken. IsVerdict rows.now.maps batch.now (Accepted taken.0 taken.1)) }
+    ensures stays { IfErr result (λ reply.
+        RunsBatch (Works (state_of rows.now.maps)) batch.now (Answer.Replied reply) (Works (state_of rows.now.maps))) }
+    ensures none { IfErr result (λ reply. acknowledged (batch.now ∷ []) (reply ∷ []) ≡ []) }
+    ensures asked { IfErr result (λ reply. ((reply ≡ Reply.NoMemory) × IsRun (state_of rows.now.maps) batch.now)
+        ⊎ (reply ≡ answer_of (state_of rows.now.maps) (verdict (state_of rows.now.maps) batch.now))) }
+{
+    match judge(alloc, rows, batch, witness) {
+        Verdict::Accepted { answers, changes } => Ok((answers, changes)),
+        Verdict::Refused { call, code } => Err(Reply::Refused { call, code }),
+        Verdict::Full { call } => Err(Reply::Full { call }),
+        Verdict::Stale { seq } => Err(Reply::Stale { seq }),
+        Verdict::OutOfMemory => Err(Reply::NoMemory),
+    }
+}

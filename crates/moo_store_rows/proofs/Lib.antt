@@ -1,0 +1,15 @@
+pub mod Words
+pub mod Versions
+pub mod Found
+pub mod Causes
+pub mod Written
+pub mod Laid
+pub mod Exactly
+pub mod AllRows
+pub mod Shown
+pub mod Committed
+pub mod OpenLemmas
+pub mod CompareLemmas
+pub mod Migrated
+pub mod Current
+pub mod Opened

@@ -1,0 +1,89 @@
+use Rattle.moo_store_rows.{proofs.Words.{◌≡◌, ◌∙◌, IsTrue, false, sym, subst, state, present, schema_of, Tables, Rests, HasTables, Store, stays}, specs.Checked.{IsUnchecked}, proofs.OpenLemmas.{at_rest, rests_still}, proofs.CompareLemmas.{checked_by, unchecked}, proofs.Versions.{version_is}}
+use Rattle.moo_store_rows.proofs.comparing.check_rows.Goals as goal
+use Rattle.sqlite.specs.State.{State, HasCleanDisk}
+use Rattle.moo_tables.{specs.Listing.{tables_of}, proofs.ReadLemmas.{reads_then, fails_then, rests_read}}
+use Rattle.moo_tables_rows.specs.Inside.{FailsToRead, Holds}
+
+-- a reading that failed leaves the tables, unless it shut the connection
+still : (old new : State) → HasTables (schema_of present) old → FailsToRead (schema_of present) old new → new.in_transaction ≡ false → HasCleanDisk new → IsTrue new.is_open → (tables : Tables) → Rests old tables → Rests new tables
+still old new has fails outside clean opened tables rests =
+    let at = at_rest old new (λ _. rests.committed) outside (fails.kept clean has) opened in
+    record { is_open = opened; outside = at.outside; committed = at.now_is ∙ sym at.committed_is; holds = subst (λ db. Holds db tables) (sym at.now_is) rests.holds }
+
+-- nothing was asked of the tables
+
+pub returns-in-Err-clause-checks : goal.returns-in-Err-clause-checks
+returns-in-Err-clause-checks g c = unchecked c.args.own.now.maps (state g.S.Store c.args.conn.now) (state g.S.Store c.args.conn.now) c.in-Err.fault c.in-Err.ensures.fault (λ _ clean tables rests. rests)
+
+pub returns-in-Err-clause-keeps : goal.returns-in-Err-clause-keeps
+returns-in-Err-clause-keeps g c = record { clean = λ clean. clean; kept = λ clean opened tables rests. rests; crash = (stays (state g.S.Store c.args.conn.now)).survives }
+
+-- each table was seen to show the rows
+
+pub returns-then-shown-clause-checks : goal.returns-then-shown-clause-checks
+returns-then-shown-clause-checks g c = record {
+  shown = λ clean tables rests. c.in-Ok-show_in_turn.ensures.shown clean c.if-shown.true tables rests (version_is (state g.S.Store c.args.conn.now) present tables c.in-Ok.ensures.ours rests);
+  count = c.object_count.ensures;
+  rests = λ clean tables rests. rests_still g.S.Store c.args.conn.now c.show_in_turn.new.conn present c.args.own.now.maps c.in-Ok.ensures.ours c.in-Ok-show_in_turn.ensures.read clean tables rests;
+}
+
+pub returns-then-shown-clause-keeps : goal.returns-then-shown-clause-keeps
+returns-then-shown-clause-keeps g c = record {
+  clean = c.in-Ok-show_in_turn.ensures.read.clean;
+  kept = λ clean opened tables rests. rests_still g.S.Store c.args.conn.now c.show_in_turn.new.conn present c.args.own.now.maps c.in-Ok.ensures.ours c.in-Ok-show_in_turn.ensures.read clean tables rests;
+  crash = c.in-Ok-show_in_turn.ensures.read.crash (λ _. c.in-Ok.ensures.ours);
+}
+
+-- all were read again
+
+pub returns-in-Ok-read_lists-clause-checks : goal.returns-in-Ok-read_lists-clause-checks
+returns-in-Ok-read_lists-clause-checks g c =
+    let is = c.compare_lists.ensures in
+    checked_by c.args.own.now.maps (tables_of c.in-Ok-read_lists.lists) (state g.S.Store c.args.conn.now) (state g.S.Store c.read_lists.new.conn) c.compare_lists.result is.shown is.count is.fault is.whole
+    (λ clean tables rests.
+    let is = version_is (state g.S.Store c.args.conn.now) present tables c.in-Ok.ensures.ours rests in
+    c.in-Ok-read_lists.ensures.listed clean tables is (rests_read tables c.in-Ok-show_in_turn.ensures.read (c.in-Ok-read_lists.ensures.read.clean clean) is rests))
+    (λ clean tables rests. rests_still g.S.Store c.args.conn.now c.read_lists.new.conn present c.args.own.now.maps c.in-Ok.ensures.ours (reads_then c.in-Ok-show_in_turn.ensures.read c.in-Ok-read_lists.ensures.read) clean tables rests)
+
+pub returns-in-Ok-read_lists-clause-keeps : goal.returns-in-Ok-read_lists-clause-keeps
+returns-in-Ok-read_lists-clause-keeps g c =
+    let read = reads_then c.in-Ok-show_in_turn.ensures.read c.in-Ok-read_lists.ensures.read in
+    record {
+      clean = read.clean;
+      kept = λ clean opened tables rests. rests_still g.S.Store c.args.conn.now c.read_lists.new.conn present c.args.own.now.maps c.in-Ok.ensures.ours read clean tables rests;
+      crash = read.crash (λ _. c.in-Ok.ensures.ours);
+    }
+
+-- a reading failed
+
+pub returns-in-Err-show_in_turn-clause-checks : goal.returns-in-Err-show_in_turn-clause-checks
+returns-in-Err-show_in_turn-clause-checks g c =
+    let old = state g.S.Store c.args.conn.now in
+    let new = state g.S.Store c.show_in_turn.new.conn in
+    let it = c.failure_of.ensures.store in
+    subst (IsUnchecked c.args.own.now.maps old new) (sym it.1) (unchecked c.args.own.now.maps old new (Store it.0) tt (λ is. absurd cc))
+
+pub returns-in-Err-read_lists-clause-checks : goal.returns-in-Err-read_lists-clause-checks
+returns-in-Err-read_lists-clause-checks g c =
+    let old = state g.S.Store c.args.conn.now in
+    let new = state g.S.Store c.read_lists.new.conn in
+    let it = c.in-Err-read_lists.ensures.fault in
+    subst (IsUnchecked c.args.own.now.maps old new) (sym it.1) (unchecked c.args.own.now.maps old new (Store it.0) tt (λ is. absurd cc))
+
+pub returns-in-Err-show_in_turn-clause-keeps : goal.returns-in-Err-show_in_turn-clause-keeps
+returns-in-Err-show_in_turn-clause-keeps g c =
+    let fails = c.in-Err-show_in_turn.ensures.failed in
+    record {
+      clean = fails.clean;
+      kept = λ clean opened tables rests. still (state g.S.Store c.args.conn.now) (state g.S.Store c.show_in_turn.new.conn) c.in-Ok.ensures.ours fails (c.show_in_turn.ensures.outside c.requires.outside) clean opened tables rests;
+      crash = fails.crash (λ _. c.in-Ok.ensures.ours);
+    }
+
+pub returns-in-Err-read_lists-clause-keeps : goal.returns-in-Err-read_lists-clause-keeps
+returns-in-Err-read_lists-clause-keeps g c =
+    let fails = fails_then c.in-Ok-show_in_turn.ensures.read c.in-Err-read_lists.ensures.failed in
+    record {
+      clean = fails.clean;
+      kept = λ clean opened tables rests. still (state g.S.Store c.args.conn.now) (state g.S.Store c.read_lists.new.conn) c.in-Ok.ensures.ours fails c.in-Err-read_lists.ensures.outside clean opened tables rests;
+      crash = fails.crash (λ _. c.in-Ok.ensures.ours);
+    }

@@ -1,0 +1,36 @@
+-- What tables become as they are opened.
+use Rattle.std.specs.Prelude.{◌≡◌, List, []}
+use Rattle.sqlite.specs.Order.{Row}
+use Rattle.sqlite.specs.State.{State as Database}
+use Rattle.sqlite.specs.Tree.{Trees}
+use Rattle.moo_rows.specs.Maps.{Maps}
+use Rattle.moo_tables_rows.specs.Tables.{Tables, slot_tree}
+use Rattle.moo_tables_rows.specs.declared.version.Version.{Version}
+use Rattle.moo_tables_rows.specs.declared.version.Version.TheVariants.{First, Second}
+use Rattle.moo_tables.specs.Migrated.{KeepsUnmigrated}
+use Rattle.moo_tables_rows.specs.Inside.{Rests, IsCurrent}
+use Rattle.moo_cells.specs.Shows.{ShowsRows}
+
+-- Tables became these, of the present version. Those that were of that version are the same. Those of an earlier one were migrated, and
+-- keep the cells that a migration leaves as they are.
+pub record BecomesCurrent (old new : Tables) : Type 0 where
+  pub current : IsCurrent new
+  pub same : IsCurrent old → new ≡ old
+  pub unmigrated : KeepsUnmigrated old new
+
+-- the rows of the table that only earlier versions read, `slot` of the first one
+abbrev pub unread_of : Trees → List Row
+unread_of trees = trees (slot_tree First)
+
+-- these rows once tables of this version were brought to the present one: a migration empties the table
+abbrev pub unread_from : Version → Trees → List Row
+unread_from First trees = []
+unread_from Second trees = unread_of trees
+
+-- The connection is open and in no transaction, and has what these tables of these trees became, which shows these rows.
+pub record RestsCurrent (store : Database) (trees : Trees) (old : Tables) (rows : Maps) : Type 0 where
+  pub tables : Tables
+  pub rests : Rests store tables
+  pub became : BecomesCurrent old tables
+  pub shows : ShowsRows tables rows
+  pub unread : unread_of store.now.trees ≡ unread_from old.version trees

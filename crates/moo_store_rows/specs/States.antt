@@ -1,0 +1,46 @@
+-- What a store at rest and what a crash leave: the rows that their tables show, and the world of these rows.
+use Rattle.std.specs.Prelude.{◌≡◌}
+use Rattle.sqlite.specs.State.{State as Database}
+use Rattle.sqlite.specs.Tree.{Trees}
+use Rattle.moo_rows.specs.Maps.{Maps}
+use Rattle.moo_world.specs.Rows.{IsGood}
+use Rattle.moo_world.specs.Judge.{State, state_of}
+use Rattle.moo_tables_rows.specs.Tables.{Tables}
+use Rattle.moo_tables_rows.specs.Inside.{Rests, Leaves, IsCurrent}
+use Rattle.moo_cells.specs.Shows.{ShowsRows}
+
+-- the connection is open and in no transaction, and its tables, of the present version, show these rows
+pub record KeepsRows (store : Database) (rows : Maps) : Type 0 where
+  pub tables : Tables
+  pub rests : Rests store tables
+  pub current : IsCurrent tables
+  pub shows : ShowsRows tables rows
+
+-- what a crash left, of any version, shows these rows
+pub record LeavesRows (trees : Trees) (rows : Maps) : Type 0 where
+  pub tables : Tables
+  pub leaves : Leaves trees tables
+  pub shows : ShowsRows tables rows
+
+-- the tables, of the present version, show good rows of this state
+pub record KeepsState (store : Database) (s : State) : Type 0 where
+  pub rows : Maps
+  pub good : IsGood rows
+  pub state : state_of rows ≡ s
+  pub keeps : KeepsRows store rows
+
+-- so do tables of any version
+pub record ShowsState (store : Database) (s : State) : Type 0 where
+  pub tables : Tables
+  pub rests : Rests store tables
+  pub rows : Maps
+  pub shows : ShowsRows tables rows
+  pub good : IsGood rows
+  pub state : state_of rows ≡ s
+
+-- what a crash left shows good rows of this state
+pub record LeavesState (trees : Trees) (s : State) : Type 0 where
+  pub rows : Maps
+  pub good : IsGood rows
+  pub state : state_of rows ≡ s
+  pub leaves : LeavesRows trees rows

@@ -1,0 +1,143 @@
+-- Which row of a table is found, and that its key tells it.
+use Rattle.moo_tables_rows.{proofs.Words.{◌≡◌, inl, inr, ℕ, ℤ, List, [], ◌∷◌, find, map, drop, codes, option_map, Option, Some, None, Bool, true, false, not, ◌&&◌, cond, IsTrue, refl, sym, ap, ◌∙◌, true≢false, is_eq, is_ne, Ordering, Less, Equal, Greater, and_parts, and_from, not-true, tied_itself, Value, Null, Int, Real, Text, Blob, Row, column, value_cmp, binary, is_true, rowid, id_in, first_key, plain, is_int, agree, clashes, differ, is_of, are_typed, are_present, has_computed, Datatype, NotNull, Unique, Table, Trees, Column, Binary, Compare, Eq, AllByRecursion, IsSound, Has, all_has, some_from, has_found, value_cmp_total, Version, First, Second, required, schema_of, slot_tree, slot_table, slot2_table, verb_table, has_pair, AreKeyed}, proofs.KeyLemmas.{is_false, one_row, int_value, ties_one}, proofs.RowLemmas.{equal_number, told}}
+use Rattle.sqlite_sql.specs.Ops.{is_null}
+use Rattle.sqlite_schema.specs.declared.schema.Kind.TheVariants as kind
+
+pub find-map : {X Y : Type 0} (p : Y → Bool) (f : X → Y) (xs : List X) → find p (map f xs) ≡ option_map f (find (λ x. p (f x)) xs)
+find-map p f [] = refl
+find-map p f (x ∷ xs) = elim (p (f x)) as (λ b. cond b (Some (f x)) (find p (map f xs)) ≡ option_map f (cond b (Some x) (find (λ x. p (f x)) xs))) [ true ↦ refl | false ↦ find-map p f xs ]
+
+-- ---- rows in another order, where no two pass the test
+
+none_has : (p : Row → Bool) (xs : List Row) (x : Row) → find p xs ≡ None → Has xs x → p x ≡ false
+none_has p [] x h has = absurd has
+none_has p (y ∷ xs) x h has = go (p y) refl h has (none_has p xs x)
+  where
+    go : (b : Bool) → p y ≡ b → cond b (Some y) (find p xs) ≡ None → Has (y ∷ xs) x → (find p xs ≡ None → Has xs x → p x ≡ false) → p x ≡ false
+    go true e h has more = absurd (let e : Some y ≡ None = h in cc)
+    go false e h (inl same) more = ap p same ∙ e
+    go false e h (inr later) more = more h later
+
+-- the one that passes is found
+pub find_one : (p : Row → Bool) (xs : List Row) (x : Row) → Has xs x → p x ≡ true → ((y : Row) → Has xs y → p y ≡ true → y ≡ x) → find p xs ≡ Some x
+find_one p [] x has passes one = absurd has
+find_one p (y ∷ xs) x has passes one = go (p y) refl has (λ in_it. find_one p xs x in_it passes (λ z there. one z (inr there)))
+  where
+    go : (b : Bool) → p y ≡ b → Has (y ∷ xs) x → (Has xs x → find p xs ≡ Some x) → cond b (Some y) (find p xs) ≡ Some x
+    go true e has later = ap Some (one y (inl refl) e)
+    go false e (inl is) later = absurd (true≢false (sym passes ∙ ap p is ∙ e))
+    go false e (inr in_it) later = later in_it
+
+pub find_alike : (p : Row → Bool) (xs ys : List Row) → ((x : Row) → Has xs x → Has ys x) → ((y : Row) → Has ys y → Has xs y) → ((x y : Row) → Has xs x → Has xs y → p x ≡ true → p y ≡ true → x ≡ y) → find p xs ≡ find p ys
+find_alike p xs ys over back one = go (find p xs) (find p ys) refl refl
+  where
+    go : (o o′ : Option Row) → find p xs ≡ o → find p ys ≡ o′ → o ≡ o′
+    go None None e e′ = refl
+    go None (Some y) e e′ =
+        let it = has_found p ys y e′ in
+        absurd (true≢false (sym it.1 ∙ none_has p xs y e (back y it.0)))
+    go (Some x) None e e′ =
+        let it = has_found p xs x e in
+        absurd (true≢false (sym it.1 ∙ none_has p ys x e′ (over x it.0)))
+    go (Some x) (Some y) e e′ =
+        let here = has_found p xs x e in
+        let there = has_found p ys y e′ in
+        ap Some (one x y here.0 (back y there.0) here.1 there.1)
+
+-- ---- what the schema asks of a row of two key columns
+
+int_of : (v : Value) → is_of kind.Integer v ≡ true → (v ≡ Null → ⊥) → IsTrue (is_int v)
+int_of Null h some = absurd (some refl)
+int_of (Int n) h some = refl
+int_of (Real x) h some = absurd (true≢false (sym h))
+int_of (Text t) h some = absurd (true≢false (sym h))
+int_of (Blob b) h some = absurd (true≢false (sym h))
+
+pub exactly : (v : Value) (n : ℤ) → IsTrue (is_int v) → is_eq (value_cmp v (Int n)) ≡ true → v ≡ Int n
+exactly v n int tie =
+    let is = int_value v int in
+    is ∙ ap Int (ties_one v (id_in v) n (ap is_eq (ap (value_cmp v) (sym is) ∙ tied_itself value_cmp_total v)) tie)
+
+pub differ_numbers : (m n : ℤ) → differ (Int m) (Int n) ≡ is_ne (value_cmp (Int m) (Int n))
+unfolding binary
+differ_numbers m n = told (is_ne (value_cmp (Int m) (Int n)))
+
+not_ne : (o : Ordering) → is_ne o ≡ false → o ≡ Equal
+not_ne Less h = absurd (true≢false h)
+not_ne Equal h = refl
+not_ne Greater h = absurd (true≢false h)
+
+-- a whole number that isn't apart from another, as SQL's <> has it, is that number
+pub not_apart : (v : Value) (n : ℤ) → IsTrue (is_int v) → differ v (Int n) ≡ false → v ≡ Int n
+not_apart v n int h =
+    let is = int_value v int in
+    let tie = not_ne (value_cmp (Int (id_in v)) (Int n)) (sym (differ_numbers (id_in v) n) ∙ ap (λ u. differ u (Int n)) (sym is) ∙ h) in
+    exactly v n int (ap is_eq (ap (λ u. value_cmp u (Int n)) is ∙ tie))
+
+equal_columns : (r s : Row) (at : ℕ) (n : ℤ) → column s at ≡ Int n → is_eq (value_cmp (column r at) (Int n)) ≡ true → is_true (binary (Compare Eq Binary) (column r at) (column s at)) ≡ true
+equal_columns r s at n is tie = ap (λ v. is_true (binary (Compare Eq Binary) (column r at) v)) is ∙ equal_number (column r at) n ∙ tie
+
+-- two rows with one key are one row, where no other row has a row's key
+pub one_pair : (rows : List Row) → AreKeyed rows → ((r : Row) → Has rows r → clashes plain (1 ∷ 2 ∷ []) rows r ≡ false) → ((r : Row) → Has rows r → IsTrue (is_int (column r 1)) × IsTrue (is_int (column r 2)))
+    → (key : ℤ × ℤ) (r s : Row) → Has rows r → Has rows s → has_pair key r ≡ true → has_pair key s ≡ true → r ≡ s
+unfolding first_key
+one_pair rows keyed unique ints key r s p q here there =
+    let mine = and_parts _ _ here in
+    let other = and_parts _ _ there in
+    let one = equal_columns r s 1 key.0 (exactly (column s 1) key.0 (ints s q).0 other.0) mine.0 in
+    let two = equal_columns r s 2 key.1 (exactly (column s 2) key.1 (ints s q).1 other.1) mine.1 in
+    let agreed : agree plain (1 ∷ 2 ∷ []) r (1 ∷ 2 ∷ []) s ≡ true = and_from _ _ one (and_from _ _ two refl) in
+    let value = λ (x : Row) (has : Has rows x). int_value (rowid x) (all_has (λ r. IsTrue (is_int (rowid r))) rows x keyed.1 has) in
+    let same : differ (rowid r) (rowid s) ≡ false = is_false _ (λ apart. true≢false (sym (some_from (λ o. agree plain (1 ∷ 2 ∷ []) o (1 ∷ 2 ∷ []) s && differ (rowid o) (rowid s)) rows r p (and_from _ _ agreed apart)) ∙ unique s q)) in
+    let numbers : differ (Int (id_in (rowid r))) (Int (id_in (rowid s))) ≡ false = ap (λ v. differ v (Int (id_in (rowid s)))) (sym (value r p)) ∙ ap (differ (rowid r)) (sym (value s q)) ∙ same in
+    let tie = not_ne _ (sym (differ_numbers _ _) ∙ numbers) in
+    one_row rows r s keyed.0 p q (ap (λ v. value_cmp v (rowid s)) (value r p) ∙ ap (value_cmp (Int (id_in (rowid r)))) (value s q) ∙ tie)
+
+-- two required whole numbers come first
+pub two_ints : (row : Row) (one two : List ℕ) (more : List Column) → are_typed None 0 (required kind.Integer one ∷ required kind.Integer two ∷ more) (drop 1 row) ≡ true → are_present None 0 (required kind.Integer one ∷ required kind.Integer two ∷ more) row ≡ true
+    → IsTrue (is_int (column row 1)) × IsTrue (is_int (column row 2))
+two_ints [] one two more typed present = absurd (true≢false (sym present))
+two_ints (id ∷ []) one two more typed present = absurd (true≢false (sym present))
+two_ints (id ∷ a ∷ []) one two more typed present = absurd (true≢false (sym (and_parts _ _ present).1))
+two_ints (id ∷ a ∷ b ∷ tail) one two more typed present =
+    let first = and_parts _ _ typed in
+    let second = and_parts _ _ first.1 in
+    let here = and_parts _ _ present in
+    let there = and_parts _ _ here.1 in (
+      int_of a first.0 (λ none. true≢false (sym here.0 ∙ ap (λ v. not (is_null v)) none)),
+      int_of b second.0 (λ none. true≢false (sym there.0 ∙ ap (λ v. not (is_null v)) none)),
+    )
+
+-- a required whole number comes behind the row's own
+pub one_int : (row : Row) (one two : List ℕ) (more : List Column) → are_typed (Some 0) 0 (required kind.Integer one ∷ required kind.Integer two ∷ more) (drop 1 row) ≡ true → are_present (Some 0) 0 (required kind.Integer one ∷ required kind.Integer two ∷ more) row ≡ true
+    → IsTrue (is_int (column row 2))
+one_int [] one two more typed present = absurd (true≢false (sym present))
+one_int (id ∷ []) one two more typed present = absurd (true≢false (sym present))
+one_int (id ∷ a ∷ []) one two more typed present = absurd (true≢false (sym present))
+one_int (id ∷ a ∷ b ∷ tail) one two more typed present =
+    int_of b (and_parts _ _ (and_parts _ _ typed).1).0 (λ none. true≢false (sym (and_parts _ _ present).0 ∙ ap (λ v. not (is_null v)) none))
+
+-- two columns are whole numbers, and tell the row
+pub record ArePairs (rows : List Row) : Type 0 where
+  pub ints : (r : Row) → Has rows r → IsTrue (is_int (column r 1)) × IsTrue (is_int (column r 2))
+  pub one : (key : ℤ × ℤ) (r s : Row) → Has rows r → Has rows s → has_pair key r ≡ true → has_pair key s ≡ true → r ≡ s
+
+-- ---- what the schema asks of the rows of a table with a key of two columns
+
+pairs_in : (one two : List ℕ) (more : List Column) (t : Table) (rows : List Row) → AreKeyed rows
+    → AllByRecursion (λ r. (are_typed None 0 (required kind.Integer one ∷ required kind.Integer two ∷ more) (drop 1 r) && has_computed t r) ≡ true) rows
+    → AllByRecursion (λ r. are_present None 0 (required kind.Integer one ∷ required kind.Integer two ∷ more) r ≡ true) rows
+    → AllByRecursion (λ r. (not (clashes plain (1 ∷ 2 ∷ []) rows r) && true) ≡ true) rows → ArePairs rows
+pairs_in one two more t rows keyed typed present unique =
+    let ints = λ (r : Row) (has : Has rows r). two_ints r one two more (and_parts _ (has_computed t r) (all_has _ rows r typed has)).0 (all_has _ rows r present has) in
+    let alone = λ (r : Row) (has : Has rows r). not-true _ (and_parts (not (clashes plain (1 ∷ 2 ∷ []) rows r)) true (all_has _ rows r unique has)).0 in
+    record { ints = ints; one = one_pair rows keyed alone ints }
+
+pub slot_pairs : (version : Version) (db : Trees) → IsSound (schema_of version) db → AreKeyed (db (slot_tree version)) → ArePairs (db (slot_tree version))
+slot_pairs First db sound keyed = pairs_in (codes "object") (codes "prop") (drop 2 slot_table.columns) slot_table (db 3) keyed (sound.obeys.rules Datatype).1.1.1.0 (sound.obeys.rules NotNull).1.1.1.0 (sound.obeys.rules Unique).1.1.1.0
+slot_pairs Second db sound keyed =
+    pairs_in (codes "object") (codes "prop") (drop 2 slot2_table.columns) slot2_table (db 7) keyed (sound.obeys.rules Datatype).1.1.1.1.1.0 (sound.obeys.rules NotNull).1.1.1.1.1.0 (sound.obeys.rules Unique).1.1.1.1.1.0
+
+pub verb_pairs : (version : Version) (db : Trees) → IsSound (schema_of version) db → AreKeyed (db 5) → ArePairs (db 5)
+verb_pairs First db sound keyed = pairs_in (codes "object") (codes "id") (drop 2 verb_table.columns) verb_table (db 5) keyed (sound.obeys.rules Datatype).1.1.1.1.0 (sound.obeys.rules NotNull).1.1.1.1.0 (sound.obeys.rules Unique).1.1.1.1.0
+verb_pairs Second db sound keyed = pairs_in (codes "object") (codes "id") (drop 2 verb_table.columns) verb_table (db 5) keyed (sound.obeys.rules Datatype).1.1.1.1.0 (sound.obeys.rules NotNull).1.1.1.1.0 (sound.obeys.rules Unique).1.1.1.1.0

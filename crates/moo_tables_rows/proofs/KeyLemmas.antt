@@ -1,0 +1,196 @@
+-- Rows found by their keys, after a row is put in place of those with its key, and after they are taken out.
+use Rattle.moo_tables_rows.proofs.Words.{◌≡◌, inl, inr, ℤ, List, [], ◌∷◌, filter, find, map, option_map, Some, None, Bool, true, false, not, ◌||◌, cond, refl, sym, ap, subst, ◌∙◌, arith, true≢false, IsTrue, list_any, is_eq, int_cmp, match_ordering, Ordering, Less, Equal, Greater, not-true, and_parts, and_from, tied_itself, tied_back, Value, Null, Int, Real, Text, Blob, Row, column, value_cmp, rowid, has_rowid, put_row, without_rowid, IsTable, id_in, without_all, is_int, Has, ids_of, all_has, some_has, some_from, has_filtered, value_cmp_total, value_cmp-Int, has_pair, found_in, with_cells, same_number, same_numbers, AreKeyed}
+use Rattle.std.proofs.lemmas.Int.{ints}
+use Rattle.sqlite_rules.proofs.ProbeLemmas.{has_mapped}
+
+pub both_ways : (a b : Bool) → (a ≡ true → b ≡ true) → (b ≡ true → a ≡ true) → a ≡ b
+both_ways true b to back = sym (to refl)
+both_ways false true to back = back refl
+both_ways false false to back = refl
+
+pub is_false : (b : Bool) → (b ≡ true → ⊥) → b ≡ false
+is_false true none = absurd (none refl)
+is_false false none = refl
+
+pub tied_as_equal : (o : Ordering) → is_eq o ≡ true → o ≡ Equal
+tied_as_equal Less h = cc
+tied_as_equal Equal h = refl
+tied_as_equal Greater h = cc
+
+pub int_exact : (m n : ℤ) → int_cmp m n ≡ Equal → m ≡ n
+int_exact m n h = grind (arith, ints, h)
+
+pub int_value : (v : Value) → IsTrue (is_int v) → v ≡ Int (id_in v)
+int_value Null h = cc
+int_value (Int n) h = refl
+int_value (Real x) h = cc
+int_value (Text t) h = cc
+int_value (Blob b) h = cc
+
+-- two numbers that a value ties with are one
+pub ties_one : (v : Value) (m n : ℤ) → is_eq (value_cmp v (Int m)) ≡ true → is_eq (value_cmp v (Int n)) ≡ true → m ≡ n
+ties_one v m n p q =
+    let here = tied_back value_cmp_total v (Int m) (tied_as_equal _ p) in
+    let both : value_cmp (Int m) (Int n) ≡ value_cmp v (Int n) = value_cmp_total.congr (Int m) v (Int n) here in
+    int_exact m n (sym (value_cmp-Int m n) ∙ both ∙ tied_as_equal _ q)
+
+pub mapped_has : {X Y : Type 0} (f : X → Y) (xs : List X) (x : X) → Has xs x → Has (map f xs) (f x)
+mapped_has f [] x has = absurd has
+mapped_has f (y ∷ xs) x (inl same) = inl (ap f same)
+mapped_has f (y ∷ xs) x (inr later) = inr (mapped_has f xs x later)
+
+-- ---- what a statement takes out
+
+-- two rows with one number are one row
+pub one_row : (rows : List Row) (r s : Row) → IsTable rows → Has rows r → Has rows s → value_cmp (rowid r) (rowid s) ≡ Equal → r ≡ s
+one_row [] r s up p q tie = absurd p
+one_row (x ∷ rows) r s up (inl p) (inl q) tie = p ∙ sym q
+one_row (x ∷ rows) r s up (inl p) (inr q) tie =
+    let less = all_has (λ y. value_cmp (rowid x) (rowid y) ≡ Less) rows s up.0 q in
+    let tie′ : value_cmp (rowid x) (rowid s) ≡ Equal = subst (λ y. value_cmp (rowid y) (rowid s) ≡ Equal) p tie in
+    absurd (let e : Less ≡ Equal = sym less ∙ tie′ in cc)
+one_row (x ∷ rows) r s up (inr p) (inl q) tie =
+    let less = all_has (λ y. value_cmp (rowid x) (rowid y) ≡ Less) rows r up.0 p in
+    let tie′ : value_cmp (rowid x) (rowid r) ≡ Equal = subst (λ y. value_cmp (rowid y) (rowid r) ≡ Equal) q (tied_back value_cmp_total (rowid r) (rowid s) tie) in
+    absurd (let e : Less ≡ Equal = sym less ∙ tie′ in cc)
+one_row (x ∷ rows) r s up (inr p) (inr q) tie = one_row rows r s up.1 p q tie
+
+filter_twice : {X : Type 0} (p q : X → Bool) (xs : List X) → filter (λ x. not (q x)) (filter (λ x. not (p x)) xs) ≡ filter (λ x. not (p x || q x)) xs
+filter_twice p q [] = refl
+filter_twice p q (x ∷ xs) =
+    elim (p x) as (λ b. filter (λ x. not (q x)) (cond (not b) (x ∷ filter (λ x. not (p x)) xs) (filter (λ x. not (p x)) xs)) ≡ cond (not (b || q x)) (x ∷ filter (λ x. not (p x || q x)) xs) (filter (λ x. not (p x || q x)) xs)) [
+      | true ↦ filter_twice p q xs
+      | false ↦ ap (λ more. cond (not (q x)) (x ∷ more) more) (filter_twice p q xs)
+    ]
+
+taken_out : (ids : List ℤ) (rows : List Row) → without_all rows ids ≡ filter (λ r. not (list_any (λ id. has_rowid id r) ids)) rows
+taken_out [] rows = sym (all_stay rows)
+  where
+    all_stay : (rows : List Row) → filter (λ r. not (list_any (λ id. has_rowid id r) [])) rows ≡ rows
+    all_stay [] = refl
+    all_stay (r ∷ rows) = ap (λ more. r ∷ more) (all_stay rows)
+taken_out (id ∷ ids) rows = taken_out ids (without_rowid id rows) ∙ filter_twice (has_rowid id) (λ r. list_any (λ id. has_rowid id r) ids) rows
+
+pub filter_same : {X : Type 0} (p q : X → Bool) (xs : List X) → ((x : X) → Has xs x → p x ≡ q x) → filter p xs ≡ filter q xs
+filter_same p q [] same = refl
+filter_same p q (x ∷ xs) same = rw (same x (inl refl)) (ap (λ more. cond (q x) (x ∷ more) more) (filter_same p q xs (λ y has. same y (inr has))))
+
+-- where the numbers found are those of the rows that the test holds of, these go and no other
+pub removed : (test : Row → Bool) (rows found : List Row) → AreKeyed rows
+    → ((x : Row) → Has found x → (r : Row) × Has rows r × (test r ≡ true) × (x ≡ rowid r ∷ []))
+    → ((r : Row) → Has rows r → test r ≡ true → Has found (rowid r ∷ []))
+    → without_all rows (ids_of found) ≡ filter (λ r. not (test r)) rows
+removed test rows found keyed sound complete =
+    taken_out (ids_of found) rows ∙ filter_same _ _ rows (λ r has. ap not (both_ways _ _ (goes r has) (named r has)))
+  where
+    value_of : (r : Row) → Has rows r → rowid r ≡ Int (id_in (rowid r))
+    value_of r has = int_value (rowid r) (all_has (λ r. IsTrue (is_int (rowid r))) rows r keyed.1 has)
+
+    goes : (r : Row) → Has rows r → list_any (λ id. has_rowid id r) (ids_of found) ≡ true → test r ≡ true
+    goes r has any =
+        let id = some_has (λ id. has_rowid id r) (ids_of found) any in
+        let x = has_mapped (λ r. id_in (rowid r)) found id.0 id.1 in
+        let s = sound x.0 x.1 in
+        let is : id.0 ≡ id_in (rowid s.0) = x.2 ∙ ap (λ y. id_in (rowid y)) s.3 in
+        let tie : value_cmp (rowid r) (rowid s.0) ≡ Equal = ap (value_cmp (rowid r)) (value_of s.0 s.1 ∙ ap Int (sym is)) ∙ tied_as_equal _ id.2 in
+        ap test (one_row rows r s.0 keyed.0 has s.1 tie) ∙ s.2
+
+    named : (r : Row) → Has rows r → test r ≡ true → list_any (λ id. has_rowid id r) (ids_of found) ≡ true
+    named r has passes =
+        let there = mapped_has (λ r. id_in (rowid r)) found (rowid r ∷ []) (complete r has passes) in
+        let tie : has_rowid (id_in (rowid r)) r ≡ true = ap is_eq (ap (value_cmp (rowid r)) (sym (value_of r has)) ∙ tied_itself value_cmp_total (rowid r)) in
+        some_from (λ id. has_rowid id r) (ids_of found) (id_in (rowid r)) there tie
+
+-- ---- what is found then
+
+find_kept : (test p : Row → Bool) (rows : List Row) → ((r : Row) → test r ≡ true → p r ≡ true) → find test (filter p rows) ≡ find test rows
+find_kept test p [] keeps = refl
+find_kept test p (r ∷ rows) keeps = go (test r) refl (find_kept test p rows keeps)
+  where
+    go : (b : Bool) → test r ≡ b → find test (filter p rows) ≡ find test rows → find test (filter p (r ∷ rows)) ≡ find test (r ∷ rows)
+    go true e later = rw (keeps r e, e) refl
+    go false e later = rw e (elim (p r) as (λ b. find test (cond b (r ∷ filter p rows) (filter p rows)) ≡ find test rows) [ true ↦ rw e later | false ↦ later ])
+
+pub find_none : (test : Row → Bool) (rows : List Row) → ((r : Row) → Has rows r → test r ≡ false) → find test rows ≡ None
+find_none test [] none = refl
+find_none test (r ∷ rows) none = rw (none r (inl refl)) (find_none test rows (λ s has. none s (inr has)))
+
+abbrev Puts : Ordering → Row → Row → List Row → List Row
+Puts o new r rows = match_ordering o (r ∷ put_row new rows) (new ∷ rows) (new ∷ r ∷ rows)
+
+find_past : (test : Row → Bool) (new : Row) (rows : List Row) → test new ≡ false → ((r : Row) → Has rows r → value_cmp (rowid r) (rowid new) ≡ Equal → ⊥) → find test (put_row new rows) ≡ find test rows
+find_past test new [] other fresh = rw other refl
+find_past test new (r ∷ rows) other fresh = go (value_cmp (rowid r) (rowid new)) refl (find_past test new rows other (λ s has. fresh s (inr has)))
+  where
+    go : (o : Ordering) → value_cmp (rowid r) (rowid new) ≡ o → find test (put_row new rows) ≡ find test rows → find test (Puts o new r rows) ≡ find test (r ∷ rows)
+    go Less e later = ap (λ found. cond (test r) (Some r) found) later
+    go Equal e later = absurd (fresh r (inl refl) e)
+    go Greater e later = rw other refl
+
+find_put : (test : Row → Bool) (new : Row) (rows : List Row) → test new ≡ true → ((r : Row) → Has rows r → test r ≡ false) → find test (put_row new rows) ≡ Some new
+find_put test new [] here none = rw here refl
+find_put test new (r ∷ rows) here none = go (value_cmp (rowid r) (rowid new)) refl (find_put test new rows here (λ s has. none s (inr has)))
+  where
+    go : (o : Ordering) → value_cmp (rowid r) (rowid new) ≡ o → find test (put_row new rows) ≡ Some new → find test (Puts o new r rows) ≡ Some new
+    go Less e later = rw (none r (inl refl)) later
+    go Equal e later = rw here refl
+    go Greater e later = rw here refl
+
+module _ {K : Type 0} (same : K → K → Bool) (has : K → Row → Bool) (shown : Row → Row) (exact : (k key : K) → same k key ≡ true → k ≡ key) (apart : (k key : K) (r : Row) → has k r ≡ true → has key r ≡ true → same k key ≡ true) where
+  not_both : (k key : K) (r : Row) → same k key ≡ false → has k r ≡ true → has key r ≡ false
+  not_both k key r other here = is_false _ (λ both. true≢false (sym (apart k key r here both) ∙ other))
+
+  pub after_put : (key : K) (new : Row) (rows : List Row) → has key new ≡ true → ((r : Row) → Has (filter (λ r. not (has key r)) rows) r → value_cmp (rowid r) (rowid new) ≡ Equal → ⊥)
+      → (k : K) → found_in has shown (put_row new (filter (λ r. not (has key r)) rows)) k ≡ with_cells same key (Some (shown new)) (found_in has shown rows) k
+  after_put key new rows here fresh k = go (same k key) refl
+    where
+      go : (b : Bool) → same k key ≡ b → found_in has shown (put_row new (filter (λ r. not (has key r)) rows)) k ≡ with_cells same key (Some (shown new)) (found_in has shown rows) k
+      go true e =
+          let is = exact k key e in
+          rw e (ap (option_map shown) (ap (λ j. find (has j) (put_row new (filter (λ r. not (has key r)) rows))) is ∙ find_put (has key) new _ here (λ r in_it. not-true _ (has_filtered (λ r. not (has key r)) rows r in_it).1)))
+      go false e =
+          let other : has k new ≡ false = is_false _ (λ both. true≢false (sym (apart k key new both here) ∙ e)) in
+          rw e (ap (option_map shown) (find_past (has k) new _ other fresh ∙ find_kept (has k) (λ r. not (has key r)) rows (λ r there. ap not (not_both k key r e there))))
+
+  pub after_removal : (key : K) (rows : List Row) → (k : K) → found_in has shown (filter (λ r. not (has key r)) rows) k ≡ with_cells same key None (found_in has shown rows) k
+  after_removal key rows k = go (same k key) refl
+    where
+      go : (b : Bool) → same k key ≡ b → found_in has shown (filter (λ r. not (has key r)) rows) k ≡ with_cells same key None (found_in has shown rows) k
+      go true e =
+          let is = exact k key e in
+          rw e (ap (option_map shown) (ap (λ j. find (has j) (filter (λ r. not (has key r)) rows)) is ∙ find_none (has key) _ (λ r in_it. not-true _ (has_filtered (λ r. not (has key r)) rows r in_it).1)))
+      go false e = rw e (ap (option_map shown) (find_kept (has k) (λ r. not (has key r)) rows (λ r there. ap not (not_both k key r e there))))
+
+  -- where no row has the key, none is taken out
+  pub after_nothing : (key : K) (rows : List Row) → find (has key) rows ≡ None → (k : K) → found_in has shown rows k ≡ with_cells same key None (found_in has shown rows) k
+  after_nothing key rows none k = go (same k key) refl
+    where
+      go : (b : Bool) → same k key ≡ b → found_in has shown rows k ≡ with_cells same key None (found_in has shown rows) k
+      go true e = rw e (ap (option_map shown) (ap (λ j. find (has j) rows) (exact k key e) ∙ none))
+      go false e = rw e refl
+
+-- ---- the two kinds of key
+
+pub number_exact : (k key : ℤ) → same_number k key ≡ true → k ≡ key
+number_exact k key h = int_exact k key (tied_as_equal _ h)
+
+pub number_itself : (k : ℤ) → same_number k k ≡ true
+number_itself k = ap is_eq (sym (value_cmp-Int k k) ∙ tied_itself value_cmp_total (Int k))
+
+pub number_apart : (k key : ℤ) (r : Row) → has_rowid k r ≡ true → has_rowid key r ≡ true → same_number k key ≡ true
+number_apart k key r p q = subst (λ n. same_number k n ≡ true) (ties_one (rowid r) k key p q) (number_itself k)
+
+pub pair_exact : (k key : ℤ × ℤ) → same_numbers k key ≡ true → k ≡ key
+pair_exact k key h =
+    let parts = and_parts _ _ h in
+    let first = number_exact k.0 key.0 parts.0 in
+    let second = number_exact k.1 key.1 parts.1 in
+    ap (λ a. (a, k.1)) first ∙ ap (λ b. (key.0, b)) second
+
+pub pair_apart : (k key : ℤ × ℤ) (r : Row) → has_pair k r ≡ true → has_pair key r ≡ true → same_numbers k key ≡ true
+pair_apart k key r p q =
+    let here = and_parts _ _ p in
+    let there = and_parts _ _ q in
+    let one : same_number k.0 key.0 ≡ true = subst (λ n. same_number k.0 n ≡ true) (ties_one (column r 1) k.0 key.0 here.0 there.0) (number_itself k.0) in
+    let two : same_number k.1 key.1 ≡ true = subst (λ n. same_number k.1 n ≡ true) (ties_one (column r 2) k.1 key.1 here.1 there.1) (number_itself k.1) in
+    and_from _ _ one two

@@ -1,0 +1,92 @@
+-- What one statement makes of the tables, where it changes one row.
+use Rattle.moo_tables_rows.{proofs.Words.{◌≡◌, ℕ, ℤ, List, [], ◌∷◌, filter, map, Some, Bool, true, false, ◌&&◌, not, Result, IsTrue, refl, sym, ap, subst, ◌∙◌, list_all, is_eq, IsPermutation, Contains-permutation, IsPermutation-sym, not-true, Equal, Value, Null, Int, Real, Text, Blob, Error, Row, column, value_cmp, binary, is_true, from_truth, Term, holds, Binary, Compare, Eq, rowid, has_rowid, put_row, without_all, next_rowid, State, is_int, Has, ids_of, has_filtered, has_kept, has_contained, contains_had, some_from, value_cmp_total, tied_itself, present_schema, has_pair, AreKeyed, RanStatement}, proofs.TextLemmas.{by_number, by_pair}, proofs.QueryLemmas.{chosen}, proofs.StepLemmas.{SetsOffNothing}, proofs.KeyLemmas.{is_false, removed, mapped_has}}
+use Rattle.sqlite_trees.proofs.TreeLemmas.{IsShaped-put_row, IsShaped-filter}
+use Rattle.sqlite_trees.specs.declared.store.Shape.TheVariants as shape
+use Rattle.sqlite_rules.{specs.declared.error.Rowids.TheVariants.{Chosen}, proofs.ProbeLemmas.{has_mapped}, proofs.PlaceLemmas.{next_is_free}}
+
+pub moo_quiet : SetsOffNothing present_schema
+moo_quiet tree olds news = refl
+
+-- a statement ran with these values
+pub ran_as : (text : List ℕ) (values params : Row) (old new : State) (r : Result ℕ Error) → params ≡ values → RanStatement text params old new r → RanStatement text values old new r
+ran_as text values params old new r are ran = subst (λ v. RanStatement text v old new r) are ran
+
+pub told : (b : Bool) → is_true (from_truth (Some b)) ≡ b
+told true = refl
+told false = refl
+
+-- a value equals a number as SQL's = has it exactly where they tie
+pub equal_number : (v : Value) (n : ℤ) → is_true (binary (Compare Eq Binary) v (Int n)) ≡ is_eq (value_cmp v (Int n))
+unfolding binary value_cmp
+equal_number Null n = refl
+equal_number (Int m) n = told (is_eq (value_cmp (Int m) (Int n)))
+equal_number (Real x) n = told (is_eq (value_cmp (Real x) (Int n)))
+equal_number (Text t) n = told (is_eq (value_cmp (Text t) (Int n)))
+equal_number (Blob b) n = told (is_eq (value_cmp (Blob b) (Int n)))
+
+-- ---- what a put and a removal make of the rows of one tree
+
+module _ {K : Type 0} (has : K → Row → Bool) (key : K) (rows : List Row) (keyed : AreKeyed rows) where
+  abbrev pub rest : List Row
+  rest = filter (λ r. not (has key r)) rows
+
+  pub rest_keyed : AreKeyed rest
+  rest_keyed = IsShaped-filter shape.Table (λ r. not (has key r)) rows keyed
+
+  pub put_keyed : (row : Row) → IsTrue (is_int (rowid row)) → AreKeyed (put_row row rest)
+  put_keyed row int = IsShaped-put_row row rest int rest_keyed
+
+  pub went_out : (terms : List Term) (params shown : List Value) (ids : List Row) → IsPermutation (map (λ r. rowid r ∷ []) (chosen terms params rows)) ids → ((r : Row) → list_all (holds (params ∷ r ∷ [])) terms ≡ has key r)
+      → without_all rows (ids_of ids) ≡ rest
+  went_out terms params shown ids same picks = removed (has key) rows ids keyed all each
+    where
+      all : (x : Row) → Has ids x → (r : Row) × Has rows r × (has key r ≡ true) × (x ≡ rowid r ∷ [])
+      all x in_it =
+          let back = Contains-permutation ids _ x (IsPermutation-sym _ ids same) (contains_had ids x in_it) in
+          let r = has_mapped (λ r. rowid r ∷ []) (chosen terms params rows) x (has_contained _ x back) in
+          let was = has_filtered _ rows r.0 r.1 in
+          (r.0, was.0, sym (picks r.0) ∙ was.1, r.2)
+
+      each : (r : Row) → Has rows r → has key r ≡ true → Has ids (rowid r ∷ [])
+      each r in_it passes =
+          let kept = has_kept _ rows r in_it (picks r ∙ passes) in
+          has_contained _ _ (Contains-permutation _ ids (rowid r ∷ []) same (contains_had _ _ (mapped_has (λ r. rowid r ∷ []) _ r kept)))
+
+-- the rows with the number, and no row that stays has it
+pub number_free : (n : ℤ) (row : Row) (rows : List Row) → rowid row ≡ Int n → (r : Row) → Has (filter (λ r. not (has_rowid n r)) rows) r → value_cmp (rowid r) (rowid row) ≡ Equal → ⊥
+number_free n row rows is r in_it tie =
+    let other = not-true _ (has_filtered (λ r. not (has_rowid n r)) rows r in_it).1 in
+    let ties : has_rowid n r ≡ true = ap is_eq (ap (value_cmp (rowid r)) (sym is) ∙ tie) in
+    let e : true ≡ false = sym ties ∙ other in cc
+
+-- the next number is no row's
+next_free : (rows : List Row) (tail : Row) → AreKeyed rows → (r : Row) → Has rows r → is_eq (value_cmp (rowid r) (Int (next_rowid rows))) ≡ false
+next_free rows tail keyed r in_it = is_false _ (λ tie. let e : true ≡ false = sym (some_from (λ y. is_eq (value_cmp (rowid y) (Int (next_rowid rows)))) rows r in_it tie) ∙ next_is_free Chosen rows tail keyed.0 keyed.1 in cc)
+
+pub pair_free : (key : ℤ × ℤ) (rows : List Row) (tail : Row) → AreKeyed rows → (r : Row) → Has (filter (λ r. not (has_pair key r)) rows) r → value_cmp (rowid r) (Int (next_rowid rows)) ≡ Equal → ⊥
+pair_free key rows tail keyed r in_it tie =
+    let free = next_free rows tail keyed r (has_filtered (λ r. not (has_pair key r)) rows r in_it).0 in
+    let e : true ≡ false = sym (ap is_eq tie) ∙ free in cc
+
+-- ---- keys that are written as terms
+
+pub has_itself : (n : ℤ) (tail : Row) → has_rowid n (Int n ∷ tail) ≡ true
+has_itself n tail = ap is_eq (tied_itself value_cmp_total (Int n))
+
+pub picks_number : (n : ℤ) (tail r : Row) → list_all (holds ((Int n ∷ tail) ∷ r ∷ [])) by_number ≡ has_rowid n r
+picks_number n tail r =
+    let plainly : list_all (holds ((Int n ∷ tail) ∷ r ∷ [])) by_number ≡ is_true (binary (Compare Eq Binary) (rowid r) (Int n)) = elim (is_true (binary (Compare Eq Binary) (rowid r) (Int n))) as (λ b. (b && true) ≡ b) [ true ↦ refl | false ↦ refl ] in
+    plainly ∙ equal_number (rowid r) n
+
+tied : (n : ℤ) → is_eq (value_cmp (Int n) (Int n)) ≡ true
+tied n = ap is_eq (tied_itself value_cmp_total (Int n))
+
+pub pair_has : (pair : ℤ × ℤ) (tail : Row) (id : ℤ) → has_pair pair (Int id ∷ Int pair.0 ∷ Int pair.1 ∷ tail) ≡ true
+pair_has pair tail id = rw (tied pair.0, tied pair.1)
+
+pub picks_pair : (pair : ℤ × ℤ) (tail r : Row) → list_all (holds ((Int pair.0 ∷ Int pair.1 ∷ tail) ∷ r ∷ [])) by_pair ≡ has_pair pair r
+picks_pair pair tail r =
+    let second = is_true (binary (Compare Eq Binary) (column r 2) (Int pair.1)) in
+    let plainly : list_all (holds ((Int pair.0 ∷ Int pair.1 ∷ tail) ∷ r ∷ [])) by_pair ≡ (is_true (binary (Compare Eq Binary) (column r 1) (Int pair.0)) && second) =
+    ap (λ b. is_true (binary (Compare Eq Binary) (column r 1) (Int pair.0)) && b) (elim second as (λ b. (b && true) ≡ b) [ true ↦ refl | false ↦ refl ]) in
+    plainly ∙ rw (equal_number (column r 1) pair.0, equal_number (column r 2) pair.1)

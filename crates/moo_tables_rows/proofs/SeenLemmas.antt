@@ -1,0 +1,189 @@
+-- What a transaction sees of the tables once one of them was written.
+use Rattle.moo_tables_rows.proofs.Words.{◌≡◌, ◌≢◌, ◌==◌, ℕ, ℤ, List, Option, Bool, true, false, true≢false, IsTrue, refl, sym, ap, subst, ◌∙◌, Row, IsDatabase, State, IsSound, IsNoIndex, Version, present, Tables, tables_in, schema_of, slot_tree, present_schema, head_places, object_places, prop_places, slot_places, verb_places, petition_places, petition_head_places, petition_rows, numbered_in, paired_in, numbered_with, paired_with, AreKeyed, IsCurrent, Sees, KeepsUnread}
+use Rattle.std.proofs.lemmas.Bool.Decides.{Decides-eqb}
+
+-- one tree has these rows, and the trees of the other tables are as they were
+pub record SetsTree (old new : State) (tree : ℕ) (rows : List Row) : Type 0 where
+  pub schema_is : new.now.schema ≡ present_schema
+  pub sound : IsDatabase new.now
+  pub is_open : IsTrue new.is_open
+  pub inside : IsTrue new.in_transaction
+  pub rows_are : new.now.trees tree ≡ rows
+  pub others : (t : ℕ) → t ≢ tree → IsNoIndex present_schema t → new.now.trees t ≡ old.now.trees t
+
+-- ---- the tables that a transaction sees
+
+pub schema_seen : {s : State} {tables : Tables} → Sees s tables → s.now.schema ≡ present_schema
+schema_seen seen = seen.holds.schema ∙ ap schema_of seen.current
+
+pub sound_seen : {s : State} {tables : Tables} → Sees s tables → IsSound present_schema s.now.trees
+sound_seen {s} seen = subst (λ schema. IsSound schema s.now.trees) (schema_seen seen) seen.holds.sound
+
+pub slots_seen : {s : State} {tables : Tables} → Sees s tables → AreKeyed (s.now.trees 7)
+slots_seen {s} seen = subst (λ v. AreKeyed (s.now.trees (slot_tree v))) seen.current seen.holds.slots
+
+pub rows_seen : {s : State} {tables : Tables} → Sees s tables → tables_in present s.now.trees ≡ tables
+rows_seen {s} {tables} seen = subst (λ v. tables_in v s.now.trees ≡ tables) seen.current seen.holds.rows
+
+pub petitions_seen : {s : State} {tables : Tables} → Sees s tables → AreKeyed (s.now.trees 9)
+petitions_seen {s} seen = subst (λ v. AreKeyed (petition_rows v (s.now.trees 9))) seen.current seen.holds.petitions
+
+pub counter_seen : {s : State} {tables : Tables} → Sees s tables → AreKeyed (s.now.trees 10)
+counter_seen {s} seen = subst (λ v. AreKeyed (petition_rows v (s.now.trees 10))) seen.current seen.holds.petition_heads
+
+pub same_tables : {n n′ : Version} {h h′ o o′ p p′ : ℤ → Option Row} {s s′ v v′ : ℤ × ℤ → Option Row} {q q′ c c′ : ℤ → Option Row} → n ≡ n′ → h ≡ h′ → o ≡ o′ → p ≡ p′ → s ≡ s′ → v ≡ v′ → q ≡ q′ → c ≡ c′
+    → ◌≡◌ {A = Tables} (record { version = n; head = h; object = o; prop = p; slot = s; verb = v; petition = q; petition_head = c }) (record { version = n′; head = h′; object = o′; prop = p′; slot = s′; verb = v′; petition = q′; petition_head = c′ })
+same_tables n a b c d e f g = λ i. record { version = n i; head = a i; object = b i; prop = c i; slot = d i; verb = e i; petition = f i; petition_head = g i }
+
+pub each_key : {K : Type 0} {f g : K → Option Row} → ((k : K) → f k ≡ g k) → f ≡ g
+each_key same = λ i k. same k i
+
+-- the rows of one table show these cells
+pub record ShowsTable {K : Type 0} (s : State) (tree : ℕ) (shown : List Row → K → Option Row) (table : K → Option Row) : Type 0 where
+  pub cells : shown (s.now.trees tree) ≡ table
+  pub keyed : AreKeyed (s.now.trees tree)
+
+module _ {old new : State} {tree : ℕ} {rows : List Row} (it : SetsTree old new tree rows) where
+  pub written : {K : Type 0} (shown : List Row → K → Option Row) (change : (K → Option Row) → K → Option Row) (table : K → Option Row) → shown (old.now.trees tree) ≡ table → AreKeyed rows
+      → ((k : K) → shown rows k ≡ change (shown (old.now.trees tree)) k) → ShowsTable new tree shown (change table)
+  written shown change table was keyed at_keys = record { cells = ap shown it.rows_are ∙ each_key at_keys ∙ ap change was; keyed = subst AreKeyed (sym it.rows_are) keyed }
+
+  unwritten : {K : Type 0} (shown : List Row → K → Option Row) (table : K → Option Row) (t : ℕ) → t ≢ tree → IsNoIndex present_schema t → shown (old.now.trees t) ≡ table → AreKeyed (old.now.trees t) → ShowsTable new t shown table
+  unwritten shown table t apart no_index was keyed = let same = it.others t apart no_index in record { cells = ap shown same ∙ was; keyed = subst AreKeyed (sym same) keyed }
+
+  module _ (tables : Tables) (seen : Sees old tables) where
+    pub kept_head : 0 ≢ tree → ShowsTable new 0 (numbered_in head_places) tables.head
+    kept_head apart = unwritten (numbered_in head_places) tables.head 0 apart ((λ e. cc), ((λ e. cc), ((λ e. cc), tt))) (ap (λ (t : Tables). t.head) (rows_seen seen)) seen.holds.heads
+
+    pub kept_object : 1 ≢ tree → ShowsTable new 1 (numbered_in object_places) tables.object
+    kept_object apart = unwritten (numbered_in object_places) tables.object 1 apart ((λ e. cc), ((λ e. cc), ((λ e. cc), tt))) (ap (λ (t : Tables). t.object) (rows_seen seen)) seen.holds.objects
+
+    pub kept_prop : 2 ≢ tree → ShowsTable new 2 (numbered_in prop_places) tables.prop
+    kept_prop apart = unwritten (numbered_in prop_places) tables.prop 2 apart ((λ e. cc), ((λ e. cc), ((λ e. cc), tt))) (ap (λ (t : Tables). t.prop) (rows_seen seen)) seen.holds.props
+
+    pub kept_slot : 7 ≢ tree → ShowsTable new 7 (paired_in slot_places) tables.slot
+    kept_slot apart = unwritten (paired_in slot_places) tables.slot 7 apart ((λ e. cc), ((λ e. cc), ((λ e. cc), tt))) (ap (λ (t : Tables). t.slot) (rows_seen seen)) (slots_seen seen)
+
+    pub kept_verb : 5 ≢ tree → ShowsTable new 5 (paired_in verb_places) tables.verb
+    kept_verb apart = unwritten (paired_in verb_places) tables.verb 5 apart ((λ e. cc), ((λ e. cc), ((λ e. cc), tt))) (ap (λ (t : Tables). t.verb) (rows_seen seen)) seen.holds.verbs
+
+    pub kept_petition : 9 ≢ tree → ShowsTable new 9 (numbered_in petition_places) tables.petition
+    kept_petition apart = unwritten (numbered_in petition_places) tables.petition 9 apart ((λ e. cc), ((λ e. cc), ((λ e. cc), tt))) (ap (λ (t : Tables). t.petition) (rows_seen seen)) (petitions_seen seen)
+
+    pub kept_counter : 10 ≢ tree → ShowsTable new 10 (numbered_in petition_head_places) tables.petition_head
+    kept_counter apart = unwritten (numbered_in petition_head_places) tables.petition_head 10 apart ((λ e. cc), ((λ e. cc), ((λ e. cc), tt))) (ap (λ (t : Tables). t.petition_head) (rows_seen seen)) (counter_seen seen)
+
+  -- the table that isn't read
+  pub kept_unread : 3 ≢ tree → KeepsUnread old.now new.now
+  kept_unread apart = it.others 3 apart ((λ e. cc), ((λ e. cc), ((λ e. cc), tt)))
+
+  pub sees_all : (next : Tables) → IsCurrent next → ShowsTable new 0 (numbered_in head_places) next.head → ShowsTable new 1 (numbered_in object_places) next.object → ShowsTable new 2 (numbered_in prop_places) next.prop
+      → ShowsTable new 7 (paired_in slot_places) next.slot → ShowsTable new 5 (paired_in verb_places) next.verb
+      → ShowsTable new 9 (numbered_in petition_places) next.petition → ShowsTable new 10 (numbered_in petition_head_places) next.petition_head → Sees new next
+  sees_all next current h o p s v q c = record {
+    is_open = it.is_open;
+    inside = it.inside;
+    current = current;
+    holds = record {
+      sound = it.sound;
+      schema = it.schema_is ∙ sym (ap schema_of current);
+      rows = subst (λ v. tables_in v new.now.trees ≡ next) (sym current) (same_tables (sym current) h.cells o.cells p.cells s.cells v.cells q.cells c.cells);
+      heads = h.keyed;
+      objects = o.keyed;
+      props = p.keyed;
+      slots = subst (λ v. AreKeyed (new.now.trees (slot_tree v))) (sym current) s.keyed;
+      verbs = v.keyed;
+      petitions = subst (λ v. AreKeyed (petition_rows v (new.now.trees 9))) (sym current) q.keyed;
+      petition_heads = subst (λ v. AreKeyed (petition_rows v (new.now.trees 10))) (sym current) c.keyed;
+    };
+  }
+
+  -- a tree was written that has no row of the tables
+  pub sees_same : (tables : Tables) → Sees old tables → 0 ≢ tree → 1 ≢ tree → 2 ≢ tree → 7 ≢ tree → 5 ≢ tree → 9 ≢ tree → 10 ≢ tree → Sees new tables
+  sees_same tables seen no_head no_object no_prop no_slot no_verb no_petition no_counter =
+      sees_all tables seen.current (kept_head tables seen no_head) (kept_object tables seen no_object) (kept_prop tables seen no_prop) (kept_slot tables seen no_slot) (kept_verb tables seen no_verb)
+      (kept_petition tables seen no_petition) (kept_counter tables seen no_counter)
+
+-- ---- a tree was set to the rows that it had
+
+module _ {old new : State} {tree : ℕ} (it : SetsTree old new tree (old.now.trees tree)) where
+  still : (t : ℕ) → IsNoIndex present_schema t → new.now.trees t ≡ old.now.trees t
+  still t no_index = go (t == tree) refl
+    where
+      go : (b : Bool) → (t == tree) ≡ b → new.now.trees t ≡ old.now.trees t
+      go true e = subst (λ u. new.now.trees u ≡ old.now.trees u) (sym ((Decides-eqb t tree).0 e)) it.rows_are
+      go false e = it.others t (λ same. true≢false (sym ((Decides-eqb t tree).1 same) ∙ e)) no_index
+
+  stays_shown : {K : Type 0} (shown : List Row → K → Option Row) (table : K → Option Row) (t : ℕ) → IsNoIndex present_schema t → shown (old.now.trees t) ≡ table → AreKeyed (old.now.trees t) → ShowsTable new t shown table
+  stays_shown shown table t no_index was keyed = let same = still t no_index in record { cells = ap shown same ∙ was; keyed = subst AreKeyed (sym same) keyed }
+
+  pub sees_still : (tables : Tables) → Sees old tables → Sees new tables × KeepsUnread old.now new.now
+  sees_still tables seen = (
+    sees_all it tables seen.current
+        (stays_shown (numbered_in head_places) tables.head 0 ((λ e. cc), ((λ e. cc), ((λ e. cc), tt))) (ap (λ (t : Tables). t.head) (rows_seen seen)) seen.holds.heads)
+        (stays_shown (numbered_in object_places) tables.object 1 ((λ e. cc), ((λ e. cc), ((λ e. cc), tt))) (ap (λ (t : Tables). t.object) (rows_seen seen)) seen.holds.objects)
+        (stays_shown (numbered_in prop_places) tables.prop 2 ((λ e. cc), ((λ e. cc), ((λ e. cc), tt))) (ap (λ (t : Tables). t.prop) (rows_seen seen)) seen.holds.props)
+        (stays_shown (paired_in slot_places) tables.slot 7 ((λ e. cc), ((λ e. cc), ((λ e. cc), tt))) (ap (λ (t : Tables). t.slot) (rows_seen seen)) (slots_seen seen))
+        (stays_shown (paired_in verb_places) tables.verb 5 ((λ e. cc), ((λ e. cc), ((λ e. cc), tt))) (ap (λ (t : Tables). t.verb) (rows_seen seen)) seen.holds.verbs)
+        (stays_shown (numbered_in petition_places) tables.petition 9 ((λ e. cc), ((λ e. cc), ((λ e. cc), tt))) (ap (λ (t : Tables). t.petition) (rows_seen seen)) (petitions_seen seen))
+        (stays_shown (numbered_in petition_head_places) tables.petition_head 10 ((λ e. cc), ((λ e. cc), ((λ e. cc), tt))) (ap (λ (t : Tables). t.petition_head) (rows_seen seen)) (counter_seen seen)),
+    still 3 ((λ e. cc), ((λ e. cc), ((λ e. cc), tt))),
+  )
+
+-- ---- one table was written, and at one key
+
+pub sees_head : (old new : State) (tables : Tables) (key : ℤ) (cells : Option Row) (rows : List Row) → Sees old tables → SetsTree old new 0 rows → AreKeyed rows
+    → ((k : ℤ) → numbered_in head_places rows k ≡ numbered_with key cells (numbered_in head_places (old.now.trees 0)) k) → Sees new (record tables { head = numbered_with key cells tables.head }) × KeepsUnread old.now new.now
+sees_head old new tables key cells rows seen it keyed at_keys = (
+  sees_all it (record tables { head = numbered_with key cells tables.head }) seen.current
+      (written it (numbered_in head_places) (numbered_with key cells) tables.head (ap (λ (t : Tables). t.head) (rows_seen seen)) keyed at_keys) (kept_object it tables seen (λ e. cc)) (kept_prop it tables seen (λ e. cc)) (kept_slot it tables seen (λ e. cc)) (kept_verb it tables seen (λ e. cc)) (kept_petition it tables seen (λ e. cc)) (kept_counter it tables seen (λ e. cc)),
+  kept_unread it (λ e. cc),
+)
+
+pub sees_object : (old new : State) (tables : Tables) (key : ℤ) (cells : Option Row) (rows : List Row) → Sees old tables → SetsTree old new 1 rows → AreKeyed rows
+    → ((k : ℤ) → numbered_in object_places rows k ≡ numbered_with key cells (numbered_in object_places (old.now.trees 1)) k) → Sees new (record tables { object = numbered_with key cells tables.object }) × KeepsUnread old.now new.now
+sees_object old new tables key cells rows seen it keyed at_keys = (
+  sees_all it (record tables { object = numbered_with key cells tables.object }) seen.current
+      (kept_head it tables seen (λ e. cc)) (written it (numbered_in object_places) (numbered_with key cells) tables.object (ap (λ (t : Tables). t.object) (rows_seen seen)) keyed at_keys) (kept_prop it tables seen (λ e. cc)) (kept_slot it tables seen (λ e. cc)) (kept_verb it tables seen (λ e. cc)) (kept_petition it tables seen (λ e. cc)) (kept_counter it tables seen (λ e. cc)),
+  kept_unread it (λ e. cc),
+)
+
+pub sees_prop : (old new : State) (tables : Tables) (key : ℤ) (cells : Option Row) (rows : List Row) → Sees old tables → SetsTree old new 2 rows → AreKeyed rows
+    → ((k : ℤ) → numbered_in prop_places rows k ≡ numbered_with key cells (numbered_in prop_places (old.now.trees 2)) k) → Sees new (record tables { prop = numbered_with key cells tables.prop }) × KeepsUnread old.now new.now
+sees_prop old new tables key cells rows seen it keyed at_keys = (
+  sees_all it (record tables { prop = numbered_with key cells tables.prop }) seen.current
+      (kept_head it tables seen (λ e. cc)) (kept_object it tables seen (λ e. cc)) (written it (numbered_in prop_places) (numbered_with key cells) tables.prop (ap (λ (t : Tables). t.prop) (rows_seen seen)) keyed at_keys) (kept_slot it tables seen (λ e. cc)) (kept_verb it tables seen (λ e. cc)) (kept_petition it tables seen (λ e. cc)) (kept_counter it tables seen (λ e. cc)),
+  kept_unread it (λ e. cc),
+)
+
+pub sees_slot : (old new : State) (tables : Tables) (key : ℤ × ℤ) (cells : Option Row) (rows : List Row) → Sees old tables → SetsTree old new 7 rows → AreKeyed rows
+    → ((k : ℤ × ℤ) → paired_in slot_places rows k ≡ paired_with key cells (paired_in slot_places (old.now.trees 7)) k) → Sees new (record tables { slot = paired_with key cells tables.slot }) × KeepsUnread old.now new.now
+sees_slot old new tables key cells rows seen it keyed at_keys = (
+  sees_all it (record tables { slot = paired_with key cells tables.slot }) seen.current
+      (kept_head it tables seen (λ e. cc)) (kept_object it tables seen (λ e. cc)) (kept_prop it tables seen (λ e. cc)) (written it (paired_in slot_places) (paired_with key cells) tables.slot (ap (λ (t : Tables). t.slot) (rows_seen seen)) keyed at_keys) (kept_verb it tables seen (λ e. cc)) (kept_petition it tables seen (λ e. cc)) (kept_counter it tables seen (λ e. cc)),
+  kept_unread it (λ e. cc),
+)
+
+pub sees_verb : (old new : State) (tables : Tables) (key : ℤ × ℤ) (cells : Option Row) (rows : List Row) → Sees old tables → SetsTree old new 5 rows → AreKeyed rows
+    → ((k : ℤ × ℤ) → paired_in verb_places rows k ≡ paired_with key cells (paired_in verb_places (old.now.trees 5)) k) → Sees new (record tables { verb = paired_with key cells tables.verb }) × KeepsUnread old.now new.now
+sees_verb old new tables key cells rows seen it keyed at_keys = (
+  sees_all it (record tables { verb = paired_with key cells tables.verb }) seen.current
+      (kept_head it tables seen (λ e. cc)) (kept_object it tables seen (λ e. cc)) (kept_prop it tables seen (λ e. cc)) (kept_slot it tables seen (λ e. cc)) (written it (paired_in verb_places) (paired_with key cells) tables.verb (ap (λ (t : Tables). t.verb) (rows_seen seen)) keyed at_keys) (kept_petition it tables seen (λ e. cc)) (kept_counter it tables seen (λ e. cc)),
+  kept_unread it (λ e. cc),
+)
+
+pub sees_petition : (old new : State) (tables : Tables) (key : ℤ) (cells : Option Row) (rows : List Row) → Sees old tables → SetsTree old new 9 rows → AreKeyed rows
+    → ((k : ℤ) → numbered_in petition_places rows k ≡ numbered_with key cells (numbered_in petition_places (old.now.trees 9)) k) → Sees new (record tables { petition = numbered_with key cells tables.petition }) × KeepsUnread old.now new.now
+sees_petition old new tables key cells rows seen it keyed at_keys = (
+  sees_all it (record tables { petition = numbered_with key cells tables.petition }) seen.current
+      (kept_head it tables seen (λ e. cc)) (kept_object it tables seen (λ e. cc)) (kept_prop it tables seen (λ e. cc)) (kept_slot it tables seen (λ e. cc)) (kept_verb it tables seen (λ e. cc)) (written it (numbered_in petition_places) (numbered_with key cells) tables.petition (ap (λ (t : Tables). t.petition) (rows_seen seen)) keyed at_keys) (kept_counter it tables seen (λ e. cc)),
+  kept_unread it (λ e. cc),
+)
+
+pub sees_counter : (old new : State) (tables : Tables) (key : ℤ) (cells : Option Row) (rows : List Row) → Sees old tables → SetsTree old new 10 rows → AreKeyed rows
+    → ((k : ℤ) → numbered_in petition_head_places rows k ≡ numbered_with key cells (numbered_in petition_head_places (old.now.trees 10)) k) → Sees new (record tables { petition_head = numbered_with key cells tables.petition_head }) × KeepsUnread old.now new.now
+sees_counter old new tables key cells rows seen it keyed at_keys = (
+  sees_all it (record tables { petition_head = numbered_with key cells tables.petition_head }) seen.current
+      (kept_head it tables seen (λ e. cc)) (kept_object it tables seen (λ e. cc)) (kept_prop it tables seen (λ e. cc)) (kept_slot it tables seen (λ e. cc)) (kept_verb it tables seen (λ e. cc)) (kept_petition it tables seen (λ e. cc)) (written it (numbered_in petition_head_places) (numbered_with key cells) tables.petition_head (ap (λ (t : Tables). t.petition_head) (rows_seen seen)) keyed at_keys),
+  kept_unread it (λ e. cc),
+)

@@ -1,0 +1,14 @@
+pub mod Cause
+pub mod Cells
+pub mod Columns
+pub mod Head
+pub mod Inside
+pub mod Object
+pub mod Over
+pub mod Petition
+pub mod Prop
+pub mod Slot
+pub mod Tables
+pub mod Texts
+pub mod Verb
+pub mod Version

@@ -1,0 +1,25 @@
+-- The table `prop`: its columns, and the cells of a row.
+use Rattle.std.specs.Prelude.{◌≡◌, [], ◌∷◌, codes, List, ℕ, pos, Option, Some}
+use Rattle.sqlite.specs.Order.{Row, column}
+use Rattle.sqlite.specs.Table.{Table}
+use Rattle.sqlite.specs.declared.types.Value.TheVariants.{Int, Text}
+use Rattle.moo_rows.specs.declared.row.PropId.{PropId}
+use Rattle.moo_rows.specs.declared.row.PropRow.{PropRow}
+use Rattle.moo_tables_rows.specs.declared.prop.PropCells.{PropCells}
+use Rattle.moo_tables_rows.specs.Columns.{numbered, number, text, KeepsCell}
+
+abbrev pub prop_table : Table
+prop_table = numbered (codes "prop") 2 (number (codes "id") ∷ number (codes "definer") ∷ text (codes "name") ∷ [])
+
+abbrev pub prop_row : PropId → PropCells → Row
+prop_row id row = Int (pos id.0) ∷ Int row.definer.0 ∷ Text row.name.items ∷ []
+
+-- a row over the one that is there, if one is
+abbrev pub prop_cells : PropId → PropCells → Option Row → Option Row
+prop_cells id row old = Some (prop_row id row)
+
+-- what a change of a row keeps, column by column
+pub record PropColumns (a b : PropRow) (old new : Row) : Type 0 where
+  pub id : column new 0 ≡ column old 0
+  pub definer : KeepsCell a.definer b.definer 1 old new
+  pub name : KeepsCell a.name b.name 2 old new

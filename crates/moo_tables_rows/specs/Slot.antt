@@ -1,0 +1,34 @@
+-- The tables of the slots, `slot` in the first version and `slot2` after it: their columns, and the cells of a row of `slot2`.
+use Rattle.std.specs.Prelude.{◌≡◌, [], ◌∷◌, codes, List, ℕ, pos, Option}
+use Rattle.sqlite.specs.Order.{Row, column}
+use Rattle.sqlite.specs.Table.{Table}
+use Rattle.sqlite.specs.declared.types.Value.{Value}
+use Rattle.sqlite.specs.declared.types.Value.TheVariants.{Int}
+use Rattle.moo_value.specs.declared.value.ObjNo.{ObjNo}
+use Rattle.moo_rows.specs.declared.row.PropId.{PropId}
+use Rattle.moo_rows.specs.declared.row.SlotRow.{SlotRow}
+use Rattle.moo_tables_rows.specs.declared.slot.SlotCells.{SlotCells}
+use Rattle.moo_tables_rows.specs.Columns.{paired, number, text, cells_over, KeepsCell}
+
+abbrev pub slot_table : Table
+slot_table = paired (codes "slot") 3
+    (number (codes "object") ∷ number (codes "prop") ∷ number (codes "owner") ∷ text (codes "bits") ∷ text (codes "value") ∷ [])
+
+abbrev pub slot2_table : Table
+slot2_table = paired (codes "slot2") 7
+    (number (codes "object") ∷ number (codes "prop") ∷ number (codes "owner") ∷ number (codes "bits") ∷ text (codes "value") ∷ [])
+
+abbrev pub slot_row : ObjNo × PropId → SlotCells → Value → Row
+slot_row key row value = Int key.0.0 ∷ Int (pos key.1.0) ∷ Int row.owner.0 ∷ Int row.bits ∷ value ∷ []
+
+-- a row over the one that is there, if one is
+abbrev pub slot_cells : ObjNo × PropId → SlotCells → Option Row → Option Row
+slot_cells key row old = cells_over (slot_row key row) 4 row.value old
+
+-- what a change of a row keeps, column by column
+pub record SlotColumns (a b : SlotRow) (old new : Row) : Type 0 where
+  pub object : column new 0 ≡ column old 0
+  pub prop : column new 1 ≡ column old 1
+  pub owner : KeepsCell a.owner b.owner 2 old new
+  pub bits : KeepsCell a.bits b.bits 3 old new
+  pub value : KeepsCell a.state b.state 4 old new

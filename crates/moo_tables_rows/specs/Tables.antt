@@ -1,0 +1,201 @@
+-- The tables of the store, as the schema has them, and their rows.
+use Rattle.std.specs.Prelude.{◌≡◌, Bool, true, if◌then◌else◌, ◌&&◌, ℕ, ℤ, codes}
+use Rattle.std.specs.Prelude.{Option, option_map, List, [], ◌∷◌, find}
+use Rattle.std.specs.Ordering.{is_eq, int_cmp}
+use Rattle.sqlite.specs.declared.types.Value.TheVariants.{Int}
+use Rattle.sqlite.specs.Order.{Row, column, value_cmp}
+use Rattle.sqlite.specs.Tree.{Trees, has_rowid}
+use Rattle.sqlite.specs.Schema.{Schema}
+use Rattle.sqlite.specs.Effect.{Database, IsDatabase}
+use Rattle.sqlite_trees.specs.View.{IsShaped}
+use Rattle.sqlite_trees.specs.declared.store.Shape.TheVariants as shape
+use Rattle.sqlite_value.specs.Keys.{plain}
+use Rattle.sqlite_schema.specs.declared.schema.Index.{Index}
+use Rattle.moo_tables_rows.specs.declared.version.Version.{Version}
+use Rattle.moo_tables_rows.specs.declared.version.Version.TheVariants.{First, Second}
+use Rattle.moo_tables_rows.specs.Version.{present, has_petitions, has_lettered_bits}
+pub use Rattle.moo_tables_rows.specs.Columns.{required, number, text, table_of, numbered, paired, cells_at, number_places, pair_places}
+pub use Rattle.moo_tables_rows.specs.Head.{head_table, petition_head_table}
+pub use Rattle.moo_tables_rows.specs.Object.{object_table}
+pub use Rattle.moo_tables_rows.specs.Petition.{petition_table}
+pub use Rattle.moo_tables_rows.specs.Prop.{prop_table}
+pub use Rattle.moo_tables_rows.specs.Slot.{slot_table, slot2_table}
+pub use Rattle.moo_tables_rows.specs.Verb.{verb_table}
+
+abbrev pub key_index : List ℕ → ℕ → ℕ → Index
+key_index name tree table = record { name = name; tree = tree; table = table; columns = 1 ∷ 2 ∷ []; order = plain; is_unique = true }
+
+abbrev pub no_schema : Schema
+no_schema = record { tables = []; indexes = []; views = [] }
+
+abbrev pub head_schema : Schema
+head_schema = record { tables = head_table ∷ []; indexes = []; views = [] }
+
+abbrev pub object_schema : Schema
+object_schema = record { tables = head_table ∷ object_table ∷ []; indexes = []; views = [] }
+
+abbrev pub prop_schema : Schema
+prop_schema = record { tables = head_table ∷ object_table ∷ prop_table ∷ []; indexes = []; views = [] }
+
+abbrev pub slot_schema : Schema
+slot_schema = record {
+  tables = head_table ∷ object_table ∷ prop_table ∷ slot_table ∷ [];
+  indexes = key_index (codes "sqlite_autoindex_slot_1") 4 3 ∷ [];
+  views = [];
+}
+
+-- the five tables of the first version
+abbrev pub first_schema : Schema
+first_schema = record {
+  tables = head_table ∷ object_table ∷ prop_table ∷ slot_table ∷ verb_table ∷ [];
+  indexes = key_index (codes "sqlite_autoindex_slot_1") 4 3 ∷ key_index (codes "sqlite_autoindex_verb_1") 6 5 ∷ [];
+  views = [];
+}
+
+abbrev pub slot2_schema : Schema
+slot2_schema = record {
+  tables = head_table ∷ object_table ∷ prop_table ∷ slot_table ∷ verb_table ∷ slot2_table ∷ [];
+  indexes = key_index (codes "sqlite_autoindex_slot_1") 4 3 ∷ key_index (codes "sqlite_autoindex_verb_1") 6 5
+      ∷ key_index (codes "sqlite_autoindex_slot2_1") 8 7 ∷ [];
+  views = [];
+}
+
+abbrev pub petition_schema : Schema
+petition_schema = record {
+  tables = head_table ∷ object_table ∷ prop_table ∷ slot_table ∷ verb_table ∷ slot2_table ∷ petition_table ∷ [];
+  indexes = key_index (codes "sqlite_autoindex_slot_1") 4 3 ∷ key_index (codes "sqlite_autoindex_verb_1") 6 5
+      ∷ key_index (codes "sqlite_autoindex_slot2_1") 8 7 ∷ [];
+  views = [];
+}
+
+-- the eight tables of the second version
+abbrev pub second_schema : Schema
+second_schema = record {
+  tables = head_table ∷ object_table ∷ prop_table ∷ slot_table ∷ verb_table ∷ slot2_table ∷ petition_table
+      ∷ petition_head_table ∷ [];
+  indexes = key_index (codes "sqlite_autoindex_slot_1") 4 3 ∷ key_index (codes "sqlite_autoindex_verb_1") 6 5
+      ∷ key_index (codes "sqlite_autoindex_slot2_1") 8 7 ∷ [];
+  views = [];
+}
+
+abbrev pub schema_of : Version → Schema
+schema_of First = first_schema
+schema_of Second = second_schema
+
+-- the tables of the version that is written
+abbrev pub present_schema : Schema
+present_schema = schema_of present
+
+-- the tree of the table that has the slots
+abbrev pub slot_tree : Version → ℕ
+slot_tree version = if has_lettered_bits version then 3 else 7
+
+-- the tables that this version has and doesn't read have the rows that they had: `slot` of the first version
+abbrev pub KeepsUnread : Database → Database → Type 0
+KeepsUnread old new = new.trees (slot_tree First) ≡ old.trees (slot_tree First)
+
+-- the cells of each row, in the order of the columns, by its key: of the slots those in the table of the version, and of petitions none if
+-- it has none
+pub record Tables : Type 0 where
+  pub version : Version
+  pub head : ℤ → Option Row
+  pub object : ℤ → Option Row
+  pub prop : ℤ → Option Row
+  pub slot : ℤ × ℤ → Option Row
+  pub verb : ℤ × ℤ → Option Row
+  pub petition : ℤ → Option Row
+  pub petition_head : ℤ → Option Row
+
+-- ---- the places of each table's cells in its rows
+
+abbrev pub head_places : List ℕ
+head_places = number_places head_table
+
+abbrev pub object_places : List ℕ
+object_places = number_places object_table
+
+abbrev pub prop_places : List ℕ
+prop_places = number_places prop_table
+
+-- both tables of slots have as many columns
+abbrev pub slot_places : List ℕ
+slot_places = pair_places slot2_table
+
+abbrev pub verb_places : List ℕ
+verb_places = pair_places verb_table
+
+abbrev pub petition_places : List ℕ
+petition_places = number_places petition_table
+
+abbrev pub petition_head_places : List ℕ
+petition_head_places = number_places petition_head_table
+
+abbrev pub has_pair : ℤ × ℤ → Row → Bool
+has_pair key row = is_eq (value_cmp (column row 1) (Int key.0)) && is_eq (value_cmp (column row 2) (Int key.1))
+
+abbrev pub found_in : {K : Type 0} → (K → Row → Bool) → (Row → Row) → List Row → K → Option Row
+found_in has shown rows key = option_map shown (find (has key) rows)
+
+abbrev pub numbered_in : List ℕ → List Row → ℤ → Option Row
+numbered_in places = found_in has_rowid (cells_at places)
+
+abbrev pub paired_in : List ℕ → List Row → ℤ × ℤ → Option Row
+paired_in places = found_in has_pair (cells_at places)
+
+-- the rows of a table of petitions: none if the version has no petitions
+abbrev pub petition_rows : Version → List Row → List Row
+petition_rows version rows = if has_petitions version then rows else []
+
+abbrev pub tables_in : Version → Trees → Tables
+tables_in version db = record {
+  version = version;
+  head = numbered_in head_places (db 0);
+  object = numbered_in object_places (db 1);
+  prop = numbered_in prop_places (db 2);
+  slot = paired_in slot_places (db (slot_tree version));
+  verb = paired_in verb_places (db 5);
+  petition = numbered_in petition_places (petition_rows version (db 9));
+  petition_head = numbered_in petition_head_places (petition_rows version (db 10));
+}
+
+-- the rows rise by their numbers, which are whole
+abbrev pub AreKeyed : List Row → Type 0
+AreKeyed = IsShaped shape.Table
+
+-- a sound database of exactly these tables, with these rows
+pub record Holds (db : Database) (tables : Tables) : Type 0 where
+  pub sound : IsDatabase db
+  pub schema : db.schema ≡ schema_of tables.version
+  pub rows : tables_in tables.version db.trees ≡ tables
+  pub heads : AreKeyed (db.trees 0)
+  pub objects : AreKeyed (db.trees 1)
+  pub props : AreKeyed (db.trees 2)
+  pub slots : AreKeyed (db.trees (slot_tree tables.version))
+  pub verbs : AreKeyed (db.trees 5)
+  pub petitions : AreKeyed (petition_rows tables.version (db.trees 9))
+  pub petition_heads : AreKeyed (petition_rows tables.version (db.trees 10))
+
+-- ---- a change at one key
+
+abbrev pub same_number : ℤ → ℤ → Bool
+same_number a b = is_eq (int_cmp a b)
+
+abbrev pub same_numbers : ℤ × ℤ → ℤ × ℤ → Bool
+same_numbers a b = same_number a.0 b.0 && same_number a.1 b.1
+
+-- the table with these cells at the key, or none
+abbrev pub with_cells : {K : Type 0} → (K → K → Bool) → K → Option Row → (K → Option Row) → K → Option Row
+with_cells same key cells table k = if same k key then cells else table k
+
+abbrev pub numbered_with : ℤ → Option Row → (ℤ → Option Row) → ℤ → Option Row
+numbered_with = with_cells same_number
+
+abbrev pub paired_with : ℤ × ℤ → Option Row → (ℤ × ℤ → Option Row) → ℤ × ℤ → Option Row
+paired_with = with_cells same_numbers
+
+-- the table with a change of what it has at the key
+abbrev pub numbered_over : ℤ → (Option Row → Option Row) → (ℤ → Option Row) → ℤ → Option Row
+numbered_over key change table = numbered_with key (change (table key)) table
+
+abbrev pub paired_over : ℤ × ℤ → (Option Row → Option Row) → (ℤ × ℤ → Option Row) → ℤ × ℤ → Option Row
+paired_over key change table = paired_with key (change (table key)) table

@@ -1,0 +1,44 @@
+//! The table `petition_head`: the writing of its rows.
+
+ghost use Rattle.std.specs.Prelude.{◌≡◌, OnOk};
+ghost use Rattle.sqlite.specs.Values.{bound};
+ghost use Rattle.moo_tables_rows.specs.Cells.{with_counter, with_next_petition};
+ghost use Rattle.moo_tables_rows.specs.Cause.{HasCauseIn};
+ghost use Rattle.moo_tables_rows.specs.Head.{petition_head_cells};
+ghost use Rattle.moo_tables_rows.specs.Inside.{StaysInside, Changes};
+
+use crate::statement::{Run, counter_value};
+use sqlite::Error;
+use sqlite_value::value::ValueRef;
+
+fn counter_values(next: u32) -> [ValueRef<'static>; 2]
+    ensures { bound result ≡ petition_head_cells next }
+{
+    [ValueRef::Int(1), counter_value(next)]
+}
+
+/// Puts the number of the next petition, in place of the one that is there. If that is the same, nothing is written.
+pub fn put_counter<T: Run>(tx: &mut T, next: u32) -> Result<usize, Error>
+    ensures same_reference { T.lender tx.new ≡ T.lender tx.old }
+    ensures inside { StaysInside (T.state tx.old) (T.state tx.new) }
+    ensures put { OnOk result (Changes (with_counter next) (T.state tx.old) (T.state tx.new)) }
+    ensures cause { HasCauseIn (T.state tx.old) (T.state tx.new) result }
+{
+    tx.run(
+        "INSERT INTO petition_head VALUES (?1, ?2) ON CONFLICT (id) DO UPDATE SET next_petition = ?2 WHERE next_petition <> ?2",
+        &counter_values(next),
+    )
+}
+
+/// Puts the number of the next petition, if one is given. Else nothing runs, and the row stays.
+pub fn put_next_petition<T: Run>(tx: &mut T, next: Option<u32>) -> Result<usize, Error>
+    ensures same_reference { T.lender tx.new ≡ T.lender tx.old }
+    ensures inside { StaysInside (T.state tx.old) (T.state tx.new) }
+    ensures put { OnOk result (Changes (with_next_petition next) (T.state tx.old) (T.state tx.new)) }
+    ensures cause { HasCauseIn (T.state tx.old) (T.state tx.new) result }
+{
+    match next {
+        Some(next) => put_counter(tx, next),
+        None => Ok(0),
+    }
+}

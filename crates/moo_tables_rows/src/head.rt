@@ -1,0 +1,52 @@
+//! The table `head`: the writing of its rows.
+
+ghost use Rattle.std.specs.Prelude.{◌≡◌, ◌<◌, ◌^◌, OnOk};
+ghost use Rattle.sqlite.specs.Values.{bound};
+ghost use Rattle.moo_tables_rows.specs.Cells.{with_head_cells};
+ghost use Rattle.moo_tables_rows.specs.Cause.{HasCauseIn};
+ghost use Rattle.moo_tables_rows.specs.Head.{head_cells};
+ghost use Rattle.moo_tables_rows.specs.Inside.{StaysInside, Changes};
+ghost use Rattle.moo_tables_rows.specs.Version.{present};
+
+use crate::statement::{Run, counter_value};
+use crate::version::Version;
+use moo_rows::Head;
+use sqlite::Error;
+use sqlite_value::value::ValueRef;
+
+fn head_values(row: &Head) -> [ValueRef<'static>; 6]
+    requires { row.now.seq < 2 ^ 63 }
+    ensures { bound result ≡ head_cells present row.now }
+{
+    [
+        ValueRef::Int(1),
+        ValueRef::Int(Version::PRESENT.number()),
+        ValueRef::Int(row.seq as i64),
+        ValueRef::Int(i64::from(row.top)),
+        counter_value(row.next_prop),
+        counter_value(row.next_verb),
+    ]
+}
+
+/// Puts the row of the head, in place of the one that is there. Only a new table has none.
+pub fn put_head<T: Run>(tx: &mut T, row: &Head) -> Result<(), Error>
+    requires { row.now.seq < 2 ^ 63 }
+    ensures same_reference { T.lender tx.new ≡ T.lender tx.old }
+    ensures inside { StaysInside (T.state tx.old) (T.state tx.new) }
+    ensures put { OnOk result (Changes (with_head_cells row.now) (T.state tx.old) (T.state tx.new)) }
+    ensures cause { HasCauseIn (T.state tx.old) (T.state tx.new) result }
+{
+    let values = head_values(row);
+    let count = tx.run(
+        "UPDATE head SET version = ?2, seq = ?3, top = ?4, next_prop = ?5, next_verb = ?6 WHERE id = ?1",
+        &values,
+    )?;
+    if count > 0 {
+        return Ok(());
+    }
+    tx.run(
+        "INSERT INTO head VALUES (?1, ?2, ?3, ?4, ?5, ?6) ON CONFLICT (id) DO UPDATE SET version = ?2, seq = ?3, top = ?4, next_prop = ?5, next_verb = ?6",
+        &values,
+    )?;
+    Ok(())
+}

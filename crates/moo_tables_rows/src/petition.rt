@@ -1,0 +1,74 @@
+//! The table `petition`: the writing of its rows.
+
+ghost use Rattle.std.specs.Prelude.{◌≡◌};
+ghost use Rattle.sqlite.specs.Values.{bound};
+ghost use Rattle.sqlite.specs.declared.types.Value.TheVariants.{Null, Text};
+ghost use Rattle.moo_tables_rows.specs.Cells.{with_petition_cells};
+ghost use Rattle.moo_tables_rows.specs.Columns.{all_but};
+ghost use Rattle.moo_tables_rows.specs.Petition.{petition_row, petition_table};
+
+use crate::statement::{Run, counter_value, object_value, text_value};
+use crate::table_row::TableRow;
+use moo_rows::PetitionId;
+use moo_value::ObjNo;
+use sqlite::Error;
+use sqlite_value::value::ValueRef;
+
+/// A row of the table `petition`, without its key.
+#[derive(Drop)]
+pub struct PetitionCells {
+    pub who: ObjNo,
+    /// A literal list. None leaves the cell that is there.
+    pub calls: Option<Vec<u8>>,
+}
+
+fn petition_values<'a>(id: PetitionId, row: &'a PetitionCells, calls: &'a [u8]) -> [ValueRef<'a>; 3]
+    ensures { bound result ≡ petition_row id row.now (Text calls.now) }
+{
+    [
+        counter_value(id.0),
+        object_value(row.who),
+        text_value(calls),
+    ]
+}
+
+/// The values of a row but for its calls.
+fn kept_petition_values(id: PetitionId, row: &PetitionCells) -> [ValueRef<'_>; 2]
+    ensures { bound result ≡ all_but 2 (petition_row id row.now Null) }
+{
+    [counter_value(id.0), object_value(row.who)]
+}
+
+/// Writes over a row, but for its calls.
+const KEEP_PETITION: &str = "UPDATE petition SET who = ?2 WHERE id = ?1";
+
+impl TableRow for PetitionCells {
+    type Key = PetitionId;
+
+    ghost with_row = { with_petition_cells };
+
+    ghost table = { petition_table };
+
+    fn text_of_update() -> &'static str {
+        "UPDATE petition SET who = ?2, calls = ?3 WHERE id = ?1"
+    }
+
+    fn text_of_insert() -> &'static str {
+        "INSERT INTO petition VALUES (?1, ?2, ?3)"
+    }
+
+    fn text_of_put() -> &'static str {
+        "INSERT INTO petition VALUES (?1, ?2, ?3) ON CONFLICT (id) DO UPDATE SET who = ?2, calls = ?3"
+    }
+
+    fn write<T: Run>(&self, tx: &mut T, id: PetitionId, text: &str) -> Result<usize, Error> {
+        match &self.calls {
+            Some(calls) => tx.run(text, &petition_values(id, self, calls.as_slice())),
+            None => tx.run(KEEP_PETITION, &kept_petition_values(id, self)),
+        }
+    }
+
+    fn remove<T: Run>(tx: &mut T, id: PetitionId) -> Result<usize, Error> {
+        tx.run("DELETE FROM petition WHERE id = ?1", &[counter_value(id.0)])
+    }
+}

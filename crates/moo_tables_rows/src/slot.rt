@@ -1,0 +1,92 @@
+//! The table `slot2`, which has the slots: the writing of its rows. Nothing writes `slot`, which had them in the first version.
+
+ghost use Rattle.std.specs.Prelude.{◌≡◌, ◌∷◌, [], pos};
+ghost use Rattle.sqlite.specs.Values.{bound};
+ghost use Rattle.sqlite.specs.declared.types.Value.TheVariants.{Null, Int, Text};
+ghost use Rattle.moo_tables_rows.specs.Cells.{with_slot_cells};
+ghost use Rattle.moo_tables_rows.specs.Columns.{all_but};
+ghost use Rattle.moo_tables_rows.specs.Slot.{slot_row, slot2_table};
+
+use crate::statement::{Run, counter_value, object_value, text_value};
+use crate::table_row::TableRow;
+use moo_rows::PropId;
+use moo_value::ObjNo;
+use sqlite::Error;
+use sqlite_value::value::ValueRef;
+
+/// A row of the table `slot2`, without its key.
+#[derive(Drop)]
+pub struct SlotCells {
+    pub owner: ObjNo,
+    /// The sum of 4 if the slot is readable, 2 if it is writable and 1 if its owner changes with a child's.
+    pub bits: i64,
+    /// A literal, or nothing if the slot is clear. None leaves the cell that is there.
+    pub value: Option<Vec<u8>>,
+}
+
+fn slot_values<'a>(key: (ObjNo, PropId), row: &'a SlotCells, value: &'a [u8]) -> [ValueRef<'a>; 5]
+    ensures { bound result ≡ slot_row key row.now (Text value.now) }
+{
+    [
+        object_value(key.0),
+        counter_value(key.1.0),
+        object_value(row.owner),
+        ValueRef::Int(row.bits),
+        text_value(value),
+    ]
+}
+
+/// The values of a row but for its value.
+fn kept_slot_values(key: (ObjNo, PropId), row: &SlotCells) -> [ValueRef<'_>; 4]
+    ensures { bound result ≡ all_but 4 (slot_row key row.now Null) }
+{
+    [
+        object_value(key.0),
+        counter_value(key.1.0),
+        object_value(row.owner),
+        ValueRef::Int(row.bits),
+    ]
+}
+
+fn slot_key(key: (ObjNo, PropId)) -> [ValueRef<'static>; 2]
+    ensures { bound result ≡ Int key.0.0 ∷ Int (pos key.1.0) ∷ [] }
+{
+    [object_value(key.0), counter_value(key.1.0)]
+}
+
+/// Writes over a row, but for its value.
+const KEEP_SLOT: &str = "UPDATE slot2 SET owner = ?3, bits = ?4 WHERE object = ?1 AND prop = ?2";
+
+impl TableRow for SlotCells {
+    type Key = (ObjNo, PropId);
+
+    ghost with_row = { with_slot_cells };
+
+    ghost table = { slot2_table };
+
+    fn text_of_update() -> &'static str {
+        "UPDATE slot2 SET owner = ?3, bits = ?4, value = ?5 WHERE object = ?1 AND prop = ?2"
+    }
+
+    fn text_of_insert() -> &'static str {
+        "INSERT INTO slot2 VALUES (?1, ?2, ?3, ?4, ?5)"
+    }
+
+    fn text_of_put() -> &'static str {
+        "INSERT INTO slot2 VALUES (?1, ?2, ?3, ?4, ?5) ON CONFLICT (object, prop) DO UPDATE SET owner = ?3, bits = ?4, value = ?5"
+    }
+
+    fn write<T: Run>(&self, tx: &mut T, key: (ObjNo, PropId), text: &str) -> Result<usize, Error> {
+        match &self.value {
+            Some(value) => tx.run(text, &slot_values(key, self, value.as_slice())),
+            None => tx.run(KEEP_SLOT, &kept_slot_values(key, self)),
+        }
+    }
+
+    fn remove<T: Run>(tx: &mut T, key: (ObjNo, PropId)) -> Result<usize, Error> {
+        tx.run(
+            "DELETE FROM slot2 WHERE object = ?1 AND prop = ?2",
+            &slot_key(key),
+        )
+    }
+}

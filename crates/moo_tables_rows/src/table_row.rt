@@ -1,0 +1,78 @@
+//! What the writer of rows asks of a table.
+
+ghost use Rattle.std.specs.Prelude.{◌≡◌, Option, Some, None, IfOk, OnOk};
+ghost use Rattle.sqlite.specs.Table.{Table};
+ghost use Rattle.moo_tables_rows.specs.Cause.{HasCauseIn, MeetsRowIn};
+ghost use Rattle.moo_tables_rows.specs.Tables.{Tables};
+ghost use Rattle.moo_tables_rows.specs.Texts.{insert_text, put_text, update_text};
+ghost use Rattle.moo_tables_rows.specs.Over.{WritesOver, WritesRow};
+ghost use Rattle.moo_tables_rows.specs.Inside.{StaysInside, Changes};
+
+use crate::statement::Run;
+use sqlite::Error;
+
+/// A row without its key, of a table that has many.
+pub trait TableRow {
+    type Key: Copy;
+
+    ghost with_row: { Self.Key → Option Self → Tables → Tables };
+
+    /// The table that it is a row of.
+    ghost table: { Table };
+
+    /// The text of the statement that writes over the row with a key.
+    fn text_of_update() -> &'static str
+        ensures { result.now ≡ update_text table };
+
+    /// That of the statement that puts a new row.
+    fn text_of_insert() -> &'static str
+        ensures { result.now ≡ insert_text table };
+
+    /// That of the statement that puts a row, in place of the one with its key if there is one.
+    fn text_of_put() -> &'static str
+        ensures { result.now ≡ put_text table };
+
+    /// Runs the statement with one of these texts. If a cell of the row stays, it runs one instead that writes over the other cells.
+    fn write<T: Run>(&self, tx: &mut T, key: Self::Key, text: &str) -> Result<usize, Error>
+        ensures same_reference { T.lender tx.new ≡ T.lender tx.old }
+        ensures inside { StaysInside (T.state tx.old) (T.state tx.new) }
+        ensures wrote { WritesRow table (with_row key (Some self.now)) text.now (T.state tx.old) (T.state tx.new) result };
+
+    /// Deletes the row with a key, if there is one.
+    fn remove<T: Run>(tx: &mut T, key: Self::Key) -> Result<usize, Error>
+        ensures same_reference { T.lender tx.new ≡ T.lender tx.old }
+        ensures inside { StaysInside (T.state tx.old) (T.state tx.new) }
+        ensures gone { OnOk result (Changes (with_row key None) (T.state tx.old) (T.state tx.new)) }
+        ensures cause { HasCauseIn (T.state tx.old) (T.state tx.new) result };
+
+    /// Writes over the row with a key, if there is one. Answers how many rows it wrote over: one or none.
+    final fn update<T: Run>(&self, tx: &mut T, key: Self::Key) -> Result<usize, Error>
+        ensures same_reference { T.lender tx.new ≡ T.lender tx.old }
+        ensures inside { StaysInside (T.state tx.old) (T.state tx.new) }
+        ensures over { IfOk result (λ count. WritesOver (with_row key (Some self.now)) count (T.state tx.old) (T.state tx.new)) }
+        ensures cause { HasCauseIn (T.state tx.old) (T.state tx.new) result }
+    {
+        self.write(tx, key, Self::text_of_update())
+    }
+
+    /// Puts a new row. If a row has its key, a rule of the table refuses the new one, and nothing changes. A row of which a
+    /// cell stays is written over, if it is there.
+    final fn insert<T: Run>(&self, tx: &mut T, key: Self::Key) -> Result<usize, Error>
+        ensures same_reference { T.lender tx.new ≡ T.lender tx.old }
+        ensures inside { StaysInside (T.state tx.old) (T.state tx.new) }
+        ensures put { OnOk result (Changes (with_row key (Some self.now)) (T.state tx.old) (T.state tx.new)) }
+        ensures met { MeetsRowIn (T.state tx.old) (T.state tx.new) result }
+    {
+        self.write(tx, key, Self::text_of_insert())
+    }
+
+    /// Puts a row, in place of the one with its key if there is one.
+    final fn put<T: Run>(&self, tx: &mut T, key: Self::Key) -> Result<usize, Error>
+        ensures same_reference { T.lender tx.new ≡ T.lender tx.old }
+        ensures inside { StaysInside (T.state tx.old) (T.state tx.new) }
+        ensures put { OnOk result (Changes (with_row key (Some self.now)) (T.state tx.old) (T.state tx.new)) }
+        ensures cause { HasCauseIn (T.state tx.old) (T.state tx.new) result }
+    {
+        self.write(tx, key, Self::text_of_put())
+    }
+}

@@ -1,0 +1,86 @@
+//! A change of the rows of one table, whichever it is.
+
+ghost use Rattle.std.specs.Prelude.{◌≡◌, Some, OnOk};
+ghost use Rattle.moo_tables_rows.specs.Cells.{with_each};
+ghost use Rattle.moo_tables_rows.specs.Cause.{HasCauseIn};
+ghost use Rattle.moo_tables_rows.specs.Inside.{StaysInside, Changes};
+
+use crate::statement::{Run, is_conflict};
+use crate::table_row::TableRow;
+use sqlite::Error;
+
+/// Puts a new row. If a row has its key after all, the new one takes its place. Answers whether the insertion met one.
+///
+/// A plain insertion looks the key up once, and one that may write over a row looks it up twice.
+fn write_new<T: Run, R: TableRow>(tx: &mut T, key: R::Key, row: &R) -> Result<bool, Error>
+    ensures same_reference { T.lender tx.new ≡ T.lender tx.old }
+    ensures inside { StaysInside (T.state tx.old) (T.state tx.new) }
+    ensures written { OnOk result (Changes (R.with_row key (Some row.now)) (T.state tx.old) (T.state tx.new)) }
+    ensures cause { HasCauseIn (T.state tx.old) (T.state tx.new) result }
+{
+    match row.insert(tx, key) {
+        Ok(_) => Ok(false),
+        Err(error) => {
+            if !is_conflict(&error) {
+                return Err(error);
+            }
+            row.put(tx, key)?;
+            Ok(true)
+        }
+    }
+}
+
+/// Writes over the row with the key, or puts a new one if no row has it. Answers whether one had it.
+fn write_over<T: Run, R: TableRow>(tx: &mut T, key: R::Key, row: &R) -> Result<bool, Error>
+    ensures same_reference { T.lender tx.new ≡ T.lender tx.old }
+    ensures inside { StaysInside (T.state tx.old) (T.state tx.new) }
+    ensures written { OnOk result (Changes (R.with_row key (Some row.now)) (T.state tx.old) (T.state tx.new)) }
+    ensures cause { HasCauseIn (T.state tx.old) (T.state tx.new) result }
+{
+    let count = row.update(tx, key)?;
+    if count > 0 {
+        return Ok(true);
+    }
+    write_new(tx, key, row)
+}
+
+/// Puts the new row, or deletes the old one if there is no new one. Answers whether the next row is expected to be there.
+///
+/// If a row is expected, the cheaper statement is tried first, which only writes over one.
+fn write_row<T: Run, R: TableRow>(
+    tx: &mut T,
+    key: R::Key,
+    cells: &Option<R>,
+    expected: bool,
+) -> Result<bool, Error>
+    ensures same_reference { T.lender tx.new ≡ T.lender tx.old }
+    ensures inside { StaysInside (T.state tx.old) (T.state tx.new) }
+    ensures written { OnOk result (Changes (R.with_row key cells.now) (T.state tx.old) (T.state tx.new)) }
+    ensures cause { HasCauseIn (T.state tx.old) (T.state tx.new) result }
+{
+    match cells {
+        Some(row) if expected => write_over(tx, key, row),
+        Some(row) => write_new(tx, key, row),
+        None => {
+            R::remove(tx, key)?;
+            Ok(expected)
+        }
+    }
+}
+
+/// Writes these changes, one after another. After a row that wasn't there the others are taken to be new too, until one is there.
+pub fn write_rows<T: Run, R: TableRow>(
+    tx: &mut T,
+    changes: &[(R::Key, Option<R>)],
+) -> Result<(), Error>
+    ensures same_reference { T.lender tx.new ≡ T.lender tx.old }
+    ensures inside { StaysInside (T.state tx.old) (T.state tx.new) }
+    ensures written { OnOk result (Changes (with_each R.with_row changes.now) (T.state tx.old) (T.state tx.new)) }
+    ensures cause { HasCauseIn (T.state tx.old) (T.state tx.new) result }
+{
+    let mut expected = true;
+    for change in changes {
+        expected = write_row(tx, change.0, &change.1, expected)?;
+    }
+    Ok(())
+}

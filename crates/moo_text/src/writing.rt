@@ -1,0 +1,43 @@
+//! Bytes and answers, written whole.
+
+ghost use Rattle.std.specs.Prelude.{◌≡◌, ◌≢◌, ◌⊎◌, ℕ, take, IfErr, OnOk, OnErr};
+ghost use Rattle.std.specs.Io.KnownBytes.{Appends};
+ghost use Rattle.moo_text.specs.Replies.{answer_text};
+
+use crate::fault::{TextFault, WriteFault};
+use crate::reply::{Answer, print_answer};
+use std::alloc::Global;
+use std::io::Write;
+
+/// Writes all of the bytes. An error of the writer, or a count of 0, is a fault; a front of the bytes is written then.
+pub fn put_all<W: Write>(writer: &mut W, bytes: &[u8]) -> Result<(), WriteFault>
+    ensures ok { OnOk result (Appends (W.contents writer.old) (W.contents writer.new) bytes.now) }
+    ensures err { OnErr result ((count : ℕ) × Appends (W.contents writer.old) (W.contents writer.new) (take count bytes.now)) }
+{
+    let mut at = 0;
+    while at < bytes.len() {
+        match writer.write(&bytes[at..]) {
+            Ok(0) | Err(_) => return Err(WriteFault),
+            Ok(count) => at += count,
+        }
+    }
+    Ok(())
+}
+
+/// Writes the lines of an answer whole. At Write only the beginning of them is written, at OutOfMemory nothing.
+pub fn put_answer<W: Write>(alloc: Global, writer: &mut W, answer: &Answer) -> Result<(), TextFault>
+    ensures ok { OnOk result (Appends (W.contents writer.old) (W.contents writer.new) (answer_text answer.now)) }
+    ensures err { IfErr result (λ fault. (count : ℕ)
+        × Appends (W.contents writer.old) (W.contents writer.new) (take count (answer_text answer.now))
+        × (fault ≢ TextFault.Write → count ≡ 0)) }
+    ensures fault { IfErr result (λ fault. (fault ≡ TextFault.Write) ⊎ (fault ≡ TextFault.OutOfMemory)) }
+{
+    let mut text = Vec::new(alloc);
+    if print_answer(alloc, answer, &mut text).is_err() {
+        return Err(TextFault::OutOfMemory);
+    }
+    match put_all(writer, &text) {
+        Ok(()) => Ok(()),
+        Err(_) => Err(TextFault::Write),
+    }
+}
