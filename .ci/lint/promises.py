@@ -11,6 +11,7 @@ FUNCTION = re.compile(r"\bfn (\w+)")
 CLAUSE = re.compile(r"^\s*(?:ensures|requires) (\w+) \{")
 QUOTED = re.compile(r"`([^`]*)`")
 WORD = re.compile(r"[A-Za-z]\w*")
+DECLARED = re.compile(r"^ *(?:pub |abbrev |unfoldable )*([A-Za-z]\w*) *:", re.MULTILINE)
 NO_CLAUSES = {"impl", "requires", "result"}
 
 
@@ -46,9 +47,9 @@ def words_of_specs() -> set[str]:
     return words
 
 
-def words_of_proofs() -> set[str]:
-    """Each word that the proofs have: lemmas are among them."""
-    return {word for file in (TOP / "crates").glob("moo*/proofs/**/*.antt") for word in WORD.findall(file.read_text())}
+def names_in_proofs() -> set[str]:
+    """What the proofs declare: lemmas are among them."""
+    return {name for file in (TOP / "crates").glob("moo*/proofs/**/*.antt") for name in DECLARED.findall(file.read_text())}
 
 
 def rows() -> Iterator[Row]:
@@ -103,6 +104,6 @@ def wrong_in(row: Row, clauses: dict[str, set[str]], words: set[str], proofs: se
 
 def cases() -> Iterator[tuple[str, Optional[str]]]:
     """The name of each case, and what is wrong with it."""
-    clauses, words, proofs = clauses_of_functions(), words_of_specs(), words_of_proofs()
+    clauses, words, proofs = clauses_of_functions(), words_of_specs(), names_in_proofs()
     for row in rows():
         yield row.promise[:60], wrong_in(row, clauses, words, proofs)

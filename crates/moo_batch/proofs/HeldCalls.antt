@@ -1,5 +1,5 @@
 -- A call by its name and what it is given.
-use Rattle.std.{proofs.Common.{◌≡◌, List, [], ◌∷◌, Option, None, Some, refl, sym, ap, ◌∙◌}, specs.Prelude.{is_some, if◌then◌else◌}, specs.Option.{option_and_then, option_map}}
+use Rattle.std.{proofs.Common.{◌≡◌, List, ◌∷◌, Option, None, Some, refl, sym, ap, ◌∙◌}, specs.Prelude.{is_some, if◌then◌else◌}, specs.Option.{option_and_then, option_map}}
 use Rattle.moo_value.{specs.declared.value.Value.{Value}, specs.declared.value.Value.TheVariants.{Str}}
 use Rattle.moo_world.{specs.declared.call.Call.{Call}, specs.declared.name.CallName.{CallName}, specs.declared.name.PetitionCall.{PetitionCall}, specs.Names.{call_name_of, petition_call}, specs.Requests.{call_in}}
 

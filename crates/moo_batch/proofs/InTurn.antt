@@ -66,9 +66,8 @@ pub granted-reaches : (s : State) (p : ObjNo) (helds : List Value) (mid new : He
 granted-reaches s p helds mid new o (Ok v) is comes kept =
     ap (in_world s) comes ∙ ap (λ (t : State). Done v (record t { world = world_in new })) (sym is) ∙ ap (Done v) (with_world mid new kept.beside)
 granted-reaches s p helds mid new o (Err (Moo reason)) is comes kept = absurd comes
-granted-reaches s p helds mid new o (Err (of_held place reason)) is comes kept = ap (in_world s) comes
-granted-reaches s p helds mid new o (Err none_left) is comes kept = ap (in_world s) comes
 granted-reaches s p helds mid new o (Err OutOfMemory) is comes kept = tt
+granted-reaches s p helds mid new o r is comes kept = ap (in_world s) comes
 
 module _ (p : ObjNo) (args : List Value) (n : ℤ) (e : PetitionId × PetitionRow) (old mid new : Held) where
   pub granted-keeps : one_integer args ≡ Ok n → petition_at (state_in old) n ≡ Some e → mid ≡ without_petition old e.0 → KeepsGoodRows KeepsNumbers old mid
@@ -82,18 +81,13 @@ module _ (p : ObjNo) (args : List Value) (n : ℤ) (e : PetitionId × PetitionRo
 
 -- ---- a call on the world
 
-pub on_ok : {A E P Q : Type 0} (r : Result A E) → (P → Q) → OnOk r P → OnOk r Q
-on_ok (Ok a) f h = f h
-on_ok (Err e) f h = tt
-
 -- what a call on the world comes to, beside the petitions
 pub stepped-reaches : (call : Call) (p : ObjNo) (old new : Held) (r : Result Value Fault) → petition_call call.name ≡ None
     → ComesTo (world_call (world_in old) p call) old new r → OnOk r (Keeps old new) → Reaches (batch_call (state_in old) p call) new r
 stepped-reaches call p old new (Ok v) on_world comes kept = request_steps (state_in old) p call on_world ∙ ap (in_world (state_in old)) comes ∙ ap (Done v) (with_world old new kept.beside)
 stepped-reaches call p old new (Err (of_held place reason)) on_world comes kept = absurd comes
-stepped-reaches call p old new (Err (Moo reason)) on_world comes kept = request_steps (state_in old) p call on_world ∙ ap (in_world (state_in old)) comes.0
-stepped-reaches call p old new (Err none_left) on_world comes kept = request_steps (state_in old) p call on_world ∙ ap (in_world (state_in old)) comes.0
 stepped-reaches call p old new (Err OutOfMemory) on_world comes kept = tt
+stepped-reaches call p old new r on_world comes kept = request_steps (state_in old) p call on_world ∙ ap (in_world (state_in old)) comes.0
 
 -- a call on the world grants nothing
 world-keeps : (grants : Bool) (p : ObjNo) (args : List Value) (old new : Held) → grants ≡ false → Keeps old new → KeepsGoodRows (CallKeepsNumbers grants p args) old new

@@ -1,5 +1,5 @@
 -- What a refusal says in a batch: its reason is true of the rows on which the call is made, also of a call that a granted petition holds.
-use Rattle.std.specs.Prelude.{◌≡◌, ⊤, ℕ, zero, suc, ℤ, List, [], ◌∷◌, Option, Some, None, Ok}
+use Rattle.std.specs.Prelude.{◌≡◌, ⊤, ℕ, zero, suc, ℤ, List, [], ◌∷◌, Some, None, Ok}
 use Rattle.std.specs.FinMap.{remove}
 use Rattle.moo_value.specs.declared.value.ObjNo.{ObjNo}
 use Rattle.moo_value.specs.declared.value.Value.{Value}

@@ -28,7 +28,6 @@ use moo_calls_shared::{Fault, Reason};
 use moo_rows::{PetitionId, PetitionRow, Rows};
 use moo_value::{ObjNo, Value, ValueList};
 use moo_world::{are_few, are_named, are_shallow};
-use std::alloc::Global;
 
 /// Whether a petition may ask for these calls: E_TYPE if it isn't a list of lists that each begin with a string, else E_INVARG.
 fn may_be_asked(calls: &ValueList) -> Result<(), Reason>

@@ -15,7 +15,7 @@ use crate::witness::{Refusal, Witness};
 use moo_calls_shared::Fault;
 use moo_memory::{ChangeList, Changes, Draft};
 use moo_rows::{Head, Rows};
-use moo_value::{Code, ObjNo, Value};
+use moo_value::{Code, ObjNo};
 use moo_world::{Answers, Batch, Call};
 use std::alloc::Global;
 

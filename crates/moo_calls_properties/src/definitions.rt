@@ -21,6 +21,7 @@ ghost use Rattle.moo_calls_shared.specs.Outcomes.{world_in, ComesTo, Answers};
 ghost use Rattle.moo_calls_properties.specs.Checks.{IsTrueOfLetters, IsTrueOfName, taking_property_info};
 ghost use Rattle.moo_calls_shared.specs.About.{about_new_property};
 ghost use Rattle.moo_calls_shared.specs.Told.{IsTold};
+ghost use Rattle.moo_calls_shared.specs.Shown.{info_shown};
 
 use moo_calls_shared::{Fault, Info, Reason, rights};
 use moo_props::{clashes, define, slot_of};
@@ -90,7 +91,7 @@ pub(crate) fn bits_taken<R: Rows>(rows: &R, info: Info<'_>) -> Result<Bits, Reas
     ensures owner { OnOk result (is_object (world_in (R.held rows.now)) info.entry.owner ≡ true) }
     ensures bits { IfOk result (λ bits. bits_of info.entry.perms.now ≡ Some bits) }
     ensures err { IfErr result (λ reason. (then : Bits → Outcome World) →
-        taking_property_info (world_in (R.held rows.now)) (info.entry.owner, info.entry.perms.now) then ≡ Failed (error_of reason)) }
+        taking_property_info (world_in (R.held rows.now)) (info_shown info.entry) then ≡ Failed (error_of reason)) }
     ensures told { IfErr result (IsTrueOfLetters (R.held rows.now).maps info.entry.perms.now) }
 {
     if !valid(rows, info.owner) {
@@ -119,11 +120,11 @@ fn bits_to_define<R: Rows>(
 ) -> Result<Bits, Fault>
     requires { IsGood (R.held rows.now).maps }
     ensures ok { IfOk result (λ bits. (v : Value) →
-        add_property (world_in (R.held rows.now)) programmer x name.now v (info.entry.owner, info.entry.perms.now)
+        add_property (world_in (R.held rows.now)) programmer x name.now v (info_shown info.entry)
         ≡ Done zero (property_added (world_in (R.held rows.now)) x name.now
         (record { definer = x; owner = info.entry.owner; bits = bits; state = Set v }))) }
     ensures err { IfErr result (λ fault. (v : Value) →
-        Answers (add_property (world_in (R.held rows.now)) programmer x name.now v (info.entry.owner, info.entry.perms.now))
+        Answers (add_property (world_in (R.held rows.now)) programmer x name.now v (info_shown info.entry))
         (R.held rows.now) (Err fault)) }
     ensures there { OnOk result (is_object (world_in (R.held rows.now)) x ≡ true) }
     ensures free { OnOk result (may_define (world_in (R.held rows.now)) x name.now ≡ true) }
@@ -165,7 +166,7 @@ pub fn add_property<R: Rows>(
     requires good { IsGood (R.held rows.old).maps }
     requires fit { fits value.now ≡ true }
     ensures comes { ComesTo (add_property (world_in (R.held rows.old)) programmer x name.now value.now
-        (info.entry.owner, info.entry.perms.now)) (R.held rows.old) (R.held rows.new) result }
+        (info_shown info.entry)) (R.held rows.old) (R.held rows.new) result }
     ensures kept { OnOk result (Keeps (R.held rows.old) (R.held rows.new)) }
     ensures told { IsTold (R.held rows.old).maps programmer (about_new_property x name.now info.entry.perms.now) result }
 {

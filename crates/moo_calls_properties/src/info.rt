@@ -17,6 +17,7 @@ ghost use Rattle.moo_calls_shared.specs.Reasons.{error_of};
 ghost use Rattle.moo_calls_shared.specs.Outcomes.{world_in, ComesTo, Answers};
 ghost use Rattle.moo_calls_shared.specs.About.{about_info};
 ghost use Rattle.moo_calls_shared.specs.Told.{IsTold, IsTrueOf};
+ghost use Rattle.moo_calls_shared.specs.Shown.{info_shown};
 
 use crate::definitions::{bits_taken, defines, may_define};
 use crate::slots::may_write;
@@ -105,10 +106,10 @@ fn property_to_change<R: Rows>(
 ) -> Result<(PropId, Bits), Fault>
     requires { IsGood (R.held rows.now).maps }
     ensures ok { IfOk result (λ found. let w = world_in (R.held rows.now) in let new = option_map (λ n. n.now) new_name.entry in
-        set_property_info w programmer x name.now (info.entry.owner, info.entry.perms.now) new
+        set_property_info w programmer x name.now (info_shown info.entry) new
         ≡ Done zero (renamed_to (info_set w x name.now info.entry.owner found.1) x name.now new)) }
     ensures err { IfErr result (λ fault. let new = option_map (λ n. n.now) new_name.entry in
-        Answers (set_property_info (world_in (R.held rows.now)) programmer x name.now (info.entry.owner, info.entry.perms.now) new)
+        Answers (set_property_info (world_in (R.held rows.now)) programmer x name.now (info_shown info.entry) new)
         (R.held rows.now) (Err fault)) }
     ensures held { IfOk result (λ found. is_some (get (R.held rows.now).maps.slots (x, found.0)) ≡ true) }
     ensures named { IfOk result (λ found. name_of (R.held rows.now).maps found.0 ≡ folded name.now) }
@@ -151,7 +152,7 @@ pub fn set_property_info<R: Rows>(
     new_name: Option<&MooStr>,
 ) -> Result<Value, Fault>
     requires { IsGood (R.held rows.old).maps }
-    ensures comes { ComesTo (set_property_info (world_in (R.held rows.old)) programmer x name.now (info.entry.owner, info.entry.perms.now)
+    ensures comes { ComesTo (set_property_info (world_in (R.held rows.old)) programmer x name.now (info_shown info.entry)
         (option_map (λ n. n.now) new_name.entry)) (R.held rows.old) (R.held rows.new) result }
     ensures kept { OnOk result (Keeps (R.held rows.old) (R.held rows.new)) }
     ensures told { let new = option_map (λ n. n.now) new_name.entry in

@@ -1,4 +1,5 @@
 pub mod About
 pub mod Reasons
 pub mod Told
+pub mod Shown
 pub mod Outcomes

@@ -5,6 +5,7 @@ ghost use Rattle.std.specs.List.{list_all};
 ghost use Rattle.std.specs.Prelude.{◌≡◌, true, IfOk, IfErr, Ok, Err, option_map};
 ghost use Rattle.moo_world.specs.Arguments.{fits, info_in, info_and_name_in, new_property};
 ghost use Rattle.moo_world.specs.Arguments.{new_property_info, verb_info_in, texts_in, new_verb};
+ghost use Rattle.moo_calls_shared.specs.Shown.{info_shown};
 
 use moo_value::{Code, MooStr, ObjNo, Value};
 
@@ -17,7 +18,7 @@ pub struct Info<'a> {
 
 /// `{owner, perms}`.
 fn info_in(values: &[Value]) -> Option<Info<'_>>
-    ensures { option_map (λ i. (i.owner, i.perms.now)) result ≡ info_in values.now }
+    ensures { option_map info_shown result ≡ info_in values.now }
 {
     match values {
         [Value::Obj(owner), Value::Str(perms)] => Some(Info {
@@ -40,7 +41,7 @@ pub struct NewProperty<'a> {
 /// What `add_property` takes; the value fits if all the arguments do.
 pub fn new_property(args: &[Value]) -> Result<NewProperty<'_>, Code>
     requires { list_all fits args.now ≡ true }
-    ensures ok { IfOk result (λ p. new_property args.now ≡ Ok (p.object, (p.name.now, p.value.now, (p.info.owner, p.info.perms.now)))) }
+    ensures ok { IfOk result (λ p. new_property args.now ≡ Ok (p.object, (p.name.now, p.value.now, info_shown p.info))) }
     ensures err { IfErr result (λ code. new_property args.now ≡ Err code) }
     ensures fit { IfOk result (λ p. fits p.value.now ≡ true) }
 {
@@ -66,7 +67,7 @@ pub fn new_property(args: &[Value]) -> Result<NewProperty<'_>, Code>
 
 /// `{owner, perms}` or `{owner, perms, new-name}`.
 fn info_and_name_in(values: &[Value]) -> Option<(Info<'_>, Option<&MooStr>)>
-    ensures { option_map (λ p. ((p.0.owner, p.0.perms.now), option_map (λ n. n.now) p.1)) result ≡ info_and_name_in values.now }
+    ensures { option_map (λ p. (info_shown p.0, option_map (λ n. n.now) p.1)) result ≡ info_and_name_in values.now }
 {
     match values {
         [Value::Obj(owner), Value::Str(perms)] => Some((
@@ -98,7 +99,12 @@ pub struct NewPropertyInfo<'a> {
 
 /// What `set_property_info` takes.
 pub fn new_property_info(args: &[Value]) -> Result<NewPropertyInfo<'_>, Code>
-    ensures ok { IfOk result (λ p. new_property_info args.now ≡ Ok (record { object = p.object; name = p.name.now; info = (p.info.owner, p.info.perms.now); new_name = option_map (λ n. n.now) p.new_name })) }
+    ensures ok { IfOk result (λ p. new_property_info args.now ≡ Ok (record {
+      object = p.object;
+      name = p.name.now;
+      info = info_shown p.info;
+      new_name = option_map (λ n. n.now) p.new_name;
+    })) }
     ensures err { IfErr result (λ code. new_property_info args.now ≡ Err code) }
 {
     match args {

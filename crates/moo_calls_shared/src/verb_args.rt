@@ -10,6 +10,7 @@ ghost use Rattle.moo_world.specs.declared.descriptor.Desc.{Desc};
 ghost use Rattle.moo_world.specs.Arguments.{desc_of, verb_info_in, texts_in, object_and_desc, new_verb, new_verb_info, new_verb_args};
 ghost use Rattle.moo_calls_shared.specs.Outcomes.{GivenOrNot};
 ghost use Rattle.moo_calls_shared.specs.About.{About, about_given};
+ghost use Rattle.moo_calls_shared.specs.Shown.{verb_info_shown, args_shown};
 ghost use Rattle.moo_calls_shared.specs.Told.{IsTold};
 
 use crate::fault::Fault;
@@ -55,7 +56,7 @@ pub struct VerbInfo<'a> {
 
 /// `{owner, perms, names}`.
 fn verb_info_in(values: &[Value]) -> Option<VerbInfo<'_>>
-    ensures { option_map (λ v. ((v.info.owner, v.info.perms.now), v.names.now)) result ≡ verb_info_in values.now }
+    ensures { option_map verb_info_shown result ≡ verb_info_in values.now }
 {
     match values {
         [Value::Obj(owner), Value::Str(perms), Value::Str(names)] => Some(VerbInfo {
@@ -79,7 +80,7 @@ pub struct ArgTexts<'a> {
 
 /// `{dobj, prep, iobj}`.
 fn texts_in(values: &[Value]) -> Option<ArgTexts<'_>>
-    ensures { option_map (λ t. (t.dobj.now, t.prep.now, t.iobj.now)) result ≡ texts_in values.now }
+    ensures { option_map args_shown result ≡ texts_in values.now }
 {
     match values {
         [Value::Str(dobj), Value::Str(prep), Value::Str(iobj)] => {
@@ -99,8 +100,7 @@ pub struct NewVerb<'a> {
 
 /// What `add_verb` takes.
 pub fn new_verb(args: &[Value]) -> Result<NewVerb<'_>, Code>
-    ensures ok { IfOk result (λ p. new_verb args.now
-        ≡ Ok (p.object, (((p.verb.info.owner, p.verb.info.perms.now), p.verb.names.now), (p.args.dobj.now, p.args.prep.now, p.args.iobj.now)))) }
+    ensures ok { IfOk result (λ p. new_verb args.now ≡ Ok (p.object, (verb_info_shown p.verb, args_shown p.args))) }
     ensures err { IfErr result (λ code. new_verb args.now ≡ Err code) }
 {
     match args {
@@ -133,8 +133,7 @@ pub struct NewVerbInfo<'a> {
 /// What `set_verb_info` takes.
 pub fn new_verb_info(alloc: Global, args: &[Value]) -> Result<NewVerbInfo<'_>, Fault>
     ensures given { GivenOrNot (new_verb_info args.now)
-        (result_map_both (λ p. (p.object, (p.desc, ((p.verb.info.owner, p.verb.info.perms.now), p.verb.names.now))))
-        (λ fault. fault) result) }
+        (result_map_both (λ p. (p.object, (p.desc, verb_info_shown p.verb))) (λ fault. fault) result) }
     ensures told { (maps : Maps) (programmer : ObjNo) (about : ObjNo × (Desc × ((ObjNo × Name) × Name)) → About) →
         IsTold maps programmer (about_given (new_verb_info args.now) about) result }
 {
@@ -169,7 +168,7 @@ pub struct NewVerbArgs<'a> {
 /// What `set_verb_args` takes.
 pub fn new_verb_args(alloc: Global, args: &[Value]) -> Result<NewVerbArgs<'_>, Fault>
     ensures given { GivenOrNot (new_verb_args args.now)
-        (result_map_both (λ p. (p.object, (p.desc, (p.args.dobj.now, p.args.prep.now, p.args.iobj.now)))) (λ fault. fault) result) }
+        (result_map_both (λ p. (p.object, (p.desc, args_shown p.args))) (λ fault. fault) result) }
     ensures told { (maps : Maps) (programmer : ObjNo) (about : ObjNo × (Desc × (Name × Name × Name)) → About) →
         IsTold maps programmer (about_given (new_verb_args args.now) about) result }
 {

@@ -15,6 +15,7 @@ ghost use Rattle.moo_calls_shared.specs.Outcomes.{world_in, ComesTo, Answers};
 ghost use Rattle.moo_calls_shared.specs.Reasons.{error_of};
 ghost use Rattle.moo_calls_verbs.specs.Checks.{IsTrueOfVerbInfo, taking_verb_info};
 ghost use Rattle.moo_calls_shared.specs.About.{about_new_verb};
+ghost use Rattle.moo_calls_shared.specs.Shown.{info_shown, args_shown};
 ghost use Rattle.moo_calls_shared.specs.Told.{IsTold};
 
 use moo_calls_shared::{ArgTexts, Fault, Reason, VerbInfo, rights};
@@ -40,7 +41,7 @@ pub(crate) fn bits_taken<R: Rows>(rows: &R, verb: VerbInfo<'_>) -> Result<VerbBi
     ensures names { OnOk result (has_word verb.entry.names.now ≡ true) }
     ensures err { IfErr result (λ reason. (then : VerbBits → Outcome World) →
         taking_verb_info (world_in (R.held rows.now))
-        (verb.entry.info.owner, verb.entry.info.perms.now) verb.entry.names.now then ≡ Failed (error_of reason)) }
+        (info_shown verb.entry.info) verb.entry.names.now then ≡ Failed (error_of reason)) }
     ensures told { IfErr result (IsTrueOfVerbInfo (R.held rows.now).maps verb.entry.info.perms.now verb.entry.names.now) }
 {
     if !valid(rows, verb.info.owner) {
@@ -70,13 +71,22 @@ fn verb_taken<R: Rows>(
     verb: VerbInfo<'_>,
     args: ArgTexts<'_>,
 ) -> Result<(VerbBits, ArgSpec), Fault>
-    ensures ok { IfOk result (λ taken. add_verb (world_in (R.held rows.now)) programmer x (verb.entry.info.owner, verb.entry.info.perms.now) verb.entry.names.now (args.entry.dobj.now, args.entry.prep.now, args.entry.iobj.now)
-        ≡ Done zero (verb_added (world_in (R.held rows.now)) x (record { names = verb.entry.names.now; owner = verb.entry.info.owner; bits = taken.0; args = taken.1 }))) }
-    ensures err { IfErr result (λ fault. Answers (add_verb (world_in (R.held rows.now)) programmer x (verb.entry.info.owner, verb.entry.info.perms.now) verb.entry.names.now (args.entry.dobj.now, args.entry.prep.now, args.entry.iobj.now)) (R.held rows.now) (Err fault)) }
+    ensures ok { IfOk result (λ taken.
+        add_verb (world_in (R.held rows.now)) programmer x (info_shown verb.entry.info) verb.entry.names.now (args_shown args.entry)
+        ≡ Done zero (verb_added (world_in (R.held rows.now)) x (record {
+          names = verb.entry.names.now;
+          owner = verb.entry.info.owner;
+          bits = taken.0;
+          args = taken.1;
+        }))) }
+    ensures err { IfErr result (λ fault. Answers
+        (add_verb (world_in (R.held rows.now)) programmer x (info_shown verb.entry.info) verb.entry.names.now (args_shown args.entry))
+        (R.held rows.now) (Err fault)) }
     ensures there { OnOk result (is_object (world_in (R.held rows.now)) x ≡ true) }
     ensures names { OnOk result (has_word verb.entry.names.now ≡ true) }
     ensures left { OnOk result (nat_lt (world_in (R.held rows.now)).next_verb 4294967295 ≡ true) }
-    ensures told { IsTold (R.held rows.now).maps programmer (about_new_verb x verb.entry.info.perms.now verb.entry.names.now (args.entry.dobj.now, args.entry.prep.now, args.entry.iobj.now)) result }
+    ensures told { IsTold (R.held rows.now).maps programmer
+        (about_new_verb x verb.entry.info.perms.now verb.entry.names.now (args_shown args.entry)) result }
 {
     if !valid(rows, x) {
         return Err(Fault::Moo(Reason::NoObject(x)));
@@ -112,10 +122,11 @@ pub fn add_verb<R: Rows>(
 ) -> Result<Value, Fault>
     requires { IsGood (R.held rows.old).maps }
     ensures comes { ComesTo
-        (add_verb (world_in (R.held rows.old)) programmer x (verb.entry.info.owner, verb.entry.info.perms.now) verb.entry.names.now (args.entry.dobj.now, args.entry.prep.now, args.entry.iobj.now))
+        (add_verb (world_in (R.held rows.old)) programmer x (info_shown verb.entry.info) verb.entry.names.now (args_shown args.entry))
         (R.held rows.old) (R.held rows.new) result }
     ensures kept { OnOk result (Keeps (R.held rows.old) (R.held rows.new)) }
-    ensures told { IsTold (R.held rows.old).maps programmer (about_new_verb x verb.entry.info.perms.now verb.entry.names.now (args.entry.dobj.now, args.entry.prep.now, args.entry.iobj.now)) result }
+    ensures told { IsTold (R.held rows.old).maps programmer
+        (about_new_verb x verb.entry.info.perms.now verb.entry.names.now (args_shown args.entry)) result }
 {
     let (bits, args) = verb_taken(rows, programmer, x, verb, args)?;
     let row = VerbRow {

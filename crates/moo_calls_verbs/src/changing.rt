@@ -10,6 +10,7 @@ ghost use Rattle.moo_world.specs.Keeps.{Keeps};
 ghost use Rattle.moo_calls_shared.specs.Outcomes.{world_in, ComesTo};
 ghost use Rattle.moo_verbs.specs.Places.{verb_place};
 ghost use Rattle.moo_calls_shared.specs.About.{about_verb, about_verb_args, about_verb_info};
+ghost use Rattle.moo_calls_shared.specs.Shown.{info_shown, args_shown};
 ghost use Rattle.moo_calls_shared.specs.Told.{IsTold};
 
 use crate::adding::{args_of, bits_taken};
@@ -69,10 +70,11 @@ pub fn set_verb_info<R: Rows>(
 ) -> Result<Value, Fault>
     requires { IsGood (R.held rows.old).maps }
     ensures comes { ComesTo
-        (set_verb_info (world_in (R.held rows.old)) programmer x desc.now (verb.entry.info.owner, verb.entry.info.perms.now) verb.entry.names.now)
+        (set_verb_info (world_in (R.held rows.old)) programmer x desc.now (info_shown verb.entry.info) verb.entry.names.now)
         (R.held rows.old) (R.held rows.new) result }
     ensures kept { OnOk result (Keeps (R.held rows.old) (R.held rows.new)) }
-    ensures told { IsTold (R.held rows.old).maps programmer (about_verb_info x desc.now verb.entry.info.perms.now verb.entry.names.now) result }
+    ensures told { IsTold (R.held rows.old).maps programmer
+        (about_verb_info x desc.now verb.entry.info.perms.now verb.entry.names.now) result }
 {
     if !valid(rows, x) {
         return Err(Fault::Moo(Reason::NoObject(x)));
@@ -107,10 +109,10 @@ pub fn set_verb_args<R: Rows>(
 ) -> Result<Value, Fault>
     requires { IsGood (R.held rows.old).maps }
     ensures comes { ComesTo
-        (set_verb_args (world_in (R.held rows.old)) programmer x desc.now (args.entry.dobj.now, args.entry.prep.now, args.entry.iobj.now))
+        (set_verb_args (world_in (R.held rows.old)) programmer x desc.now (args_shown args.entry))
         (R.held rows.old) (R.held rows.new) result }
     ensures kept { OnOk result (Keeps (R.held rows.old) (R.held rows.new)) }
-    ensures told { IsTold (R.held rows.old).maps programmer (about_verb_args x desc.now (args.entry.dobj.now, args.entry.prep.now, args.entry.iobj.now)) result }
+    ensures told { IsTold (R.held rows.old).maps programmer (about_verb_args x desc.now (args_shown args.entry)) result }
 {
     if !valid(rows, x) {
         return Err(Fault::Moo(Reason::NoObject(x)));

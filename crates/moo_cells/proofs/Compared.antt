@@ -1,11 +1,11 @@
 -- Tables beside rows that were known before.
-use Rattle.moo_cells.{proofs.Words.{find, Option, None, Some, IfSome, entries, Row, has_rowid, Maps, object_exact, prop_exact, slot_exact, verb_exact, petition_exact, object_total, prop_total, slot_total, verb_total, petition_total, IsGood, tables_of, Tables, version_number, Key, ShowEach, HeadIs, ReadsHead, ReadsCounter, ReadsObject, ReadsProp, ReadsSlot, ReadsVerb, ReadsPetition, ShowsRows}, specs.Compared.{IsMismatch}, proofs.Beside.{each_held}, proofs.Keys.{objects_bear, props_bear, slots_bear, verbs_bear, petitions_bear}, proofs.RowsLemmas.{rows_shown}}
+use Rattle.moo_cells.{proofs.Words.{Option, None, Some, IfSome, entries, Maps, object_exact, prop_exact, slot_exact, verb_exact, petition_exact, object_total, prop_total, slot_total, verb_total, petition_total, IsGood, tables_of, Tables, Key, ShowEach, by_rowid, HoldsHead, ReadsCounter, ReadsObject, ReadsProp, ReadsSlot, ReadsVerb, ReadsPetition, ShowsRows}, specs.Compared.{IsMismatch}, proofs.Beside.{each_held}, proofs.Keys.{objects_bear, props_bear, slots_bear, verbs_bear, petitions_bear}, proofs.RowsLemmas.{rows_shown}}
 use Rattle.moo_tables.specs.declared.reading.CellLists.{CellLists}
 use Rattle.moo_damage.specs.Differences.{IsFirstDifference}
 
 -- tables whose rows show a head, its number of the next petition and the entries of five maps show these rows
-pub all_shown : (lists : CellLists) (m : Maps) → (cells : Row) × HeadIs (λ n. find (has_rowid n) lists.head.items) cells × ReadsHead (version_number lists.version) m.head cells
-    → ReadsCounter lists.version (λ n. find (has_rowid n) lists.petition_head.items) m.head.next_petition
+pub all_shown : (lists : CellLists) (m : Maps) → HoldsHead lists.version lists.head.items m.head
+    → ReadsCounter lists.version (by_rowid lists.petition_head.items) m.head.next_petition
     → ShowEach (ReadsObject lists.version) lists.object.items (entries m.objects) → ShowEach (ReadsProp lists.version) lists.prop.items (entries m.props) → ShowEach (ReadsSlot lists.version) lists.slot.items (entries m.slots) → ShowEach (ReadsVerb lists.version) lists.verb.items (entries m.verbs)
     → ShowEach (ReadsPetition lists.version) lists.petition.items (entries m.petitions)
     → ShowsRows (tables_of lists) m

@@ -1,5 +1,5 @@
 -- The rows of all tables.
-use Rattle.moo_cells.{proofs.Words.{◌≡◌, ℕ, ℤ, Bool, List, pos, negsuc, ◌<◌, find, Option, Some, None, sym, ap, subst, ◌∙◌, arith, get, AllByRecursion, Row, has_rowid, Maps, and_from, Tables, tables_of, has_key_pair, version_number, Kind, BadHead, Key, rank, IsBelow, NoneBefore, AreWithin, HeadIs, ReadsHead, HasHead, ReadsCounter, HasCounter, SaysOfHead, IsRead, ReadsObject, ReadsProp, ReadsSlot, ReadsVerb, ReadsPetition, ShowsOrNone, ShowsObject, ShowsProp, ShowsSlot, ShowsVerb, ShowsPetition, ShowsRows, HoldsTable, SaysUnread, object_number, prop_number, slot_number, verb_number, petition_number, object_key, prop_key, slot_key, verb_key, petition_key, IsLess, IsPairLess, IsNewer, IsBadHead, IsBadCell, IsMet, SaysOfCells, CellFault, Damaged, NewerVersion, OutOfMemory}, proofs.Keys.{objects_bear, props_bear, slots_bear, verbs_bear, petitions_bear}, proofs.Table.{none_unread, no_other}, proofs.Ranks.{at_head, by_key, by_rank}, specs.Unread.{IsUnread, FirstUnread}}
+use Rattle.moo_cells.{proofs.Words.{◌≡◌, ℕ, ℤ, Bool, List, pos, negsuc, ◌<◌, find, Option, Some, None, sym, ap, subst, ◌∙◌, arith, get, AllByRecursion, Row, has_rowid, Maps, and_from, Tables, tables_of, has_key_pair, version_number, Kind, BadHead, Key, rank, IsBelow, NoneBefore, AreWithin, HeadIs, ReadsHead, HasHead, by_rowid, ReadsCounter, HasCounter, SaysOfHead, IsRead, ReadsObject, ReadsProp, ReadsSlot, ReadsVerb, ReadsPetition, ShowsOrNone, ShowsObject, ShowsProp, ShowsSlot, ShowsVerb, ShowsPetition, ShowsRows, HoldsTable, SaysUnread, object_number, prop_number, slot_number, verb_number, petition_number, object_key, prop_key, slot_key, verb_key, petition_key, IsLess, IsPairLess, IsNewer, IsBadHead, IsBadCell, IsMet, SaysOfCells, CellFault, Damaged, NewerVersion, OutOfMemory}, proofs.Keys.{objects_bear, props_bear, slots_bear, verbs_bear, petitions_bear}, proofs.Table.{none_unread, no_other}, proofs.Ranks.{at_head, by_key, by_rank}, specs.Unread.{IsUnread, FirstUnread}}
 use Rattle.moo_cells_row.{proofs.HeadLemmas.{head_known, head_not_newer}, proofs.OneCells.{one_some}}
 use Rattle.moo_rows.specs.declared.row.Head.{Head as HeadRow}
 use Rattle.moo_tables.specs.declared.reading.CellLists.{CellLists}
@@ -23,9 +23,9 @@ not_negative m n e = cc
 -- what is read so far, in the order of the tables
 pub record ReadTables (lists : CellLists) (m : Maps) : Type 0 where
   pub cells : Row
-  pub head_is : HeadIs (λ n. find (has_rowid n) lists.head.items) cells
+  pub head_is : HeadIs (by_rowid lists.head.items) cells
   pub head_read : ReadsHead (version_number lists.version) m.head cells
-  pub counter : ReadsCounter lists.version (λ n. find (has_rowid n) lists.petition_head.items) m.head.next_petition
+  pub counter : ReadsCounter lists.version (by_rowid lists.petition_head.items) m.head.next_petition
   pub objects : HoldsTable has_rowid object_number (ReadsObject lists.version) lists.object.items m.objects
   pub props : HoldsTable has_rowid prop_number (ReadsProp lists.version) lists.prop.items m.props
   pub slots : HoldsTable has_key_pair slot_number (ReadsSlot lists.version) lists.slot.items m.slots
@@ -65,8 +65,8 @@ module _ (lists : CellLists) (m : Maps) (read : ReadTables lists m) where
   }
 
 -- each table after another: what was read before stays
-pub read_all : (lists : CellLists) (cells : Row) (m0 m1 m2 m3 m4 m5 : Maps) → HeadIs (λ n. find (has_rowid n) lists.head.items) cells → ReadsHead (version_number lists.version) m0.head cells
-    → ReadsCounter lists.version (λ n. find (has_rowid n) lists.petition_head.items) m0.head.next_petition
+pub read_all : (lists : CellLists) (cells : Row) (m0 m1 m2 m3 m4 m5 : Maps) → HeadIs (by_rowid lists.head.items) cells → ReadsHead (version_number lists.version) m0.head cells
+    → ReadsCounter lists.version (by_rowid lists.petition_head.items) m0.head.next_petition
     → m1 ≡ record m0 { objects = m1.objects } → m2 ≡ record m1 { props = m2.props } → m3 ≡ record m2 { slots = m3.slots } → m4 ≡ record m3 { verbs = m4.verbs } → m5 ≡ record m4 { petitions = m5.petitions }
     → HoldsTable has_rowid object_number (ReadsObject lists.version) lists.object.items m1.objects → HoldsTable has_rowid prop_number (ReadsProp lists.version) lists.prop.items m2.props
     → HoldsTable has_key_pair slot_number (ReadsSlot lists.version) lists.slot.items m3.slots → HoldsTable has_key_pair verb_number (ReadsVerb lists.version) lists.verb.items m4.verbs
@@ -81,7 +81,7 @@ read_all lists cells m0 m1 m2 m3 m4 m5 is reads counter k1 k2 k3 k4 k5 objects p
       cells = cells;
       head_is = is;
       head_read = subst (λ h. ReadsHead (version_number lists.version) h cells) (sym head) reads;
-      counter = subst (λ (h : HeadRow). ReadsCounter lists.version (λ n. find (has_rowid n) lists.petition_head.items) h.next_petition) (sym head) counter;
+      counter = subst (λ (h : HeadRow). ReadsCounter lists.version (by_rowid lists.petition_head.items) h.next_petition) (sym head) counter;
       objects = subst (HoldsTable has_rowid object_number (ReadsObject lists.version) lists.object.items) (sym o) objects;
       props = subst (HoldsTable has_rowid prop_number (ReadsProp lists.version) lists.prop.items) (sym p) props;
       slots = subst (HoldsTable has_key_pair slot_number (ReadsSlot lists.version) lists.slot.items) (sym s) slots;
@@ -103,8 +103,8 @@ says_head lists (Damaged kind key) says = rw (says.0, says.1) (says.3, ((λ k un
 says_head lists NewerVersion says = says
 says_head lists OutOfMemory says = absurd says
 
-module _ (lists : CellLists) (head : HeadRow) (cells : Row) (is : HeadIs (λ n. find (has_rowid n) lists.head.items) cells) (reads : ReadsHead (version_number lists.version) head cells)
-    (counter : ReadsCounter lists.version (λ n. find (has_rowid n) lists.petition_head.items) head.next_petition) where
+module _ (lists : CellLists) (head : HeadRow) (cells : Row) (is : HeadIs (by_rowid lists.head.items) cells) (reads : ReadsHead (version_number lists.version) head cells)
+    (counter : ReadsCounter lists.version (by_rowid lists.petition_head.items) head.next_petition) where
   abbrev t : Tables
   t = tables_of lists
 

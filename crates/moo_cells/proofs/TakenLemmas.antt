@@ -1,5 +1,5 @@
 -- What tables show that were read one after another.
-use Rattle.moo_cells.proofs.Words.{◌≡◌, ◌∙◌, ℤ, pos, negsuc, find, Option, None, Some, IfSome, sym, ap, subst, get, and_from, Row, has_rowid, has_key_pair, Maps, Tables, Version, version_number, head_cells, HeadIs, ReadsHead, ReadsCounter, ReadsObject, ReadsProp, ReadsSlot, ReadsVerb, ReadsPetition, HoldsTable, object_number, prop_number, slot_number, verb_number, petition_number, ShowsOrNone, ShowsObject, ShowsProp, ShowsSlot, ShowsVerb, ShowsPetition, ShowsCounter, ShowsRows, AreWithin}
+use Rattle.moo_cells.proofs.Words.{◌≡◌, ◌∙◌, ℤ, pos, negsuc, find, Option, None, Some, IfSome, sym, ap, subst, get, and_from, Row, has_rowid, has_key_pair, Maps, Tables, Version, version_number, head_cells, ReadsHead, by_rowid, HoldsHead, ReadsCounter, ReadsObject, ReadsProp, ReadsSlot, ReadsVerb, ReadsPetition, HoldsTable, object_number, prop_number, slot_number, verb_number, petition_number, ShowsOrNone, ShowsObject, ShowsProp, ShowsSlot, ShowsVerb, ShowsPetition, ShowsCounter, ShowsRows, AreWithin}
 use Rattle.std.{specs.Prelude.{Vec}, specs.declared.alloc.Global.{Global}}
 use Rattle.sqlite.specs.State.{State, HasCleanDisk}
 use Rattle.moo_rows.specs.declared.row.Head.{Head as HeadRow}
@@ -48,14 +48,14 @@ module _ {version : Version} {old new : State} {m0 m4 : Maps} (took : TakesTable
   pub same_head : m4.head ≡ m0.head
   same_head = ap (λ (m : Maps). m.head) took.verbs_kept ∙ ap (λ (m : Maps). m.head) took.slots_kept ∙ ap (λ (m : Maps). m.head) took.props_kept ∙ ap (λ (m : Maps). m.head) took.objects_kept
 
-  module _ (head petition counter : Vec Row Global) (m5 : Maps) (read : (cells : Row) × HeadIs (λ n. find (has_rowid n) head.items) cells × ReadsHead (version_number version) m0.head cells)
-      (next : ReadsCounter version (λ n. find (has_rowid n) counter.items) m0.head.next_petition) (kept : m5 ≡ record m4 { petitions = m5.petitions })
+  module _ (head petition counter : Vec Row Global) (m5 : Maps) (read : HoldsHead version head.items m0.head)
+      (next : ReadsCounter version (by_rowid counter.items) m0.head.next_petition) (kept : m5 ≡ record m4 { petitions = m5.petitions })
       (holds : HoldsTable has_rowid petition_number (ReadsPetition version) petition.items m5.petitions) where
     in_head : ReadsHead (version_number version) m5.head read.0
     in_head = subst (λ (h : HeadRow). ReadsHead (version_number version) h read.0) (sym (ap (λ (m : Maps). m.head) kept ∙ same_head)) read.2
 
-    counted : ReadsCounter version (λ n. find (has_rowid n) counter.items) m5.head.next_petition
-    counted = subst (λ (h : HeadRow). ReadsCounter version (λ n. find (has_rowid n) counter.items) h.next_petition) (sym (ap (λ (m : Maps). m.head) kept ∙ same_head)) next
+    counted : ReadsCounter version (by_rowid counter.items) m5.head.next_petition
+    counted = subst (λ (h : HeadRow). ReadsCounter version (by_rowid counter.items) h.next_petition) (sym (ap (λ (m : Maps). m.head) kept ∙ same_head)) next
 
     o : m5.objects ≡ took.with_objects.objects
     o = ap (λ (m : Maps). m.objects) kept ∙ ap (λ (m : Maps). m.objects) took.verbs_kept ∙ ap (λ (m : Maps). m.objects) took.slots_kept ∙ ap (λ (m : Maps). m.objects) took.props_kept

@@ -14,7 +14,7 @@ pub use Rattle.std.specs.declared.cmp.Ordering.{Ordering}
 pub use Rattle.std.specs.declared.cmp.Ordering.TheVariants.{Equal, Greater, Less}
 pub use Rattle.moo_cells.specs.Damage.{Damage, IsBadCell, IsBadHead, IsMet, IsNewer, SaysOfCells}
 pub use Rattle.moo_cells.specs.Each.{ShowEach}
-pub use Rattle.moo_cells_row.specs.Head.{HasCounter, HasHead, HeadFits, HeadIs, IsCounter, IsNewerThan, ReadsCounter, ReadsHead, SaysOfHead, greatest_version}
+pub use Rattle.moo_cells_row.specs.Head.{HasCounter, HasHead, HoldsHead, HeadFits, HeadIs, IsCounter, IsNewerThan, ReadsCounter, ReadsHead, SaysOfHead, by_rowid, greatest_version}
 pub use Rattle.moo_cells.specs.Holding.{HoldsTable, IsLess, IsPairLess, SaysUnread, TakesRow, object_key, object_number, petition_key, petition_number, prop_key, prop_number, slot_key, slot_number, verb_key, verb_number}
 pub use Rattle.moo_cells_row.specs.Reading.{IsRead, ObjectFits, PetitionFits, PropFits, ReadsObject, ReadsPetition, ReadsProp, ReadsSlot, ReadsVerb, SlotFits, VerbFits, calls_fit}
 pub use Rattle.moo_cells.specs.Shows.{ShowsBits, ShowsCounter, ShowsNext, ShowsObject, ShowsOrNone, ShowsPetition, ShowsProp, ShowsRows, ShowsSlot, ShowsSlotState, ShowsVerb}

@@ -34,7 +34,8 @@ pub fn read_cells(alloc: Global, lists: Cells) -> Result<Flat, CellFault>
     // Tables that show good rows are read, unless memory runs out.
     ensures whole { (m : Maps) → ShowsRows (tables_of lists) m → IsGood m → IfErr result (λ fault. fault ≡ CellFault.OutOfMemory) }
     // So are tables of a known version in which no kind of damage is met: these are the ones that show good rows.
-    ensures undamaged { ¬ (IsNewer (tables_of lists)) → ((kind : Kind) (key : Key) → ¬ (IsMet (tables_of lists) kind key)) → IfErr result (λ fault. fault ≡ CellFault.OutOfMemory) }
+    ensures undamaged { ¬ (IsNewer (tables_of lists)) → ((kind : Kind) (key : Key) → ¬ (IsMet (tables_of lists) kind key)) →
+        IfErr result (λ fault. fault ≡ CellFault.OutOfMemory) }
 {
     let rows = read_rows(alloc, lists)?;
     let damage = damage_of(alloc, &rows)?;

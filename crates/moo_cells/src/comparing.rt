@@ -1,12 +1,10 @@
 //! The tables, compared with rows that were known before.
 
-ghost use Rattle.std.specs.Prelude.{◌≡◌, true, find, IfOk, IfErr, IfSome, IfNone};
-ghost use Rattle.sqlite.specs.Tree.{has_rowid};
+ghost use Rattle.std.specs.Prelude.{◌≡◌, true, IfOk, IfErr, IfSome, IfNone};
 ghost use Rattle.moo_world.specs.Rows.{IsGood};
 ghost use Rattle.moo_tables_rows.specs.Inside.{AreKeyed};
 ghost use Rattle.moo_tables.specs.Listing.{AreListed, tables_of};
-ghost use Rattle.moo_tables_rows.specs.Version.{version_number};
-ghost use Rattle.moo_cells_row.specs.Head.{HeadIs, ReadsHead, ReadsCounter};
+ghost use Rattle.moo_cells_row.specs.Head.{by_rowid, HoldsHead, ReadsCounter};
 ghost use Rattle.moo_cells.specs.Shows.{ShowsRows};
 ghost use Rattle.moo_cells.specs.Damage.{SaysOfCells};
 ghost use Rattle.moo_cells.specs.Compared.{IsMismatch};
@@ -25,8 +23,8 @@ use std::alloc::{AllocError, Global};
 pub(crate) fn shows_head(version: Version, rows: &[Row], counters: &[Row], head: Head) -> bool
     requires head { AreKeyed rows.now }
     requires counter { AreKeyed counters.now }
-    ensures counter { result ≡ true → ReadsCounter version (λ n. find (has_rowid n) counters.now) head.next_petition }
-    ensures head { result ≡ true → (cells : _) × HeadIs (λ n. find (has_rowid n) rows.now) cells × ReadsHead (version_number version) head cells }
+    ensures counter { result ≡ true → ReadsCounter version (by_rowid counters.now) head.next_petition }
+    ensures head { result ≡ true → HoldsHead version rows.now head }
 {
     match read_head(version, rows, counters) {
         Ok(read) => read == head,

@@ -1,4 +1,5 @@
-//! The rows of a world, from the tables of a connection, one table after another: of a large one only the cells of a block are held at a time.
+//! The rows of a world, from the tables of a connection, one table after another: of a large one only the cells of a block
+//! are held at a time.
 //!
 //! What is wrong with tables isn't told here. Whoever wants to know it reads them all (`read_tables` of `moo_tables`, `read_cells`).
 

@@ -1,13 +1,11 @@
 //! The rows of all tables.
 
-ghost use Rattle.std.specs.Prelude.{◌≡◌, ◌<◌, ◌^◌, find, IfOk, IfErr, OnOk};
-ghost use Rattle.sqlite.specs.Tree.{has_rowid};
+ghost use Rattle.std.specs.Prelude.{◌≡◌, ◌<◌, ◌^◌, IfOk, IfErr, OnOk};
 ghost use Rattle.moo_rows.specs.Maps.{no_maps};
 ghost use Rattle.moo_tables.specs.Listing.{AreListed, tables_of};
-ghost use Rattle.moo_tables_rows.specs.Version.{version_number};
 ghost use Rattle.moo_damage.specs.Kinds.{NoneBefore};
 ghost use Rattle.moo_damage.specs.Limits.{AreWithin};
-ghost use Rattle.moo_cells_row.specs.Head.{HeadIs, ReadsHead, ReadsCounter};
+ghost use Rattle.moo_cells_row.specs.Head.{by_rowid, HoldsHead, ReadsCounter};
 ghost use Rattle.moo_cells.specs.Shows.{ShowsRows};
 ghost use Rattle.moo_cells.specs.Damage.{IsMet, IsNewer, SaysOfCells};
 
@@ -31,8 +29,8 @@ pub(crate) fn under(alloc: Global, head: Head) -> Flat
 /// they are read.
 fn read_tables(alloc: Global, lists: Cells, rows: &mut Flat) -> Result<(), CellFault>
     requires listed { AreListed lists }
-    requires head { (cells : _) × HeadIs (λ n. find (has_rowid n) lists.head.items) cells × ReadsHead (version_number lists.version) rows.old.maps.head cells }
-    requires counter { ReadsCounter lists.version (λ n. find (has_rowid n) lists.petition_head.items) rows.old.maps.head.next_petition }
+    requires head { HoldsHead lists.version lists.head.items rows.old.maps.head }
+    requires counter { ReadsCounter lists.version (by_rowid lists.petition_head.items) rows.old.maps.head.next_petition }
     requires none { rows.old.maps ≡ record no_maps { head = rows.old.maps.head } }
     ensures head { OnOk result (rows.new.maps.head ≡ rows.old.maps.head) }
     ensures shown { OnOk result (ShowsRows (tables_of lists) rows.new.maps) }

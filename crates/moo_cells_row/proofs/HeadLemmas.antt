@@ -1,5 +1,5 @@
 -- The head, from the rows of its table, and the number of the next petition, from those of its own.
-use Rattle.moo_cells_row.{proofs.Words.{◌≡◌, ◌≢◌, inl, inr, ℕ, ℤ, pos, ◌<ℤ◌, ◌≤ℤ◌, List, [], ◌∷◌, length, get_or, find, cond, Bool, true, false, true≢false, Option, Some, None, refl, sym, ap, subst, ◌∙◌, arith, IsTrue, ints, Row, column, rowid, has_rowid, Head, Version, First, Second, version_number, petition_head_cells, greatest_version, head_row, HeadIs, ReadsHead, ReadsNewer, ReadsKnown, IsNewerThan, HasHead, IsCounter, ReadsCounter, HasCounter, SaysOfHead, ShowsCounter, CellFault, Damaged, NewerVersion, OutOfMemory, has_petitions, ShowsNext}, specs.HeadCells.{cells_of, IsHead}, specs.declared.head.HeadCells.{HeadCells}, proofs.Numbers.{self_tied, tied_number, number_apart}, proofs.Texts.{int_inj}, proofs.OneCells.{one_some}}
+use Rattle.moo_cells_row.{proofs.Words.{◌≡◌, ◌≢◌, inl, inr, ℕ, ℤ, pos, ◌<ℤ◌, ◌≤ℤ◌, List, [], ◌∷◌, length, get_or, find, cond, Bool, true, false, true≢false, Option, Some, None, refl, sym, ap, subst, ◌∙◌, arith, IsTrue, ints, Row, column, rowid, has_rowid, Head, Version, First, Second, version_number, petition_head_cells, greatest_version, head_row, by_rowid, HeadIs, ReadsHead, ReadsNewer, ReadsKnown, IsNewerThan, HasHead, IsCounter, ReadsCounter, HasCounter, SaysOfHead, ShowsCounter, CellFault, Damaged, NewerVersion, OutOfMemory, has_petitions, ShowsNext}, specs.HeadCells.{cells_of, IsHead}, specs.declared.head.HeadCells.{HeadCells}, proofs.Numbers.{self_tied, tied_number, number_apart}, proofs.Texts.{int_inj}, proofs.OneCells.{one_some}}
 use Rattle.sqlite.{specs.declared.types.Value.TheVariants.{Int as Number}, specs.Edit.{id_in}}
 use Rattle.sqlite_rules.{specs.Lists.{Has}, proofs.ListLemmas.{all_has}}
 use Rattle.sqlite_trees.specs.View.{is_int}
@@ -84,7 +84,7 @@ found_one true x cells e = let it : Some x ≡ Some cells = e in cc
 found_one false x cells e = let it : None ≡ Some cells = e in cc
 
 -- a table that has a head has its row alone
-pub only_head : (rows : List Row) → AreKeyed rows → (cells : Row) → HeadIs (λ n. find (has_rowid n) rows) cells → rows ≡ cells ∷ []
+pub only_head : (rows : List Row) → AreKeyed rows → (cells : Row) → HeadIs (by_rowid rows) cells → rows ≡ cells ∷ []
 only_head [] keyed cells is = let none : None ≡ Some cells = is.row in cc
 only_head (x ∷ []) keyed cells is = ap (λ c. c ∷ []) (found_one (has_rowid (pos 1) x) x cells is.row)
 only_head (x ∷ y ∷ rest) keyed cells is =
@@ -100,7 +100,7 @@ only_head (x ∷ y ∷ rest) keyed cells is =
     each r has other = found_some (has_rowid (id_in (rowid r))) (x ∷ y ∷ rest) r has (self_tied (rowid r) (id_in (rowid r)) (value r has)) (is.alone (id_in (rowid r)) other)
 
 -- one row of id 1 is a head's
-pub head_alone : (x : Row) → column x 0 ≡ Number (pos 1) → HeadIs (λ n. find (has_rowid n) (x ∷ [])) x
+pub head_alone : (x : Row) → column x 0 ≡ Number (pos 1) → HeadIs (by_rowid (x ∷ [])) x
 head_alone x is = record {
   row = ap (λ b. cond b (Some x) None) (self_tied (rowid x) (pos 1) is);
   alone = λ n other. go n other (has_rowid n x) refl;
@@ -132,7 +132,7 @@ module _ (v : ℤ) (rows : List Row) (keyed : AreKeyed rows) where
     same_row cells is = ap (λ l. get_or l 0 r) (sym (only_head rows keyed cells is) ∙ whole)
 
     pub head_is : column r 0 ≡ Number (pos 1) → HeadIs table r
-    head_is id = let P : List Row → Type 0 = λ l. HeadIs (λ n. find (has_rowid n) l) r in subst P (sym whole) (head_alone r id)
+    head_is id = let P : List Row → Type 0 = λ l. HeadIs (by_rowid l) r in subst P (sym whole) (head_alone r id)
 
     pub says_table : (fault : CellFault) → SaysOfHead (ReadsKnown v r) (ReadsNewer greatest_version r) fault → SaysOfHead (HasHead v table) (IsNewerThan greatest_version table) fault
     says_table (Damaged kind key) says = (
@@ -162,16 +162,16 @@ head_not_newer version table cells head is reads newer =
 
 -- ---- the number of the next petition
 
-only_counter : (version : Version) → IsTrue (has_petitions version) → (rows : List Row) → AreKeyed rows → (next : ℕ) → ShowsCounter version (λ n. find (has_rowid n) rows) next → rows ≡ petition_head_cells next ∷ []
+only_counter : (version : Version) → IsTrue (has_petitions version) → (rows : List Row) → AreKeyed rows → (next : ℕ) → ShowsCounter version (by_rowid rows) next → rows ≡ petition_head_cells next ∷ []
 only_counter version has rows keyed next shows =
-    let one = subst (λ b. ShowsNext b (λ n. find (has_rowid n) rows) next) has shows in
+    let one = subst (λ b. ShowsNext b (by_rowid rows) next) has shows in
     only_head rows keyed (petition_head_cells next) (record { row = one.0; alone = one.1 })
 
-pub no_counter : (version : Version) → IsTrue (has_petitions version) → (rows : List Row) → AreKeyed rows → (length rows ≡ 1 → ⊥) → ¬ (HasCounter version (λ n. find (has_rowid n) rows))
+pub no_counter : (version : Version) → IsTrue (has_petitions version) → (rows : List Row) → AreKeyed rows → (length rows ≡ 1 → ⊥) → ¬ (HasCounter version (by_rowid rows))
 no_counter version has rows keyed many counted = many (ap length (only_counter version has rows keyed counted.0 counted.1.0))
 
-pub counter_read : (version : Version) → IsTrue (has_petitions version) → (rows : List Row) (r : Row) → rows ≡ r ∷ [] → (next : ℕ) → r ≡ petition_head_cells next → IsCounter next → ReadsCounter version (λ n. find (has_rowid n) rows) next
+pub counter_read : (version : Version) → IsTrue (has_petitions version) → (rows : List Row) (r : Row) → rows ≡ r ∷ [] → (next : ℕ) → r ≡ petition_head_cells next → IsCounter next → ReadsCounter version (by_rowid rows) next
 counter_read version has rows r whole next is fits =
-    let P : List Row → Type 0 = λ l. HeadIs (λ n. find (has_rowid n) l) r in
+    let P : List Row → Type 0 = λ l. HeadIs (by_rowid l) r in
     let head = subst P (sym whole) (head_alone r (ap (λ (c : Row). column c 0) is)) in
-    (subst (λ b. ShowsNext b (λ n. find (has_rowid n) rows) next) (sym has) (head.row ∙ ap Some is, head.alone), fits)
+    (subst (λ b. ShowsNext b (by_rowid rows) next) (sym has) (head.row ∙ ap Some is, head.alone), fits)

@@ -1,74 +1,50 @@
--- The cells of an object, column by column.
-use Rattle.moo_cells_row.{proofs.Words.{◌≡◌, ℕ, true, List, [], ◌∷◌, Option, length, ap, sym, subst, ◌∙◌, and_parts, Row, column, ObjNo, row_fits, IsRead, ReadsObject, Version}, specs.declared.object.Flags.{Flags}, specs.Object.{HasFlags, ShowsAccept, ShowsObject}, proofs.Columns.{all_columns}, proofs.OneCells.{flag_inj, accept_one, text_at}, proofs.Texts.{int_inj}}
+-- The cells of an object, column by column. No flag is named: what holds of them follows from the cells of a row.
+use Rattle.moo_cells_row.{proofs.Words.{◌≡◌, ℕ, suc, true, Bool, List, [], ◌∷◌, length, ap, refl, sym, subst, ◌∙◌, and_parts, Row, Value, column, ObjNo, flag_cell, row_fits, IsRead, ReadsObject, Version}, specs.Object.{HasFlags, ShowsAccept, ShowsObject, StandFrom, accept_place}, proofs.Columns.{all_columns, columns_from}, proofs.OneCells.{flag_inj, accept_one, text_at}, proofs.Texts.{int_inj, text_inj}}
+use Rattle.std.proofs.Common.{◌↔◌, rules}
 use Rattle.sqlite.specs.declared.types.Value.TheVariants.{Int as Number, Text}
 use Rattle.moo_rows.specs.declared.row.ObjRow.{ObjRow}
 use Rattle.moo_tables_rows.specs.Object.{object_row_cells}
 
--- a row with these flags
-abbrev pub row_with : List ℕ → ObjNo → ObjNo → ObjNo → Flags → Option (List ObjNo) → ObjRow
-row_with name owner parent location flags accept = record {
-  name = name;
-  owner = owner;
-  parent = parent;
-  location = location;
-  player = flags.player;
-  programmer = flags.programmer;
-  wizard = flags.wizard;
-  r = flags.r;
-  w = flags.w;
-  f = flags.f;
-  accept = accept;
-}
+stood : (at : ℕ) (cells more : Row) → StandFrom at cells more → columns_from at (length more) cells ≡ more
+stood at cells [] stand = refl
+stood at cells (cell ∷ more) stand = λ i. stand.0 i ∷ stood (suc at) cells more stand.1 i
 
--- the flags of a row
-abbrev pub flags_in : ObjRow → Flags
-flags_in row = record { player = row.player; programmer = row.programmer; wizard = row.wizard; r = row.r; w = row.w; f = row.f }
+-- cells are those that stand in every column
+pub cells_shown : (cells more : Row) → length cells ≡ length more → StandFrom 0 cells more → cells ≡ more
+cells_shown cells more long stand = all_columns (length more) cells long ∙ stood 0 cells more stand
 
--- the row stands in the columns, with this text for its accept list
-pub record HasColumns (cells : Row) (n : ObjNo) (row : ObjRow) (text : List ℕ) : Type 0 where
-  pub number : column cells 0 ≡ Number n.0
-  pub name : column cells 1 ≡ Text row.name
-  pub owner : column cells 2 ≡ Number row.owner.0
-  pub parent : column cells 3 ≡ Number row.parent.0
-  pub location : column cells 4 ≡ Number row.location.0
-  pub flags : HasFlags cells (flags_in row)
-  pub accept : column cells 11 ≡ Text text
+stand_behind : (first : Value) (at : ℕ) (cells more : Row) → StandFrom at cells more → StandFrom (suc at) (first ∷ cells) more
+stand_behind first at cells [] stand = tt
+stand_behind first at cells (cell ∷ more) stand = (stand.0, stand_behind first (suc at) cells more stand.1)
 
-pub columns_read : (version : Version) (cells : Row) (read : IsRead (ReadsObject version) cells) → HasColumns cells read.0 read.1 read.2.0.0
-columns_read version cells read =
-    let at : (k : ℕ) → column cells k ≡ column (object_row_cells read.0 read.1 read.2.0.0) k = λ k. ap (λ (c : Row). column c k) read.2.0.2 in record {
-      number = at 0;
-      name = at 1;
-      owner = at 2;
-      parent = at 3;
-      location = at 4;
-      flags = record { player = at 5; programmer = at 6; wizard = at 7; r = at 8; w = at 9; f = at 10 };
-      accept = at 11;
-    }
+stand_themselves : (cells : Row) → StandFrom 0 cells cells
+stand_themselves [] = tt
+stand_themselves (cell ∷ more) = (refl, stand_behind cell 0 more more (stand_themselves more))
 
-pub cells_shown : (cells : Row) (n : ObjNo) (row : ObjRow) (text : List ℕ) → length cells ≡ 12 → HasColumns cells n row text → cells ≡ object_row_cells n row text
-cells_shown cells n row text long has =
-    all_columns 12 cells long
-    ∙ (λ i. has.number i ∷ has.name i ∷ has.owner i ∷ has.parent i ∷ has.location i
-    ∷ has.flags.player i ∷ has.flags.programmer i ∷ has.flags.wizard i ∷ has.flags.r i ∷ has.flags.w i ∷ has.flags.f i ∷ has.accept i ∷ [])
+pub column_read : (version : Version) (cells : Row) (read : IsRead (ReadsObject version) cells) (at : ℕ) → column cells at ≡ column (object_row_cells read.0 read.1 read.2.0.0) at
+column_read version cells read at = ap (λ (c : Row). column c at) read.2.0.2
+
+pub flags_read : (version : Version) (cells : Row) (read : IsRead (ReadsObject version) cells) → HasFlags cells read.1
+flags_read version cells read = subst (λ c. HasFlags c read.1) (sym read.2.0.2) assumption
+
+-- two cells are one exactly if they show one thing
+flag_same : (a b : Bool) → (flag_cell a ≡ flag_cell b) ↔ (a ≡ b)
+flag_same a b = (flag_inj a b, ap flag_cell)
+
+number_same : (a b : ObjNo) → (Number a.0 ≡ Number b.0) ↔ (a ≡ b)
+number_same a b = (λ e i. record { 0 = int_inj a.0 b.0 e i }, ap (λ (n : ObjNo). Number n.0))
+
+text_same : (a b : List ℕ) → (Text a ≡ Text b) ↔ (a ≡ b)
+text_same a b = (text_inj a b, ap Text)
+
+accept_same : (text : List ℕ) (x y : ObjRow) → row_fits x ≡ true → row_fits y ≡ true → ShowsAccept text x.accept → ShowsAccept text y.accept → x.accept ≡ y.accept
+accept_same text x y f g = accept_one text x.accept y.accept (and_parts _ _ (and_parts _ _ f).1).1 (and_parts _ _ (and_parts _ _ g).1).1
 
 -- cells show one row within the limits at most
 pub object_one : (version : Version) (n : ObjNo) (c : Row) (x y : ObjRow) → row_fits x ≡ true → row_fits y ≡ true → ShowsObject version n c x → ShowsObject version n c y → x ≡ y
 object_one version n c x y f g p q =
     let e : object_row_cells n x p.0 ≡ object_row_cells n y q.0 = sym p.2 ∙ q.2 in
-    let at : (k : ℕ) → column (object_row_cells n x p.0) k ≡ column (object_row_cells n y q.0) k = λ k. ap (λ (c : Row). column c k) e in
-    let text : p.0 ≡ q.0 = ap (text_at 11) e in
-    let accept = accept_one q.0 x.accept y.accept (and_parts _ _ (and_parts _ _ f).1).1 (and_parts _ _ (and_parts _ _ g).1).1 (subst (λ t. ShowsAccept t x.accept) text p.1) q.1 in
-    λ i. record {
-      name = ap (text_at 1) e i;
-      owner = record { 0 = int_inj x.owner.0 y.owner.0 (at 2) i };
-      parent = record { 0 = int_inj x.parent.0 y.parent.0 (at 3) i };
-      location = record { 0 = int_inj x.location.0 y.location.0 (at 4) i };
-      player = flag_inj x.player y.player (at 5) i;
-      programmer = flag_inj x.programmer y.programmer (at 6) i;
-      wizard = flag_inj x.wizard y.wizard (at 7) i;
-      r = flag_inj x.r y.r (at 8) i;
-      w = flag_inj x.w y.w (at 9) i;
-      f = flag_inj x.f y.f (at 10) i;
-      accept = accept i;
-    }
+    let text : p.0 ≡ q.0 = ap (text_at accept_place) e in
+    let accept = accept_same q.0 x y f g (subst (λ t. ShowsAccept t x.accept) text p.1) q.1 in
+    let columns = subst (λ cells. StandFrom 0 (object_row_cells n x p.0) cells) e (stand_themselves (object_row_cells n x p.0)) in
+    let fields = simp (flag_same, number_same, text_same) at columns in search rules

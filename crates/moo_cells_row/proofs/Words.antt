@@ -9,7 +9,7 @@ pub use Rattle.std.specs.Ordering.{int_cmp, is_eq}
 pub use Rattle.std.specs.Prelude.{IfErr, IfOk, IfSome, OnOk, if◌then◌else◌, nat_le, ◌&&◌, ◌==◌}
 pub use Rattle.std.specs.declared.cmp.Ordering.{Ordering}
 pub use Rattle.std.specs.declared.cmp.Ordering.TheVariants.{Equal, Greater, Less}
-pub use Rattle.moo_cells_row.specs.Head.{HasCounter, HasHead, HeadIs, IsCounter, IsNewerThan, ReadsCounter, ReadsHead, ReadsKnown, ReadsNewer, SaysOfHead, greatest_version, head_row}
+pub use Rattle.moo_cells_row.specs.Head.{HasCounter, HasHead, HoldsHead, HeadIs, IsCounter, IsNewerThan, ReadsCounter, ReadsHead, ReadsKnown, ReadsNewer, SaysOfHead, by_rowid, greatest_version, head_row}
 pub use Rattle.moo_cells_row.specs.Reading.{IsRead, ReadsObject, calls_fit}
 pub use Rattle.moo_cells_row.specs.Shows.{ShowsAccept, ShowsBits, ShowsCounter, ShowsNext, ShowsRights, ShowsSlotState}
 pub use Rattle.moo_cells_row.specs.declared.fault.CellFault.{CellFault}

@@ -1,7 +1,8 @@
 -- The table of the head, and that of the number of the next petition.
 use Rattle.std.specs.Prelude.{◌≡◌, ◌≢◌, ℕ, ◌<◌, ◌≤◌, ℤ, pos, negsuc, ◌≤ℤ◌, ◌<ℤ◌}
-use Rattle.std.specs.Prelude.{[], ◌∷◌, Option, None, Some}
+use Rattle.std.specs.Prelude.{List, [], ◌∷◌, Option, None, Some, find}
 use Rattle.sqlite.specs.Order.{Row}
+use Rattle.sqlite.specs.Tree.{has_rowid}
 use Rattle.sqlite.specs.declared.types.Value.TheVariants.{Int as Number}
 use Rattle.moo_rows.specs.declared.row.Head.{Head}
 use Rattle.moo_tables_rows.specs.declared.version.Version.{Version}
@@ -45,6 +46,14 @@ ReadsNewer known cells =
 -- the cells are those of a head of this version
 abbrev pub ReadsKnown : ℤ → Row → Type 0
 ReadsKnown version cells = (head : Head) × ReadsHead version head cells
+
+-- rows by their ids
+abbrev pub by_rowid : List Row → ℤ → Option Row
+by_rowid rows = λ n. find (has_rowid n) rows
+
+-- these rows have this head of this version, within its limits
+abbrev pub HoldsHead : Version → List Row → Head → Type 0
+HoldsHead version rows head = (cells : Row) × HeadIs (by_rowid rows) cells × ReadsHead (version_number version) head cells
 
 -- tables of a version past this one
 abbrev pub IsNewerThan : ℤ → (ℤ → Option Row) → Type 0

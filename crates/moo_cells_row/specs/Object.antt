@@ -1,14 +1,12 @@
 -- The columns of the table of objects.
-use Rattle.std.specs.Prelude.{◌≡◌, ℕ, List, [], Option, Some, None}
+use Rattle.std.specs.Prelude.{◌≡◌, ℕ, suc, pred, List, [], ◌∷◌, length, drop, Option, Some, None}
 use Rattle.sqlite.specs.Order.{Row, column}
 use Rattle.moo_value.specs.declared.value.ObjNo.{ObjNo}
 use Rattle.moo_value.specs.Literal.{Spells}
 use Rattle.moo_rows.specs.declared.row.ObjRow.{ObjRow}
 use Rattle.moo_world.specs.Answers.{object_list}
-use Rattle.moo_tables_rows.specs.Cells.{flag_cell}
 use Rattle.moo_tables_rows.specs.declared.version.Version.{Version}
-use Rattle.moo_tables_rows.specs.Object.{object_row_cells}
-use Rattle.moo_cells_row.specs.declared.object.Flags.{Flags}
+use Rattle.moo_tables_rows.specs.Object.{object_table, object_row, object_row_cells}
 
 -- the cell of an accept list: empty for none, else a literal of the list
 abbrev pub ShowsAccept : List ℕ → Option (List ObjNo) → Type 0
@@ -19,11 +17,15 @@ ShowsAccept text (Some objects) = Spells (object_list objects) text
 abbrev pub ShowsObject : Version → ObjNo → Row → ObjRow → Type 0
 ShowsObject version n cells row = (accept : List ℕ) × ShowsAccept accept row.accept × (cells ≡ object_row_cells n row accept)
 
--- these flags are in their columns
-pub record HasFlags (cells : Row) (flags : Flags) : Type 0 where
-  pub player : column cells 5 ≡ flag_cell flags.player
-  pub programmer : column cells 6 ≡ flag_cell flags.programmer
-  pub wizard : column cells 7 ≡ flag_cell flags.wizard
-  pub r : column cells 8 ≡ flag_cell flags.r
-  pub w : column cells 9 ≡ flag_cell flags.w
-  pub f : column cells 10 ≡ flag_cell flags.f
+-- from this column on, the cells are these
+abbrev pub StandFrom : ℕ → Row → Row → Type 0
+StandFrom at cells [] = Unit
+StandFrom at cells (cell ∷ more) = (column cells at ≡ cell) × StandFrom (suc at) cells more
+
+-- the accept list is in the last column
+abbrev pub accept_place : ℕ
+accept_place = pred (length object_table.columns)
+
+-- the flags of the row are in their columns: those after the location, up to the accept list, of which nothing is said
+abbrev pub HasFlags : Row → ObjRow → Type 0
+HasFlags cells row = StandFrom 5 cells (drop 5 (object_row row.owner row (column cells accept_place)))

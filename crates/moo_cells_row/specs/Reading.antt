@@ -1,8 +1,12 @@
 -- Cells that can be read: those that show a row within its limits.
-use Rattle.std.specs.Prelude.{◌≡◌, ℕ, ◌<◌, Bool, true, ◌&&◌}
+use Rattle.std.specs.Prelude.{◌≡◌, ◌≢◌, ℕ, ◌<◌, Bool, true, ◌&&◌, List}
 use Rattle.std.specs.List.{list_all}
 use Rattle.sqlite.specs.Order.{Row}
+use Rattle.sqlite.specs.declared.types.Value.{Value as Cell}
+use Rattle.sqlite.specs.declared.types.Value.TheVariants.{Text}
 use Rattle.moo_value.specs.declared.value.ObjNo.{ObjNo}
+use Rattle.moo_value.specs.declared.value.Value.{Value}
+use Rattle.moo_value.specs.Literal.{Spells}
 use Rattle.moo_value.specs.Value.{spread}
 use Rattle.moo_value.specs.Values.{Values}
 use Rattle.moo_rows.specs.declared.row.ObjRow.{ObjRow}
@@ -53,6 +57,14 @@ pub record PetitionFits (id : PetitionId) (row : PetitionRow) : Type 0 where
 -- the calls are such as a petition may hold, whoever asks
 abbrev pub calls_fit : Values → Bool
 calls_fit calls = list_all is_named (spread calls) && (are_few calls && (are_shallow calls && all_within_limits calls))
+
+-- a literal spells nothing that is within its limits
+abbrev pub SpellsNone : {X : Type 0} → (X → Value) → (X → Bool) → List ℕ → Type 0
+SpellsNone {X} value fits literal = (x : X) → fits x ≡ true → ¬ (Spells (value x) literal)
+
+-- a cell holds no text that shows something within its limits
+abbrev pub ShowsNone : {X : Type 0} → (List ℕ → X → Type 0) → (X → Bool) → Cell → Type 0
+ShowsNone {X} shows fits cell = (text : List ℕ) (x : X) → shows text x → fits x ≡ true → cell ≢ Text text
 
 -- the cells show this row of this key, and it is within its limits
 abbrev pub ReadsObject : Version → ObjNo → Row → ObjRow → Type 0

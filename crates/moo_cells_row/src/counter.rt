@@ -1,10 +1,9 @@
 //! The counters, and the table of the number of the next petition.
 
-ghost use Rattle.std.specs.Prelude.{◌≡◌, ◌≢◌, ℕ, pos, find, IfSome, IfNone};
-ghost use Rattle.sqlite.specs.Tree.{has_rowid};
+ghost use Rattle.std.specs.Prelude.{◌≡◌, ◌≢◌, ℕ, pos, IfSome, IfNone};
 ghost use Rattle.moo_tables_rows.specs.Cells.{petition_head_cells};
 ghost use Rattle.moo_tables_rows.specs.Inside.{AreKeyed};
-ghost use Rattle.moo_cells_row.specs.Head.{IsCounter, ReadsCounter, HasCounter};
+ghost use Rattle.moo_cells_row.specs.Head.{IsCounter, by_rowid, ReadsCounter, HasCounter};
 
 use crate::cell::int_at;
 use moo_tables::Version;
@@ -49,8 +48,8 @@ fn counter_of(cells: &Row) -> Option<u32>
 /// table isn't one row of id 1 with a counter.
 pub(crate) fn read_counter(version: Version, rows: &[Row]) -> Option<u32>
     requires { AreKeyed rows.now }
-    ensures some { IfSome result (λ next. ReadsCounter version (λ n. find (has_rowid n) rows.now) next) }
-    ensures none { IfNone result (¬ (HasCounter version (λ n. find (has_rowid n) rows.now))) }
+    ensures some { IfSome result (λ next. ReadsCounter version (by_rowid rows.now) next) }
+    ensures none { IfNone result (¬ (HasCounter version (by_rowid rows.now))) }
 {
     if !version.has_petitions() {
         return Some(FIRST_PETITION);

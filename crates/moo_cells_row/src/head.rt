@@ -1,12 +1,11 @@
 //! The head: its table, and that of the number of the next petition.
 
-ghost use Rattle.std.specs.Prelude.{◌≡◌, ◌≢◌, ℕ, ◌<◌, ◌≤◌, ◌^◌, pos, negsuc, ◌≤ℤ◌, find, FitsSigned, IfOk, IfErr, IfSome, IfNone};
+ghost use Rattle.std.specs.Prelude.{◌≡◌, ◌≢◌, ℕ, ◌<◌, ◌≤◌, ◌^◌, pos, negsuc, ◌≤ℤ◌, FitsSigned, IfOk, IfErr, IfSome, IfNone};
 ghost use Rattle.std.specs.Int.{w32};
-ghost use Rattle.sqlite.specs.Tree.{has_rowid};
 ghost use Rattle.moo_rows.specs.declared.row.Head.{Head};
 ghost use Rattle.moo_tables_rows.specs.Inside.{AreKeyed};
 ghost use Rattle.moo_tables_rows.specs.Version.{version_number};
-ghost use Rattle.moo_cells_row.specs.Head.{greatest_version, HeadIs, ReadsHead, ReadsNewer, ReadsKnown, IsNewerThan, HasHead, ReadsCounter, HasCounter, SaysOfHead};
+ghost use Rattle.moo_cells_row.specs.Head.{greatest_version, by_rowid, HoldsHead, ReadsHead, ReadsNewer, ReadsKnown, IsNewerThan, HasHead, ReadsCounter, HasCounter, SaysOfHead};
 ghost use Rattle.moo_cells_row.specs.HeadCells.{cells_of, AreWords, IsHead};
 ghost use Rattle.moo_cells_row.specs.declared.head.HeadCells.{HeadCells};
 
@@ -129,9 +128,10 @@ fn head_of(version: Version, cells: &Row) -> Result<Head, CellFault>
 /// The head of tables of this version, from the rows of its own table.
 fn head_in(version: Version, rows: &[Row]) -> Result<Head, CellFault>
     requires { AreKeyed rows.now }
-    ensures ok { IfOk result (λ head. (cells : _) × HeadIs (λ n. find (has_rowid n) rows.now) cells × ReadsHead (version_number version) head cells) }
+    ensures ok { IfOk result (HoldsHead version rows.now) }
     ensures limit { IfOk result (λ head. head.seq < 2 ^ 63) }
-    ensures err { IfErr result (SaysOfHead (HasHead (version_number version) (λ n. find (has_rowid n) rows.now)) (IsNewerThan greatest_version (λ n. find (has_rowid n) rows.now))) }
+    ensures err { IfErr result (SaysOfHead
+        (HasHead (version_number version) (by_rowid rows.now)) (IsNewerThan greatest_version (by_rowid rows.now))) }
 {
     if rows.len() != 1 {
         return Err(BAD_HEAD);
@@ -148,10 +148,12 @@ fn head_in(version: Version, rows: &[Row]) -> Result<Head, CellFault>
 pub fn read_head(version: Version, rows: &[Row], counters: &[Row]) -> Result<Head, CellFault>
     requires head { AreKeyed rows.now }
     requires counter { AreKeyed counters.now }
-    ensures ok { IfOk result (λ head. (cells : _) × HeadIs (λ n. find (has_rowid n) rows.now) cells × ReadsHead (version_number version) head cells) }
-    ensures counter { IfOk result (λ head. ReadsCounter version (λ n. find (has_rowid n) counters.now) head.next_petition) }
+    ensures ok { IfOk result (HoldsHead version rows.now) }
+    ensures counter { IfOk result (λ head. ReadsCounter version (by_rowid counters.now) head.next_petition) }
     ensures limit { IfOk result (λ head. head.seq < 2 ^ 63) }
-    ensures err { IfErr result (SaysOfHead (HasHead (version_number version) (λ n. find (has_rowid n) rows.now) × HasCounter version (λ n. find (has_rowid n) counters.now)) (IsNewerThan greatest_version (λ n. find (has_rowid n) rows.now))) }
+    ensures err { IfErr result (SaysOfHead
+        (HasHead (version_number version) (by_rowid rows.now) × HasCounter version (by_rowid counters.now))
+        (IsNewerThan greatest_version (by_rowid rows.now))) }
 {
     let mut head = head_in(version, rows)?;
     match read_counter(version, counters) {

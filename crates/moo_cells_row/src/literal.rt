@@ -1,19 +1,17 @@
 //! Cells that hold literals.
 
-ghost use Rattle.std.specs.Prelude.{◌≡◌, ◌≢◌, ◌≤◌, ℕ, true, ◌&&◌, List, Option, Some, map, length, IfOk, IfErr};
+ghost use Rattle.std.specs.Prelude.{◌≡◌, ◌≢◌, ◌≤◌, ℕ, true, ◌&&◌, List, Some, map, length, IfOk, IfErr};
 ghost use Rattle.std.specs.List.{list_all};
 ghost use Rattle.sqlite.specs.Order.{column};
 ghost use Rattle.sqlite.specs.declared.types.Value.TheVariants.{Text};
 ghost use Rattle.moo_value.specs.declared.value.ObjNo.{ObjNo};
 ghost use Rattle.moo_value.specs.declared.value.Value.TheVariants.{Obj, List as a_list};
 ghost use Rattle.moo_value.specs.Value.{spread};
-ghost use Rattle.moo_value.specs.Values.{Values};
 ghost use Rattle.moo_value.specs.Literal.{Spells};
-ghost use Rattle.moo_rows.specs.declared.row.SlotState.{SlotState};
 ghost use Rattle.moo_world.specs.Answers.{object_list};
 ghost use Rattle.moo_world.specs.Petitions.{is_named, are_few, are_shallow};
 ghost use Rattle.moo_world.specs.World.{accept_fits, state_fits};
-ghost use Rattle.moo_cells_row.specs.Reading.{calls_fit};
+ghost use Rattle.moo_cells_row.specs.Reading.{calls_fit, SpellsNone, ShowsNone};
 ghost use Rattle.moo_cells_row.specs.Shows.{ShowsAccept, ShowsSlotState};
 ghost use Rattle.moo_cells_row.specs.declared.fault.RowFault.TheVariants.{Unreadable};
 
@@ -32,7 +30,8 @@ const MAX_ACCEPTED: usize = 1000;
 fn objects_in(alloc: Global, values: &[Value]) -> Result<ObjList, RowFault>
     ensures ok { IfOk result (λ objects. values.now ≡ map Obj objects) }
     ensures fits { IfOk result (λ objects. length objects ≤ 1000) }
-    ensures err { IfErr result (λ fault. fault ≡ Unreadable → (objects : List ObjNo) → length objects ≤ 1000 → values.now ≢ map Obj objects) }
+    ensures err { IfErr result (λ fault. fault ≡ Unreadable →
+        (objects : List ObjNo) → length objects ≤ 1000 → values.now ≢ map Obj objects) }
 {
     if values.len() > MAX_ACCEPTED {
         return Err(RowFault::Unreadable);
@@ -55,7 +54,7 @@ fn objects_in(alloc: Global, values: &[Value]) -> Result<ObjList, RowFault>
 fn list_spelled(alloc: Global, bytes: &[u8]) -> Result<ObjList, RowFault>
     ensures ok { IfOk result (λ objects. Spells (object_list objects) bytes.now) }
     ensures fits { IfOk result (λ objects. accept_fits (Some objects) ≡ true) }
-    ensures err { IfErr result (λ fault. fault ≡ Unreadable → (objects : List ObjNo) → accept_fits (Some objects) ≡ true → ¬ (Spells (object_list objects) bytes.now)) }
+    ensures err { IfErr result (λ fault. fault ≡ Unreadable → SpellsNone object_list (λ objects. accept_fits (Some objects)) bytes.now) }
 {
     match read_whole_literal(alloc, bytes)? {
         Value::List(list) => objects_in(alloc, list.items()),
@@ -67,7 +66,7 @@ fn list_spelled(alloc: Global, bytes: &[u8]) -> Result<ObjList, RowFault>
 pub(crate) fn accept_at(alloc: Global, cells: &Row, at: usize) -> Result<Option<ObjList>, RowFault>
     ensures ok { IfOk result (λ accept. (text : List ℕ) × ShowsAccept text accept × (column cells.now at ≡ Text text)) }
     ensures fits { IfOk result (λ accept. accept_fits accept ≡ true) }
-    ensures err { IfErr result (λ fault. fault ≡ Unreadable → (text : List ℕ) (accept : Option (List ObjNo)) → ShowsAccept text accept → accept_fits accept ≡ true → column cells.now at ≢ Text text) }
+    ensures err { IfErr result (λ fault. fault ≡ Unreadable → ShowsNone ShowsAccept accept_fits (column cells.now at)) }
 {
     let text = text_at(cells, at)?;
     if text.is_empty() {
@@ -81,7 +80,7 @@ pub(crate) fn accept_at(alloc: Global, cells: &Row, at: usize) -> Result<Option<
 pub(crate) fn state_at(alloc: Global, cells: &Row, at: usize) -> Result<SlotState, RowFault>
     ensures ok { IfOk result (λ state. (text : List ℕ) × ShowsSlotState text state × (column cells.now at ≡ Text text)) }
     ensures fits { IfOk result (λ state. state_fits state ≡ true) }
-    ensures err { IfErr result (λ fault. fault ≡ Unreadable → (text : List ℕ) (state : SlotState) → ShowsSlotState text state → state_fits state ≡ true → column cells.now at ≢ Text text) }
+    ensures err { IfErr result (λ fault. fault ≡ Unreadable → ShowsNone ShowsSlotState state_fits (column cells.now at)) }
 {
     let text = text_at(cells, at)?;
     if text.is_empty() {
@@ -102,7 +101,7 @@ fn may_be_held(calls: &ValueList) -> bool
 fn calls_spelled(alloc: Global, bytes: &[u8]) -> Result<ValueList, RowFault>
     ensures ok { IfOk result (λ calls. Spells (a_list calls) bytes.now) }
     ensures fits { IfOk result (λ calls. calls_fit calls ≡ true) }
-    ensures err { IfErr result (λ fault. fault ≡ Unreadable → (calls : Values) → calls_fit calls ≡ true → ¬ (Spells (a_list calls) bytes.now)) }
+    ensures err { IfErr result (λ fault. fault ≡ Unreadable → SpellsNone a_list calls_fit bytes.now) }
 {
     let Value::List(calls) = read_whole_literal(alloc, bytes)? else {
         return Err(RowFault::Unreadable);
@@ -118,7 +117,8 @@ fn calls_spelled(alloc: Global, bytes: &[u8]) -> Result<ValueList, RowFault>
 pub(crate) fn calls_at(alloc: Global, cells: &Row, at: usize) -> Result<ValueList, RowFault>
     ensures ok { IfOk result (λ calls. (text : List ℕ) × Spells (a_list calls) text × (column cells.now at ≡ Text text)) }
     ensures fits { IfOk result (λ calls. calls_fit calls ≡ true) }
-    ensures err { IfErr result (λ fault. fault ≡ Unreadable → (text : List ℕ) (calls : Values) → Spells (a_list calls) text → calls_fit calls ≡ true → column cells.now at ≢ Text text) }
+    ensures err { IfErr result (λ fault. fault ≡ Unreadable →
+        ShowsNone (λ text calls. Spells (a_list calls) text) calls_fit (column cells.now at)) }
 {
     let text = text_at(cells, at)?;
     calls_spelled(alloc, text)

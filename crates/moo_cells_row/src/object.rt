@@ -1,46 +1,43 @@
 //! Rows of the table of objects.
 
 ghost use Rattle.std.specs.Prelude.{◌≡◌, IfOk, IfErr};
+ghost use Rattle.moo_rows.specs.declared.row.ObjRow.{ObjRow};
 ghost use Rattle.moo_cells_row.specs.Object.{HasFlags};
 ghost use Rattle.moo_cells_row.specs.Reading.{ReadsObject, IsRead};
 ghost use Rattle.moo_cells_row.specs.declared.fault.RowFault.TheVariants.{Unreadable};
-ghost use Rattle.moo_cells_row.specs.declared.object.Flags.{Flags};
 
 use crate::cell::{flag_at, object_at, string_at};
 use crate::fault::RowFault;
 use crate::literal::accept_at;
 use moo_rows::ObjRow;
 use moo_tables::Version;
-use moo_value::ObjNo;
+use moo_value::{MooStr, ObjNo};
 use sqlite::Row;
 use std::alloc::Global;
 
-/// How many columns the table of objects has.
+/// How many columns the table of objects has. The last one is the accept list's.
 const COLUMNS: usize = 12;
 
-/// The flags of an object.
-#[derive(Clone, Copy)]
-struct Flags {
-    player: bool,
-    programmer: bool,
-    wizard: bool,
-    r: bool,
-    w: bool,
-    f: bool,
-}
+/// The number that stands for no object.
+const NOTHING: ObjNo = ObjNo(-1);
 
-/// The flags in the cells of an object.
-fn flags_of(cells: &Row) -> Result<Flags, RowFault>
-    ensures ok { IfOk result (λ flags. HasFlags cells.now flags) }
-    ensures err { IfErr result (λ _. (flags : Flags) → ¬ (HasFlags cells.now flags)) }
+/// An object that has the flags in these cells, and nothing else.
+fn flags_of(alloc: Global, cells: &Row) -> Result<ObjRow, RowFault>
+    ensures ok { IfOk result (λ row. HasFlags cells.now row) }
+    ensures err { IfErr result (λ _. (row : ObjRow) → ¬ (HasFlags cells.now row)) }
 {
-    Ok(Flags {
+    Ok(ObjRow {
         player: flag_at(cells, 5)?,
         programmer: flag_at(cells, 6)?,
         wizard: flag_at(cells, 7)?,
         r: flag_at(cells, 8)?,
         w: flag_at(cells, 9)?,
         f: flag_at(cells, 10)?,
+        name: MooStr::from_vec(Vec::new(alloc)),
+        owner: NOTHING,
+        parent: NOTHING,
+        location: NOTHING,
+        accept: None,
     })
 }
 
@@ -62,21 +59,16 @@ pub fn read_object(
     let owner = object_at(cells, 2)?;
     let parent = object_at(cells, 3)?;
     let location = object_at(cells, 4)?;
-    let flags = flags_of(cells)?;
+    let flags = flags_of(alloc, cells)?;
     let name = string_at(alloc, cells, 1)?;
-    let accept = accept_at(alloc, cells, 11)?;
+    let accept = accept_at(alloc, cells, COLUMNS - 1)?;
     let row = ObjRow {
         name,
         owner,
         parent,
         location,
-        player: flags.player,
-        programmer: flags.programmer,
-        wizard: flags.wizard,
-        r: flags.r,
-        w: flags.w,
-        f: flags.f,
         accept,
+        ..flags
     };
     Ok((number, row))
 }

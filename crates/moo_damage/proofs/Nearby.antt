@@ -1,5 +1,5 @@
 -- What the tests of all rows say of each.
-use Rattle.moo_damage.proofs.Words.{◌≡◌, ◌<◌, Bool, true, false, ◌&&◌, ◌||◌, cond, Some, List, [], ◌∷◌, Ordering, Less, refl, sym, ap, ◌∙◌, not, IsTotalOrder, tied_itself, nat_cmp_is, int_eq, ordering_then, list_any, FinMap, get, entries, get-entries, both_ways, Decides-int_eq, CmpEqualImpliesEq, ObjNo, PropId, PropRow, SlotRow, object_exact, prop_exact, slot_exact, Maps, prop_cmp, slot_cmp, slots_of_left, is_past, object_total, prop_total, slot_total, some_of, any_held, NamesApart, has_slot, comes_down, lacks_one_of, AreLocal, is_lt, filter}
+use Rattle.moo_damage.proofs.Words.{◌≡◌, ◌<◌, Bool, true, false, ◌&&◌, ◌||◌, cond, Some, List, [], ◌∷◌, Ordering, Less, refl, sym, ap, ◌∙◌, not, IsTotalOrder, tied_itself, nat_cmp_is, int_eq, ordering_then, list_any, FinMap, get, entries, get-entries, both_ways, Decides-int_eq, CmpEqualImpliesEq, ObjNo, PropId, PropRow, SlotRow, object_exact, prop_exact, slot_exact, Maps, prop_cmp, slot_cmp, slots_of_left, is_past, object_total, prop_total, slot_total, some_of, any_held, DefinersApart, has_slot, comes_down, lacks_one_of, AreLocal, is_lt, filter}
 use Rattle.moo_damage.proofs.Chained.{not_false}
 
 -- where none passes, no row does
@@ -47,7 +47,7 @@ module _ (m : Maps) where
       → list_any (λ e. not (has_slot m e.1.definer e.0)) (entries m.props) ≡ false
       → list_any (λ e. not (comes_down m e.0)) (entries m.slots) ≡ false
       → list_any (λ e. lacks_one_of m e.0 e.1.parent) (entries m.objects) ≡ false
-      → ((id : PropId) (p : PropRow) → get m.props id ≡ Some p → NamesApart m p.definer)
+      → DefinersApart m
       → AreLocal m
   local ids a b c d = record {
     numbered = ids;

@@ -1,5 +1,5 @@
 -- What each search found, as the least key at which its kind is met.
-use Rattle.moo_damage.{proofs.Words.{◌≡◌, pos, Bool, true, false, Option, None, Some, sym, subst, option_map, both_ways, ObjNo, PetitionId, PropId, VerbId, Maps, Kind, BadHead, BadCell, PastHead, NoParent, ParentLoop, NoPlace, PlaceLoop, NoDefiner, StrangeSlot, MissingSlot, ClearDefiner, StrangeVerb, Key, Object, Prop, Verb, Petition, TreeLink, Parent, Location, HasEnd, Loops, is_object_past, is_prop_past, is_verb_past, is_petition_past, is_lost, lacks_definer, is_strange, is_clear_definer, is_strange_verb, IsLeastBad, rank, lost_kind, loop_kind, InRows, NoneBefore, IsLeast, IsFirstMet, IsFirstMissing, Slot}, proofs.InTurn.{none_more, none_yet}, proofs.Lacking.{none_missing, missing_first}, proofs.Least.{no_bad, none_met, object_first, prop_first, slot_first, verb_first, petition_first}}
+use Rattle.moo_damage.{proofs.Words.{◌≡◌, pos, Bool, true, false, Option, None, Some, sym, subst, option_map, both_ways, ObjNo, PetitionId, PropId, VerbId, Maps, Kind, BadHead, BadCell, PastHead, NoParent, ParentLoop, NoPlace, PlaceLoop, NoDefiner, StrangeSlot, MissingSlot, ClearDefiner, StrangeVerb, Key, Object, Prop, Verb, Petition, TreeLink, Parent, Location, HasEnd, Loops, is_object_past, is_prop_past, is_verb_past, is_petition_past, is_lost, lacks_definer, is_strange, is_clear_definer, is_strange_verb, IsLeastBad, IsFirstLoop, rank, lost_kind, loop_kind, InRows, NoneBefore, IsLeast, IsFirstMet, IsFirstMissing, Slot}, proofs.InTurn.{none_more, none_yet}, proofs.Lacking.{none_missing, missing_first}, proofs.Least.{no_bad, none_met, object_first, prop_first, slot_first, verb_first, petition_first}}
 
 abbrev pub of_object : Option ObjNo → Option Key
 of_object o = option_map (λ x. Object x.0) o
@@ -26,7 +26,7 @@ module _ (m : Maps) where
   ending : (link : TreeLink) (x : ObjNo) → HasEnd link m x → ¬ (Loops link m x)
   ending link x c f = f c.0 c.1
 
-  pub loops_least : (link : TreeLink) (o : Option ObjNo) → IsLeastBad m.objects (λ x _. HasEnd link m x) (λ x _. Loops link m x) o → IsLeast (InRows m (loop_kind link)) (of_object o)
+  pub loops_least : (link : TreeLink) (o : Option ObjNo) → IsFirstLoop link m o → IsLeast (InRows m (loop_kind link)) (of_object o)
   loops_least Parent None f = none_met m ParentLoop (no_bad m.objects (λ x _. HasEnd Parent m x) (λ x _. Loops Parent m x) (λ k r. ending Parent k) f) (λ id h. h) (λ key h. h) (λ key h. h) (λ id h. h)
   loops_least Parent (Some x) f = object_first m ParentLoop (λ x _. HasEnd Parent m x) (λ x _. Loops Parent m x) (λ x h. h) (λ x h. h) (λ k r. ending Parent k) x f
   loops_least Location None f = none_met m PlaceLoop (no_bad m.objects (λ x _. HasEnd Location m x) (λ x _. Loops Location m x) (λ k r. ending Location k) f) (λ id h. h) (λ key h. h) (λ key h. h) (λ id h. h)

@@ -48,14 +48,14 @@ pub use Rattle.moo_world.specs.Rows.{AreSound, IsGood, IsSound, LookUps, look_up
 unfoldable pub use Rattle.moo_world.specs.Rows.{world_shown}
 pub use Rattle.moo_world.specs.World.{Chain, Climbs, IsTree, KeepsLimits, NamesDiffer, WorldObject, World, chain, defined_by, is_object, is_property_name, location_of, property_names_of, defined_by_any, property_named, parent_of, row_fits, slot_fits, slot_of, verb_fits, without_slots}
 pub use borrow.Author.Tests.{tests}
-pub use Rattle.moo_damage.specs.Apart.{AreApart, NamesApart, Noted, NotesProp, is_alone, noted_as}
+pub use Rattle.moo_damage.specs.Apart.{AreApart, DefinersApart, NamesApart, Noted, NotesProp, is_alone, noted_as}
 pub use Rattle.moo_damage.specs.Damage.{HasEnd, IsClean, LinksDescend, LinksEnd, LinksHold, Loops, NumbersGiven, is_clear_definer, is_double, is_lost, is_missing, is_object_past, is_owed, is_petition_past, is_prop_past, is_strange, is_strange_verb, is_verb_past, lacks_definer, link_of, next_of, share_name}
 pub use Rattle.moo_damage.specs.Differences.{AgreeAt, IsFirstDifference, IsFirstUnlike}
 pub use Rattle.moo_damage.specs.First.{IsLeastBad}
 pub use Rattle.moo_damage.specs.Kinds.{AtObject, AtPetition, AtProp, AtSlot, AtVerb, Has, InRows, IsBelow, IsFirstBefore, IsFirstMet, IsLeast, NoneBefore, loop_kind, lost_kind, rank}
 pub use Rattle.moo_damage.specs.Local.{AreLocal, SlotsHold, comes_down, has_slot, lacks_one_of}
 pub use Rattle.moo_damage.specs.Missing.{IsFirstMissing, Misses}
-pub use Rattle.moo_damage.specs.Noted.{AreEnding}
+pub use Rattle.moo_damage.specs.Noted.{AllEnd, AreEnding, IsFirstLoop}
 pub use Rattle.moo_damage.specs.OwnClear.{has_clear}
 pub use Rattle.moo_damage.specs.declared.kind.Key.{Key}
 pub use Rattle.moo_damage.specs.declared.kind.Key.TheVariants.{Head, Object, Petition, Prop, Slot, Verb}

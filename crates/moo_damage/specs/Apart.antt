@@ -21,6 +21,10 @@ NamesApart m x =
 abbrev pub AreApart : Maps → FinMap object_cmp (Unit {0}) → Type 0
 AreApart m known = (x : ObjNo) → get known x ≡ Some tt → NamesApart m x
 
+-- no two properties have one name on an object that defines one
+abbrev pub DefinersApart : Maps → Type 0
+DefinersApart m = (id : PropId) (p : PropRow) → get m.props id ≡ Some p → NamesApart m p.definer
+
 -- ---- properties noted under their folded names
 
 abbrev pub Noted : Type 0
@@ -34,9 +38,12 @@ abbrev pub is_alone : Option PropId → PropId → Bool
 is_alone None id = true
 is_alone (Some other) id = nat_eq other.0 id.0
 
+-- under this name the property is noted now, and under each other name the one that was
+abbrev pub NotesName : Name → PropId → (old new : Noted) → Type 0
+NotesName name id old new = (n : Name) → noted_as new n ≡ (if same_text n (folded name) then Some id else noted_as old n)
+
 -- the property, if there is one, is noted under its name
 abbrev pub NotesProp : Option PropRow → PropId → (old new : Noted) → Bool → Type 0
 NotesProp None id old new alone = (new ≡ old) × (alone ≡ true)
 NotesProp (Some p) id old new alone =
-    ((n : Name) → noted_as new n ≡ (if same_text n (folded p.name) then Some id else noted_as old n))
-    × (alone ≡ is_alone (noted_as old (folded p.name)) id)
+    NotesName p.name id old new × (alone ≡ is_alone (noted_as old (folded p.name)) id)

@@ -1,10 +1,24 @@
--- Objects whose chains are known to end.
-use Rattle.std.specs.Prelude.{◌≡◌, Some}
+-- Objects whose chains are known to end, and the first whose chain doesn't.
+use Rattle.std.specs.Prelude.{◌≡◌, List, Option, Some}
+use Rattle.std.specs.List.{AllByRecursion}
 use Rattle.std.specs.FinMap.{FinMap, get}
 use Rattle.moo_value.specs.declared.value.ObjNo.{ObjNo}
 use Rattle.moo_rows.specs.Maps.{Maps, object_cmp}
 use Rattle.moo_damage.specs.declared.trees.TreeLink.{TreeLink}
-use Rattle.moo_damage.specs.Damage.{HasEnd}
+use Rattle.moo_damage.specs.Damage.{HasEnd, Loops}
+use Rattle.moo_damage.specs.First.{IsLeastBad}
 
 abbrev pub AreEnding : TreeLink → Maps → FinMap object_cmp (Unit {0}) → Type 0
 AreEnding link m known = (x : ObjNo) → get known x ≡ Some tt → HasEnd link m x
+
+-- the chains of these objects end
+abbrev pub AllEnd : TreeLink → Maps → List ObjNo → Type 0
+AllEnd link m path = AllByRecursion (HasEnd link m) path
+
+-- if the chains of these objects end, it is known of them too
+abbrev pub NotesEnding : List ObjNo → (old new : FinMap object_cmp (Unit {0})) → Type 0
+NotesEnding path old new = (link : TreeLink) (m : Maps) → AllEnd link m path → AreEnding link m old → AreEnding link m new
+
+-- the least object whose chain doesn't end, or None if each ends
+abbrev pub IsFirstLoop : TreeLink → Maps → Option ObjNo → Type 0
+IsFirstLoop link m o = IsLeastBad m.objects (λ x _. HasEnd link m x) (λ x _. Loops link m x) o

@@ -96,8 +96,8 @@ fn wrong_slot<R: Rows>(rows: &R, hold: bool) -> Option<(Kind, Key)>
 }
 
 /// What is wrong with rows: the first of the kinds of damage from `PastHead` to `StrangeVerb` that is met, with its least key: objects
-/// come before properties, and these before slots, verbs and petitions, in this order. None if no kind is met: the rows then show a well formed
-/// world, and petitions as they may be beside it. An `Err` is a lack of memory.
+/// come before properties, and these before slots, verbs and petitions, in this order. None if no kind is met: the rows then show
+/// a well formed world, and petitions as they may be beside it. An `Err` is a lack of memory.
 ///
 /// Its time is that of going over the rows and of looking up each one's neighbours. Only rows of which a slot is wrong take longer.
 pub fn damage_of<R: Rows>(alloc: Global, rows: &R) -> Result<Option<(Kind, Key)>, AllocError>

@@ -64,7 +64,8 @@ impl fmt::Display for Kind {
     }
 }
 
-/// The row at which damage is found: its table, and its key there. The numbers are those of the cells, which may lie outside the range of a row's.
+/// The row at which damage is found: its table, and its key there. The numbers are those of the cells, which may lie outside the range
+/// of a row's.
 #[derive(Clone, Copy, Debug, PartialEq, Eq)]
 pub enum Key {
     /// The head.

@@ -72,7 +72,8 @@ fn any_lacks_one<R: Rows>(rows: &R) -> bool
     any_bad::<ObjRow, R, _>(rows, |x, row| lacks_one_of(rows, x, row.parent))
 }
 
-/// Whether the slots are seen to be just those that are owed, by a look at each slot, its object and the parent's slots. Those of good rows always are.
+/// Whether the slots are seen to be just those that are owed, by a look at each slot, its object and the parent's slots. Those of
+/// good rows always are.
 ///
 /// No chain is climbed: along chains that end, what each object has of its parent it has of all ancestors. An `Err` is a lack of memory.
 pub(crate) fn slots_hold<R: Rows>(alloc: Global, rows: &R) -> Result<bool, AllocError>

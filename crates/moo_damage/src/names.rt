@@ -1,14 +1,12 @@
 //! Whether names stand once on the objects that define properties, in time that grows with the slots of these objects.
 
-ghost use Rattle.std.specs.Prelude.{◌≡◌, IfOk, OnOk, true, Some, if◌then◌else◌};
+ghost use Rattle.std.specs.Prelude.{◌≡◌, IfOk, OnOk, true};
 ghost use Rattle.std.specs.FinMap.{get};
-ghost use Rattle.moo_rows.specs.declared.row.PropId.{PropId};
-ghost use Rattle.moo_rows.specs.declared.row.PropRow.{PropRow};
 ghost use Rattle.moo_rows.specs.Maps.{object_cmp};
 ghost use Rattle.moo_rows.specs.Ordered.{contents};
-ghost use Rattle.moo_world.specs.Objects.{Name, same_text, folded};
+ghost use Rattle.moo_world.specs.Objects.{folded};
 ghost use Rattle.moo_world.specs.Rows.{IsSound};
-ghost use Rattle.moo_damage.specs.Apart.{AreApart, NamesApart, NotesProp, is_alone, noted_as};
+ghost use Rattle.moo_damage.specs.Apart.{AreApart, DefinersApart, NamesApart, NotesName, NotesProp, is_alone, noted_as};
 
 use moo_rows::{PropId, Rows, each_prop, each_slot_of, ordered};
 use moo_value::{MooStr, ObjNo};
@@ -22,7 +20,7 @@ fn note_name(
     name: &MooStr,
     id: PropId,
 ) -> Result<bool, AllocError>
-    ensures noted { OnOk result ((n : Name) → noted_as noted.new n ≡ (if same_text n (folded name.now) then Some id else noted_as noted.old n)) }
+    ensures noted { OnOk result (NotesName name.now id noted.old noted.new) }
     ensures alone { IfOk result (λ alone. alone ≡ is_alone (noted_as noted.old (folded name.now)) id) }
 {
     let key = name.bytes().to_ascii_lowercase(alloc)?;
@@ -87,7 +85,7 @@ fn seen_apart<R: Rows>(
 
 /// Whether no two properties have one name on an object that defines a property. An `Err` is a lack of memory.
 pub(crate) fn names_apart<R: Rows>(alloc: Global, rows: &R) -> Result<bool, AllocError>
-    ensures apart { IfOk result (λ apart. apart ≡ true → (id : PropId) (p : PropRow) → get (R.held rows.now).maps.props id ≡ Some p → NamesApart (R.held rows.now).maps p.definer) }
+    ensures apart { IfOk result (λ apart. apart ≡ true → DefinersApart (R.held rows.now).maps) }
     ensures sound { IsSound (R.held rows.now).maps → IfOk result (λ apart. apart ≡ true) }
 {
     let mut known = BTreeMap::new(alloc);

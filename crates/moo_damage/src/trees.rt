@@ -1,15 +1,12 @@
 //! Chains of links that don't end.
 
 ghost use Rattle.std.specs.Prelude.{◌≡◌, ◌≤◌, IsTrue, IfOk, IfSome, IfNone, OnOk, true, is_some, length};
-ghost use Rattle.std.specs.List.{AllByRecursion};
 ghost use Rattle.std.specs.FinMap.{entries, get};
 ghost use Rattle.moo_rows.specs.Ordered.{contents};
-ghost use Rattle.moo_rows.specs.Maps.{Maps, object_cmp};
-ghost use Rattle.moo_damage.specs.First.{IsLeastBad};
+ghost use Rattle.moo_rows.specs.Maps.{object_cmp};
 ghost use Rattle.moo_damage.specs.Damage.{link_of, HasEnd, Loops, LinksHold, LinksDescend};
 ghost use Rattle.moo_damage.specs.Kinds.{lost_kind, loop_kind};
-ghost use Rattle.moo_damage.specs.Noted.{AreEnding};
-ghost use Rattle.moo_damage.specs.declared.trees.TreeLink.{TreeLink};
+ghost use Rattle.moo_damage.specs.Noted.{AllEnd, AreEnding, IsFirstLoop, NotesEnding};
 
 use crate::first::first_bad;
 use crate::kind::Kind;
@@ -88,7 +85,8 @@ fn climb<R: Rows>(
     requires known { AreEnding link (R.held rows.now).maps (contents object_cmp known.now) }
     requires object { is_some (get (R.held rows.now).maps.objects x) ≡ true }
     requires count { length (entries (R.held rows.now).maps.objects) ≤ count }
-    ensures ends { IfOk result (λ o. IfSome o (λ path. AllByRecursion (HasEnd link (R.held rows.now).maps) path.items × HasEnd link (R.held rows.now).maps x)) }
+    ensures ends { IfOk result (λ o. IfSome o (λ path.
+        AllEnd link (R.held rows.now).maps path.items × HasEnd link (R.held rows.now).maps x)) }
     ensures loops { IfOk result (λ o. IfNone o (Loops link (R.held rows.now).maps x)) }
 {
     let mut path = Vec::new(alloc);
@@ -112,7 +110,7 @@ fn climb<R: Rows>(
 
 /// Notes that the chains of these objects end.
 fn note(known: &mut BTreeMap<ObjNo, ()>, path: &[ObjNo]) -> Result<(), AllocError>
-    ensures { OnOk result ((link : TreeLink) (m : Maps) → AllByRecursion (HasEnd link m) path.now → AreEnding link m (contents object_cmp known.old) → AreEnding link m (contents object_cmp known.new)) }
+    ensures { OnOk result (NotesEnding path.now (contents object_cmp known.old) (contents object_cmp known.new)) }
 {
     for x in path {
         ordered::put(known, *x, ())?;
@@ -131,7 +129,7 @@ pub fn first_loop<R: Rows>(
     link: TreeLink,
 ) -> Result<Option<ObjNo>, AllocError>
     requires { LinksHold link (R.held rows.now).maps }
-    ensures { IfOk result (IsLeastBad (R.held rows.now).maps.objects (λ x _. HasEnd link (R.held rows.now).maps x) (λ x _. Loops link (R.held rows.now).maps x)) }
+    ensures { IfOk result (IsFirstLoop link (R.held rows.now).maps) }
 {
     if links_descend(rows, link) {
         return Ok(None);

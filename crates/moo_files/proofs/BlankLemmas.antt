@@ -95,14 +95,6 @@ pub both_ok : {A E : Type 0} {P Q R : A → Type 0} (r : Result A E) → IfOk r 
 both_ok (Ok a) it also f = f a it also
 both_ok (Err e) it also f = tt
 
-pub each_ok : {A E : Type 0} {P Q : A → Type 0} (r : Result A E) → IfOk r P → ((a : A) → P a → Q a) → IfOk r Q
-each_ok (Ok a) it f = f a it
-each_ok (Err e) it f = tt
-
-pub each_err : {A E : Type 0} {P Q : E → Type 0} (r : Result A E) → IfErr r P → ((e : E) → P e → Q e) → IfErr r Q
-each_err (Ok a) it f = tt
-each_err (Err e) it f = f e it
-
 pub both_err : {A E : Type 0} {P Q R : E → Type 0} (r : Result A E) → IfErr r P → IfErr r Q → ((e : E) → P e → Q e → R e) → IfErr r R
 both_err (Ok a) it also f = tt
 both_err (Err e) it also f = f e it also

@@ -1,9 +1,8 @@
 -- What refused a database that was to be made or opened.
-use Rattle.moo_files.proofs.Words.{◌≡◌, ◌⊎◌, inl, inr, ℕ, ◌<◌, refl, arith, ∥∥₁_elim, Image, Trees, Error, HoldsDatabase, IsNothing}
-use Rattle.moo_files.specs.Causes.{IsOpenable}
+use Rattle.moo_files.{proofs.Words.{◌≡◌, ◌⊎◌, inl, inr, ℕ, ◌<◌, refl, arith, ∥∥₁_elim, Image, Trees, Error, HoldsDatabase, IsNothing}, specs.Causes.{IsOpenable}}
 use Rattle.sqlite_catalog.specs.Listing.{IsSound}
 use Rattle.sqlite_disk.specs.Disk.{MoreFaults}
-use Rattle.sqlite.specs.Schema.{Schema}
+use Rattle.sqlite.{specs.Schema.{Schema}, specs.Opening.{FailsAs}, specs.Steps.{FailsToOpen}, specs.declared.error.Error.TheVariants.{SqliteFailure}}
 use Rattle.sqlite_store.specs.Opening as store
 use Rattle.sqlite_store.specs.declared.error.OpenError.{OpenError}
 use Rattle.sqlite_store.specs.declared.error.OpenError.TheVariants as opening
@@ -12,15 +11,12 @@ use Rattle.sqlite_trees.specs.declared.error.StoreError.TheVariants as stored
 use Rattle.sqlite_wal.specs.Outcome.{HasCause, OnlyIf}
 use Rattle.sqlite_wal.specs.declared.error.Error as log
 use Rattle.sqlite_wal.specs.declared.error.Error.TheVariants as wal
-use Rattle.sqlite.specs.Opening.{FailsAs}
-use Rattle.sqlite.specs.Steps.{FailsToOpen}
-use Rattle.sqlite.specs.declared.error.Error.TheVariants.{SqliteFailure}
 use Rattle.sqlite.specs.declared.error.ErrorCode.TheVariants as code
 
 abbrev memory : Error
 memory = SqliteFailure code.OutOfMemory
 
-some_faults : (old new : ℕ) → MoreFaults old new → 0 < new
+pub some_faults : (old new : ℕ) → MoreFaults old new → 0 < new
 some_faults old new more = omega (arith, more)
 
 -- making a blank database stopped

@@ -1,5 +1,5 @@
 -- What follows of what opening answers, whatever it answers: the state, the tables and the rows that files hold.
-use Rattle.std.specs.Prelude.{Result, Ok, Err, IfOk, IfErr}
+use Rattle.std.{specs.Prelude.{Result, IfOk, IfErr}, proofs.lemmas.Result.{IfOk-weaker, IfErr-weaker}}
 use Rattle.sqlite_disk.specs.declared.Disk.{Ghosts}
 use Rattle.sqlite_store.specs.declared.store.FileStore.{FileStore}
 use Rattle.sqlite_wal.specs.Recovery.{Image}
@@ -9,14 +9,6 @@ use Rattle.moo_store.{specs.Kept.{World}, specs.World.{store_of}}
 use Rattle.moo_store_rows.{specs.States.{LeavesState}, specs.declared.fault.StoreFault.{StoreFault}}
 use Rattle.moo_files.{specs.Contents.{HoldsState, IsKept}, specs.Remains.{IsCleanRemains, StillHolds}, specs.Opened.{Contents, Database, Hold, IsOpenedOver, Opens, Refuses, OpensHeld, RefusesHeld, OpensTables, OpensGood}, specs.declared.remains.Remains.{Remains}, proofs.ContentsLemmas.{kept_state}, proofs.RemainsLemmas.{keeps_more}}
 
-pub ok_map : {A E : Type 0} (r : Result A E) (P Q : A → Type 0) → ((a : A) → P a → Q a) → IfOk r P → IfOk r Q
-ok_map (Ok a) P Q on it = on a it
-ok_map (Err e) P Q on it = it
-
-pub err_map : {A E : Type 0} (r : Result A E) (P Q : E → Type 0) → ((e : E) → P e → Q e) → IfErr r P → IfErr r Q
-err_map (Ok a) P Q on it = it
-err_map (Err e) P Q on it = on e it
-
 module _ {T D : Type 0} {g : Ghosts D} (image : Image) (r : Result (World (FileStore D g)) (StoreFault × Remains T D g)) where
   abbrev OpensBy : Type 0
   OpensBy = (held : Contents) → Hold image held → IfOk r (λ world. HasCleanDisk (store_of over_files world) → Opens held world)
@@ -25,16 +17,16 @@ module _ {T D : Type 0} {g : Ghosts D} (image : Image) (r : Result (World (FileS
   RefusesBy = (held : Contents) → Hold image held → IfErr r (λ e. IsCleanRemains e.1 → Refuses held image e.0 e.1)
 
   pub opens_held : OpensBy → OpensHeld image r
-  opens_held it s holds = ok_map r _ _ (λ world opens clean. ((opens clean).state s holds.such).0) (it (Database holds.trees) holds.holds)
+  opens_held it s holds = IfOk-weaker r _ _ (λ world opens clean. ((opens clean).state s holds.such).0) (it (Database holds.trees) holds.holds)
 
   pub opens_tables : OpensBy → OpensTables image r
-  opens_tables it tables holds = ok_map r _ _ (λ world opens clean. ((opens clean).tables tables holds.such).0) (it (Database holds.trees) holds.holds)
+  opens_tables it tables holds = IfOk-weaker r _ _ (λ world opens clean. ((opens clean).tables tables holds.such).0) (it (Database holds.trees) holds.holds)
 
   pub opens_good : IfOk r (IsOpenedOver image) → OpensGood r
-  opens_good it = ok_map r _ _ (λ world opened. (opened.good, opened.stands)) it
+  opens_good it = IfOk-weaker r _ _ (λ world opened. (opened.good, opened.stands)) it
 
   pub refuses_held : RefusesBy → RefusesHeld image r
-  refuses_held it s holds = err_map r _ _ (λ e refuses clean. (refuses clean).state s holds.such) (it (Database holds.trees) holds.holds)
+  refuses_held it s holds = IfErr-weaker r _ _ (λ e refuses clean. (refuses clean).state s holds.such) (it (Database holds.trees) holds.holds)
 
   pub still_holds : RefusesBy → (s : State) → HoldsState image s → IfErr r (λ e. IsCleanRemains e.1 → StillHolds image e.1 s)
-  still_holds it s holds = err_map r _ _ (λ e refuses clean. keeps_more (IsKept holds.trees) (λ trees. LeavesState trees s) (λ found kept. kept_state s holds.trees found holds.such kept) image e.1 (refuses clean).kept) (it (Database holds.trees) holds.holds)
+  still_holds it s holds = IfErr-weaker r _ _ (λ e refuses clean. keeps_more (IsKept holds.trees) (λ trees. LeavesState trees s) (λ found kept. kept_state s holds.trees found holds.such kept) image e.1 (refuses clean).kept) (it (Database holds.trees) holds.holds)

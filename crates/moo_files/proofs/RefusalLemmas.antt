@@ -1,18 +1,14 @@
 -- What the fault of an open that failed says of the files.
-use Rattle.moo_files.proofs.Words.{◌≡◌, ◌≢◌, ◌⊎◌, inl, inr, ℕ, ◌<◌, IsTrue, refl, arith, ap, Held, FileStore, file_state, sym, subst, ◌∙◌, ∥∥₁_elim, Ghosts, Files, Image, tally_of_files, Trees, store_error, FailsToOpenFiles, HoldsDatabase, faults_left, image_of, tally_left, Error, Leftover, not_ours, IsOfStore, Tables, StoreFault, HoldsTrees, ExcusesMalformed, IsUnopened, TakesForOurs, cannot_open, malformed, Remains, IsKept}
-use Rattle.moo_files.{specs.Causes.{HasCauseOr, IsRefusedByDisk, StopsOver}, specs.Opened.{Contents, Nothing, Database, Unfit, Refuses}, specs.Connected.{Unconnects}, proofs.RemainsLemmas.{keeps_more}}
+use Rattle.moo_files.{proofs.Words.{◌≡◌, ◌≢◌, ◌⊎◌, inl, inr, ◌<◌, IsTrue, refl, ap, Held, FileStore, file_state, sym, subst, ◌∙◌, ∥∥₁_elim, Ghosts, Files, Image, tally_of_files, Trees, store_error, FailsToOpenFiles, HoldsDatabase, faults_left, image_of, tally_left, Error, Leftover, not_ours, IsOfStore, StoreFault, HoldsTrees, ExcusesMalformed, IsUnopened, TakesForOurs, cannot_open, malformed, Remains, IsKept}, specs.Causes.{HasCauseOr, IsRefusedByDisk, StopsOver}, specs.Opened.{Contents, Nothing, Database, Unfit, Refuses}, specs.Connected.{Unconnects}, proofs.RemainsLemmas.{keeps_more}, proofs.CauseLemmas.{some_faults}}
 use Rattle.moo_files.specs.declared.remains.Remains.TheVariants as remains
-use Rattle.moo_store_rows.specs.Opening.{Says, HasEarlier, StopsOpening}
+use Rattle.moo_store_rows.{specs.Opening.{HasEarlier, StopsOpening}, proofs.OpenLemmas.{says_of_store}}
 use Rattle.moo_tables.specs.ReadCause.{StopsQuery}
 use Rattle.moo_tables_rows.specs.Cause.{StopsChange}
-use Rattle.std.specs.Prelude.{None, IsSome}
-use Rattle.std.proofs.lemmas.Bool.{true≢false}
-use Rattle.sqlite.specs.State.{State, HasCause as StoreCause}
-use Rattle.sqlite_disk.specs.Disk.{MoreFaults}
+use Rattle.std.{specs.Prelude.{None, IsSome}, proofs.lemmas.Bool.{true≢false}}
+use Rattle.sqlite.{specs.State.{State, HasCause as StoreCause}, specs.declared.error.Error.TheVariants.{SqliteFailure}, specs.declared.error.ErrorCode.{ErrorCode}}
 use Rattle.sqlite_trees.specs.declared.error.StoreError.{StoreError}
 use Rattle.sqlite_trees.specs.declared.error.StoreError.TheVariants as kinds
 use Rattle.sqlite_store.specs.Report.{named}
-use Rattle.sqlite.{specs.declared.error.Error.TheVariants.{SqliteFailure}, specs.declared.error.ErrorCode.{ErrorCode}}
 use Rattle.sqlite.specs.declared.error.ErrorCode.TheVariants as codes
 use Rattle.moo_store_rows.specs.declared.fault.StoreFault.TheVariants as faults
 
@@ -23,9 +19,6 @@ code_of other = codes.OutOfMemory
 -- which fault an error of `sqlite` is told as
 abbrev IsToldAs : Error → StoreFault → Type 0
 IsToldAs error fault = (error ≡ SqliteFailure codes.OutOfMemory → fault ≡ faults.OutOfMemory) × (error ≢ SqliteFailure codes.OutOfMemory → fault ≡ faults.Store error)
-
-some_faults : (old new : ℕ) → MoreFaults old new → 0 < new
-some_faults old new more = omega (arith, more)
 
 module _ (error : Error) (fault : StoreFault) (told : IsToldAs error fault) where
   by_code : (code : ErrorCode) → error ≡ SqliteFailure code → code ≢ codes.OutOfMemory → fault ≡ faults.Store (SqliteFailure code)
@@ -72,32 +65,21 @@ pub unfit_of_store : (fault : StoreFault) → (fault ≡ cannot_open) ⊎ (fault
 unfit_of_store fault (inl is) = subst IsOfStore (sym is) tt
 unfit_of_store fault (inr is) = subst IsOfStore (sym is) tt
 
--- a fault of the store says nothing of tables
-pub says_nothing : (tables : Tables) (fault : StoreFault) → IsOfStore fault → Says tables fault
-says_nothing tables (faults.Store error) it = tt
-says_nothing tables (faults.Damaged kind key) it = absurd it
-says_nothing tables faults.NewerVersion it = absurd it
-says_nothing tables faults.OutOfMemory it = tt
-says_nothing tables faults.Closed it = absurd it
-
 module _ {T D : Type 0} {g : Ghosts D} where
   pub unopened_malformed : (fault : StoreFault) (r : Remains T D g) → IsUnopened r → fault ≢ malformed → ExcusesMalformed fault r
-  unopened_malformed fault (remains.Untouched start) unopened other = other
-  unopened_malformed fault (remains.NotOpened seal) unopened other = other
   unopened_malformed fault (remains.Leftover left) unopened other = absurd unopened
   unopened_malformed fault (remains.Connection conn) unopened other = absurd unopened
+  unopened_malformed fault r unopened other = other
 
   pub takes_for_ours : (fault : StoreFault) (r : Remains T D g) → fault ≢ not_ours → TakesForOurs fault r
   takes_for_ours fault (remains.Untouched start) other = tt
-  takes_for_ours fault (remains.NotOpened seal) other = other
-  takes_for_ours fault (remains.Leftover left) other = other
-  takes_for_ours fault (remains.Connection conn) other = other
+  takes_for_ours fault r other = other
 
   -- files to which there was no connection are refused with a fault of the store
   pub refuses_unconnected : (image : Image) (fault : StoreFault) (r : Remains T D g) → IsOfStore fault → (held : Contents) → Unconnects held image fault r → Refuses held image fault r
   refuses_unconnected image fault r store Nothing it = (store, it)
   refuses_unconnected image fault r store (Database trees) it = record {
-    tables = λ tables leaves. says_nothing tables fault store;
+    tables = λ tables leaves. says_of_store tables fault store;
     state = λ s leaves. store;
     other = λ others. store;
     ours = λ ours. takes_for_ours fault r it.own;
@@ -108,17 +90,14 @@ module _ {T D : Type 0} {g : Ghosts D} where
 
 -- files that weren't opened were denied
 pub denied_cause : {T D : Type 0} {g : Ghosts D} (Over : Held (FileStore D g) → Type 0) (Denied : Type 0) (fault : StoreFault) (r : Remains T D g) → IsUnopened r → Denied → HasCauseOr Over Denied fault r
-denied_cause Over Denied fault (remains.Untouched start) unopened denied = denied
-denied_cause Over Denied fault (remains.NotOpened seal) unopened denied = denied
 denied_cause Over Denied fault (remains.Leftover left) unopened denied = absurd unopened
 denied_cause Over Denied fault (remains.Connection conn) unopened denied = absurd unopened
+denied_cause Over Denied fault r unopened denied = denied
 
 -- no connection to them is open
 pub unconnected_cause : {T D : Type 0} {g : Ghosts D} (Over : Held (FileStore D g) → Type 0) (Denied : Type 0) (fault : StoreFault) (r : Remains T D g) → HasCauseOr (λ _. ⊥) Denied fault r → HasCauseOr Over Denied fault r
-unconnected_cause Over Denied fault (remains.Untouched start) cause = cause
-unconnected_cause Over Denied fault (remains.NotOpened seal) cause = cause
-unconnected_cause Over Denied fault (remains.Leftover left) cause = cause
 unconnected_cause Over Denied fault (remains.Connection conn) cause = absurd cause
+unconnected_cause Over Denied fault r cause = cause
 
 -- ---- what stops the reading of tables over files
 
@@ -157,7 +136,5 @@ module _ {D : Type 0} {g : Ghosts D} (old : State) (last : Held (FileStore D g))
 
   pub stops_over : (fault : StoreFault) → (HasEarlier old → Earlier) → StopsOpening old (file_state last) fault → Stops fault
   stops_over (faults.Store e) earlier it = opening_stops e earlier it
-  stops_over (faults.Damaged kind key) earlier it = absurd it
-  stops_over faults.NewerVersion earlier it = absurd it
   stops_over faults.OutOfMemory earlier it = inl (inl refl)
-  stops_over faults.Closed earlier it = absurd it
+  stops_over fault earlier it = absurd it

@@ -183,7 +183,7 @@ module _ {D : Type 0} {g : Ghosts D} (image : Image) (files : Files D) (same : i
 
 -- ---- from what `sqlite` leaves to the remains
 
-such_more : (P Q : Trees → Type 0) → ((trees : Trees) → P trees → Q trees) → (image : Image) → HoldsSuch P image → HoldsSuch Q image
+pub such_more : (P Q : Trees → Type 0) → ((trees : Trees) → P trees → Q trees) → (image : Image) → HoldsSuch P image → HoldsSuch Q image
 such_more P Q goes image it = record { trees = it.trees; holds = it.holds; such = goes it.trees it.such }
 
 empty_or : (P Q : Trees → Type 0) → ((trees : Trees) → P trees → Q trees) → (trees : Trees) → IsEmpty trees ⊎ P trees → IsEmpty trees ⊎ Q trees
@@ -200,21 +200,18 @@ module _ {T D : Type 0} {g : Ghosts D} where
   pub unopened_keeps : (image : Image) (r : Remains T D g) (trees : Trees) → IsUnopened r → HoldsTrees image trees → KeepsSuch (λ found. found ≡ trees) image r
   unopened_keeps image (remains.Untouched start) trees unopened holds = record { trees = trees; holds = holds; such = refl }
   unopened_keeps image (remains.NotOpened seal) trees unopened holds = tt
-  unopened_keeps image (remains.Leftover left) trees unopened holds = absurd unopened
-  unopened_keeps image (remains.Connection conn) trees unopened holds = absurd unopened
+  unopened_keeps image r trees unopened holds = absurd unopened
 
   pub unopened_blank : (image : Image) (r : Remains T D g) → IsUnopened r → IsNothing image ⊎ IsBlank image → KeepsNothingBut (λ _. ⊥) image r
   unopened_blank image (remains.Untouched start) unopened (inl nothing) = inl nothing
   unopened_blank image (remains.Untouched start) unopened (inr begun) = inr (inl begun)
   unopened_blank image (remains.NotOpened seal) unopened nothing = tt
-  unopened_blank image (remains.Leftover left) unopened nothing = absurd unopened
-  unopened_blank image (remains.Connection conn) unopened nothing = absurd unopened
+  unopened_blank image r unopened nothing = absurd unopened
 
   pub unopened_spares : (image : Image) (r : Remains T D g) → IsUnopened r → Spares image r
-  unopened_spares image (remains.Untouched start) unopened = tt
-  unopened_spares image (remains.NotOpened seal) unopened = tt
   unopened_spares image (remains.Leftover left) unopened = absurd unopened
   unopened_spares image (remains.Connection conn) unopened = absurd unopened
+  unopened_spares image r unopened = tt
 
   -- what is true of each database that is kept
   pub keeps_more : (P Q : Trees → Type 0) → ((trees : Trees) → P trees → Q trees) → (image : Image) (r : Remains T D g) → KeepsSuch P image r → KeepsSuch Q image r
@@ -226,16 +223,14 @@ module _ {T D : Type 0} {g : Ghosts D} where
         elim was.0 [ inl held ↦ inl (such_more P Q goes found held) | inr sealed ↦ inr sealed ],
         λ plain. such_more P Q goes found (was.1 plain),
       )
-  keeps_more P Q goes image (remains.Leftover (left.Store now)) it = λ trees lies. goes trees (it trees lies)
-  keeps_more P Q goes image (remains.Connection conn) it = λ trees lies. goes trees (it trees lies)
+  keeps_more P Q goes image r it = λ trees lies. goes trees (it trees lies)
 
   pub blank_more : (P Q : Trees → Type 0) → ((trees : Trees) → P trees → Q trees) → (image : Image) (r : Remains T D g) → KeepsNothingBut P image r → KeepsNothingBut Q image r
   blank_more P Q goes image (remains.Untouched start) it = nothing_more P Q goes image it
   blank_more P Q goes image (remains.NotOpened seal) it = tt
-  blank_more P Q goes image (remains.Leftover (left.Files now)) it = λ found lies. nothing_more P Q goes found (it found lies)
-  blank_more P Q goes image (remains.Leftover (left.Unopened now)) it = λ found lies. nothing_more P Q goes found (it found lies)
   blank_more P Q goes image (remains.Leftover (left.Store now)) it = λ trees lies. empty_or P Q goes trees (it trees lies)
   blank_more P Q goes image (remains.Connection conn) it = λ trees lies. empty_or P Q goes trees (it trees lies)
+  blank_more P Q goes image r it = λ found lies. nothing_more P Q goes found (it found lies)
 
 -- ---- closing
 
@@ -253,27 +248,21 @@ module _ {D : Type 0} {g : Ghosts D} (P : Trees → Type 0) (store : Database) w
 module _ {T D : Type 0} {g : Ghosts D} (P : Trees → Type 0) (image : Image) where
   -- what is true of the remains is true of them once they are closed
   pub keeps_closed : (was now : Remains T D g) → IsClosedFrom was now → (IsCleanRemains was → KeepsSuch P image was) → IsCleanRemains now → KeepsSuch P image now
-  keeps_closed (remains.Untouched start) now is keeps = subst (λ (r : Remains T D g). IsCleanRemains r → KeepsSuch P image r) (sym is) keeps
-  keeps_closed (remains.NotOpened seal) now is keeps = subst (λ (r : Remains T D g). IsCleanRemains r → KeepsSuch P image r) (sym is) keeps
-  keeps_closed (remains.Leftover left) now is keeps = subst (λ (r : Remains T D g). IsCleanRemains r → KeepsSuch P image r) (sym is) keeps
   keeps_closed (remains.Connection conn) now it keeps =
       let done : IsCleanRemains {T = T} (remains.Leftover it.0) → KeepsSuch {T = T} P image (remains.Leftover it.0) = (λ clean. let leaves = it.3 clean in closed_keeps P (file_state conn) image it.0 leaves.1 (keeps leaves.0)) in
       subst (λ (r : Remains T D g). IsCleanRemains r → KeepsSuch P image r) (sym it.1) done
+  keeps_closed was now is keeps = subst (λ (r : Remains T D g). IsCleanRemains r → KeepsSuch P image r) (sym is) keeps
 
   pub blank_closed : (was now : Remains T D g) → IsClosedFrom was now → (IsCleanRemains was → KeepsNothingBut P image was) → IsCleanRemains now → KeepsNothingBut P image now
-  blank_closed (remains.Untouched start) now is keeps = subst (λ (r : Remains T D g). IsCleanRemains r → KeepsNothingBut P image r) (sym is) keeps
-  blank_closed (remains.NotOpened seal) now is keeps = subst (λ (r : Remains T D g). IsCleanRemains r → KeepsNothingBut P image r) (sym is) keeps
-  blank_closed (remains.Leftover left) now is keeps = subst (λ (r : Remains T D g). IsCleanRemains r → KeepsNothingBut P image r) (sym is) keeps
   blank_closed (remains.Connection conn) now it keeps =
       let done : IsCleanRemains {T = T} (remains.Leftover it.0) → KeepsNothingBut {T = T} P image (remains.Leftover it.0) = (λ clean. let leaves = it.3 clean in closed_blank P (file_state conn) it.0 leaves.1 (keeps leaves.0)) in
       subst (λ (r : Remains T D g). IsCleanRemains r → KeepsNothingBut P image r) (sym it.1) done
+  blank_closed was now is keeps = subst (λ (r : Remains T D g). IsCleanRemains r → KeepsNothingBut P image r) (sym is) keeps
 
 module _ {T D : Type 0} {g : Ghosts D} (image : Image) where
   -- what was spared is so once it is closed, and no connection comes back over files that are no sound database
   pub spares_closed : (was now : Remains T D g) → IsClosedFrom was now → ((trees : Trees) → ¬ ReadsAs image trees) → (IsCleanRemains was → Spares image was) → IsCleanRemains now → Spares image now
-  spares_closed (remains.Untouched start) now is none spares = subst (λ (r : Remains T D g). IsCleanRemains r → Spares image r) (sym is) spares
-  spares_closed (remains.NotOpened seal) now is none spares = subst (λ (r : Remains T D g). IsCleanRemains r → Spares image r) (sym is) spares
-  spares_closed (remains.Leftover left) now is none spares = subst (λ (r : Remains T D g). IsCleanRemains r → Spares image r) (sym is) spares
   spares_closed (remains.Connection conn) now it none spares =
       let done : IsCleanRemains {T = T} (remains.Leftover it.0) → Spares {T = T} image (remains.Leftover it.0) = (λ clean. let reads = spares (it.3 clean).0 in absurd (none reads.0 reads.1)) in
       subst (λ (r : Remains T D g). IsCleanRemains r → Spares image r) (sym it.1) done
+  spares_closed was now is none spares = subst (λ (r : Remains T D g). IsCleanRemains r → Spares image r) (sym is) spares

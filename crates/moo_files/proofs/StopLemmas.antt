@@ -9,12 +9,11 @@ use Rattle.sqlite_store.{specs.Listing.{IsOurs}, specs.FileStore.{state, view, f
 use Rattle.sqlite_trees.proofs.Doubt.{clean_of}
 use Rattle.sqlite.{specs.State.{State as Database, HasCleanDisk}, specs.Held.{Held, AreDatabases}, specs.Files.{file_state, IsCleanLeft}, specs.Tree.{Trees}, specs.declared.file.Leftover.{Leftover}}
 use Rattle.moo_rows.specs.Maps.{Maps}
-use Rattle.moo_world.specs.declared.call.Batch.{Batch}
+use Rattle.moo_world.{specs.declared.call.Batch.{Batch}, specs.Judge.{State}}
 use Rattle.moo_tables_rows.specs.Tables.{schema_of}
-use Rattle.moo_world.specs.Judge.{State}
 use Rattle.moo_store.{specs.Stand.{Stand}, specs.Led.{LeavesLed}, specs.World.{CrashLeaves}}
 use Rattle.moo_store_rows.specs.States.{LeavesState}
-use Rattle.moo_files.{specs.Contents.{HoldsSuch, HoldsTrees, IsLeftBy}, specs.Remains.{IsCleanRemains, LeftoverKeeps, KeepsSuch}, specs.Stop.{DiskLeaves, HasNumberedTrees, LeftStoreLeaves, LeftoverLeaves, BytesLeave, AreNumbered}, specs.declared.remains.Remains.{Remains}}
+use Rattle.moo_files.{specs.Contents.{HoldsSuch, HoldsTrees, IsLeftBy}, specs.Remains.{IsCleanRemains, LeftoverKeeps, KeepsSuch}, specs.Stop.{DiskLeaves, HasNumberedTrees, LeftStoreLeaves, LeftoverLeaves, BytesLeave, AreNumbered}, specs.declared.remains.Remains.{Remains}, proofs.RemainsLemmas.{such_more}}
 use Rattle.moo_files.specs.declared.remains.Remains.TheVariants as remains
 use Rattle.sqlite.specs.declared.file.Leftover.TheVariants as left
 
@@ -58,9 +57,6 @@ module _ {D : Type 0} {g : Ghosts D} (it : FileStore D g) (image : Image) where
 pub left_by_disk : {D : Type 0} {g : Ghosts D} (conn : Held (FileStore D g)) (image : Image) → HasCleanDisk (file_state conn) → HasNumberedTrees conn → AreDatabases (file_state conn).may_leave → DiskLeaves conn image → IsLeftBy (file_state conn) image
 left_by_disk conn image clean numbered sound lies = left_on_disk conn.store image (clean_of (view conn.store).is_clean clean) numbered sound lies
 
-such_trees : (P Q : Trees → Type 0) (image : Image) → ((trees : Trees) → P trees → Q trees) → HoldsSuch P image → HoldsSuch Q image
-such_trees P Q image on it = record { trees = it.trees; holds = it.holds; such = on it.trees it.such }
-
 module _ {D : Type 0} {g : Ghosts D} where
   -- the bytes of a store that was left hold a database that it may leave
   pub left_by_store : (now : FileStore D g) (next : Image) → IsTrue (view now).is_clean → AreDatabases (recovers now) → LeftStoreLeaves now next → HoldsSuch (recovers now) next
@@ -71,16 +67,15 @@ module _ {D : Type 0} {g : Ghosts D} where
   left_by_files P image (left.Files now) next sound clean keeps lies = keeps next lies
   left_by_files P image (left.Unopened now) next sound clean keeps lies = (keeps next (may_leave_is now.pool next (sym (clean_is now.pool) ∙ clean) lies.0)).1 lies.1
   left_by_files P image (left.Store now) next sound clean keeps lies =
-      such_trees (recovers now) P next keeps (left_by_store now next clean (λ trees may. sound trees (keeps trees may)) lies)
+      such_more (recovers now) P keeps next (left_by_store now next clean (λ trees may. sound trees (keeps trees may)) lies)
 
 -- whatever the disk leaves of files over which no task ran holds what they kept
 pub such_by_bytes : {T D : Type 0} {g : Ghosts D} (P : Trees → Type 0) (image : Image) (rest : Remains T D g) (next : Image) → AreDatabases P → IsCleanRemains rest → AreNumbered rest → HoldsSuch P image → KeepsSuch P image rest
     → BytesLeave image rest next → HoldsSuch P next
-such_by_bytes P image (remains.Untouched start) next sound clean numbered holds keeps is = subst (HoldsSuch P) (sym is) holds
-such_by_bytes P image (remains.NotOpened seal) next sound clean numbered holds keeps is = subst (HoldsSuch P) (sym is) holds
 such_by_bytes P image (remains.Leftover rest) next sound clean numbered holds keeps lies = left_by_files P image rest next sound clean keeps lies
 such_by_bytes P image (remains.Connection conn) next sound clean numbered holds keeps lies =
-    such_trees (file_state conn).may_leave P next keeps (left_by_disk conn next clean numbered (λ trees may. sound trees (keeps trees may)) lies)
+    such_more (file_state conn).may_leave P keeps next (left_by_disk conn next clean numbered (λ trees may. sound trees (keeps trees may)) lies)
+such_by_bytes P image rest next sound clean numbered holds keeps is = subst (HoldsSuch P) (sym is) holds
 
 -- what shows a state, or rows, is a database
 pub state_is_database : (s : State) → AreDatabases (λ trees. LeavesState trees s)

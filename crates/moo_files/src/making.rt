@@ -21,7 +21,7 @@ use crate::paths::WorldFiles;
 use crate::remains::Remains;
 use moo_memory::Flat;
 use moo_store::{StoreFault, World, create_in, load_in};
-use sqlite::{Alter, Connection, Error, ErrorCode, FileStore, Start, Unknown};
+use sqlite::{Alter, Connection, FileStore, Start, Unknown};
 use sqlite_disk::Disk;
 use std::alloc::Global;
 

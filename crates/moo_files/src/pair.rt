@@ -1,6 +1,6 @@
 //! The two files at a path, and the seal of a start that was spent on them in vain.
 
-ghost use Rattle.std.specs.Prelude.{◌≡◌, IsTrue, IsErr, IfOk, IfErr};
+ghost use Rattle.std.specs.Prelude.{IsTrue, IsErr, IfOk, IfErr};
 ghost use Rattle.moo_files.specs.Start.{HoldStart};
 
 use crate::paths::WorldFiles;

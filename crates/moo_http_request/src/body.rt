@@ -171,7 +171,8 @@ fn read_body<R: Incoming>(
     ensures asks { IfOk result (λ asked. Settles (R.remaining reader.new) bytes.new.items
         (λ input. PlanAsks (Plan.Body form size) (drop start input) asked)) }
     ensures few { OnOk result (length bytes.new.items ≤ max (length bytes.old.items) (start + size)) }
-    ensures breaks { OnErr result (TakesAtMost ((start + size) - length bytes.old.items) (R.remaining reader.old) (R.remaining reader.new)) }
+    ensures breaks { OnErr result
+        (TakesAtMost ((start + size) - length bytes.old.items) (R.remaining reader.old) (R.remaining reader.new)) }
     ensures cause { IfErr result (λ fault. fault ≡ ReadFault.Read → HasFailed R.fails reader.new) }
 {
     let end = start + size as usize;
@@ -195,9 +196,11 @@ pub(crate) fn follow_plan<R: Incoming>(
     requires short { start ≤ 8192 }
     requires bound { IsBounded plan }
     ensures grows { OnOk result (Grows (R.remaining reader.old) (R.remaining reader.new) bytes.old.items bytes.new.items) }
-    ensures asks { IfOk result (λ asked. Settles (R.remaining reader.new) bytes.new.items (λ input. PlanAsks plan (drop start input) asked)) }
+    ensures asks { IfOk result (λ asked. Settles (R.remaining reader.new) bytes.new.items
+        (λ input. PlanAsks plan (drop start input) asked)) }
     ensures few { OnOk result (length bytes.new.items ≤ max (length bytes.old.items) (start + body_size plan)) }
-    ensures breaks { OnErr result (TakesAtMost ((start + body_size plan) - length bytes.old.items) (R.remaining reader.old) (R.remaining reader.new)) }
+    ensures breaks { OnErr result
+        (TakesAtMost ((start + body_size plan) - length bytes.old.items) (R.remaining reader.old) (R.remaining reader.new)) }
     ensures cause { IfErr result (λ fault. fault ≡ ReadFault.Read → HasFailed R.fails reader.new) }
 {
     match plan {

@@ -52,7 +52,10 @@ fn add_topics(router: &mut Router<Endpoint>) -> Result<(), AllocError>
 
 /// Adds the two routes of batches, that of calls alone and that of each topic. AllocError if memory runs out.
 fn add_routes(router: &mut Router<Endpoint>) -> Result<(), AllocError>
-    ensures { OnOk result (router.new ≡ with_topics all_topics (with_route (codes "/each") Each (with_route (codes "/ask") (Batch Ask) (with_route (codes "/batch") (Batch Run) router.old)))) }
+    ensures { OnOk result (router.new ≡ with_topics all_topics
+        (with_route (codes "/each") Each
+        (with_route (codes "/ask") (Batch Ask)
+        (with_route (codes "/batch") (Batch Run) router.old)))) }
 {
     add_route(router, "/batch", Endpoint::Batch(Mode::Run))?;
     add_route(router, "/ask", Endpoint::Batch(Mode::Ask))?;

@@ -82,7 +82,7 @@ pub use Rattle.moo_load.specs.Entries.{EachHas, Entry, EntryFits, NumberIsLeft, 
 pub use Rattle.moo_load.specs.Lines.{line_ends}
 pub use Rattle.moo_load.specs.OneState.{AreTheSame, IsHeld}
 pub use Rattle.moo_load.specs.Printed.{ArePrinted, IsOneLine, petition_values, slot_values, word_text}
-pub use Rattle.moo_load.specs.Rows.{AreRead, first_head, petition_taken}
+pub use Rattle.moo_load.specs.Rows.{AreRead, first_head, petition_taken, property_taken, verb_taken}
 pub use Rattle.moo_load.specs.RowsOf.{AreRowsOf, HasNumbers, IsAbove, all_properties, all_verbs, at_number, dumped_slot, property_row, slot_of_property, verb_on}
 pub use Rattle.moo_load.specs.Slots.{IsNextProperty, SlotIsNext, no_slot, number_before, slot_line_put}
 pub use Rattle.moo_load.specs.declared.line.Word.TheVariants.{Object, Petition, Property as PropertyWord, Verb}

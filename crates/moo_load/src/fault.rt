@@ -42,6 +42,9 @@ pub(crate) enum LineFault {
     OutOfMemory,
 }
 
+/// What is read of a line, or why it can't be read.
+pub(crate) type LineResult<T> = Result<T, LineFault>;
+
 impl From<AllocError> for LineFault {
     ghost from_gives = { λ _ e. e ≡ none_left };
 

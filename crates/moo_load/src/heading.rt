@@ -15,7 +15,7 @@ ghost use Rattle.moo_load.specs.Loaded.{SaysOfText};
 ghost use Rattle.moo_load.specs.OneState.{IsHeld};
 ghost use Rattle.moo_load.specs.Rows.{AreRead, first_head};
 
-use crate::fault::{LineFault, LoadFault};
+use crate::fault::{LineFault, LineResult, LoadFault};
 use crate::line::{after, next_line};
 use crate::reason::DumpReason;
 use moo_rows::Head;
@@ -23,7 +23,7 @@ use moo_value::{ObjNo, Value, read_whole_literal};
 use std::alloc::Global;
 
 /// The integer that a value is, from 0 on.
-fn count_of(value: &Value) -> Result<u64, LineFault>
+fn count_of(value: &Value) -> LineResult<u64>
     ensures limit { IfOk result (λ n. n < 2 ^ 63) }
     ensures ok { IfOk result (λ n. value.now ≡ Int (pos n)) }
     ensures err { IfErr result (λ _. (n : ℕ) → value.now ≢ Int (pos n)) }
@@ -35,7 +35,7 @@ fn count_of(value: &Value) -> Result<u64, LineFault>
 }
 
 /// The number of the object that a value is, from -1 on.
-fn assigned_of(value: &Value) -> Result<i32, LineFault>
+fn assigned_of(value: &Value) -> LineResult<i32>
     ensures least { IfOk result (λ n. negsuc 0 ≤ℤ n) }
     ensures fits { IfOk result (λ n. FitsSigned w32 n) }
     ensures ok { IfOk result (λ n. value.now ≡ Obj (record { 0 = n })) }
@@ -48,7 +48,7 @@ fn assigned_of(value: &Value) -> Result<i32, LineFault>
 }
 
 /// The value of a line that is a prefix and one literal.
-fn value_after(alloc: Global, prefix: &[u8], line: &[u8]) -> Result<Value, LineFault>
+fn value_after(alloc: Global, prefix: &[u8], line: &[u8]) -> LineResult<Value>
     ensures fits { IfOk result (λ value. Fits value) }
     ensures ok { IfOk result (λ value. (v : A) → Fits v → line.now ≡ prefix.now ++ print v → value ≡ v) }
     ensures err { IfErr result (λ fault. fault ≢ LineFault.OutOfMemory → (v : A) → Fits v → line.now ≢ prefix.now ++ print v) }
@@ -59,7 +59,7 @@ fn value_after(alloc: Global, prefix: &[u8], line: &[u8]) -> Result<Value, LineF
 }
 
 /// How many batches were accepted.
-fn seq_of(alloc: Global, line: &[u8]) -> Result<u64, LineFault>
+fn seq_of(alloc: Global, line: &[u8]) -> LineResult<u64>
     ensures limit { IfOk result (λ seq. seq < 2 ^ 63) }
     ensures ok { IfOk result (λ seq. (n : ℕ) → n < 2 ^ 63 → line.now ≡ codes "seq " ++ decimal n → seq ≡ n) }
     ensures err { IfErr result (λ fault. fault ≢ LineFault.OutOfMemory → (n : ℕ) → n < 2 ^ 63 → line.now ≢ codes "seq " ++ decimal n) }
@@ -69,7 +69,7 @@ fn seq_of(alloc: Global, line: &[u8]) -> Result<u64, LineFault>
 }
 
 /// The greatest number that an object was given.
-fn top_of(alloc: Global, line: &[u8]) -> Result<i32, LineFault>
+fn top_of(alloc: Global, line: &[u8]) -> LineResult<i32>
     ensures least { IfOk result (λ top. negsuc 0 ≤ℤ top) }
     ensures most { IfOk result (λ top. top ≤ℤ pos 2147483647) }
     ensures fits { IfOk result (λ top. FitsSigned w32 top) }

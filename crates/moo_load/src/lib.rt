@@ -1,5 +1,5 @@
 //! A world from the text that it was dumped as.
-#![tactic(auto)]
+#![tactic(auto, using(crate::proofs::Failing::from_err))]
 
 mod differing;
 mod fault;

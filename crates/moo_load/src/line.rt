@@ -6,7 +6,7 @@ ghost use Rattle.moo_load.specs.Loaded.{SaysOfText};
 ghost use Rattle.moo_load.specs.Printed.{ArePrinted, IsOneLine, word_text};
 ghost use Rattle.moo_load.specs.declared.line.Word.{Word as AWord};
 
-use crate::fault::{LineFault, LoadFault};
+use crate::fault::{LineFault, LineResult, LoadFault};
 use crate::place::line_from;
 use crate::reason::DumpReason;
 use moo_value::{Value, read_literal};
@@ -23,7 +23,7 @@ pub(crate) enum Word {
 }
 
 /// The word that a line begins with, and what follows the space after it.
-pub(crate) fn split_word(line: &[u8]) -> Result<(Word, &[u8]), LineFault>
+pub(crate) fn split_word(line: &[u8]) -> LineResult<(Word, &[u8])>
     ensures ok { IfOk result (λ r. line.now ≡ word_text r.0 ++ 32 ∷ r.1.now) }
     ensures err { IfErr result (λ _. (word : AWord) (rest : List ℕ) → line.now ≢ word_text word ++ 32 ∷ rest) }
 {
@@ -46,11 +46,7 @@ pub(crate) fn split_word(line: &[u8]) -> Result<(Word, &[u8]), LineFault>
 }
 
 /// What follows a prefix of the bytes. Without it they are unreadable for this reason.
-pub(crate) fn after<'a>(
-    prefix: &[u8],
-    bytes: &'a [u8],
-    why: DumpReason,
-) -> Result<&'a [u8], LineFault>
+pub(crate) fn after<'a>(prefix: &[u8], bytes: &'a [u8], why: DumpReason) -> LineResult<&'a [u8]>
     ensures ok { IfOk result (λ rest. bytes.now ≡ prefix.now ++ rest.now) }
     ensures err { IfErr result (λ _. (rest : List ℕ) → bytes.now ≢ prefix.now ++ rest) }
 {
@@ -61,7 +57,7 @@ pub(crate) fn after<'a>(
 }
 
 /// The values of a list that has one at least. Each may nest as deep as a value does: the list itself isn't counted.
-pub(crate) fn values_of(alloc: Global, literal: &[u8]) -> Result<Vec<Value>, LineFault>
+pub(crate) fn values_of(alloc: Global, literal: &[u8]) -> LineResult<Vec<Value>>
     ensures ok { IfOk result (λ r. (v : A) (vs : List A) → ArePrinted (v ∷ vs) literal.now → r.items ≡ v ∷ vs) }
     ensures err { IfErr result (λ fault. fault ≢ LineFault.OutOfMemory → (v : A) (vs : List A) → ¬ (ArePrinted (v ∷ vs) literal.now)) }
 {

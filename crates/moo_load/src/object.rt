@@ -6,7 +6,7 @@ ghost use Rattle.moo_rows.specs.declared.row.ObjRow.{ObjRow as Row};
 ghost use Rattle.moo_dump.specs.Dump.{object_values};
 ghost use Rattle.moo_world.specs.World.{row_fits};
 
-use crate::fault::LineFault;
+use crate::fault::{LineFault, LineResult};
 use crate::reason::DumpReason;
 use crate::value::{accept_of, flag_of, object_of, text_of};
 use moo_rows::ObjRow;
@@ -14,7 +14,7 @@ use moo_value::{ObjNo, Value};
 use std::alloc::Global;
 
 /// The object with its number.
-pub(crate) fn read_object(alloc: Global, values: &[Value]) -> Result<(ObjNo, ObjRow), LineFault>
+pub(crate) fn read_object(alloc: Global, values: &[Value]) -> LineResult<(ObjNo, ObjRow)>
     ensures shown { IfOk result (λ r. values.now ≡ object_values r.0 r.1) }
     ensures fits { IfOk result (λ r. row_fits r.1 ≡ true) }
     ensures err { IfErr result (λ fault. fault ≢ LineFault.OutOfMemory → (x : Object) (row : Row) → row_fits row ≡ true →
@@ -35,33 +35,21 @@ pub(crate) fn read_object(alloc: Global, values: &[Value]) -> Result<(ObjNo, Obj
         accept,
     ] = values
     else {
-        return Err(LineFault::Unreadable(DumpReason::Count));
+        return Err(LineFault::Unreadable(DumpReason::Count("an object has 12 values")));
     };
     let number = object_of(number, "number")?;
-    let name = text_of(name, "name")?;
-    let owner = object_of(owner, "owner")?;
-    let parent = object_of(parent, "parent")?;
-    let location = object_of(location, "location")?;
-    let player = flag_of(player, "player")?;
-    let programmer = flag_of(programmer, "programmer")?;
-    let wizard = flag_of(wizard, "wizard")?;
-    let r = flag_of(r, "r")?;
-    let w = flag_of(w, "w")?;
-    let f = flag_of(f, "f")?;
-    let name = name.copy(alloc)?;
-    let accept = accept_of(alloc, accept)?;
     let row = ObjRow {
-        name,
-        owner,
-        parent,
-        location,
-        player,
-        programmer,
-        wizard,
-        r,
-        w,
-        f,
-        accept,
+        name: text_of(name, "name")?.copy(alloc)?,
+        owner: object_of(owner, "owner")?,
+        parent: object_of(parent, "parent")?,
+        location: object_of(location, "location")?,
+        player: flag_of(player, "player")?,
+        programmer: flag_of(programmer, "programmer")?,
+        wizard: flag_of(wizard, "wizard")?,
+        r: flag_of(r, "r")?,
+        w: flag_of(w, "w")?,
+        f: flag_of(f, "f")?,
+        accept: accept_of(alloc, accept)?,
     };
     Ok((number, row))
 }

@@ -11,7 +11,7 @@ ghost use Rattle.moo_load.specs.Printed.{petition_values};
 ghost use Rattle.moo_world.specs.Arguments.{all_within_limits};
 ghost use Rattle.moo_world.specs.Petitions.{are_few, are_shallow, is_named, petition_fits};
 
-use crate::fault::LineFault;
+use crate::fault::{LineFault, LineResult};
 use crate::reason::DumpReason;
 use crate::value::object_of;
 use moo_rows::{PetitionId, PetitionRow};
@@ -20,17 +20,14 @@ use moo_world::{are_few, are_named, are_shallow};
 use std::alloc::Global;
 
 /// The number of a petition: 1 to 4,294,967,294, one below the greatest counter.
-fn number_of(value: &Value) -> Result<u32, LineFault>
+fn number_of(value: &Value) -> LineResult<u32>
     ensures shown { IfOk result (λ number. value.now ≡ Int (pos number)) }
     ensures some { IfOk result (λ number. 0 < number) }
     ensures below { IfOk result (λ number. number < 4294967295) }
     ensures err { IfErr result (λ _. (number : ℕ) → 0 < number → number < 4294967295 → value.now ≢ Int (pos number)) }
 {
-    let Value::Int(number) = value else {
-        return Err(LineFault::Unreadable(DumpReason::NoPetition));
-    };
-    match u32::try_from(*number) {
-        Ok(number) if 0 < number && number < u32::MAX => Ok(number),
+    match value {
+        Value::Int(n) if 0 < *n && *n < i64::from(u32::MAX) => Ok(*n as u32),
         _ => Err(LineFault::Unreadable(DumpReason::NoPetition)),
     }
 }
@@ -43,7 +40,7 @@ fn may_be_held(calls: &ValueList) -> bool
 }
 
 /// The calls that a petition holds.
-fn calls_of(alloc: Global, value: &Value) -> Result<ValueList, LineFault>
+fn calls_of(alloc: Global, value: &Value) -> LineResult<ValueList>
     ensures shown { IfOk result (λ calls. value.now ≡ a_list calls) }
     ensures fits { IfOk result (λ calls. (list_all is_named (spread calls)
         && (are_few calls && (are_shallow calls && all_within_limits calls))) ≡ true) }
@@ -67,7 +64,7 @@ fn calls_of(alloc: Global, value: &Value) -> Result<ValueList, LineFault>
 pub(crate) fn read_petition(
     alloc: Global,
     values: &[Value],
-) -> Result<(PetitionId, PetitionRow), LineFault>
+) -> LineResult<(PetitionId, PetitionRow)>
     ensures shown { IfOk result (λ r. values.now ≡ petition_values r.0 r.1) }
     ensures fits { IfOk result (λ r. petition_fits r.1 ≡ true) }
     ensures some { IfOk result (λ r. 0 < r.0.0) }
@@ -77,7 +74,7 @@ pub(crate) fn read_petition(
         → values.now ≢ petition_values id row) }
 {
     let [number, who, calls] = values else {
-        return Err(LineFault::Unreadable(DumpReason::Count));
+        return Err(LineFault::Unreadable(DumpReason::Count("a petition has 3 values")));
     };
     let number = number_of(number)?;
     let who = object_of(who, "asker")?;

@@ -5,7 +5,7 @@ ghost use Rattle.moo_value.specs.declared.value.Value.TheVariants.{Obj, Str};
 ghost use Rattle.moo_rows.specs.declared.row.PropRow.{PropRow as Row};
 ghost use Rattle.moo_world.specs.World.{is_property_name};
 
-use crate::fault::LineFault;
+use crate::fault::{LineFault, LineResult};
 use crate::reason::DumpReason;
 use crate::value::{object_of, text_of};
 use moo_rows::PropRow;
@@ -25,14 +25,14 @@ fn is_property_name(name: &MooStr) -> bool
 }
 
 /// The property with its definer.
-pub(crate) fn read_property(alloc: Global, values: &[Value]) -> Result<PropRow, LineFault>
+pub(crate) fn read_property(alloc: Global, values: &[Value]) -> LineResult<PropRow>
     ensures shown { IfOk result (λ row. values.now ≡ Obj row.definer ∷ Str row.name ∷ []) }
     ensures fits { IfOk result (λ row. is_property_name row.name ≡ true) }
     ensures err { IfErr result (λ fault. fault ≢ LineFault.OutOfMemory → (row : Row) → is_property_name row.name ≡ true
         → values.now ≢ Obj row.definer ∷ Str row.name ∷ []) }
 {
     let [definer, name] = values else {
-        return Err(LineFault::Unreadable(DumpReason::Count));
+        return Err(LineFault::Unreadable(DumpReason::Count("a property has 2 values")));
     };
     let definer = object_of(definer, "definer")?;
     let name = text_of(name, "name")?;

@@ -15,7 +15,7 @@ ghost use Rattle.moo_dump.specs.Dump.{dump};
 ghost use Rattle.moo_world.specs.Judge.{State};
 ghost use Rattle.moo_world.specs.Objects.{Property};
 
-use crate::fault::{LineFault, LoadFault};
+use crate::fault::{LineFault, LineResult, LoadFault};
 use crate::heading::read_heading;
 use crate::line::{Word, is_end, next_line, split_word, values_of};
 use crate::taking::{LastSlot, take_object, take_petition, take_property, take_slot, take_verb};
@@ -25,7 +25,7 @@ use moo_value::ObjNo;
 use std::alloc::Global;
 
 /// Puts the row of a line, if it isn't a slot.
-fn take_line(alloc: Global, line: &[u8], rows: &mut Flat) -> Result<(), LineFault>
+fn take_line(alloc: Global, line: &[u8], rows: &mut Flat) -> LineResult<()>
     requires { AreRead rows.old.maps }
     ensures read { OnOk result (AreRead rows.new.maps) }
     // The line of an entry is taken as the entry, unless there is no number or no memory left.
@@ -54,7 +54,7 @@ fn take_slot_line(
     line: &[u8],
     last: LastSlot,
     rows: &mut Flat,
-) -> Result<LastSlot, LineFault>
+) -> LineResult<LastSlot>
     requires { AreRead rows.old.maps }
     ensures read { OnOk result (AreRead rows.new.maps) }
     // The line of an entry puts its slot, if the slot's property is the next one of its definer.

@@ -18,8 +18,8 @@ pub enum DumpReason {
     NoValue(LiteralFault),
     /// A value is followed by something else than `, ` or the `}` that ends the line.
     NoSeparator,
-    /// The list has another number of values than the row.
-    Count,
+    /// The list has another number of values than this says: `an object has 12 values`.
+    Count(&'static str),
     /// The value of this name isn't an object.
     NoObject(&'static str),
     /// The value of this name isn't a text.

@@ -13,7 +13,7 @@ ghost use Rattle.moo_world.specs.Arguments.{is_number};
 ghost use Rattle.moo_world.specs.Objects.{Name};
 ghost use Rattle.moo_world.specs.World.{state_fits};
 
-use crate::fault::LineFault;
+use crate::fault::{LineFault, LineResult};
 use crate::reason::DumpReason;
 use crate::value::{object_of, text_of};
 use moo_rows::{Bits, SlotRow, SlotState};
@@ -30,7 +30,7 @@ pub(crate) struct SlotLine {
 }
 
 /// The rights that a value spells in their order.
-fn bits_of(value: &Value) -> Result<Bits, LineFault>
+fn bits_of(value: &Value) -> LineResult<Bits>
     ensures ok { IfOk result (λ bits. value.now ≡ Str (letters_of bits)) }
     ensures err { IfErr result (λ _. (bits : Rights) → value.now ≢ Str (letters_of bits)) }
 {
@@ -43,7 +43,7 @@ fn bits_of(value: &Value) -> Result<Bits, LineFault>
 }
 
 /// What a slot holds: 0 for nothing, or 1 with the value.
-fn state_of(alloc: Global, values: &[Value]) -> Result<SlotState, LineFault>
+fn state_of(alloc: Global, values: &[Value]) -> LineResult<SlotState>
     ensures shown { IfOk result (λ state. values.now ≡ state_values state) }
     ensures fits { IfOk result (λ state. state_fits state ≡ true) }
     ensures err { IfErr result (λ fault. fault ≢ LineFault.OutOfMemory → (state : State) → state_fits state ≡ true →
@@ -63,7 +63,7 @@ fn state_of(alloc: Global, values: &[Value]) -> Result<SlotState, LineFault>
 }
 
 /// The slot.
-pub(crate) fn dumped_slot(alloc: Global, values: &[Value]) -> Result<SlotLine, LineFault>
+pub(crate) fn dumped_slot(alloc: Global, values: &[Value]) -> LineResult<SlotLine>
     ensures shown { IfOk result (λ slot. values.now ≡ slot_values slot.object slot.definer slot.name slot.row) }
     ensures fits { IfOk result (λ slot. (is_number slot.row.owner && state_fits slot.row.state) ≡ true) }
     ensures err { IfErr result (λ fault. fault ≢ LineFault.OutOfMemory → (x definer : Object) (name : Name) (row : Row) →
@@ -71,19 +71,18 @@ pub(crate) fn dumped_slot(alloc: Global, values: &[Value]) -> Result<SlotLine, L
         → values.now ≢ slot_values x definer name row) }
 {
     let [object, definer, name, owner, letters, state @ ..] = values else {
-        return Err(LineFault::Unreadable(DumpReason::Count));
+        return Err(LineFault::Unreadable(DumpReason::Count(
+            "a slot has 6 values, or 7 if it is set",
+        )));
     };
-    let object = object_of(object, "object")?;
-    let definer = object_of(definer, "definer")?;
-    let name = text_of(name, "name")?;
-    let owner = object_of(owner, "owner")?;
-    let bits = bits_of(letters)?;
-    let name = name.copy(alloc)?;
-    let state = state_of(alloc, state)?;
     Ok(SlotLine {
-        object,
-        definer,
-        name,
-        row: SlotRow { owner, bits, state },
+        object: object_of(object, "object")?,
+        definer: object_of(definer, "definer")?,
+        name: text_of(name, "name")?.copy(alloc)?,
+        row: SlotRow {
+            owner: object_of(owner, "owner")?,
+            bits: bits_of(letters)?,
+            state: state_of(alloc, state)?,
+        },
     })
 }

@@ -19,7 +19,7 @@ ghost use Rattle.moo_world.specs.Objects.{Property};
 ghost use Rattle.moo_world.specs.Petitions.{petition_fits};
 ghost use Rattle.moo_world.specs.World.{Slot, row_fits, state_fits, verb_fits, is_property_name};
 
-use crate::fault::LineFault;
+use crate::fault::{LineFault, LineResult};
 use crate::object::read_object;
 use crate::petition::read_petition;
 use crate::property::read_property;
@@ -32,7 +32,7 @@ use moo_value::{ObjNo, Value};
 use std::alloc::Global;
 
 /// Puts an object.
-pub(crate) fn take_object(alloc: Global, values: &[Value], rows: &mut Flat) -> Result<(), LineFault>
+pub(crate) fn take_object(alloc: Global, values: &[Value], rows: &mut Flat) -> LineResult<()>
     requires { AreRead rows.old.maps }
     ensures read { OnOk result (AreRead rows.new.maps) }
     ensures put { OnOk result ((x : Object) (row : ObjectRow) → values.now ≡ object_values x row → rows.new ≡ with_object rows.old x row) }
@@ -45,11 +45,7 @@ pub(crate) fn take_object(alloc: Global, values: &[Value], rows: &mut Flat) -> R
 }
 
 /// Puts a property under the next number.
-pub(crate) fn take_property(
-    alloc: Global,
-    values: &[Value],
-    rows: &mut Flat,
-) -> Result<(), LineFault>
+pub(crate) fn take_property(alloc: Global, values: &[Value], rows: &mut Flat) -> LineResult<()>
     requires { AreRead rows.old.maps }
     ensures read { OnOk result (AreRead rows.new.maps) }
     ensures put { OnOk result ((row : APropRow) → values.now ≡ Obj row.definer ∷ Str row.name ∷ [] →
@@ -72,7 +68,7 @@ pub(crate) fn take_property(
 }
 
 /// Puts a verb under the next number.
-pub(crate) fn take_verb(alloc: Global, values: &[Value], rows: &mut Flat) -> Result<(), LineFault>
+pub(crate) fn take_verb(alloc: Global, values: &[Value], rows: &mut Flat) -> LineResult<()>
     requires { AreRead rows.old.maps }
     ensures read { OnOk result (AreRead rows.new.maps) }
     ensures put { OnOk result ((x : Object) (row : Verb) → values.now ≡ verb_values x row →
@@ -95,11 +91,7 @@ pub(crate) fn take_verb(alloc: Global, values: &[Value], rows: &mut Flat) -> Res
 }
 
 /// Puts a petition. The next one gets a number above it.
-pub(crate) fn take_petition(
-    alloc: Global,
-    values: &[Value],
-    rows: &mut Flat,
-) -> Result<(), LineFault>
+pub(crate) fn take_petition(alloc: Global, values: &[Value], rows: &mut Flat) -> LineResult<()>
     requires { AreRead rows.old.maps }
     ensures read { OnOk result (AreRead rows.new.maps) }
     ensures put { OnOk result ((id : Id) (row : APetition) → values.now ≡ petition_values id row →
@@ -111,10 +103,7 @@ pub(crate) fn take_petition(
     let (id, row) = read_petition(alloc, values)?;
     rows.put_petition(id, row)?;
     let mut head = rows.head();
-    if id.0 < head.next_petition {
-        return Ok(());
-    }
-    head.next_petition = id.0 + 1;
+    head.next_petition = head.next_petition.max(id.0 + 1);
     rows.set_head(head);
     Ok(())
 }
@@ -172,7 +161,7 @@ pub(crate) fn take_slot(
     values: &[Value],
     last: LastSlot,
     rows: &mut Flat,
-) -> Result<LastSlot, LineFault>
+) -> LineResult<LastSlot>
     requires { AreRead rows.old.maps }
     ensures read { OnOk result (AreRead rows.new.maps) }
     // The slot of the next property is put under its number.

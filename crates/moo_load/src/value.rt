@@ -8,7 +8,7 @@ ghost use Rattle.moo_world.specs.Arguments.{is_number, is_text};
 ghost use Rattle.moo_world.specs.Calls.{accept_value};
 ghost use Rattle.moo_world.specs.World.{accept_fits};
 
-use crate::fault::LineFault;
+use crate::fault::{LineFault, LineResult};
 use crate::reason::DumpReason;
 use moo_rows::ObjList;
 use moo_value::{MooStr, ObjNo, Value};
@@ -18,7 +18,7 @@ use std::alloc::{AllocError, Global};
 const MAX_ACCEPTED: usize = 1000;
 
 /// The object that a value is, which is named by this word in a reason.
-pub(crate) fn object_of(value: &Value, what: &'static str) -> Result<ObjNo, LineFault>
+pub(crate) fn object_of(value: &Value, what: &'static str) -> LineResult<ObjNo>
     ensures ok { IfOk result (λ x. value.now ≡ Obj x) }
     ensures fits { IfOk result (λ x. is_number x ≡ true) }
     ensures err { IfErr result (λ _. (x : ObjNo) → value.now ≢ Obj x) }
@@ -30,7 +30,7 @@ pub(crate) fn object_of(value: &Value, what: &'static str) -> Result<ObjNo, Line
 }
 
 /// The string that a value is, which is named by this word in a reason.
-pub(crate) fn text_of<'a>(value: &'a Value, what: &'static str) -> Result<&'a MooStr, LineFault>
+pub(crate) fn text_of<'a>(value: &'a Value, what: &'static str) -> LineResult<&'a MooStr>
     ensures ok { IfOk result (λ text. value.now ≡ Str text.now) }
     ensures fits { IfOk result (λ text. is_text text.now ≡ true) }
     ensures err { IfErr result (λ _. (text : List ℕ) → value.now ≢ Str text) }
@@ -46,7 +46,7 @@ pub(crate) fn text_of<'a>(value: &'a Value, what: &'static str) -> Result<&'a Mo
 }
 
 /// The 0 or 1 that a value is, which is named by this word in a reason.
-pub(crate) fn flag_of(value: &Value, what: &'static str) -> Result<bool, LineFault>
+pub(crate) fn flag_of(value: &Value, what: &'static str) -> LineResult<bool>
     ensures ok { IfOk result (λ holds. value.now ≡ flag holds) }
     ensures err { IfErr result (λ _. (holds : Bool) → value.now ≢ flag holds) }
 {
@@ -58,7 +58,7 @@ pub(crate) fn flag_of(value: &Value, what: &'static str) -> Result<bool, LineFau
 }
 
 /// The objects of a list that has only objects, and not too many.
-fn objects_of(alloc: Global, values: &[Value]) -> Result<ObjList, LineFault>
+fn objects_of(alloc: Global, values: &[Value]) -> LineResult<ObjList>
     ensures ok { IfOk result (λ objects. values.now ≡ map Obj objects) }
     ensures fits { IfOk result (λ objects. accept_fits (Some objects) ≡ true) }
     ensures err { IfErr result (λ fault. fault ≢ LineFault.OutOfMemory → (objects : List ObjNo) → length objects ≤ 1000 →
@@ -76,7 +76,7 @@ fn objects_of(alloc: Global, values: &[Value]) -> Result<ObjList, LineFault>
 }
 
 /// The accept list that a value is: a list of objects, or 0 for none.
-pub(crate) fn accept_of(alloc: Global, value: &Value) -> Result<Option<ObjList>, LineFault>
+pub(crate) fn accept_of(alloc: Global, value: &Value) -> LineResult<Option<ObjList>>
     ensures ok { IfOk result (λ accept. value.now ≡ accept_value accept) }
     ensures fits { IfOk result (λ accept. accept_fits accept ≡ true) }
     ensures err { IfErr result (λ fault. fault ≢ LineFault.OutOfMemory → (accept : Option (List ObjNo)) → accept_fits accept ≡ true →

@@ -12,7 +12,7 @@ ghost use Rattle.moo_dump.specs.Dump.{verb_values};
 ghost use Rattle.moo_world.specs.Prepositions.{prep_text, object_spec_text};
 ghost use Rattle.moo_world.specs.World.{verb_fits};
 
-use crate::fault::LineFault;
+use crate::fault::{LineFault, LineResult};
 use crate::reason::DumpReason;
 use crate::value::{object_of, text_of};
 use moo_rows::{ArgSpec, ObjectSpec, Preposition, VerbBits, VerbRow};
@@ -21,14 +21,12 @@ use moo_verbs::{check_names, read_place_cell, read_prep, read_prep_cell};
 use std::alloc::Global;
 
 /// The place that a value spells, which is named by this word in a reason.
-fn object_spec_of(value: &Value, what: &'static str) -> Result<ObjectSpec, LineFault>
+fn object_spec_of(value: &Value, what: &'static str) -> LineResult<ObjectSpec>
     ensures shown { IfOk result (λ place. value.now ≡ Str (object_spec_text place)) }
     ensures err { IfErr result (λ _. (place : AnObjectSpec) → value.now ≢ Str (object_spec_text place)) }
 {
-    match read_place_cell(text_of(value, what)?.bytes()) {
-        Some(place) => Ok(place),
-        None => Err(LineFault::Unreadable(DumpReason::NoPlace(what))),
-    }
+    let place = read_place_cell(text_of(value, what)?.bytes());
+    place.ok_or(LineFault::Unreadable(DumpReason::NoPlace(what)))
 }
 
 /// Why a text isn't a preposition as a dump writes it.
@@ -40,7 +38,7 @@ fn other_preposition(text: &MooStr) -> DumpReason {
 }
 
 /// The preposition that a value spells.
-fn prep_of(value: &Value) -> Result<Preposition, LineFault>
+fn prep_of(value: &Value) -> LineResult<Preposition>
     ensures shown { IfOk result (λ prep. value.now ≡ Str (prep_text prep)) }
     ensures err { IfErr result (λ _. (prep : APreposition) → value.now ≢ Str (prep_text prep)) }
 {
@@ -52,7 +50,7 @@ fn prep_of(value: &Value) -> Result<Preposition, LineFault>
 }
 
 /// The rights that a value spells in their order.
-fn bits_of(value: &Value) -> Result<VerbBits, LineFault>
+fn bits_of(value: &Value) -> LineResult<VerbBits>
     ensures shown { IfOk result (λ bits. value.now ≡ Str (verb_letters_of bits)) }
     ensures err { IfErr result (λ _. (bits : Rights) → value.now ≢ Str (verb_letters_of bits)) }
 {
@@ -65,31 +63,29 @@ fn bits_of(value: &Value) -> Result<VerbBits, LineFault>
 }
 
 /// The verb with the object that it is on.
-pub(crate) fn read_verb(alloc: Global, values: &[Value]) -> Result<(ObjNo, VerbRow), LineFault>
+pub(crate) fn read_verb(alloc: Global, values: &[Value]) -> LineResult<(ObjNo, VerbRow)>
     ensures shown { IfOk result (λ r. values.now ≡ verb_values r.0 r.1) }
     ensures fits { IfOk result (λ r. verb_fits r.1 ≡ true) }
     ensures err { IfErr result (λ fault. fault ≢ LineFault.OutOfMemory → (x : Object) (row : Row) → verb_fits row ≡ true →
         values.now ≢ verb_values x row) }
 {
     let [object, names, owner, letters, dobj, prep, iobj] = values else {
-        return Err(LineFault::Unreadable(DumpReason::Count));
+        return Err(LineFault::Unreadable(DumpReason::Count("a verb has 7 values")));
     };
     let object = object_of(object, "object")?;
     let names = text_of(names, "names")?;
     if check_names(names).is_err() {
         return Err(LineFault::Unreadable(DumpReason::NoVerbNames));
     }
-    let owner = object_of(owner, "owner")?;
-    let bits = bits_of(letters)?;
-    let dobj = object_spec_of(dobj, "direct object")?;
-    let prep = prep_of(prep)?;
-    let iobj = object_spec_of(iobj, "indirect object")?;
-    let names = names.copy(alloc)?;
     let row = VerbRow {
-        names,
-        owner,
-        bits,
-        args: ArgSpec { dobj, prep, iobj },
+        names: names.copy(alloc)?,
+        owner: object_of(owner, "owner")?,
+        bits: bits_of(letters)?,
+        args: ArgSpec {
+            dobj: object_spec_of(dobj, "direct object")?,
+            prep: prep_of(prep)?,
+            iobj: object_spec_of(iobj, "indirect object")?,
+        },
     };
     Ok((object, row))
 }

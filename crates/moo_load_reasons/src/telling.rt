@@ -5,7 +5,7 @@ use crate::damaged::put_damage;
 use crate::finding::line_numbered;
 use crate::order::put_order;
 use crate::said::Said;
-use crate::values::{count_sentence, put_kind, put_row};
+use crate::values::{put_kind, put_row};
 use moo_load::{DumpReason, LoadFault};
 use std::alloc::{AllocError, Global};
 
@@ -48,7 +48,10 @@ fn put_reason(
         | DumpReason::Spelling(_)
         | DumpReason::AfterEnd
         | DumpReason::Differs => put_order(said, text, line, why),
-        DumpReason::Count => said.put(count_sentence(line)),
+        DumpReason::Count(right) => {
+            said.put("the list of ")?;
+            said.put(right)
+        }
         DumpReason::NoObject(what) | DumpReason::NoText(what) | DumpReason::NoFlag(what) => {
             put_kind(said, what, why)
         }

@@ -1,21 +1,10 @@
 //! Values that a row can't have.
 
-use crate::finding::{has_word, values_in, word_of};
+use crate::finding::{has_word, values_in};
 use crate::said::Said;
 use moo_load::DumpReason;
 use moo_verbs::print_prep;
 use std::alloc::AllocError;
-
-/// How many values the list of the line has.
-pub(crate) fn count_sentence(line: &[u8]) -> &'static str {
-    match word_of(line) {
-        b"object" => "the list of an object has 12 values",
-        b"property" => "the list of a property has 2 values",
-        b"slot" => "the list of a slot has 6 values, or 7 if it is set",
-        b"verb" => "the list of a verb has 7 values",
-        _ => "the list of a petition has 3 values",
-    }
-}
 
 /// That the value of this name isn't of its kind.
 pub(crate) fn put_kind(said: &mut Said, what: &str, why: DumpReason) -> Result<(), AllocError> {

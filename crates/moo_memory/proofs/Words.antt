@@ -15,6 +15,7 @@ pub use Rattle.moo_value.specs.declared.value.ObjNo.{ObjNo}
 pub use Rattle.std.specs.Ordering.{eq_by_cmp, is_eq, is_lt, match_ordering, ordering_reverse}
 pub use Rattle.std.specs.Vec.Iter.{into_iter_items, into_iter_len}
 pub use Rattle.moo_memory.specs.Changes.{IsChanges, changed_each}
-pub use Rattle.moo_memory.specs.Either.{EitherCovers, is_candidate_of_either, is_that, may_have_own, of_changes}
+pub use Rattle.moo_memory.specs.Either.{EitherCovers, is_candidate_of_either, is_own_candidate, is_that, may_have_own, of_changes}
+pub use Rattle.moo_memory.specs.Forgotten.{has_key}
 pub use Rattle.moo_memory.specs.Overlay.{IsNextOfEither, changed, changed_all, overlaid, row_over}
 pub use Rattle.moo_rows.specs.Exact.{object_exact, petition_exact, prop_exact, slot_exact, verb_exact}

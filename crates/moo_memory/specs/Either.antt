@@ -27,6 +27,10 @@ may_have_own own link key = is_that own.first key || may_have own.others link ke
 abbrev pub EitherCovers : (ObjNo → Option ObjRow) → (ObjNo → Option ObjRow) → OwnLinks → Type 0
 EitherCovers below above own = (link : Link) (key : ObjNo) → may_have_own own link key ≡ false → row_has link (below key) ≡ false → row_has link (above key) ≡ false
 
+-- a changed object to be looked at for the link: the first one, or another that is
+abbrev pub is_own_candidate : OwnLinks → FinMap object_cmp (Option ObjRow) → Link → ObjNo → Bool
+is_own_candidate own changes link key = is_that own.first key || is_candidate own.others changes link key
+
 -- an object to be looked at for the link: it has it below, or is changed and may have it
 abbrev pub is_candidate_of_either : (ObjNo → Option ObjRow) → FinMap object_cmp (Option ObjRow) → OwnLinks → Link → ObjNo → Bool
-is_candidate_of_either below changes own link key = row_has link (below key) || (is_that own.first key || is_candidate own.others changes link key)
+is_candidate_of_either below changes own link key = row_has link (below key) || is_own_candidate own changes link key

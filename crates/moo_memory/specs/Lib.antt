@@ -1,5 +1,6 @@
 pub mod Overlay
 pub mod Either
+pub mod Forgotten
 pub mod Changes
 pub mod Without
 pub mod Laws

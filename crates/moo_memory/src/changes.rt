@@ -115,7 +115,8 @@ fn apply_each<R: Rows, V: KeyedRow>(
     rows: &mut R,
     changes: ChangeList<V::Key, V>,
 ) -> Result<(), AllocError>
-    ensures { OnOk result ((R.held rows.new).maps ≡ V.with_map (R.held rows.old).maps (changed_each (V.map_of (R.held rows.old).maps) changes)) }
+    ensures { OnOk result ((R.held rows.new).maps
+        ≡ V.with_map (R.held rows.old).maps (changed_each (V.map_of (R.held rows.old).maps) changes)) }
 {
     for (key, row) in changes.into_vec() {
         match row {

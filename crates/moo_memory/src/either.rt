@@ -1,12 +1,13 @@
 //! What may have a link or a definer: rows of the base that have it, and changed ones.
 
-ghost use Rattle.std.specs.Prelude.{◌≡◌, ◌||◌, is_some};
+ghost use Rattle.std.specs.Prelude.{◌≡◌, ◌||◌};
 ghost use Rattle.std.specs.FinMap as map;
 ghost use Rattle.moo_rows.specs.Links.{IsFirst, is_definer};
 ghost use Rattle.moo_rows.specs.Maps.{object_cmp, prop_cmp, slot_cmp};
 ghost use Rattle.moo_rows.specs.Named.{is_named_by, name_hash, named_cmp};
 ghost use Rattle.moo_rows.specs.Ordered.{contents};
 ghost use Rattle.moo_memory.specs.Either.{is_candidate_of_either};
+ghost use Rattle.moo_memory.specs.Forgotten.{has_key};
 
 use crate::links::next_defined;
 use crate::names::next_tagged;
@@ -23,7 +24,9 @@ pub(crate) fn next_linked_of_either<R: Rows>(
     link: Link,
     after: ObjNo,
 ) -> Option<ObjNo>
-    ensures { IsFirst object_cmp (is_candidate_of_either (map.get (R.held base.now).maps.objects) (contents object_cmp changes.now) links.now link) after result }
+    ensures { IsFirst object_cmp
+        (is_candidate_of_either (map.get (R.held base.now).maps.objects) (contents object_cmp changes.now) links.now link)
+        after result }
 {
     ordered::least(
         base.next_linked(link, after),
@@ -38,7 +41,7 @@ pub(crate) fn next_defined_of_either<R: Rows>(
     x: ObjNo,
     after: PropId,
 ) -> Option<PropId>
-    ensures { IsFirst prop_cmp (λ q. is_definer (R.held base.now).maps x q || is_some (map.get (contents slot_cmp definers.now) (x, q))) after result }
+    ensures { IsFirst prop_cmp (λ q. is_definer (R.held base.now).maps x q || has_key slot_cmp definers.now (x, q)) after result }
 {
     ordered::least(
         base.next_defined(x, after),
@@ -56,7 +59,9 @@ pub(crate) fn next_named_of_either<R: Rows>(
     after: PropId,
 ) -> Option<PropId>
     requires { hash ≡ name_hash name.now }
-    ensures { IsFirst prop_cmp (λ q. is_named_by (R.held base.now).maps x name.now q || is_some (map.get (contents named_cmp names.now) ((x, name_hash name.now), q))) after result }
+    ensures { IsFirst prop_cmp
+        (λ q. is_named_by (R.held base.now).maps x name.now q || has_key named_cmp names.now ((x, name_hash name.now), q))
+        after result }
 {
     ordered::least(
         base.next_named(x, name, hash, after),

@@ -1,5 +1,5 @@
-//! The rows in memory: in ordered maps, with what objects are looked up by; those that a new world begins with; and drafts over rows that stay
-//! as they are, with what they change.
+//! The rows in memory: in ordered maps, with what objects are looked up by; those that a new world begins with; and drafts over
+//! rows that stay as they are, with what they change.
 #![tactic(auto)]
 
 mod changes;

@@ -1,13 +1,13 @@
 //! Objects by their links, and properties by who defines them: those that may have one, whose rows are still to be looked at.
 
-ghost use Rattle.std.specs.Prelude.{◌≡◌, ◌≢◌, ◌↔◌, true, false, Some, is_some, option_map, IfOk, IsTrue, OnOk};
-ghost use Rattle.std.specs.FinMap as map;
+ghost use Rattle.std.specs.Prelude.{◌≡◌, ◌≢◌, ◌↔◌, true, false, Some, option_map, IfOk, IsTrue, OnOk};
 ghost use Rattle.moo_value.specs.declared.value.ObjNo.{ObjNo};
 ghost use Rattle.moo_rows.specs.declared.row.Link.{Link};
 ghost use Rattle.moo_rows.specs.declared.row.PropId.{PropId};
 ghost use Rattle.moo_rows.specs.Maps.{object_cmp, prop_cmp, slot_cmp};
 ghost use Rattle.moo_rows.specs.Ordered.{contents};
 ghost use Rattle.moo_rows.specs.Links.{IsFirst, tie_cmp, has_link, is_candidate, is_kept, may_have, row_defined, row_has, ties_have, ties_of};
+ghost use Rattle.moo_memory.specs.Forgotten.{has_key, ForgetsOnly};
 
 use moo_rows::{Link, ObjRow, PropId, PropRow, Ties, ordered};
 use moo_value::ObjNo;
@@ -79,7 +79,7 @@ pub fn row_defined(row: Option<&PropRow>, x: ObjNo) -> bool
 
 /// The next object that is paired with x.
 fn next_tied(pairs: &BTreeMap<(ObjNo, ObjNo), ()>, x: ObjNo, after: ObjNo) -> Option<ObjNo>
-    ensures { IsFirst object_cmp (λ q. is_some (map.get (contents tie_cmp pairs.now) (x, q))) after result }
+    ensures { IsFirst object_cmp (λ q. has_key tie_cmp pairs.now (x, q)) after result }
 {
     let (of, key) = ordered::next(pairs, Some((x, after)))?;
     if of == x { Some(key) } else { None }
@@ -87,7 +87,7 @@ fn next_tied(pairs: &BTreeMap<(ObjNo, ObjNo), ()>, x: ObjNo, after: ObjNo) -> Op
 
 /// The next object of a map.
 fn next_of<V>(objects: &BTreeMap<ObjNo, V>, after: ObjNo) -> Option<ObjNo>
-    ensures { IsFirst object_cmp (λ q. is_some (map.get (contents object_cmp objects.now) q)) after result }
+    ensures { IsFirst object_cmp (λ q. has_key object_cmp objects.now q) after result }
 {
     ordered::next(objects, Some(after))
 }
@@ -98,7 +98,7 @@ pub fn next_defined(
     x: ObjNo,
     after: PropId,
 ) -> Option<PropId>
-    ensures { IsFirst prop_cmp (λ q. is_some (map.get (contents slot_cmp pairs.now) (x, q))) after result }
+    ensures { IsFirst prop_cmp (λ q. has_key slot_cmp pairs.now (x, q)) after result }
 {
     let (of, key) = ordered::next(pairs, Some((x, after)))?;
     if of == x { Some(key) } else { None }
@@ -120,7 +120,8 @@ pub fn forget_defined(
     definer: Option<ObjNo>,
     key: PropId,
 )
-    ensures { (x : ObjNo) (id : PropId) → id ≢ key → is_some (map.get (contents slot_cmp pairs.new) (x, id)) ≡ false → is_some (map.get (contents slot_cmp pairs.old) (x, id)) ≡ false }
+    ensures { (x : ObjNo) (id : PropId) → id ≢ key →
+        has_key slot_cmp pairs.new (x, id) ≡ false → has_key slot_cmp pairs.old (x, id) ≡ false }
 {
     let definer = match definer {
         None => return,
@@ -215,7 +216,7 @@ impl Links {
 
     /// Forgets that the object may have the link, unless it has it by these ties. Takes no memory.
     fn forget_one(&mut self, link: Link, key: ObjNo, stays: Option<Ties>)
-        ensures { (l : Link) (q : ObjNo) → (q ≡ key → ties_have l stays ≡ true) → may_have self.new l q ≡ false → may_have self.old l q ≡ false }
+        ensures { ForgetsOnly key stays self.old self.new }
     {
         if link.is_to_nothing() {
             return;
@@ -232,7 +233,7 @@ impl Links {
 
     /// Forgets the links that went with old ties, if there were any, but for those that the object has by these. Takes no memory.
     pub fn forget(&mut self, key: ObjNo, old: Option<Ties>, stays: Option<Ties>)
-        ensures { (l : Link) (q : ObjNo) → (q ≡ key → ties_have l stays ≡ true) → may_have self.new l q ≡ false → may_have self.old l q ≡ false }
+        ensures { ForgetsOnly key stays self.old self.new }
     {
         let old = match old {
             None => return,

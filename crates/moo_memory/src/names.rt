@@ -1,13 +1,12 @@
 //! Properties by their names: those that may have one, whose rows are still to be looked at. They are kept by tag, a definer and the
 //! hash of a name.
 
-ghost use Rattle.std.specs.Prelude.{◌≡◌, ◌↔◌, true, Some, is_some, option_map, IsTrue};
-ghost use Rattle.std.specs.FinMap as map;
+ghost use Rattle.std.specs.Prelude.{◌≡◌, ◌↔◌, true, Some, option_map, IsTrue};
 ghost use Rattle.moo_rows.specs.declared.row.PropId.{PropId};
 ghost use Rattle.moo_rows.specs.Links.{IsFirst};
 ghost use Rattle.moo_rows.specs.Maps.{prop_cmp};
 ghost use Rattle.moo_rows.specs.Named.{Tag, is_alike, named_cmp, row_named, tag_of};
-ghost use Rattle.moo_rows.specs.Ordered.{contents};
+ghost use Rattle.moo_memory.specs.Forgotten.{has_key};
 
 use moo_rows::{PropId, PropRow, name_hash, ordered};
 use moo_value::ObjNo;
@@ -58,7 +57,7 @@ pub fn next_tagged(
     tag: (ObjNo, u64),
     after: PropId,
 ) -> Option<PropId>
-    ensures { IsFirst prop_cmp (λ q. is_some (map.get (contents named_cmp names.now) (tag, q))) after result }
+    ensures { IsFirst prop_cmp (λ q. has_key named_cmp names.now (tag, q)) after result }
 {
     let (of, key) = ordered::next(names, Some((tag, after)))?;
     if same_tag(of, tag) { Some(key) } else { None }
@@ -81,7 +80,8 @@ pub fn forget_tagged(
     stays: Option<(ObjNo, u64)>,
     key: PropId,
 )
-    ensures { (tag : Tag) (id : PropId) → (id ≡ key → stays ≡ Some tag) → is_some (map.get (contents named_cmp names.old) (tag, id)) ≡ true → is_some (map.get (contents named_cmp names.new) (tag, id)) ≡ true }
+    ensures { (tag : Tag) (id : PropId) → (id ≡ key → stays ≡ Some tag) →
+        has_key named_cmp names.old (tag, id) ≡ true → has_key named_cmp names.new (tag, id) ≡ true }
 {
     let was = match was {
         None => return,

@@ -50,7 +50,8 @@ fn put_row<R: Rows>(
     key: ObjNo,
     row: Result<ObjRow, AllocError>,
 ) -> Result<(), AllocError>
-    ensures { OnOk result ((wanted : ObjRow) → IfOk row (λ row. row ≡ wanted) → R.held rows.new ≡ with_object (R.held rows.old) key wanted) }
+    ensures { OnOk result ((wanted : ObjRow) → IfOk row (λ row. row ≡ wanted) →
+        R.held rows.new ≡ with_object (R.held rows.old) key wanted) }
 {
     rows.put_object(key, row?)
 }

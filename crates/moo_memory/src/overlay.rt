@@ -83,7 +83,8 @@ pub fn put<K: OrderedKey, V: Drop>(
     key: K,
     row: Option<V>,
 ) -> Result<(), AllocError>
-    ensures ok { OnOk result ((contents K.cmp changes.new ≡ map.insert (contents K.cmp changes.old) key row) × (writes.new.count ≡ writes.old.count + 1)) }
+    ensures ok { OnOk result ((contents K.cmp changes.new ≡ map.insert (contents K.cmp changes.old) key row)
+        × (writes.new.count ≡ writes.old.count + 1)) }
     ensures err { OnErr result ((contents K.cmp changes.new ≡ contents K.cmp changes.old) × (writes.new.count ≡ writes.old.count)) }
 {
     ordered::put(changes, key, row)?;

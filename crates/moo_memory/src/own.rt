@@ -1,12 +1,12 @@
 //! Changed objects by their links.
 
-ghost use Rattle.std.specs.Prelude.{◌≡◌, ◌||◌, true, false, OnOk};
+ghost use Rattle.std.specs.Prelude.{◌≡◌, true, false, OnOk};
 ghost use Rattle.moo_value.specs.declared.value.ObjNo.{ObjNo};
 ghost use Rattle.moo_rows.specs.declared.row.Link.{Link};
-ghost use Rattle.moo_rows.specs.Links.{IsFirst, has_link, is_candidate, is_linked};
+ghost use Rattle.moo_rows.specs.Links.{IsFirst, has_link, is_linked};
 ghost use Rattle.moo_rows.specs.Maps.{object_cmp};
 ghost use Rattle.moo_rows.specs.Ordered.{contents};
-ghost use Rattle.moo_memory.specs.Either.{is_that, may_have_own};
+ghost use Rattle.moo_memory.specs.Either.{is_own_candidate, is_that, may_have_own};
 
 use crate::links::{Links, are_same, ties_of};
 use moo_rows::{Link, ObjRow, Rows, Ties, ordered};
@@ -51,7 +51,8 @@ impl OwnLinks {
         ties: Ties,
     ) -> Result<(), AllocError>
         ensures others { (l : Link) (q : ObjNo) → may_have_own self.new l q ≡ false → may_have_own self.old l q ≡ false }
-        ensures there { OnOk result ((l : Link) → has_link l ties ≡ true → is_linked (R.held base.now).maps l key ≡ false → may_have_own self.new l key ≡ true) }
+        ensures there { OnOk result ((l : Link) → has_link l ties ≡ true → is_linked (R.held base.now).maps l key ≡ false →
+            may_have_own self.new l key ≡ true) }
     {
         let first = match self.first {
             None => {
@@ -73,7 +74,7 @@ impl OwnLinks {
         link: Link,
         after: ObjNo,
     ) -> Option<ObjNo>
-        ensures { IsFirst object_cmp (λ q. is_that self.now.first q || is_candidate self.now.others (contents object_cmp changes.now) link q) after result }
+        ensures { IsFirst object_cmp (is_own_candidate self.now (contents object_cmp changes.now) link) after result }
     {
         ordered::least(
             past(self.first, after),

@@ -1,5 +1,5 @@
 -- Rows in which the objects and slots are as after a change of parent show the reparented world.
-use Rattle.moo_props.{proofs.Words.{◌≡◌, ℕ, ◌<◌, Bool, true, false, Option, None, Some, List, ◌++◌, refl, sym, ap, ◌∙◌, subst, is_some, unwrap_or, if◌then◌else◌, option_map, option_or, FinMap, get, false≢true, both_ways, none-some, same_Some, ObjNo, ObjRow, PropRow, PropId, SlotRow, Maps, object_cmp, slot_cmp, Name, Property, same_object, folded, is_among, World, WorldObject, Slot, IsWellFormed, NamesDiffer, is_object, chain, defined_by_any, property_named, slot_of, owner_of, fresh, with_slots, without_slots, reparented, LookUps, IsSound, look_ups, world_of, prop_id, object_shown, slot_seen, world_shown, MayReparent, lost, gained, unless_defined_by, new_split, lost_is, gained_is, definer_among, named_owed, SameButSlots-rebuilt, is_object_seen, owed_listed, Chain-chain, is_defined_among, slot_after, row_after, fresh_row, some_of, SlotHere, slot_from, true_from_ne_false}, proofs.Definers.{new_is, no_clash, leaving, arriving, staying}, proofs.Cases.{none_of, some_map}, proofs.Gains.{object_of_chain, object_row, defines_pair, new_object, slot_of_owed}, proofs.KeptSlots.{same_by_objects}, proofs.Walked.{seen_at}}
+use Rattle.moo_props.{proofs.Words.{arith, ◌≡◌, ℕ, Bool, true, false, Option, None, Some, List, ◌++◌, refl, sym, ap, ◌∙◌, subst, is_some, unwrap_or, if◌then◌else◌, option_map, option_or, FinMap, get, both_ways, none-some, same_Some, ObjNo, ObjRow, PropRow, PropId, SlotRow, Maps, object_cmp, slot_cmp, Name, Property, same_object, folded, is_among, World, WorldObject, Slot, IsWellFormed, NamesDiffer, is_object, chain, defined_by_any, property_named, slot_of, owner_of, fresh, with_slots, without_slots, reparented, LookUps, IsSound, look_ups, world_of, prop_id, object_shown, slot_seen, world_shown, MayReparent, lost, gained, unless_defined_by, new_split, lost_is, gained_is, definer_among, named_owed, SameButSlots-rebuilt, is_object_seen, owed_listed, Chain-chain, is_defined_among, slot_after, row_after, fresh_row, some_of, SlotHere, slot_from, true_from_ne_false}, proofs.Definers.{new_is, no_clash, leaving, arriving, staying}, proofs.Cases.{none_of, some_map}, proofs.Gains.{object_of_chain, object_row, defines_pair, new_object, slot_of_owed}, proofs.KeptSlots.{same_by_objects}, proofs.Walked.{seen_at}}
 use Rattle.moo_world.{specs.World.{with_parent}, specs.Manual.{manual_slot}, proofs.Inheritance.ManualLaw.{below as below_of, no_new, definer_of_slot, manual_law}, proofs.Inheritance.Owed.{named_so, named_once, some_named, defined_by_any-append, named-append}, proofs.Shown.Slots.{no_slot_from}}
 
 module _ (t : Maps) (sound : IsSound t) (x q : ObjNo) (may : MayReparent (world_of t) x q) where
@@ -50,9 +50,6 @@ module _ (t : Maps) (sound : IsSound t) (x q : ObjNo) (may : MayReparent (world_
         named : List ObjNo → Option Property
         named l = property_named (defined_by_any w l) n
 
-        arrives : named (arriving w x q may) ≡ Some k
-        arrives = ap (λ l. property_named (defined_by_any w l) n) (sym (gained_is w x q wf may.object (new_is w x q may) may.outside (no_clash w x q may))) ∙ f
-
         by : (b : Option Property) → named (below_of w x q wf may.object (new_is w x q may) may.outside (no_clash w x q may) y n yo under) ≡ b → (g : Option Property) → named (leaving w x q may) ≡ g → (s : Option Property) → named (staying w x q may) ≡ s
             → Some d ≡ option_map (λ p. p.0) (option_or (named (below_of w x q wf may.object (new_is w x q may) may.outside (no_clash w x q may) y n yo under)) (option_or (named (leaving w x q may)) (named (staying w x q may)))) → ⊥
         by (Some p) eb g eg s es h =
@@ -63,7 +60,7 @@ module _ (t : Maps) (sound : IsSound t) (x q : ObjNo) (may : MayReparent (world_
             both_ways (is_among d going) stays (ap (λ z. is_among z going) same ∙ lost)
         by None eb None eg (Some p) es h =
             let differ : NamesDiffer (defined_by_any w (arriving w x q may) ++ defined_by_any w (staying w x q may)) = subst NamesDiffer (ap (defined_by_any w) (new_split w x q wf may.object (new_is w x q may) may.outside (no_clash w x q may)) ∙ defined_by_any-append w (arriving w x q may) (staying w x q may)) (wf.names q (chain w q) (Chain-chain w wf.tree q (new_object t sound x q may k.0 (definer_among w k coming (named_owed w coming n k f)).0))) in
-            none-some p (sym (named_once (defined_by_any w (arriving w x q may)) (defined_by_any w (staying w x q may)) n k differ arrives) ∙ es)
+            none-some p (sym (named_once (defined_by_any w (arriving w x q may)) (defined_by_any w (staying w x q may)) n k differ (ap named (sym (gained_is w x q wf may.object (new_is w x q may) may.outside (no_clash w x q may))) ∙ f)) ∙ es)
         by None eb None eg None es h = none-some d (sym (h ∙ (λ i. option_map (λ (r : Property). r.0) (option_or (eb i) (option_or (eg i) (es i))))))
 
   module _ (O : FinMap object_cmp ObjRow) (S : FinMap slot_cmp SlotRow) (objects : (y : ObjNo) → get O y ≡ row_after t x q y) (slots : (key : ObjNo × PropId) → get S key ≡ slot_after t x q key) where
@@ -74,21 +71,11 @@ module _ (t : Maps) (sound : IsSound t) (x q : ObjNo) (may : MayReparent (world_
     m2 = look_ups t2
 
     bare : (y : ObjNo) (o : Option ObjRow) (b : Bool) → option_map (with_slots (λ n. None)) (option_map (object_shown m2 y) (option_map (λ row. if b then record row { parent = q } else row) o)) ≡ option_map (with_slots (λ n. None)) (option_map (λ (r : WorldObject). if b then record r { row = record r.row { parent = q } } else r) (option_map (object_shown m y) o))
-    bare y None b = refl
-    bare y (Some row) true = refl
-    bare y (Some row) false = refl
+    bare y o b = grind arith
 
     links : without_slots (world_of t2) ≡ without_slots (with_parent w x q)
     unfolding world_shown
-    links = λ i. record {
-      object = λ y. (ap (λ o. option_map (with_slots (λ n. None)) (option_map (object_shown m2 y) o)) (objects y) ∙ bare y (m.object y) (same_object x y)) i;
-      top = t.head.top;
-      next_prop = t.head.next_prop;
-      next_verb = t.head.next_verb;
-    }
-
-    same_links : without_slots (world_of t2) ≡ without_slots (reparented w x q)
-    same_links = links ∙ sym (SameButSlots-rebuilt w (with_parent w x q) q)
+    links = λ i. record w { object = λ y. (ap (λ o. option_map (with_slots (λ n. None)) (option_map (object_shown m2 y) o)) (objects y) ∙ bare y (m.object y) (same_object x y)) i }
 
     row2 : (y : ObjNo) (row : ObjRow) → m.object y ≡ Some row → (r : ObjRow) × (m2.object y ≡ Some r)
     row2 y row e = (if same_object x y then record row { parent = q } else row, objects y ∙ ap (option_map (λ (r : ObjRow). if same_object x y then record r { parent = q } else r)) e)
@@ -97,16 +84,11 @@ module _ (t : Maps) (sound : IsSound t) (x q : ObjNo) (may : MayReparent (world_
     settle u g l f o = if u then (if g then f else (if l then None else o)) else o
 
     settled : (y : ObjNo) (id : ℕ) (p : PropRow) (u g l : Bool) → m.prop id ≡ Some p → is_among x (chain w y) ≡ u → is_among p.definer coming ≡ g → is_among p.definer going ≡ l → m2.slot y id ≡ settle u g l (option_map (fresh_row (owner_of w y)) (m.slot q id)) (m.slot y id)
-    settled y id p u g l e hu hg hl =
-        slots (y, prop_id id)
-        ∙ (λ i. settle (hu i) ((tests coming id p e ∙ hg) i) ((tests going id p e ∙ hl) i) (option_map (fresh_row (owner_of w y)) (m.slot q id)) (m.slot y id))
+    settled y id p u g l e hu hg hl = grind (arith)
 
     module _ (y : ObjNo) (n : Name) (row : ObjRow) (here : m.object y ≡ Some row) where
       yo : is_object w y ≡ true
       yo = is_object_seen m y ∙ ap is_some here
-
-      low : (id : ℕ) (p : PropRow) → m.prop id ≡ Some p → id < t.head.next_prop
-      low id p e = (sound.props_below id (ap is_some e)).1
 
       abbrev worded : Bool → Option Property → Option Slot
       worded u o = if u then elim o [ Some p ↦ option_map (fresh (owner_of w y)) (slot_of w q n) | None ↦ unless_defined_by going (slot_of w y n) ] else slot_of w y n
@@ -150,7 +132,7 @@ module _ (t : Maps) (sound : IsSound t) (x q : ObjNo) (may : MayReparent (world_
       lacked none = by (is_among x (chain w y)) refl (property_named (defined_by_any w coming) n) refl (slot_of w y n) refl
         where
           not_here : (id : ℕ) (p : PropRow) (r : SlotRow) → m.prop id ≡ Some p → m2.slot y id ≡ Some r → folded p.name ≡ n → ⊥
-          not_here id p r e f g = let k = row2 y row here in no_slot_from m2 y n k.0 k.1 none id (low id p e) (record { prop = p; row = r; there = e; held = f; name = g })
+          not_here id p r e f g = let k = row2 y row here in no_slot_from m2 y n k.0 k.1 none id (sound.props_below id (ap is_some e)).1 (record { prop = p; row = r; there = e; held = f; name = g })
 
           stays : is_among x (chain w y) ≡ true → property_named (defined_by_any w coming) n ≡ None → (s : Slot) → slot_of w y n ≡ Some s → None ≡ unless_defined_by going (Some s)
           stays hu ho s e = at (slot_from m y n row here s e)
@@ -183,7 +165,7 @@ module _ (t : Maps) (sound : IsSound t) (x q : ObjNo) (may : MayReparent (world_
 
     -- such rows show the reparented world
     pub world_after : world_of t2 ≡ reparented w x q
-    world_after = same_by_objects (world_of t2) (reparented w x q) same_links (λ y n e.
+    world_after = same_by_objects (world_of t2) (reparented w x q) (links ∙ sym (SameButSlots-rebuilt w (with_parent w x q) q)) (λ y n e.
         let was = is_object_seen m y ∙ sym (some_map (λ (row : ObjRow). if same_object x y then record row { parent = q } else row) (m.object y)) ∙ sym (is_object_seen m2 y ∙ ap is_some (objects y)) ∙ e in
         let row = object_row t sound y was in
         slot_here y n row.0 row.1 ∙ sym (manual_law w x q wf may.object (new_is w x q may) may.outside (no_clash w x q may) y n was))
@@ -193,9 +175,6 @@ module _ (t : Maps) (sound : IsSound t) (x q : ObjNo) (may : MayReparent (world_
     still_object : (y : ObjNo) → is_some (m.object y) ≡ true → is_some (m2.object y) ≡ true
     still_object y e = ap is_some (objects y) ∙ some_map (λ (row : ObjRow). if same_object x y then record row { parent = q } else row) (m.object y) ∙ e
 
-    is_there : (y : ObjNo) → is_among x (chain w y) ≡ true → is_object w y ≡ true
-    is_there = object_of_chain w x
-
     -- a slot is an old one, of a definer that isn't lost where y is under x, or is of a gained definer
     data Origin (y : ObjNo) (id : ℕ) : Type 0 where
       beside : is_among x (chain w y) ≡ false → is_some (m.slot y id) ≡ true → Origin y id
@@ -203,36 +182,22 @@ module _ (t : Maps) (sound : IsSound t) (x q : ObjNo) (may : MayReparent (world_
       new : is_among x (chain w y) ≡ true → is_defined_among coming t (prop_id id) ≡ true → is_some (m.slot q id) ≡ true → Origin y id
 
     origin : (y : ObjNo) (id : ℕ) → is_some (m2.slot y id) ≡ true → Origin y id
-    origin y id h = by (is_among x (chain w y)) refl (is_defined_among coming t (prop_id id)) refl (is_defined_among going t (prop_id id)) refl (sym (ap is_some (slots (y, prop_id id))) ∙ h)
-      where
-        by : (u : Bool) → is_among x (chain w y) ≡ u → (g : Bool) → is_defined_among coming t (prop_id id) ≡ g → (l : Bool) → is_defined_among going t (prop_id id) ≡ l → is_some (settle u g l (option_map (fresh_row (owner_of w y)) (m.slot q id)) (m.slot y id)) ≡ true → Origin y id
-        by false hu g hg l hl k = beside hu k
-        by true hu true hg l hl k = new hu hg (sym (some_map (fresh_row (owner_of w y)) (m.slot q id)) ∙ k)
-        by true hu false hg true hl k = absurd (false≢true k)
-        by true hu false hg false hl k = old hu hl k
+    origin y id h = grind (arith, slots (y, prop_id id), some_map)
 
     slot_rows : (y : ObjNo) (id : ℕ) → Origin y id → (is_some (m.object y) ≡ true) × (is_some (m.prop id) ≡ true)
     slot_rows y id (beside u k) = sound.slots y id k
     slot_rows y id (old u l k) = sound.slots y id k
-    slot_rows y id (new u g k) = (sym (is_object_seen m y) ∙ is_there y u, (sound.slots q id k).1)
+    slot_rows y id (new u g k) = (sym (is_object_seen m y) ∙ object_of_chain w x y u, (sound.slots q id k).1)
 
     one_new : (y : ObjNo) (i j : ℕ) (p r : PropRow) → m.prop i ≡ Some p → m.prop j ≡ Some r → folded p.name ≡ folded r.name → is_among x (chain w y) ≡ true → is_defined_among coming t (prop_id i) ≡ true → is_defined_among going t (prop_id j) ≡ false → is_some (m.slot y j) ≡ true → ⊥
     one_new y i j p r e f n u g l k =
         let named = gained_named (folded r.name) i p e n (sym (tests coming i p e) ∙ g) in
         let s = some_of (m.slot y j) k in
         let seen = slot_is y (folded r.name) j (record { prop = r; row = s.0; there = f; held = s.1; name = refl }) in
-        no_both y (is_there y u) u (folded r.name) r.definer named.0 (ap (option_map (λ (z : Slot). z.definer)) seen) (sym (tests going j r f) ∙ l) named.1
+        no_both y (object_of_chain w x y u) u (folded r.name) r.definer named.0 (ap (option_map (λ (z : Slot). z.definer)) seen) (sym (tests going j r f) ∙ l) named.1
 
     one_name2 : (y : ObjNo) (i j : ℕ) (p r : PropRow) → Origin y i → Origin y j → m.prop i ≡ Some p → m.prop j ≡ Some r → folded p.name ≡ folded r.name → i ≡ j
-    one_name2 y i j p r (beside u k) (beside v h) e f n = sound.one_name y i j p r k h e f n
-    one_name2 y i j p r (old u l k) (old v m h) e f n = sound.one_name y i j p r k h e f n
-    one_name2 y i j p r (new u g k) (new v c h) e f n = sound.one_name q i j p r k h e f n
-    one_name2 y i j p r (new u g k) (old v l h) e f n = absurd (one_new y i j p r e f n u g l h)
-    one_name2 y i j p r (old u l k) (new v g h) e f n = absurd (one_new y j i r p f e (sym n) u g l k)
-    one_name2 y i j p r (beside u k) (old v l h) e f n = absurd (both_ways (is_among x (chain w y)) u v)
-    one_name2 y i j p r (beside u k) (new v g h) e f n = absurd (both_ways (is_among x (chain w y)) u v)
-    one_name2 y i j p r (old u l k) (beside v h) e f n = absurd (both_ways (is_among x (chain w y)) v u)
-    one_name2 y i j p r (new u g k) (beside v h) e f n = absurd (both_ways (is_among x (chain w y)) v u)
+    one_name2 y i j p r b o e f n = grind (arith, one_new)
 
     pub sound_after : IsSound t2
     sound_after = record {

@@ -1,10 +1,7 @@
 -- The properties that some of an object's chain define are among its slots.
-use Rattle.moo_props.{proofs.Words.{◌≡◌, Bool, true, false, List, [], ◌∷◌, refl, sym, ap, ◌∙◌, inl, inr, ◌&&◌, unwrap_or, option_map, filter, list_any, get, entries, get-entries, entries_sorted, false≢true, and_parts, or_cases, ObjNo, PropId, PropRow, prop_exact, Maps, prop_cmp, prop_total, is_among, IsGood, world_of, World, chain, listed, decided_alike, some_of, any_map, ids_among, is_only_of, is_defined_only, props_only_of, not}, proofs.Shared.{Entry, has_id, is_id, is_id-Decides, object_of_chain, passing, slot_on_heir, walk, walk_meets}, proofs.Ascending.{rises_made, ascend}, proofs.SameKeys.{unique}, proofs.WalkOrder.{passing_ids_rise}, proofs.Walked.{any_filter}}
+use Rattle.moo_props.{proofs.Words.{arith, ◌≡◌, Bool, true, false, List, [], ◌∷◌, refl, sym, ap, ◌∙◌, ◌&&◌, unwrap_or, option_map, filter, list_any, get, entries, get-entries, entries_sorted, false≢true, and_parts, ObjNo, PropId, PropRow, prop_exact, Maps, prop_cmp, prop_total, is_among, IsGood, world_of, chain, listed, decided_alike, some_of, any_map, ids_among, is_only_of, is_defined_only, props_only_of, not}, proofs.Shared.{Entry, has_id, is_id, is_id-Decides, object_of_chain, passing, slot_on_heir, walk, walk_meets}, proofs.Ascending.{rises_made, ascend}, proofs.SameKeys.{unique}, proofs.WalkOrder.{passing_ids_rise}, proofs.Walked.{any_filter}}
 
 module _ (t : Maps) (good : IsGood t) (y : ObjNo) (these others : List ObjNo) (within : (d : ObjNo) → is_among d these ≡ true → is_among d (chain (world_of t) y) ≡ true) where
-  abbrev w : World
-  w = world_of t
-
   abbrev passes : Entry → Bool
   passes e = is_defined_only these others t e.0.1
 
@@ -26,15 +23,12 @@ module _ (t : Maps) (good : IsGood t) (y : ObjNo) (these others : List ObjNo) (w
   met j h =
       let p = passing (λ (p : PropRow). is_only_of these others p.definer) (get t.props j) h in
       let heir = within p.0.definer (and_parts (is_among p.0.definer these) (not (is_among p.0.definer others)) p.2).0 in
-      let slot = some_of (get t.slots (y, j)) (slot_on_heir t good.sound good.formed y (object_of_chain w p.0.definer y heir) j.0 p.0 p.1 heir) in
+      let slot = some_of (get t.slots (y, j)) (slot_on_heir t good.sound good.formed y (object_of_chain (world_of t) p.0.definer y heir) j.0 p.0 p.1 heir) in
       walk_meets t good.sound y (λ (e : Entry). passes e && is_id j e.0.1) j slot.0 slot.1 (λ i. h i && (is_id-Decides j j).1 refl i)
 
   property_added : (j : PropId) (es : List Entry) → list_any (λ (e : Entry). passes e && is_id j e.0.1) es ≡ true → is_defined_only these others t j ≡ true
   property_added j [] h = absurd (false≢true h)
-  property_added j (e ∷ es) h = elim (or_cases (passes e && is_id j e.0.1) (list_any (λ (e : Entry). passes e && is_id j e.0.1) es) h) [
-    | inl k ↦ let parts = and_parts (passes e) (is_id j e.0.1) k in ap (is_defined_only these others t) ((is_id-Decides j e.0.1).0 parts.1) ∙ parts.0
-    | inr k ↦ property_added j es k
-  ]
+  property_added j (e ∷ es) h = grind (arith, (is_id-Decides j e.0.1).0, property_added j es)
 
   in_slots : (j : PropId) → has_id j by_slots ≡ is_defined_only these others t j
   in_slots j =

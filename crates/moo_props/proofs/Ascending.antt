@@ -1,7 +1,8 @@
 -- The keys that a change touches are in order.
-use Rattle.moo_props.proofs.Words.{◌≡◌, Bool, T, List, [], ◌∷◌, ◌++◌, map, Ordering, Less, refl, sym, ap, ◌∙◌, subst, tied_itself, int_eq, ordering_then, filter, AllByRecursion, entries, is_sorted, entries_sorted, ObjNo, PropId, Maps, object_cmp, prop_cmp, slot_cmp, verb_cmp, object_total, first_of, chain, is_among, world_of, lost, gained, links_to, linked_among, verbs_among, AreAscending, owners_under, props_of, removed_keys, added_keys, keys_on, keys_over, cond_both, keys_by}
+use Rattle.moo_props.proofs.Words.{◌≡◌, Bool, T, List, [], ◌∷◌, ◌++◌, map, Ordering, Less, refl, sym, ap, ◌∙◌, subst, tied_itself, int_eq, ordering_then, filter, AllByRecursion, entries, is_sorted, entries_sorted, ObjNo, PropId, Maps, object_cmp, prop_cmp, slot_cmp, verb_cmp, object_total, first_of, chain, is_among, world_of, links_to, linked_among, verbs_among, AreAscending, owners_under, props_of, keys_on, keys_over, cond_both, keys_by}
 use Rattle.std.specs.FinMap.Entries.{below_all}
 use Rattle.moo_rows.proofs.Walking.{second_of, less_of}
+use Rattle.moo_world.proofs.Inheritance.Reparenting.{all_join}
 
 -- each is below all after it, by a key
 abbrev pub Rises : {K A : Type 0} → (K → K → Ordering) → (A → K) → List A → Type 0
@@ -34,14 +35,10 @@ on_one : (y : ObjNo) (i : PropId) (ids : List PropId) → AllByRecursion (λ j. 
 on_one y i [] h = tt
 on_one y i (j ∷ ids) h = (by_prop y i j h.0, on_one y i ids h.1)
 
-all_append : {A : Type 0} (P : A → Type 0) (l m : List A) → AllByRecursion P l → AllByRecursion P m → AllByRecursion P (l ++ m)
-all_append P [] m h k = k
-all_append P (x ∷ l) m h k = (h.0, all_append P l m h.1 k)
-
 module _ (ids : ObjNo → List PropId) (rises : (y : ObjNo) → Rises prop_cmp (λ j. j) (ids y)) where
   later_object : (y : ObjNo) (i : PropId) (es : List (ObjNo × ObjNo)) → AllByRecursion (λ e. object_cmp y e.0 ≡ Less) es → AllByRecursion (λ other. slot_cmp (y, i) other ≡ Less) (keys_by ids es)
   later_object y i [] h = tt
-  later_object y i (e ∷ es) h = all_append (λ other. slot_cmp (y, i) other ≡ Less) (keys_on e.0 (ids e.0)) (keys_by ids es) (each (ids e.0)) (later_object y i es h.1)
+  later_object y i (e ∷ es) h = all_join (λ other. slot_cmp (y, i) other ≡ Less) (keys_on e.0 (ids e.0)) (keys_by ids es) (each (ids e.0)) (later_object y i es h.1)
     where
       each : (l : List PropId) → AllByRecursion (λ other. slot_cmp (y, i) other ≡ Less) (keys_on e.0 l)
       each [] = tt
@@ -53,7 +50,7 @@ module _ (ids : ObjNo → List PropId) (rises : (y : ObjNo) → Rises prop_cmp (
     where
       front : (l : List PropId) → Rises prop_cmp (λ j. j) l → AreAscending slot_cmp (keys_by ids es) → AreAscending slot_cmp (keys_on e.0 l ++ keys_by ids es)
       front [] r k = k
-      front (i ∷ l) r k = (all_append (λ other. slot_cmp (e.0, i) other ≡ Less) (keys_on e.0 l) (keys_by ids es) (on_one e.0 i l r.0) (later_object e.0 i es h.0), front l r.1 k)
+      front (i ∷ l) r k = (all_join (λ other. slot_cmp (e.0, i) other ≡ Less) (keys_on e.0 l) (keys_by ids es) (on_one e.0 i l r.0) (later_object e.0 i es h.0), front l r.1 k)
 
 pub props_rise : (t : Maps) (definers : List ObjNo) → Rises prop_cmp (λ j. j) (props_of definers t.props)
 props_rise t definers = rises_made prop_cmp (λ j. j) (λ e. is_among e.1.definer definers) (λ e. e.0) (λ e. refl) (entries t.props) (entries_sorted t.props)
@@ -66,14 +63,8 @@ pub ascend : {K : Type 0} (cmp : K → K → Ordering) (l : List K) → Rises cm
 ascend cmp [] r = tt
 ascend cmp (k ∷ l) r = (r.0, ascend cmp l r.1)
 
-keys_ascend : (t : Maps) (x : ObjNo) (definers : List ObjNo) → AreAscending slot_cmp (keys_over (props_of definers t.props) (owners_under t x))
+pub keys_ascend : (t : Maps) (x : ObjNo) (definers : List ObjNo) → AreAscending slot_cmp (keys_over (props_of definers t.props) (owners_under t x))
 keys_ascend t x definers = keys_rise (λ y. props_of definers t.props) (λ y. props_rise t definers) (owners_under t x) (under_rise t x)
-
-pub removed_ascend : (t : Maps) (x q : ObjNo) → AreAscending slot_cmp (removed_keys t x q)
-removed_ascend t x q = keys_ascend t x (lost (world_of t) x q)
-
-pub added_ascend : (t : Maps) (x q : ObjNo) → AreAscending slot_cmp (added_keys t x q)
-added_ascend t x q = keys_ascend t x (gained (world_of t) x q)
 
 pub verbs_ascend : (t : Maps) (x : ObjNo) → AreAscending verb_cmp (verbs_among x (entries t.verbs))
 verbs_ascend t x = ascend verb_cmp (verbs_among x (entries t.verbs)) (rises_made verb_cmp (λ k. k) (λ e. int_eq e.0.0.0 x.0) (λ e. e.0) (λ e. refl) (entries t.verbs) (entries_sorted t.verbs))

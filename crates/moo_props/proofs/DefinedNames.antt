@@ -1,5 +1,5 @@
 -- The names that an object defines are those of the properties' entries that have it as definer.
-use Rattle.moo_props.{proofs.Words.{◌≡◌, ◌≢◌, ℕ, zero, suc, ◌≤◌, Bool, true, false, cond, T, Option, None, Some, List, [], ◌∷◌, ◌++◌, map, Less, refl, sym, ap, ◌∙◌, subst, inl, inr, arith, append-nil, is_some, unwrap_or, if◌then◌else◌, option_map, option_and_then, nat_cmp_is, filter, filter_map, cons_option, AllByRecursion, eq_by_cmp, get, get-entries, is_sorted, entries, entries_sorted, filter_map-append, ObjNo, ObjRow, PropId, PropRow, Maps, prop_cmp, prop_exact, prop_total, Name, same_object, WorldObject, property_names_of, IsSound, look_ups, world_of, world_shown, object_shown, numbers_below, name_on, prop_id, key-Decides, false_from_ne_true, cases_eq, cases_lt, lt-ltb, le-ltb}, proofs.Cases.{cond_same}, proofs.Numbers.{no_names}}
+use Rattle.moo_props.{proofs.Words.{◌≡◌, ◌≢◌, ℕ, zero, suc, ◌≤◌, true, cond, T, Option, None, Some, List, [], ◌∷◌, ◌++◌, map, Less, refl, sym, ap, ◌∙◌, subst, inl, inr, arith, append-nil, is_some, option_map, nat_cmp_is, filter, filter_map, cons_option, AllByRecursion, eq_by_cmp, get, get-entries, is_sorted, entries, entries_sorted, filter_map-append, ObjNo, PropId, PropRow, Maps, prop_cmp, prop_exact, prop_total, Name, same_object, property_names_of, IsSound, look_ups, world_of, world_shown, numbers_below, name_on, prop_id, key-Decides, false_from_ne_true, cases_eq, cases_lt, lt-ltb, le-ltb}, proofs.Cases.{cond_same}, proofs.Numbers.{no_names}}
 use Rattle.std.{specs.Prelude.{nat_lt}, specs.FinMap.{find}, specs.FinMap.Entries.{same_entries, find-append}}
 use Rattle.moo_world.proofs.Shown.EntriesInOrder.{all_then, sorted_then, past_each}
 
@@ -73,17 +73,7 @@ module _ (t : Maps) where
 
   named : (x : ObjNo) (l : List ℕ) → names_among x (filter_map entry_at l) ≡ filter_map (name_on (look_ups t) x) l
   named x [] = refl
-  named x (n ∷ l) = by (row_at n) (named x l)
-    where
-      by : (o : Option PropRow) → names_among x (filter_map entry_at l) ≡ filter_map (name_on (look_ups t) x) l
-          → names_among x (cons_option (option_map (λ p. (prop_id n, p)) o) (filter_map entry_at l)) ≡ cons_option (option_and_then (λ (p : PropRow). if same_object p.definer x then Some p.name else None) o) (filter_map (name_on (look_ups t) x) l)
-      by None r = r
-      by (Some p) r = pick (same_object p.definer x) r
-        where
-          pick : (b : Bool) → names_among x (filter_map entry_at l) ≡ filter_map (name_on (look_ups t) x) l
-              → map (λ e. e.1.name) (cond b ((prop_id n, p) ∷ filter (λ e. same_object e.1.definer x) (filter_map entry_at l)) (filter (λ e. same_object e.1.definer x) (filter_map entry_at l))) ≡ cons_option (if b then Some p.name else None) (filter_map (name_on (look_ups t) x) l)
-          pick true r = ap (λ m. p.name ∷ m) r
-          pick false r = r
+  named x (n ∷ l) = grind (arith, named x l)
 
   module _ (sound : IsSound t) where
     all_entries : by_number t.head.next_prop ≡ entries t.props
@@ -99,8 +89,4 @@ module _ (t : Maps) where
     -- the names in the order of definition are those of the entries in the order of their numbers
     pub names_listed : (x : ObjNo) → names_among x (entries t.props) ≡ property_names_of (world_of t) x
     unfolding world_shown
-    names_listed x = ap (names_among x) (sym all_entries) ∙ named x (numbers_below t.head.next_prop) ∙ by (get t.objects x) refl
-      where
-        by : (o : Option ObjRow) → get t.objects x ≡ o → filter_map (name_on (look_ups t) x) (numbers_below t.head.next_prop) ≡ unwrap_or (option_map (λ (r : WorldObject). r.defines) (option_map (object_shown (look_ups t) x) o)) []
-        by None e = no_names (look_ups t) sound x e
-        by (Some row) e = refl
+    names_listed x = ap (names_among x) (sym all_entries) ∙ named x (numbers_below t.head.next_prop) ∙ grind (arith, no_names (look_ups t) sound x)

@@ -21,25 +21,16 @@ module _ (f : ObjNo → List ObjNo) (z : ObjNo) where
 
   branch_in : (l : List ObjNo) (c : ObjNo) → is_among c l ≡ true → is_among z (c ∷ f c) ≡ true → is_among z (flat_map (λ c. c ∷ f c) l) ≡ true
   branch_in [] c k h = absurd (true≢false (sym k))
-  branch_in (d ∷ l) c k h = is_among-append z (d ∷ f d) (flat_map (λ c. c ∷ f c) l) ∙ elim (or_cases (same_object c d) (is_among c l) k) [
-    | inl e ↦ or_left (is_among z (d ∷ f d)) (is_among z (flat_map (λ c. c ∷ f c) l)) (ap (λ q. is_among z (q ∷ f q)) (sym ((same_object-Decides c d).0 e)) ∙ h)
-    | inr g ↦ or_right (is_among z (d ∷ f d)) (is_among z (flat_map (λ c. c ∷ f c) l)) (branch_in l c g h)
-  ]
+  branch_in (d ∷ l) c k h = grind (arith, is_among-append z (d ∷ f d) (flat_map (λ c. c ∷ f c) l), (same_object-Decides c d).0, branch_in l c)
 
 module _ (test : ObjNo → Bool) where
   any_of_member : (l : List ObjNo) (y : ObjNo) → is_among y l ≡ true → test y ≡ true → list_any test l ≡ true
   any_of_member [] y h k = absurd (true≢false (sym h))
-  any_of_member (z ∷ l) y h k = elim (or_cases (same_object y z) (is_among y l) h) [
-    | inl e ↦ or_left (test z) (list_any test l) (ap test (sym ((same_object-Decides y z).0 e)) ∙ k)
-    | inr g ↦ or_right (test z) (list_any test l) (any_of_member l y g k)
-  ]
+  any_of_member (z ∷ l) y h k = grind (arith, (same_object-Decides y z).0, any_of_member l y)
 
   any_within : (l m : List ObjNo) → ((z : ObjNo) → is_among z l ≡ true → is_among z m ≡ true) → list_any test l ≡ true → list_any test m ≡ true
   any_within [] m f h = absurd (true≢false (sym h))
-  any_within (z ∷ l) m f h = elim (or_cases (test z) (list_any test l) h) [
-    | inl e ↦ any_of_member m z (f z (first_among z l)) e
-    | inr g ↦ any_within l m (λ y k. f y (or_right (same_object y z) (is_among y l) k)) g
-  ]
+  any_within (z ∷ l) m f h = grind (arith, any_of_member m z, first_among z l, f z, any_within l m (λ y k. f y (or_right (same_object y z) (is_among y l) k)))
 
   any_alike : (l m : List ObjNo) → ((z : ObjNo) → is_among z l ≡ true → is_among z m ≡ true) → ((z : ObjNo) → is_among z m ≡ true → is_among z l ≡ true) → list_any test l ≡ list_any test m
   any_alike l m f g = decided_alike _ _ (list_any test m ≡ true) (any_within l m f, any_within m l g) (λ e. e, λ e. e)
@@ -57,9 +48,6 @@ module _ (t : Maps) (tree : IsTree (world_of t)) where
   linked_child y from c h =
       let r = passing (λ (r : ObjRow). has_link (ChildOf y) (ties_of r)) (get t.objects c) h.0 in
       (r.0, r.1, sym ((same_object-Decides y r.0.parent).0 (sym (same_object-eq y r.0.parent) ∙ r.2)))
-
-  children_on : (y from c : ObjNo) → IsFirst object_cmp (is_linked t (ChildOf y)) from (Some c) → children_past t y from ≡ c ∷ children_past t y c
-  children_on y from c h = let k = linked_child y from c h in ap (map (λ e. e.0)) (linked-step t (ChildOf y) from c k.0 h k.1)
 
   children_over : (y from : ObjNo) → IsFirst object_cmp (is_linked t (ChildOf y)) from None → children_past t y from ≡ []
   children_over y from h = ap (map (λ e. e.0)) (linked-end t (ChildOf y) from h)
@@ -81,9 +69,6 @@ module _ (t : Maps) (tree : IsTree (world_of t)) where
   -- a child, by the list of the children
   child_of : (y c : ObjNo) → is_among c (children_past t y nothing) ≡ true → (r : ObjRow) × (get t.objects c ≡ Some r) × (r.parent ≡ y)
   child_of y c h = listed_child t tree c y (ap (is_among c) (sym (children_listed t tree y)) ∙ h)
-
-  child_in : (y c : ObjNo) (r : ObjRow) → get t.objects c ≡ Some r → r.parent ≡ y → is_among c (children_past t y nothing) ≡ true
-  child_in y c r e p = ap (is_among c) (children_listed t tree y) ∙ child_listed t tree c y r e p
 
   deeper : (y c : ObjNo) → is_among c (children_past t y nothing) ≡ true → depth c ≡ suc (depth y)
   deeper y c h = let k = child_of y c h in ap length (chain_up c y k.0 k.1 k.2)
@@ -131,7 +116,7 @@ module _ (t : Maps) (tree : IsTree (world_of t)) where
       | inr k ↦ absurd (true≢false (sym k))
     ]
     closed (suc n) y p z r e q h d = elim (or_cases (same_object p y) (is_among p (below (suc n) t y)) h) [
-      | inl k ↦ branch_in (below n t) z (children_past t y nothing) z (child_in y z r e (q ∙ (same_object-Decides p y).0 k)) (first_among z (below n t z))
+      | inl k ↦ branch_in (below n t) z (children_past t y nothing) z (ap (is_among z) (children_listed t tree y) ∙ child_listed t tree z y r e (q ∙ (same_object-Decides p y).0 k)) (first_among z (below n t z))
       | inr k ↦
           let b = in_branch (below n t) p (children_past t y nothing) k in
           branch_in (below n t) z (children_past t y nothing) b.0 b.1 (or_right (same_object z b.0) (is_among z (below n t b.0)) (closed n b.0 p z r e q b.2 (omega (arith, d, deeper y b.0 b.1))))
@@ -226,7 +211,7 @@ module _ (t : Maps) (tree : IsTree (world_of t)) where
         let k = linked_child y from c first in
         ap (λ l. c ∷ (descendants t c ++ l)) (beside c y k.0 k.1 k.2 h)
         ∙ sym (append_assoc (c ∷ descendants t c) (branches t (children_past t y c)) (after_below t x y))
-        ∙ ap (λ l. branches t l ++ after_below t x y) (sym (children_on y from c first))
+        ∙ ap (λ l. branches t l ++ after_below t x y) (sym (ap (map (λ e. e.0)) (linked-step t (ChildOf y) from c k.0 first k.1)))
 
     pub sideward : (c y next : ObjNo) (r : ObjRow) → get t.objects c ≡ Some r → r.parent ≡ y → is_among x (chain w y) ≡ true → IsFirst object_cmp (is_linked t (ChildOf y)) c (Some next) → from_here t x (Some next) ≡ after_below t x c
     sideward c y next r e p h first = onward y c next h first ∙ sym (beside c y r e p h)

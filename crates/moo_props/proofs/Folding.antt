@@ -1,5 +1,5 @@
 -- What the slots are after they are removed and put one by one.
-use Rattle.moo_props.{proofs.Cases.{cond_again, cond_and, cond_same, cond_twice}, proofs.Folds.{all_change, all_of_change}, proofs.Words.{◌||◌, ◌≡◌, Bool, true, false, cond, Option, None, Some, List, [], ◌∷◌, refl, sym, ap, ◌∙◌, ◌&&◌, is_some, option_map, Decides, eq_by_cmp, list_any, cons_option, AllByRecursion, FinMap, get, get-insert, get-remove, and_parts, none-some, same_Some, ObjNo, PropId, SlotRow, Held, prop_cmp, slot_cmp, prop_exact, slot_exact, prop_total, slot_total, same_object, same_object-Decides, key-Decides, decided_alike, Origin, slots_moved, origin_of, origins, fresh_of, slot_removed, slot_put, without_on, with_fresh, fresh_row, ids_for, and-false}}
+use Rattle.moo_props.{proofs.Cases.{cond_again, cond_and, cond_same, cond_twice}, proofs.Folds.{all_change, all_of_change}, proofs.Words.{arith, ◌||◌, ◌≡◌, Bool, true, false, cond, Option, None, Some, List, [], ◌∷◌, refl, sym, ap, ◌∙◌, ◌&&◌, is_some, option_map, Decides, eq_by_cmp, list_any, cons_option, AllByRecursion, FinMap, get, get-insert, get-remove, and_parts, none-some, same_Some, ObjNo, PropId, SlotRow, Held, prop_cmp, slot_cmp, prop_exact, slot_exact, prop_total, slot_total, same_object, same_object-Decides, key-Decides, decided_alike, Origin, slots_moved, origin_of, origins, fresh_of, slot_removed, slot_put, without_on, with_fresh, fresh_row, ids_for, and-false}}
 
 abbrev pub is_id : PropId → PropId → Bool
 is_id j id = eq_by_cmp prop_cmp j id
@@ -34,14 +34,7 @@ fresh_in owner (o ∷ os) j g = fresh_in owner os j (cond (is_id j o.id) (Some (
 
 pub slot_at-fresh : (y z owner : ObjNo) (j : PropId) (os : List Origin) (held : Held) → slot_at (with_fresh y owner os held) z j ≡ cond (same_object y z) (fresh_in owner os j (slot_at held z j)) (slot_at held z j)
 slot_at-fresh y z owner j [] held = sym (cond_same (same_object y z) (slot_at held z j))
-slot_at-fresh y z owner j (o ∷ os) held =
-    slot_at-fresh y z owner j os (slot_put y o.id (fresh_of owner o) held)
-    ∙ ap (λ g. cond (same_object y z) (fresh_in owner os j g) g) (get-insert slot_total held.maps.slots (y, o.id) (fresh_of owner o) (z, j) ∙ ap (λ b. cond b (Some (fresh_of owner o)) (slot_at held z j)) (key_parts y z o.id j))
-    ∙ by (same_object y z)
-  where
-    by : (a : Bool) → cond a (fresh_in owner os j (cond (a && is_id j o.id) (Some (fresh_of owner o)) (slot_at held z j))) (cond (a && is_id j o.id) (Some (fresh_of owner o)) (slot_at held z j)) ≡ cond a (fresh_in owner os j (cond (is_id j o.id) (Some (fresh_of owner o)) (slot_at held z j))) (slot_at held z j)
-    by true = refl
-    by false = refl
+slot_at-fresh y z owner j (o ∷ os) held = grind (arith, slot_at-fresh y z owner j os (slot_put y o.id (fresh_of owner o) held), get-insert slot_total held.maps.slots (y, o.id) (fresh_of owner o) (z, j), key_parts y z o.id j)
 
 module _ (slots : FinMap slot_cmp SlotRow) (q : ObjNo) where
   pub fresh_in-origins : (owner : ObjNo) (j : PropId) (o : Option SlotRow) → get slots (q, j) ≡ o → (ids : List PropId) (g : Option SlotRow) → fresh_in owner (origins slots q ids) j g ≡ cond (has_id j ids && is_some o) (option_map (fresh_row owner) o) g
@@ -69,12 +62,7 @@ module _ (slots : FinMap slot_cmp SlotRow) (q : ObjNo) where
 -- the fresh ones of one property are there whatever was
 fresh_alike : (owner : ObjNo) (j : PropId) (os : List Origin) (g : Option SlotRow) → fresh_in owner os j g ≡ cond (list_any (λ o. is_id j o.id) os) (fresh_in owner os j None) g
 fresh_alike owner j [] g = refl
-fresh_alike owner j (o ∷ os) g = by (is_id j o.id) (fresh_alike owner j os g)
-  where
-    by : (b : Bool) → fresh_in owner os j g ≡ cond (list_any (λ o. is_id j o.id) os) (fresh_in owner os j None) g
-        → fresh_in owner os j (cond b (Some (fresh_of owner o)) g) ≡ cond (b || list_any (λ o. is_id j o.id) os) (fresh_in owner os j (cond b (Some (fresh_of owner o)) None)) g
-    by true r = refl
-    by false r = r
+fresh_alike owner j (o ∷ os) g = grind (arith, fresh_alike owner j os g)
 
 module _ (lost : ObjNo → List PropId) (os : List Origin) (owner : ObjNo → ObjNo) (z : ObjNo) (j : PropId) where
   -- what becomes of a slot
@@ -82,22 +70,10 @@ module _ (lost : ObjNo → List PropId) (os : List Origin) (owner : ObjNo → Ob
   step g = fresh_in (owner z) os j (cond (has_id j (lost z)) None g)
 
   twice : (g : Option SlotRow) → step (step g) ≡ step g
-  twice g =
-      let put = list_any (λ o. is_id j o.id) os in
-      let made = fresh_in (owner z) os j None in
-      let gone = has_id j (lost z) in
-      let once = fresh_alike (owner z) j os (cond gone None g) in
-      fresh_alike (owner z) j os (cond gone None (step g)) ∙ ap (λ v. cond put made (cond gone None v)) once ∙ cond_twice put gone made None g ∙ sym once
+  twice g = grind (arith, fresh_alike, cond_twice)
 
   one_moved : (e : ObjNo × ObjNo) (held : Held) → e.1 ≡ owner e.0 → slot_at (with_fresh e.0 e.1 os (without_on e.0 (lost e.0) held)) z j ≡ cond (same_object e.0 z) (step (slot_at held z j)) (slot_at held z j)
-  one_moved e held h =
-      slot_at-fresh e.0 z e.1 j os (without_on e.0 (lost e.0) held)
-      ∙ ap (λ g. cond (same_object e.0 z) (fresh_in e.1 os j g) g) (slot_at-without e.0 z j (lost e.0) held)
-      ∙ by (same_object e.0 z) refl
-    where
-      by : (a : Bool) → same_object e.0 z ≡ a → cond a (fresh_in e.1 os j (cond (a && has_id j (lost e.0)) None (slot_at held z j))) (cond (a && has_id j (lost e.0)) None (slot_at held z j)) ≡ cond a (step (slot_at held z j)) (slot_at held z j)
-      by true k = let same = (same_object-Decides e.0 z).0 k in λ i. fresh_in ((h ∙ ap owner same) i) os j (cond (has_id j (lost (same i))) None (slot_at held z j))
-      by false k = refl
+  one_moved e held h = grind (arith, slot_at-fresh, slot_at-without, same_object-Decides)
 
   pub all_moved : (es : List (ObjNo × ObjNo)) (held : Held) → AllByRecursion (λ e. e.1 ≡ owner e.0) es
       → slot_at (slots_moved lost os es held) z j ≡ cond (list_any (λ e. same_object e.0 z) es) (step (slot_at held z j)) (slot_at held z j)

@@ -1,5 +1,5 @@
 -- What one step for each element of a list changes, and what it leaves as it was.
-use Rattle.moo_props.proofs.Words.{◌||◌, ◌≡◌, Bool, true, false, cond, List, [], ◌∷◌, refl, ap, ◌∙◌, list_any, AllByRecursion, FinMap, Held, Maps, object_cmp, prop_cmp, slot_cmp, verb_cmp, ObjRow, PropRow, SlotRow, VerbRow, after_each, ◌+◌, ◌≤◌, arith, length}
+use Rattle.moo_props.proofs.Words.{◌||◌, ◌≡◌, Bool, cond, List, [], ◌∷◌, refl, ap, ◌∙◌, list_any, AllByRecursion, FinMap, Held, Maps, object_cmp, prop_cmp, slot_cmp, verb_cmp, ObjRow, PropRow, SlotRow, VerbRow, after_each, ◌+◌, ◌≤◌, arith, length}
 use Rattle.std.specs.Prelude.{⊤}
 
 -- ---- all but one map
@@ -33,9 +33,7 @@ all_any [] = tt
 all_any (y ∷ ys) = (tt, all_any ys)
 
 changed_or : {Z : Type 0} (change : Z → Z) → ((v : Z) → change (change v) ≡ change v) → (a b : Bool) (v : Z) → cond b (change (cond a (change v) v)) (cond a (change v) v) ≡ cond (a || b) (change v) v
-changed_or change twice true true v = twice v
-changed_or change twice true false v = refl
-changed_or change twice false b v = refl
+changed_or change twice o b v = grind arith
 
 module _ {Y : Type 0} (step : Y → Held → Held) where
   -- what no step changes

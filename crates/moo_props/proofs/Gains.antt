@@ -1,5 +1,5 @@
 -- A property that x gains has a slot on q.
-use Rattle.moo_props.{proofs.Words.{◌≡◌, ℕ, ◌<◌, Bool, true, None, Some, ◌∷◌, ◌++◌, refl, sym, ap, ◌∙◌, subst, inl, inr, is_some, if◌then◌else◌, option_map, option_and_then, filter_map, list_any, false≢true, and_parts, same_Some, ObjNo, ObjRow, PropRow, Maps, Name, Property, same_object, same_text, same_property, folded, is_among, same_object-Decides, same_text-Decides, World, Slot, IsWellFormed, NamesDiffer, is_object, chain, property_names_of, defined_by, defined_by_any, property_named, slot_of, LookUps, IsSound, look_ups, world_of, numbers_below, name_on, object_shown, MayReparent, gained, names_shown, is_object_seen, object_seen, owed_listed, Chain-chain, chain_of_none, chain-step, some_of, any_map, SlotHere, slot_from, true_from_ne_false, cases_order}, proofs.Cases.{some_map}, proofs.Definers.{only_gained}}
+use Rattle.moo_props.{proofs.Words.{arith, ◌≡◌, ℕ, ◌<◌, Bool, true, Some, ◌∷◌, ◌++◌, refl, sym, ap, ◌∙◌, subst, is_some, option_map, filter_map, list_any, false≢true, and_parts, same_Some, ObjNo, ObjRow, PropRow, Maps, Name, Property, same_text, same_property, folded, is_among, same_object-Decides, same_text-Decides, World, Slot, IsWellFormed, NamesDiffer, is_object, chain, property_names_of, defined_by, defined_by_any, property_named, slot_of, LookUps, IsSound, look_ups, world_of, numbers_below, name_on, object_shown, MayReparent, gained, names_shown, is_object_seen, object_seen, owed_listed, Chain-chain, chain_of_none, chain-step, some_of, any_map, SlotHere, slot_from, true_from_ne_false}, proofs.Cases.{some_map}, proofs.Definers.{only_gained}}
 use Rattle.std.specs.List.{IsDistinct}
 use Rattle.moo_world.{specs.Objects.{same_property-self}, proofs.Inheritance.Keeping.{named_is}, proofs.Shown.PairLists.{distinct_map, pairs_left}, proofs.Shown.Numbered.{any_from, no_later}}
 
@@ -18,9 +18,7 @@ module _ (t : Maps) (sound : IsSound t) where
   object_row y e = some_of (m.object y) (sym (is_object_seen m y) ∙ e)
 
   name_here : (id : ℕ) (p : PropRow) → m.prop id ≡ Some p → name_on m p.definer id ≡ Some p.name
-  name_here id p e =
-      ap (option_and_then (λ (r : PropRow). if same_object r.definer p.definer then Some r.name else None)) e
-      ∙ ap (λ b. if b then Some p.name else None) ((same_object-Decides p.definer p.definer).1 refl)
+  name_here id p e = grind (arith, same_object-Decides)
 
   names_are : (id : ℕ) (p : PropRow) → m.prop id ≡ Some p → property_names_of w p.definer ≡ filter_map (name_on m p.definer) (numbers_below t.head.next_prop)
   names_are id p e = let r = some_of (m.object p.definer) (sound.definers id p e) in names_shown m p.definer r.0 r.1
@@ -39,12 +37,9 @@ module _ (t : Maps) (sound : IsSound t) where
     abbrev same_name : Name → Name → Bool
     same_name a b = same_text (folded a) (folded b)
 
-    definer_row : (id : ℕ) (p : PropRow) → m.prop id ≡ Some p → (row : ObjRow) × (m.object p.definer ≡ Some row)
-    definer_row id p e = some_of (m.object p.definer) (sound.definers id p e)
-
     own_distinct : (id : ℕ) (p : PropRow) → m.prop id ≡ Some p → IsDistinct same_name (filter_map (name_on m p.definer) (numbers_below t.head.next_prop))
     own_distinct id p e =
-        let r = definer_row id p e in
+        let r = some_of (m.object p.definer) (sound.definers id p e) in
         let there : is_object w p.definer ≡ true = is_object_seen m p.definer ∙ sound.definers id p e in
         let chain_is : chain w p.definer ≡ p.definer ∷ chain w r.0.parent = chain-step w wf.tree p.definer (object_shown m p.definer r.0) (object_seen m p.definer r.0 r.1) in
         let differ : NamesDiffer (defined_by w p.definer ++ defined_by_any w (chain w r.0.parent)) = subst (λ l. NamesDiffer (defined_by_any w l)) chain_is (wf.names p.definer (chain w p.definer) (Chain-chain w wf.tree p.definer there)) in
@@ -58,11 +53,7 @@ module _ (t : Maps) (sound : IsSound t) where
 
     -- a definer has one property of a name
     pub one_prop : (i j : ℕ) (p r : PropRow) → m.prop i ≡ Some p → m.prop j ≡ Some r → p.definer ≡ r.definer → folded p.name ≡ folded r.name → i ≡ j
-    one_prop i j p r e f d n = elim (cases_order i j) [
-      | inl g ↦ g
-      | inr (inl l) ↦ absurd (not_below i j p r e f d n l)
-      | inr (inr l) ↦ absurd (not_below j i r p f e (sym d) (sym n) l)
-    ]
+    one_prop i j p r e f d n = grind (arith, not_below)
 
   module _ (wf : IsWellFormed w) (z : ObjNo) (zo : is_object w z ≡ true) where
     -- the property of a name that is owed to z has its row, and its slot on z

@@ -1,5 +1,5 @@
 -- The rows once an object is dropped, key by key, and how many were written.
-use Rattle.moo_props.{proofs.Words.{◌||◌, ◌≡◌, ◌≤◌, ◌+◌, Bool, true, false, Option, None, Some, List, [], ◌∷◌, length, refl, sym, ap, ◌∙◌, arith, ◌&&◌, is_some, unwrap_or, if◌then◌else◌, option_map, get, entries, get-entries, entries_sorted, both_ways, same_Some, ObjNo, ObjRow, PropId, SlotRow, VerbId, object_exact, slot_exact, Maps, Held, object_cmp, slot_cmp, object_total, slot_total, nothing, same_object, is_among, same_object-Decides, WorldObject, chain, is_object, parent_of, IsGood, look_ups, world_of, object_shown, object_seen, no_parent, goes_with, dropped_keys, links_to, released_row, ids_for, ids_among, verbs_among, linked_among, with_released, row_released, defines, ArePresent, AreAbsent, owners_under, props_of, own_entries, all_made, false_from_ne_true, keys_by, without_prop, without_verb}, proofs.Shared.{none_of, own_under, walk}, specs.Dropped.{slot_left, prop_left, verb_left, heir, row_left}, proofs.LessRows.{held1, held2, held3, held5, only5, slots5, props5, verbs5, objects5}, proofs.Folds.{all_write}, proofs.Moved.{no_keys, writes-moved}}
+use Rattle.moo_props.{proofs.Words.{◌||◌, ◌≡◌, ◌≤◌, ◌+◌, Bool, true, false, Option, None, Some, List, [], ◌∷◌, length, refl, sym, ap, ◌∙◌, arith, is_some, unwrap_or, if◌then◌else◌, option_map, get, entries, get-entries, entries_sorted, ObjNo, ObjRow, PropId, VerbId, object_exact, slot_exact, Maps, Held, object_cmp, slot_cmp, object_total, slot_total, nothing, same_object, same_object-Decides, WorldObject, is_object, parent_of, IsGood, look_ups, world_of, object_shown, object_seen, no_parent, goes_with, dropped_keys, links_to, released_row, ids_for, ids_among, verbs_among, linked_among, row_released, ArePresent, AreAbsent, owners_under, props_of, own_entries, all_made, false_from_ne_true, keys_by, without_prop, without_verb}, proofs.Shared.{none_of, own_under, walk}, specs.Dropped.{slot_left, prop_left, verb_left, heir, row_left}, proofs.LessRows.{held1, held2, held3, held5, only5, slots5, props5, verbs5, objects5}, proofs.Folds.{all_write}, proofs.Moved.{no_keys, writes-moved}}
 use Rattle.std.specs.FinMap.{find}
 use Rattle.moo_world.{specs.Numbers.{not_of}, specs.World.{Climbs, location_of}, proofs.Ancestry.Chains.{Climbs-unique}, proofs.Ancestry.Trees.{nothing_is_no_object}}
 
@@ -10,11 +10,7 @@ left_is t x id = grind arith
 -- ---- counts
 
 writes-one : (x q y : ObjNo) (held : Held) → (row_released x q y held).writes ≤ held.writes + 1
-writes-one x q y held = by (get held.maps.objects y)
-  where
-    by : (o : Option ObjRow) → (with_released x q y held o).writes ≤ held.writes + 1
-    by None = omega arith
-    by (Some r) = omega arith
+writes-one x q y held = grind arith
 
 module _ (t : Maps) (good : IsGood t) (x : ObjNo) (row : ObjRow) (here : get t.objects x ≡ Some row) (held : Held) (same : held.maps ≡ t) where
   abbrev after : Held
@@ -33,21 +29,10 @@ module _ (t : Maps) (good : IsGood t) (x : ObjNo) (row : ObjRow) (here : get t.o
 
   -- ---- key by key
 
-  heir_is : heir t x ≡ row.parent
-  heir_is = ap (λ o. unwrap_or (option_map (λ (r : ObjRow). r.parent) o) nothing) here
-
   pub slots_left : (key : ObjNo × PropId) → get after.maps.slots key ≡ slot_left t x key
   slots_left key =
       ap (λ (k : Maps). get k.slots key) (only5 t good x row here held same)
-      ∙ slots5 t good x row here held same key.0 key.1
-      ∙ by (same_object x key.0) (is_among x (chain (world_of t) key.0)) refl (defines t x key.1) refl (get t.slots key) refl
-    where
-      by : (a u : Bool) → is_among x (chain (world_of t) key.0) ≡ u → (d : Bool) → defines t x key.1 ≡ d → (o : Option SlotRow) → get t.slots key ≡ o → (if a then None else (if d then None else o)) ≡ (if a || (u && d) then None else o)
-      by true u e d f o g = refl
-      by false true e d f o g = refl
-      by false false e false f o g = refl
-      by false false e true f None g = refl
-      by false false e true f (Some k) g = absurd (both_ways (is_among x (chain (world_of t) key.0)) e (own_under t good x key.0 key.1 k g f))
+      ∙ slots5 t good x row here held same key.0 key.1 ∙ grind (arith, own_under t good x key.0 key.1)
 
   pub props_left : (id : PropId) → get after.maps.props id ≡ prop_left t x id
   props_left id = ap (λ (k : Maps). get k.props id) (only5 t good x row here held same) ∙ props5 t good x row here held same id.0
@@ -59,10 +44,7 @@ module _ (t : Maps) (good : IsGood t) (x : ObjNo) (row : ObjRow) (here : get t.o
   objects_left y =
       ap (λ (k : Maps). get k.objects y) (only5 t good x row here held same)
       ∙ objects5 t good x row here held same y
-      ∙ ap (λ q. if same_object x y then None else option_map (released_row x q) (get t.objects y)) (sym heir_is)
-
-  pub head5 : after.maps.head ≡ t.head
-  head5 = ap (λ (k : Maps). k.head) (only5 t good x row here held same)
+      ∙ ap (λ q. if same_object x y then None else option_map (released_row x q) (get t.objects y)) (sym (ap (λ o. unwrap_or (option_map (λ (r : ObjRow). r.parent) o) nothing) here))
 
   -- ---- what is listed
 
@@ -71,10 +53,7 @@ module _ (t : Maps) (good : IsGood t) (x : ObjNo) (row : ObjRow) (here : get t.o
       (λ e h k. slots_left e.0 ∙ ap (λ b. if b then None else get t.slots e.0) k) (entries t.slots) (own_entries slot_cmp slot_total slot_exact (entries t.slots) (entries_sorted t.slots))
 
   -- no object is its own parent, nor lies in itself
-  abbrev record_x : WorldObject
-  record_x = object_shown (look_ups t) x row
-
-  seen : (world_of t).object x ≡ Some record_x
+  seen : (world_of t).object x ≡ Some (object_shown (look_ups t) x row)
   seen = object_seen (look_ups t) x row here
 
   xo : is_object (world_of t) x ≡ true
@@ -104,7 +83,4 @@ module _ (t : Maps) (good : IsGood t) (x : ObjNo) (row : ObjRow) (here : get t.o
       (entries t.objects) (own_entries object_cmp object_total object_exact (entries t.objects) (entries_sorted t.objects))
     where
       other : (y : ObjNo) (r : ObjRow) → get t.objects y ≡ Some r → links_to x r ≡ true → (b : Bool) → same_object x y ≡ b → is_some (if b then None else option_map (released_row x (heir t x)) (get t.objects y)) ≡ true
-      other y r e l false f = ap (λ o. is_some (option_map (released_row x (heir t x)) o)) e
-      other y r e l true f =
-          let is = same_Some row r (sym here ∙ ap (get t.objects) ((same_object-Decides x y).0 f) ∙ e) in
-          absurd (both_ways (links_to x row) unlinked (ap (links_to x) is ∙ l))
+      other y r e l b f = grind (arith, same_object-Decides, unlinked)

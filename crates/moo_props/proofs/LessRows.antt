@@ -1,5 +1,5 @@
 -- The rows once an object is dropped, by their look-ups.
-use Rattle.moo_props.{proofs.Words.{◌≡◌, ℕ, Bool, true, false, cond, Option, None, Some, List, [], ◌∷◌, refl, sym, ap, ◌∙◌, is_some, unwrap_or, if◌then◌else◌, option_map, eq_by_cmp, int_eq, list_any, get, remove, entries, get-insert, get-remove, get-entries, entries_sorted, both_ways, ObjNo, ObjRow, PropId, PropRow, SlotRow, VerbId, VerbRow, object_exact, Maps, Held, wrote, object_cmp, verb_cmp, object_total, prop_total, nothing, same_object, is_among, same_object-Decides, same_object-eq, is_object, chain, IsGood, LookUps, look_ups, world_of, prop_id, verb_id, object_key, is_object_seen, links_to, released_row, ids_for, ids_among, verbs_among, linked_among, props_removed, verbs_removed, with_released, row_released, rows_released, owners_under, props_of, listed, or_parts, or-false, slots_moved, without_prop, without_verb}, proofs.Shared.{all_change, cond_alike, cond_same, has_id, is_id, own_among, own_under, same_base, same_maps, walk}, proofs.Lessened.{is_own, less_object}, proofs.Moved.{keeps-moved, slots_of_moved, has}, proofs.Folds.{all_keep, but_objects, but_props, but_verbs}, proofs.NewSlots.{has_all}}
+use Rattle.moo_props.{proofs.Words.{arith, ◌≡◌, ℕ, Bool, false, cond, Option, None, Some, List, [], ◌∷◌, refl, sym, ap, ◌∙◌, unwrap_or, if◌then◌else◌, option_map, eq_by_cmp, int_eq, list_any, get, remove, entries, get-insert, get-remove, get-entries, entries_sorted, ObjNo, ObjRow, PropId, PropRow, VerbId, VerbRow, object_exact, Maps, Held, wrote, object_cmp, verb_cmp, object_total, prop_total, same_object, same_object-Decides, same_object-eq, IsGood, LookUps, look_ups, prop_id, verb_id, object_key, is_object_seen, links_to, released_row, ids_for, ids_among, verbs_among, linked_among, props_removed, verbs_removed, row_released, rows_released, owners_under, props_of, listed, or_parts, or-false, slots_moved, without_prop, without_verb}, proofs.Shared.{all_change, cond_same, has_id, is_id, own_among, own_under, same_base, same_maps, walk}, proofs.Lessened.{is_own, less_object}, proofs.Moved.{keeps-moved, slots_of_moved, has}, proofs.Folds.{all_keep, but_objects, but_props, but_verbs}, proofs.NewSlots.{has_all}}
 use Rattle.moo_rows.{specs.Exact.{verb_exact}, proofs.Orders.{verb_total}}
 
 -- ---- what the steps leave as it was
@@ -12,46 +12,23 @@ verbs-removed k = all_change (λ key held. without_verb held key) (λ h. get h.m
 
 module _ (x q : ObjNo) where
   keeps-released : (ys : List ObjNo) (held : Held) → but_objects (rows_released x q ys held) ≡ but_objects held
-  keeps-released = all_keep (row_released x q) but_objects (λ y held. by y held (get held.maps.objects y))
-    where
-      by : (y : ObjNo) (held : Held) (o : Option ObjRow) → but_objects (with_released x q y held o) ≡ but_objects held
-      by y held None = refl
-      by y held (Some r) = refl
+  keeps-released = all_keep (row_released x q) but_objects (λ y held. grind arith)
 
   abbrev rel : ObjRow → ObjRow
   rel = released_row x q
 
   twice : (r : ObjRow) → rel (rel r) ≡ rel r
-  twice r = λ i. record r { parent = same (same_object x r.parent) q r.parent refl i; location = same (same_object x r.location) nothing r.location refl i }
-    where
-      same : (b : Bool) (to link : ObjNo) → same_object x link ≡ b → (let k = (if b then to else link) in if same_object x k then to else k) ≡ (if b then to else link)
-      same true to link e = cond_same (same_object x to) to
-      same false to link e = ap (λ b. if b then to else link) e
+  twice r = grind (arith, cond_same)
 
   one_released : (y z : ObjNo) (held : Held) → get (row_released x q y held).maps.objects z ≡ cond (same_object y z) (option_map rel (get held.maps.objects z)) (get held.maps.objects z)
-  one_released y z held = by (get held.maps.objects y) refl
-    where
-      at_y : same_object y z ≡ true → get held.maps.objects z ≡ get held.maps.objects y
-      at_y e = ap (get held.maps.objects) (sym ((same_object-Decides y z).0 e))
-
-      by : (o : Option ObjRow) → get held.maps.objects y ≡ o → get (with_released x q y held o).maps.objects z ≡ cond (same_object y z) (option_map rel (get held.maps.objects z)) (get held.maps.objects z)
-      by None h = sym (cond_same (same_object y z) (get held.maps.objects z)) ∙ cond_alike (same_object y z) (get held.maps.objects z) (option_map rel (get held.maps.objects z)) (get held.maps.objects z) (λ e. at_y e ∙ h ∙ sym (ap (option_map rel) (at_y e ∙ h)))
-      by (Some r) h =
-          get-insert object_total held.maps.objects y (rel r) z ∙ ap (λ b. cond b (Some (rel r)) (get held.maps.objects z)) (object_key y z)
-          ∙ cond_alike (same_object y z) (Some (rel r)) (option_map rel (get held.maps.objects z)) (get held.maps.objects z) (λ e. sym (ap (option_map rel) (at_y e ∙ h)))
+  one_released y z held = grind (arith, object_key y z, get-insert object_total held.maps.objects y, (same_object-Decides y z).0)
 
   rows-released : (z : ObjNo) (ys : List ObjNo) (held : Held) → get (rows_released x q ys held).maps.objects z ≡ cond (list_any (λ y. same_object y z) ys) (option_map rel (get held.maps.objects z)) (get held.maps.objects z)
-  rows-released z = all_change (row_released x q) (λ h. get h.maps.objects z) (λ y. same_object y z) (option_map rel) again (λ y h. one_released y z h)
-    where
-      again : (o : Option ObjRow) → option_map rel (option_map rel o) ≡ option_map rel o
-      again None = refl
-      again (Some r) = ap Some (twice r)
+  rows-released z = all_change (row_released x q) (λ h. get h.maps.objects z) (λ y. same_object y z) (option_map rel) (λ o. grind (arith, twice)) (λ y h. one_released y z h)
 
   -- a row that isn't linked to x is released already
   unlinked : (r : ObjRow) → links_to x r ≡ false → Some r ≡ Some (rel r)
-  unlinked r e =
-      let parts = or_parts (same_object x r.parent) (same_object x r.location) e in
-      λ i. Some (record r { parent = if sym parts.0 i then q else r.parent; location = if sym parts.1 i then nothing else r.location })
+  unlinked r e = grind (arith, or_parts)
 
 module _ (t : Maps) (good : IsGood t) (x : ObjNo) (row : ObjRow) (here : get t.objects x ≡ Some row) (held : Held) (same : held.maps ≡ t) where
   abbrev m : LookUps
@@ -101,35 +78,12 @@ module _ (t : Maps) (good : IsGood t) (x : ObjNo) (row : ObjRow) (here : get t.o
   is_own_id j = has t (x ∷ []) j ∙ (λ i. unwrap_or (option_map (λ (p : PropRow). or-false (same_object p.definer x) i) (get t.props j)) false)
 
   pub props5 : (j : ℕ) → get held2.maps.props (prop_id j) ≡ (if is_own m x j then None else m.prop j)
-  props5 j =
-      props-removed (prop_id j) own held1
-      ∙ (λ i. cond (is_own_id (prop_id j) i) None (get (only1 i).props (prop_id j)))
+  props5 j = grind (arith, props-removed, is_own_id, only1)
 
   -- ---- slots
 
   pub slots5 : (z : ObjNo) (j : PropId) → get held1.maps.slots (z, j) ≡ (if same_object x z then None else (if is_own m x j.0 then None else get t.slots (z, j)))
-  slots5 z j =
-      slots_of_moved t x (ids_for x all own) [] z j held
-      ∙ (λ i. cond (is_among x (chain (world_of t) z)) (cond (has_id j (ids_for x all own z)) None (get (same i).slots (z, j))) (get (same i).slots (z, j)))
-      ∙ by (same_object x z) refl
-    where
-      at_x : x ≡ z → (o : Option SlotRow) → get t.slots (z, j) ≡ o → cond (is_among x (chain (world_of t) z)) (cond (has_id j all) None o) o ≡ None
-      at_x e None h = ap (λ g. cond (is_among x (chain (world_of t) z)) g None) (cond_same (has_id j all) None) ∙ cond_same (is_among x (chain (world_of t) z)) None
-      at_x e (Some k) h =
-          let there : is_object (world_of t) x ≡ true = is_object_seen m x ∙ ap is_some here in
-          (λ i. cond ((ap (λ y. is_among x (chain (world_of t) y)) (sym e) ∙ own_among t good.formed.tree x there) i) (cond (has_all t x good.sound j k (ap (λ y. get t.slots (y, j)) e ∙ h) i) None (Some k)) (Some k))
-
-      beside : (u c : Bool) → is_among x (chain (world_of t) z) ≡ u → is_own m x j.0 ≡ c → (o : Option SlotRow) → get t.slots (z, j) ≡ o → cond u (cond c None o) o ≡ (if c then None else o)
-      beside true c f g o h = refl
-      beside false false f g o h = refl
-      beside false true f g None h = refl
-      beside false true f g (Some k) h = absurd (both_ways (is_among x (chain (world_of t) z)) f (own_under t good x z j k h g))
-
-      by : (b : Bool) → same_object x z ≡ b → cond (is_among x (chain (world_of t) z)) (cond (has_id j (if b then all else own)) None (get t.slots (z, j))) (get t.slots (z, j)) ≡ (if b then None else (if is_own m x j.0 then None else get t.slots (z, j)))
-      by true e = at_x ((same_object-Decides x z).0 e) (get t.slots (z, j)) refl
-      by false e =
-          ap (λ c. cond (is_among x (chain (world_of t) z)) (cond c None (get t.slots (z, j))) (get t.slots (z, j))) (is_own_id j)
-          ∙ beside (is_among x (chain (world_of t) z)) (is_own m x j.0) refl refl (get t.slots (z, j)) refl
+  slots5 z j = grind (arith, slots_of_moved, cond_same, is_object_seen, own_among, has_all, own_under, same_object-Decides, is_own_id)
 
   -- ---- verbs
 
@@ -142,8 +96,7 @@ module _ (t : Maps) (good : IsGood t) (x : ObjNo) (row : ObjRow) (here : get t.o
       ∙ by (get t.verbs (z, verb_id j))
     where
       by : (o : Option VerbRow) → cond (unwrap_or (option_map (λ (v : VerbRow). same_object x z) o) false) None o ≡ (if same_object x z then None else o)
-      by None = sym (cond_same (same_object x z) None)
-      by (Some v) = refl
+      by b = grind (arith, cond_same)
 
   -- ---- objects
 
@@ -159,20 +112,10 @@ module _ (t : Maps) (good : IsGood t) (x : ObjNo) (row : ObjRow) (here : get t.o
       settle b g = cond b (option_map (released_row x row.parent) g) g
 
       linked : (r : ObjRow) (b : Bool) → links_to x r ≡ b → cond b (Some (released_row x row.parent r)) (Some r) ≡ Some (released_row x row.parent r)
-      linked r true e = refl
-      linked r false e = unlinked x row.parent r e
+      linked r b e = grind (arith, unlinked)
 
       by : (b : Bool) (o : Option ObjRow) → cond b None (cond (unwrap_or (option_map (λ r. links_to x r) o) false) (option_map (released_row x row.parent) o) o) ≡ (if b then None else option_map (released_row x row.parent) o)
-      by true o = refl
-      by false None = refl
-      by false (Some r) = linked r (links_to x r) refl
+      by b o = grind arith
 
   pub look_ups-less : look_ups held5.maps ≡ less_object m x row.parent
-  look_ups-less =
-      ap look_ups only5
-      ∙ (λ i. record m {
-        object = λ z. objects5 z i;
-        prop = λ j. props5 j i;
-        slot = λ z j. slots5 z (prop_id j) i;
-        verb = λ z j. verbs5 z j i;
-      })
+  look_ups-less = grind (arith, only5, objects5, props5, slots5, verbs5)

@@ -1,6 +1,6 @@
 -- Rows without an object show the world without it, and are sound.
-use Rattle.moo_props.{proofs.Words.{◌||◌, ◌≡◌, ℕ, Bool, true, false, Option, None, Some, [], ◌∷◌, refl, sym, ap, ◌∙◌, is_some, unwrap_or, if◌then◌else◌, option_map, option_and_then, filter_map, ObjNo, ObjRow, PropRow, unless_defined_by, Name, nothing, same_object, same_object-Decides, recycled, World, WorldObject, IsWellFormed, is_object, parent_of, slot_of, with_slots, without_slots, LookUps, AreSound, numbers_below, name_on, slot_seen, object_shown, world_shown, SameButSlots-rebuilt, objects_same, is_object_seen, object_seen, released_row, SlotHere, is_among, or_parts}, proofs.Shared.{kept_slots, left_some, left_value, some_map, same_by_objects}}
-use Rattle.moo_world.{proofs.Shown.ObjectEntries.{same_object-symm}, specs.Recycling.{released, object_removed}, proofs.Inheritance.Recycling.{IsWellFormed-recycled, recycle_law}}
+use Rattle.moo_props.{proofs.Words.{arith, ◌||◌, ◌≡◌, ℕ, Bool, true, false, Option, None, Some, [], ◌∷◌, refl, sym, ap, ◌∙◌, is_some, unwrap_or, if◌then◌else◌, option_map, filter_map, ObjNo, ObjRow, PropRow, unless_defined_by, Name, nothing, same_object, same_object-Decides, recycled, World, WorldObject, IsWellFormed, is_object, slot_of, with_slots, without_slots, LookUps, AreSound, numbers_below, name_on, slot_seen, object_shown, world_shown, SameButSlots-rebuilt, objects_same, is_object_seen, object_seen, released_row, SlotHere, is_among, or_parts}, proofs.Shared.{kept_slots, left_some, left_value, some_map, same_by_objects}}
+use Rattle.moo_world.{proofs.Shown.ObjectEntries.{same_object-symm}, specs.Recycling.{released, object_removed}, proofs.Inheritance.Recycling.{recycle_law}}
 
 -- x defines the property under a number
 abbrev pub is_own : LookUps → ObjNo → ℕ → Bool
@@ -36,27 +36,11 @@ module _ (m : LookUps) (sound : AreSound m) (wf : IsWellFormed (world_shown m)) 
 
   -- another object's names are as they were
   names : (y : ObjNo) → same_object x y ≡ false → name_on m2 y ≡ name_on m y
-  names y e = λ i j. by j (m.prop j) i
-    where
-      test : (j : ℕ) (p : PropRow) (b : Bool) → same_object p.definer x ≡ b → option_and_then (λ (k : PropRow). if same_object k.definer y then Some k.name else None) (if b then None else Some p) ≡ (if same_object p.definer y then Some p.name else None)
-      test j p false f = refl
-      test j p true f = sym (ap (λ c. if c then Some p.name else None) (ap (λ d. same_object d y) ((same_object-Decides p.definer x).0 f) ∙ e))
-
-      by : (j : ℕ) (o : Option PropRow) → option_and_then (λ (k : PropRow). if same_object k.definer y then Some k.name else None) (if unwrap_or (option_map (λ (p : PropRow). same_object p.definer x) o) false then None else o) ≡ option_and_then (λ (k : PropRow). if same_object k.definer y then Some k.name else None) o
-      by j None = refl
-      by j (Some p) = test j p (same_object p.definer x) refl
-
-  heir : unwrap_or (parent_of w x) nothing ≡ row.parent
-  heir = ap (λ o. unwrap_or (option_map (λ (r : WorldObject). r.row.parent) o) nothing) (object_seen m x row here)
+  names y e = grind (arith, same_object-Decides)
 
   bare : without_slots (world_shown m2) ≡ without_slots (record w { object = λ y. if same_object x y then None else option_map (released x row.parent) (w.object y) })
   unfolding world_shown
-  bare = λ i. record {
-    object = λ y. at y (same_object x y) refl (m.object y) i;
-    top = m.head.top;
-    next_prop = m.head.next_prop;
-    next_verb = m.head.next_verb;
-  }
+  bare = λ i. record w { object = λ y. at y (same_object x y) refl (m.object y) i }
     where
       at : (y : ObjNo) (b : Bool) → same_object x y ≡ b → (o : Option ObjRow)
           → option_map (with_slots (λ n. None)) (option_map (object_shown m2 y) (if b then None else option_map (released_row x row.parent) o))
@@ -71,7 +55,7 @@ module _ (m : LookUps) (sound : AreSound m) (wf : IsWellFormed (world_shown m)) 
       })
 
   links : without_slots (world_shown m2) ≡ without_slots s
-  links = bare ∙ ap (λ q. without_slots (record w { object = λ y. if same_object x y then None else option_map (released x q) (w.object y) })) (sym heir)
+  links = bare ∙ ap (λ q. without_slots (record w { object = λ y. if same_object x y then None else option_map (released x q) (w.object y) })) (sym (ap (λ o. unwrap_or (option_map (λ (r : WorldObject). r.row.parent) o) nothing) (object_seen m x row here)))
 
   -- ---- the slots
 
@@ -84,15 +68,7 @@ module _ (m : LookUps) (sound : AreSound m) (wf : IsWellFormed (world_shown m)) 
 
   -- and what isn't of x is here still
   after : (y : ObjNo) (n : Name) (j : ℕ) → same_object x y ≡ false → (h : SlotHere m y n j) → is_among h.prop.definer (x ∷ []) ≡ false → SlotHere m2 y n j
-  after y n j e h f =
-      let not_own : is_own m x j ≡ false = own_of j h.prop h.there ∙ (or_parts (same_object h.prop.definer x) false f).0 in
-      record {
-        prop = h.prop;
-        row = h.row;
-        there = ap (λ b. if b then None else m.prop j) not_own ∙ h.there;
-        held = ap (λ b. if b then None else (if is_own m x j then None else m.slot y j)) e ∙ ap (λ b. if b then None else m.slot y j) not_own ∙ h.held;
-        name = h.name;
-      }
+  after y n j e h f = grind (arith, own_of, or_parts)
 
   still : (y : ObjNo) → same_object x y ≡ false → is_some (m.object y) ≡ true → is_some (m2.object y) ≡ true
   still y e h = ap (λ b. is_some (if b then None else option_map (released_row x row.parent) (m.object y))) e ∙ some_map (released_row x row.parent) (m.object y) ∙ h
@@ -122,6 +98,3 @@ module _ (m : LookUps) (sound : AreSound m) (wf : IsWellFormed (world_shown m)) 
       let left = left_some (same_object x y) (option_map (released_row x row.parent) (m.object y)) (sym (is_object_seen m2 y) ∙ e) in
       let here = is_object_seen m y ∙ sym (some_map (released_row x row.parent) (m.object y)) ∙ left.1 in
       kept y n left.0 here ∙ sym (recycle_law w x wf xo y n (sym (objects_same (world_shown m2) s links y) ∙ e)))
-
-  pub formed_less : IsWellFormed (recycled w x)
-  formed_less = IsWellFormed-recycled w x wf xo

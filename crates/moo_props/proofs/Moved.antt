@@ -1,5 +1,5 @@
 -- What the steps of a change of parent come to.
-use Rattle.moo_props.{proofs.Words.{suc, ◌≡◌, ◌+◌, Bool, true, false, cond, Option, None, Some, List, [], ◌∷◌, map, length, refl, sym, ap, ◌∙◌, subst, arith, length-append, ◌&&◌, is_some, unwrap_or, drop, if◌then◌else◌, option_map, filter, list_any, cons_option, AllByRecursion, FinMap, get, insert, entries, get-entries, get-insert, entries_sorted, ObjNo, ObjRow, PropId, PropRow, SlotRow, Maps, Held, wrote, object_cmp, prop_cmp, slot_cmp, object_exact, prop_exact, object_total, prop_total, same_object, is_among, nothing, same_object-Decides, World, WorldObject, chain, owner_of, reparented, IsSound, look_ups, world_of, MayReparent, ancestors, lost, gained, chain_of_row, chain_of_no_row, object_seen, object_key, Origin, owners_under, props_only_of, slots_moved, relinked, relinked_list, props_of, is_defined_among, slot_after, row_after, IsSameButSlotsAndObjects, origin_of, origins, fresh_of, slot_removed, slot_put, without_on, with_fresh, keys_on, keys_over, fresh_row, listed, own_entries, all_made, cond_both, ◌≤◌, keys_by}, proofs.Cases.{passing}, proofs.Folding.{has_id, is_id, all_moved, fresh_in, fresh_in-origins}, proofs.Folds.{all_keep, all_write, but_slots, same_base, same_maps}, proofs.Definers.{only_lost, only_gained}, proofs.Gains.{slot_on_new}, proofs.After.{world_after, sound_after}}
+use Rattle.moo_props.{proofs.Words.{◌≡◌, ◌+◌, Bool, true, false, cond, Option, None, Some, List, [], ◌∷◌, map, length, refl, sym, ap, ◌∙◌, subst, arith, length-append, ◌&&◌, is_some, unwrap_or, drop, if◌then◌else◌, option_map, filter, list_any, AllByRecursion, FinMap, get, insert, entries, get-entries, get-insert, entries_sorted, ObjNo, ObjRow, PropId, PropRow, SlotRow, Maps, Held, wrote, object_cmp, prop_cmp, slot_cmp, object_exact, prop_exact, object_total, prop_total, same_object, is_among, nothing, same_object-Decides, World, WorldObject, chain, owner_of, reparented, IsSound, look_ups, world_of, MayReparent, ancestors, lost, gained, chain_of_row, chain_of_no_row, object_seen, object_key, Origin, owners_under, is_only_of, props_only_of, slots_moved, relinked, relinked_list, props_of, is_defined_among, slot_after, row_after, IsSameButSlotsAndObjects, origins, fresh_of, slot_removed, slot_put, without_on, with_fresh, keys_on, keys_over, fresh_row, listed, own_entries, all_made, cond_both, ◌≤◌, keys_by}, proofs.Cases.{passing}, proofs.Folding.{has_id, is_id, all_moved, fresh_in, fresh_in-origins}, proofs.Folds.{all_keep, all_write, but_slots, same_base, same_maps}, proofs.Definers.{only_lost, only_gained}, proofs.Gains.{slot_on_new}, proofs.After.{world_after, sound_after}}
 use Rattle.std.specs.FinMap.{find}
 
 -- ---- only slots change, and each change is counted
@@ -40,21 +40,13 @@ no_keys (e ∷ es) = no_keys es
 -- a slot is made from each property at most
 few_origins : (slots : FinMap slot_cmp SlotRow) (q : ObjNo) (ids : List PropId) → length (origins slots q ids) ≤ length ids
 few_origins slots q [] = omega arith
-few_origins slots q (id ∷ ids) = by (option_map (origin_of id) (get slots (q, id))) (few_origins slots q ids)
-  where
-    by : (o : Option Origin) → length (origins slots q ids) ≤ length ids → length (cons_option o (origins slots q ids)) ≤ suc (length ids)
-    by None h = omega (arith, h)
-    by (Some o) h = omega (arith, h)
+few_origins slots q (id ∷ ids) = grind (arith, few_origins slots q ids)
 
 -- the objects under x are those that have x in their chains
 pub under_is : (t : Maps) (x z : ObjNo) → list_any (λ e. same_object e.0 z) (owners_under t x) ≡ is_among x (chain (world_of t) z)
 under_is t x z =
     listed object_cmp object_total object_exact z (λ e. is_among x (chain (world_of t) e.0)) (λ e. (e.0, e.1.owner)) (λ e. same_object e.0 z) (λ e. sym (object_key e.0 z)) (entries t.objects) (entries_sorted t.objects)
-    ∙ by (find object_cmp z (entries t.objects)) (get-entries t.objects z)
-  where
-    by : (o : Option ObjRow) → get t.objects z ≡ o → unwrap_or (option_map (λ v. is_among x (chain (world_of t) z)) o) false ≡ is_among x (chain (world_of t) z)
-    by None e = sym (ap (is_among x) (chain_of_no_row (look_ups t) z (sym e)))
-    by (Some r) e = refl
+    ∙ grind (arith, get-entries t.objects z, chain_of_no_row (look_ups t) z)
 
 -- with their owners
 pub owners_are : (t : Maps) (x : ObjNo) → AllByRecursion (λ e. e.1 ≡ owner_of (world_of t) e.0) (owners_under t x)
@@ -88,14 +80,10 @@ module _ (t : Maps) (sound : IsSound t) (x q : ObjNo) (may : MayReparent (world_
   above_is = sym (ap (drop 1) (chain_of_row (look_ups t) may.well_formed.tree x row (sym here)))
 
   pub lost_list : props_only_of (chain w row.parent) (chain w q) (entries t.props) ≡ lost_ids
-  lost_list =
-      ap (λ above. props_only_of above (chain w q) (entries t.props)) above_is
-      ∙ ap (λ (test : ObjNo → Bool). map (λ e. e.0) (filter (λ e. test e.1.definer) (entries t.props))) (λ i d. only_lost w x q may d i)
+  lost_list = λ i. map (λ e. e.0) (filter (λ e. (ap (λ above. is_only_of above (chain w q) e.1.definer) above_is ∙ only_lost w x q may e.1.definer) i) (entries t.props))
 
   pub gained_list : props_only_of (chain w q) (chain w row.parent) (entries t.props) ≡ gained_ids
-  gained_list =
-      ap (λ above. props_only_of (chain w q) above (entries t.props)) above_is
-      ∙ ap (λ (test : ObjNo → Bool). map (λ e. e.0) (filter (λ e. test e.1.definer) (entries t.props))) (λ i d. only_gained w x q may d i)
+  gained_list = λ i. map (λ e. e.0) (filter (λ e. (ap (λ above. is_only_of (chain w q) above e.1.definer) above_is ∙ only_gained w x q may e.1.definer) i) (entries t.props))
 
   module _ (held : Held) (at : held.maps ≡ t) where
     abbrev pub held1 : Held
@@ -119,8 +107,7 @@ module _ (t : Maps) (sound : IsSound t) (x q : ObjNo) (may : MayReparent (world_
 
         by : (g : Bool) → is_defined_among (gained w x q) t key.1 ≡ g → settle (is_among x (chain w key.0)) g (is_defined_among (lost w x q) t key.1) (get t.slots key)
             ≡ (if is_among x (chain w key.0) then (if g then option_map (fresh_row (owner_of w key.0)) (get t.slots (q, key.1)) else (if is_defined_among (lost w x q) t key.1 then None else get t.slots key)) else get t.slots key)
-        by true e = ap (λ b. cond (is_among x (chain w key.0)) (cond b (option_map (fresh_row (owner_of w key.0)) (get t.slots (q, key.1))) (cond (is_defined_among (lost w x q) t key.1) None (get t.slots key))) (get t.slots key)) (on_new e)
-        by false e = refl
+        by b e = grind (arith, on_new)
 
     only1 : held1.maps ≡ record t { slots = held1.maps.slots }
     only1 = same_maps (keeps-moved (λ y. lost_ids) (origins t.slots q gained_ids) (owners_under t x) held) held1.maps.slots ∙ ap (λ (z : Maps). record z { slots = held1.maps.slots }) at
@@ -137,16 +124,10 @@ module _ (t : Maps) (sound : IsSound t) (x q : ObjNo) (may : MayReparent (world_
 
     -- the row of x is the one with the new parent, and each other one is as it was
     after_is : (y : ObjNo) (b : Bool) → same_object x y ≡ b → cond b (Some (changed row)) (get t.objects y) ≡ option_map (λ (r : ObjRow). if b then record r { parent = q } else r) (get t.objects y)
-    after_is y true h = sym (ap (option_map changed) (ap (get t.objects) (sym ((same_object-Decides x y).0 h)) ∙ here))
-    after_is y false h = by (get t.objects y)
-      where
-        by : (o : Option ObjRow) → o ≡ option_map (λ (r : ObjRow). r) o
-        by None = refl
-        by (Some r) = refl
+    after_is y b h = grind (arith, same_object-Decides)
 
     kept_is : (y : ObjNo) (b : Bool) → same_object x y ≡ b → row.parent ≡ q → get t.objects y ≡ cond b (Some (changed row)) (get t.objects y)
-    kept_is y true h p = ap (get t.objects) (sym ((same_object-Decides x y).0 h)) ∙ here ∙ (λ i. Some (record row { parent = p i }))
-    kept_is y false h p = refl
+    kept_is y b h p = grind (arith, same_object-Decides)
 
     pub objects2 : (y : ObjNo) → get held2.maps.objects y ≡ row_after t x q y
     objects2 y = either (λ h. get h.maps.objects y ≡ row_after t x q y)
@@ -158,9 +139,7 @@ module _ (t : Maps) (sound : IsSound t) (x q : ObjNo) (may : MayReparent (world_
     slots2 key = either (λ h. get h.maps.slots key ≡ slot_after t x q key) (λ e. slots1 key) (λ e. slots1 key)
 
     pub rest2 : IsSameButSlotsAndObjects t held2.maps
-    rest2 = either (λ h. IsSameButSlotsAndObjects t h.maps)
-        (λ e. only1 ∙ ap (λ (m : FinMap object_cmp ObjRow). record t { objects = m; slots = held1.maps.slots }) (sym (ap (λ (z : Maps). z.objects) only1)))
-        (λ e. ap (λ (z : Maps). record z { objects = insert held1.maps.objects x (changed row) }) only1)
+    rest2 = grind (arith, only1)
 
     pub world2 : world_of held2.maps ≡ reparented w x q
     world2 = ap world_of rest2 ∙ world_after t sound x q may held2.maps.objects held2.maps.slots objects2 slots2

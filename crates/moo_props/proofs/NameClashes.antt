@@ -1,6 +1,6 @@
 -- Clashes of names, by what each object defines itself.
 use Rattle.moo_props.{proofs.Words.{◌||◌, ◌≡◌, Bool, true, Some, List, [], ◌∷◌, refl, sym, ap, ◌∙◌, is_some, int_eq, filter, list_any, AllByRecursion, get, entries, or_left, Decides-int_eq, prop_cmp, prop_exact, prop_total, is_past, is_object_seen, look_ups, IsGood, PropId, PropRow, is_among, Slot, is_object, ObjNo, defined_left, Maps, clashes, subtree_of, Name, Property, same_object, same_text, folded, defines_name, World, IsWellFormed, chain, property_names_of, defined_by, defined_by_any, property_named, slot_of, IsSound, world_of, prop_id, any-append, any_map, meets_on}, specs.Clashes.{IsTaken}, proofs.Shared.{has_owed}, proofs.DefinedNames.{names_listed}, proofs.Owing.{definer_in, definer_defines}, proofs.Walked.{found_any, all_filter, all_held, all_pass}, proofs.WholeWalks.{props_all}}
-use Rattle.moo_world.specs.ObjectLists.{shares_property_name}
+use Rattle.moo_world.{specs.ObjectLists.{shares_property_name}, proofs.Shown.EntriesInOrder.{all_weaker}}
 
 -- ---- what the objects of a list define
 
@@ -30,25 +30,18 @@ module _ (w : World) where
 -- ---- by the rows
 
 module _ (t : Maps) (sound : IsSound t) where
-  -- what the walk from 0 gives is all that y defines
-  pub defined_left-all : (y : ObjNo) → defined_left y (prop_id 0) t ≡ filter (λ e. int_eq e.1.definer.0 y.0) (entries t.props)
-  defined_left-all y = ap (filter (λ e. int_eq e.1.definer.0 y.0)) (props_all t sound)
-
   -- a name that passes, by the rows
   pub any_defined : (p : Name → Bool) (y : ObjNo) → list_any (λ e. p e.1.name) (defined_left y (prop_id 0) t) ≡ list_any p (property_names_of (world_of t) y)
   unfolding same_object
   any_defined p y =
-      ap (list_any (λ e. p e.1.name)) (defined_left-all y)
+      ap (λ (es : List (PropId × PropRow)). list_any (λ e. p e.1.name) (filter (λ e. int_eq e.1.definer.0 y.0) es)) (props_all t sound)
       ∙ sym (any_map p (λ e. e.1.name) (filter (λ e. int_eq e.1.definer.0 y.0) (entries t.props)))
       ∙ ap (list_any p) (names_listed t sound y)
 
 -- what a walk gives of what y defines is held, and y's
 pub defined_held : (t : Maps) (y : ObjNo) (from : PropId) → AllByRecursion (λ e. (get t.props e.0 ≡ Some e.1) × (e.1.definer ≡ y)) (defined_left y from t)
-defined_held t y from = each (defined_left y from t) (all_pass (λ e. get t.props e.0 ≡ Some e.1) (λ e. int_eq e.1.definer.0 y.0) _ (all_filter (λ e. get t.props e.0 ≡ Some e.1) (λ e. is_past prop_cmp (Some from) e.0) (entries t.props) (all_held prop_total prop_exact t.props)))
-  where
-    each : (l : List (PropId × PropRow)) → AllByRecursion (λ e. (get t.props e.0 ≡ Some e.1) × (int_eq e.1.definer.0 y.0 ≡ true)) l → AllByRecursion (λ e. (get t.props e.0 ≡ Some e.1) × (e.1.definer ≡ y)) l
-    each [] h = tt
-    each (e ∷ l) h = ((h.0.0, ap (λ n. record { 0 = n }) ((Decides-int_eq e.1.definer.0 y.0).0 h.0.1)), each l h.1)
+defined_held t y from = all_weaker (λ e. (get t.props e.0 ≡ Some e.1) × (int_eq e.1.definer.0 y.0 ≡ true)) (λ e. (get t.props e.0 ≡ Some e.1) × (e.1.definer ≡ y)) (λ e h. (h.0, ap (λ n. record { 0 = n }) ((Decides-int_eq e.1.definer.0 y.0).0 h.1))) (defined_left y from t)
+    (all_pass (λ e. get t.props e.0 ≡ Some e.1) (λ e. int_eq e.1.definer.0 y.0) _ (all_filter (λ e. get t.props e.0 ≡ Some e.1) (λ e. is_past prop_cmp (Some from) e.0) (entries t.props) (all_held prop_total prop_exact t.props)))
 
 -- ---- who takes a name
 

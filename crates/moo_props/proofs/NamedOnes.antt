@@ -1,6 +1,6 @@
 -- The first property that an object defines under a name, and what that says of its slots and of those below it.
-use Rattle.moo_props.{proofs.Words.{◌||◌, ◌≡◌, Bool, true, false, Option, None, Some, IfSome, some_of, [], ◌∷◌, refl, sym, ap, ◌∙◌, ◌&&◌, and-true, and_parts, or_left, or_right, is_some, unwrap_or, option_map, int_eq, list_any, get, entries, ObjNo, ObjRow, PropId, PropRow, prop_cmp, prop_exact, prop_total, IsFirst, defined_left, Maps, Name, is_among, same_object-Decides, chain, World, IsGood, IsSound, look_ups, world_of, prop_id, slot_of, defines_name, defines, name_of}, proofs.Cases.{passing}, proofs.NameClashes.{any_defined, any_defines}, proofs.Shared.{has_owed, slot_on_heir, object_of_chain}, proofs.Walked.{any_filter}}
-use Rattle.moo_rows.{specs.Named.{is_alike, in_lower_case, is_named_by}, specs.Walk.{props_left}, proofs.Firsts.{first-end, first-step, those_past}}
+use Rattle.moo_props.{proofs.Words.{arith, ◌||◌, ◌≡◌, Bool, true, false, Option, None, Some, IfSome, some_of, ◌∷◌, refl, sym, ap, ◌∙◌, ◌&&◌, and-true, or_left, or_right, is_some, int_eq, list_any, get, entries, ObjNo, ObjRow, PropId, PropRow, prop_cmp, prop_exact, prop_total, IsFirst, defined_left, Maps, Name, is_among, same_object-Decides, chain, World, IsGood, IsSound, look_ups, world_of, prop_id, slot_of, defines_name, defines, name_of}, proofs.Cases.{passing}, proofs.NameClashes.{any_defined, any_defines}, proofs.Shared.{has_owed, slot_on_heir, object_of_chain}, proofs.Walked.{any_filter}}
+use Rattle.moo_rows.{specs.Named.{is_alike, is_named_by}, specs.Walk.{props_left}, proofs.Firsts.{first-end, first-step, those_past}}
 use Rattle.moo_world.{proofs.Ancestry.Chains.{is_among_here}, proofs.Shown.Seen.{chain_of_row, chain_of_no_row}, specs.Objects.{same_text, folded, same_object}}
 use lib.Pointwise.{bytes_decides}
 
@@ -13,18 +13,11 @@ module _ (t : Maps) (y : ObjNo) (n : Name) where
   -- it is the object's own, and has the name
   pub first_own : (r : Option PropId) → IsFirst prop_cmp (is_named_by t y n) (prop_id 0) r → IfSome r (λ id. defines t y id ≡ true)
   unfolding same_object
-  first_own None h = tt
-  first_own (Some id) h =
-      let p = passing test (get t.props id) h.0 in
-      ap (λ o. unwrap_or (option_map (λ (r : PropRow). same_object r.definer y) o) false) p.1 ∙ (and_parts (int_eq p.0.definer.0 y.0) (is_alike p.0.name n) p.2).0
+  first_own b h = grind arith
 
   pub first_named : (r : Option PropId) → IsFirst prop_cmp (is_named_by t y n) (prop_id 0) r → IfSome r (λ id. name_of t id ≡ folded n)
   unfolding folded
-  first_named None h = tt
-  first_named (Some id) h =
-      let p = passing test (get t.props id) h.0 in
-      ap (λ o. unwrap_or (option_map (λ (r : PropRow). folded r.name) o) []) p.1
-      ∙ (bytes_decides (in_lower_case p.0.name) (in_lower_case n)).0 (and_parts (int_eq p.0.definer.0 y.0) (is_alike p.0.name n) p.2).1
+  first_named b h = grind (arith, bytes_decides)
 
   -- there is a first one if there is any
   some_first : (r : Option PropId) → IsFirst prop_cmp (is_named_by t y n) (prop_id 0) r → is_some r ≡ list_any (λ _. true) (those_past prop_total prop_exact test (prop_id 0) (entries t.props))
@@ -38,12 +31,7 @@ module _ (t : Maps) (y : ObjNo) (n : Name) where
   any_left = sym (any_filter (λ (e : PropId × PropRow). same_text (folded e.1.name) (folded n)) (λ e. int_eq e.1.definer.0 y.0) (props_left (Some (prop_id 0)) t))
 
   pub first_exact : IsSound t → (r : Option PropId) → IsFirst prop_cmp (is_named_by t y n) (prop_id 0) r → is_some r ≡ defines_name (world_of t) y n
-  first_exact sound r h =
-      some_first r h
-      ∙ any_filter (λ (e : PropId × PropRow). true) (λ e. test e.1) (props_left (Some (prop_id 0)) t)
-      ∙ (λ i. list_any (λ e. and-true (test e.1) i) (props_left (Some (prop_id 0)) t))
-      ∙ any_left
-      ∙ any_defined t sound (λ m. same_text (folded m) (folded n)) y
+  first_exact sound r h = grind (arith, some_first, any_filter, and-true, any_left, any_defined)
 
 -- who defines a property is an object
 pub own_row : (t : Maps) → IsSound t → (y : ObjNo) (id : PropId) → defines t y id ≡ true → (row : ObjRow) × (Some row ≡ get t.objects y)

@@ -1,5 +1,5 @@
 -- Rows with a new object show the world with that object, and are good ones.
-use Rattle.moo_props.{proofs.Words.{◌||◌, ◌≡◌, ℕ, Bool, true, false, Option, None, Some, List, [], ◌∷◌, refl, sym, ap, ◌∙◌, subst, ◌⊎◌, inl, inr, pos, arith, is_some, unwrap_or, slice_get, ◌+ℤ◌, int_lt, if◌then◌else◌, option_map, option_and_then, filter_map, list_any, false≢true, or_cases, ints, none-some, same_Some, ObjNo, ObjRow, PropRow, SlotRow, created, Name, Property, nothing, same_object, same_text, same_property, folded, same_object-Decides, World, WorldObject, Slot, IsWellFormed, Chain, is_object, chain, defined_by_any, owner_of, property_named, slot_of, fresh, with_slots, without_slots, numbers_to, read_in, read_along, read_of, LookUps, AreSound, numbers_below, name_on, slot_on, slot_seen, object_shown, world_shown, named_owed, SameButSlots-rebuilt, no_slot, is_object_seen, Chain-chain, chain_of_none, new_row, fresh_row, slots_shown, false_from_ne_true, slice_get-map}, proofs.Shared.{changed, none_of, put_some, some_map, same_by_objects}, proofs.Cases.{none_map}, proofs.Numbers.{no_names, nothing_below}, proofs.NewSlots.{with_new}}
+use Rattle.moo_props.{proofs.Words.{◌||◌, ◌≡◌, ℕ, Bool, true, false, Option, None, Some, List, [], ◌∷◌, refl, sym, ap, ◌∙◌, subst, ◌⊎◌, inl, inr, pos, arith, is_some, slice_get, ◌+ℤ◌, if◌then◌else◌, option_map, option_and_then, filter_map, list_any, false≢true, or_cases, ints, ObjNo, ObjRow, PropRow, SlotRow, created, Name, Property, nothing, same_object, same_property, folded, same_object-Decides, World, WorldObject, Slot, IsWellFormed, Chain, is_object, chain, defined_by_any, owner_of, property_named, slot_of, fresh, with_slots, without_slots, numbers_to, read_in, read_along, read_of, LookUps, AreSound, numbers_below, slot_on, object_shown, world_shown, named_owed, SameButSlots-rebuilt, no_slot, is_object_seen, Chain-chain, chain_of_none, new_row, fresh_row, slots_shown, false_from_ne_true, slice_get-map}, proofs.Shared.{changed, none_of, put_some, some_map, same_by_objects}, proofs.Cases.{none_map}, proofs.Numbers.{no_names, nothing_below}, proofs.NewSlots.{with_new}}
 use Rattle.std.specs.Prelude.{◌<ℤ◌}
 use Rattle.moo_world.{specs.Creation.{plain_object, object_added, next_object}, specs.Arguments.{is_number}, specs.World.{has_property, slot_for, SameButSlots, climb}, proofs.Inheritance.Creating.{IsWellFormed-created, chain_x, chain_other, owed_still, owed_x}, proofs.Inheritance.Rebuilding.{slot_of-rebuilt, parents_same}, proofs.Ancestry.Trees.{linked}, proofs.Shown.Slots.{here-slot_on}}
 
@@ -33,11 +33,7 @@ module _ (m : LookUps) (sound : AreSound m) (wf : IsWellFormed (world_shown m)) 
   -- ---- what the number says
 
   next_is : (w.top <ℤ pos 2147483647) × (x.0 ≡ w.top +ℤ pos 1)
-  next_is = by (int_lt w.top (pos 2147483647)) refl is_next
-    where
-      by : (b : Bool) → int_lt w.top (pos 2147483647) ≡ b → (if b then Some (record { 0 = w.top +ℤ pos 1 }) else None) ≡ Some x → (w.top <ℤ pos 2147483647) × (x.0 ≡ w.top +ℤ pos 1)
-      by true e h = (grind (arith, ints), ap (λ (y : ObjNo). y.0) (sym (same_Some (record { 0 = w.top +ℤ pos 1 }) x h)))
-      by false e h = absurd (none-some x h)
+  next_is = grind (arith, ints)
 
   free : is_object w x ≡ false
   free = false_from_ne_true (is_object w x) (λ e. let h = wf.tree.numbers x e in let n = next_is.1 in omega (arith, ints, h.1, n))
@@ -53,9 +49,6 @@ module _ (m : LookUps) (sound : AreSound m) (wf : IsWellFormed (world_shown m)) 
 
   -- ---- all but the slots
 
-  no_names_yet : filter_map (name_on m x) (numbers_below m.head.next_prop) ≡ []
-  no_names_yet = no_names m sound x no_row
-
   no_verbs : filter_map (m.verb x) (numbers_below m.head.next_verb) ≡ []
   no_verbs = nothing_below (m.verb x) m.head.next_verb (λ id v e. false≢true (ap is_some (sym no_row) ∙ (sound.verbs x id (ap is_some e)).0))
 
@@ -66,28 +59,12 @@ module _ (m : LookUps) (sound : AreSound m) (wf : IsWellFormed (world_shown m)) 
       bare : (y : ObjNo) (b : Bool) → same_object x y ≡ b → (o : Option ObjRow)
           → option_map (with_slots (λ n. None)) (option_map (object_shown m2 y) (if b then Some (new_row q owner) else o))
           ≡ option_map (with_slots (λ n. None)) (if b then Some (plain_object q owner) else option_map (object_shown m y) o)
-      bare y false e None = refl
-      bare y false e (Some r) = refl
-      bare y true e o =
-          let own : x ≡ y = (same_object-Decides x y).0 e in
-          subst (λ z. option_map (with_slots (λ n. None)) (Some (object_shown m2 z (new_row q owner))) ≡ Some (plain_object q owner)) own
-          (λ i. Some (record { row = new_row q owner; defines = no_names_yet i; slot = λ n. None; verbs = no_verbs i }))
+      bare y b e o = grind (arith, same_object-Decides, no_names m sound x no_row, no_verbs)
 
   -- ---- the slots of the new object
 
   fresh_on : (n : Name) (id : ℕ) → slot_on m2 x n id ≡ option_map (fresh owner) (slot_on m q n id)
-  fresh_on n id =
-      ap (λ b. option_and_then (λ (p : PropRow). if same_text (folded p.name) n then option_map (slot_seen p.definer) (if b then option_map (fresh_row owner) (m.slot q id) else m.slot x id) else None) (m.prop id)) is_x
-      ∙ by (m.prop id)
-    where
-      inner : (p : PropRow) (b : Bool) (o : Option SlotRow) → (if b then option_map (slot_seen p.definer) (option_map (fresh_row owner) o) else None) ≡ option_map (fresh owner) (if b then option_map (slot_seen p.definer) o else None)
-      inner p true None = refl
-      inner p true (Some r) = refl
-      inner p false o = refl
-
-      by : (o : Option PropRow) → option_and_then (λ (p : PropRow). if same_text (folded p.name) n then option_map (slot_seen p.definer) (option_map (fresh_row owner) (m.slot q id)) else None) o ≡ option_map (fresh owner) (option_and_then (λ (p : PropRow). if same_text (folded p.name) n then option_map (slot_seen p.definer) (m.slot q id) else None) o)
-      by None = refl
-      by (Some p) = inner p (same_text (folded p.name) n) (m.slot q id)
+  fresh_on n id = grind (arith, is_x)
 
   slots_of_new : (n : Name) → slot_of (world_shown m2) x n ≡ option_map (fresh owner) (slot_of w q n)
   slots_of_new n =
@@ -120,10 +97,7 @@ module _ (m : LookUps) (sound : AreSound m) (wf : IsWellFormed (world_shown m)) 
       not_owed p = ap (λ l. list_any (same_property p) (defined_by_any w l)) (chain_of_none w x free)
 
       by : (o : Option Property) → property_named (defined_by_any w (chain w q)) n ≡ o → slot_for w s q x n o ≡ option_map (fresh owner) (slot_of w q n)
-      by None e = sym (ap (option_map (fresh owner)) (owed_none n e))
-      by (Some p) e =
-          ap (λ b. if b then slot_of w x n else option_map (fresh (owner_of s x)) (slot_of w q n)) (not_owed p)
-          ∙ ap (λ b. option_map (fresh (unwrap_or (option_map (λ (r : WorldObject). r.row.owner) (if b then Some (plain_object q owner) else w.object x)) nothing)) (slot_of w q n)) is_x
+      by b e = grind (arith, owed_none, not_owed, is_x)
 
   rebuilt_other : (y : ObjNo) (n : Name) → is_object w y ≡ true → slot_of (created w x q owner) y n ≡ slot_of w y n
   rebuilt_other y n o =
@@ -136,11 +110,7 @@ module _ (m : LookUps) (sound : AreSound m) (wf : IsWellFormed (world_shown m)) 
       by (Some p) e = ap (λ b. if b then slot_of w y n else option_map (fresh (owner_of s y)) (slot_of w q n)) (named_owed w (chain w y) n p e)
 
   pub world_new : world_shown m2 ≡ created w x q owner
-  world_new = same_by_objects (world_shown m2) (created w x q owner) (links ∙ sym (SameButSlots-rebuilt w s q)) (λ y n e. by y n e (same_object x y) refl)
-    where
-      by : (y : ObjNo) (n : Name) → is_object (world_shown m2) y ≡ true → (b : Bool) → same_object x y ≡ b → slot_of (world_shown m2) y n ≡ slot_of (created w x q owner) y n
-      by y n e true f = subst (λ z. slot_of (world_shown m2) z n ≡ slot_of (created w x q owner) z n) ((same_object-Decides x y).0 f) (slots_of_new n ∙ sym (rebuilt_new n))
-      by y n e false f = slots_of_other y n f ∙ sym (rebuilt_other y n (is_object_seen m y ∙ ap (λ b. is_some (if b then Some (new_row q owner) else m.object y)) (sym f) ∙ sym (is_object_seen m2 y) ∙ e))
+  world_new = same_by_objects (world_shown m2) (created w x q owner) (links ∙ sym (SameButSlots-rebuilt w s q)) (λ y n e. grind (arith, same_object-Decides, slots_of_new, rebuilt_new, slots_of_other, rebuilt_other, is_object_seen))
 
   pub formed_new : is_number owner ≡ true → IsWellFormed (world_shown m2)
   formed_new numbered = subst IsWellFormed (sym world_new) (IsWellFormed-created w x q owner wf free next_is.1 next_is.0 parent_is numbered)
@@ -154,18 +124,10 @@ module _ (m : LookUps) (sound : AreSound m) (wf : IsWellFormed (world_shown m)) 
   from_parent o e = sym (some_map (fresh_row owner) o) ∙ e
 
   rows_of : (y : ObjNo) (id : ℕ) → is_some (m2.slot y id) ≡ true → (is_some (m2.object y) ≡ true) × (is_some (m.prop id) ≡ true)
-  rows_of y id = by (same_object x y) refl
-    where
-      by : (b : Bool) → same_object x y ≡ b → is_some (if b then option_map (fresh_row owner) (m.slot q id) else m.slot y id) ≡ true → (is_some (m2.object y) ≡ true) × (is_some (m.prop id) ≡ true)
-      by true e h = (ap (λ b. is_some (if b then Some (new_row q owner) else m.object y)) e, (sound.slots q id (from_parent (m.slot q id) h)).1)
-      by false e h = let r = sound.slots y id h in (still y r.0, r.1)
+  rows_of y id h = grind (arith, from_parent)
 
   one_name2 : (y : ObjNo) (i j : ℕ) (p r : PropRow) → is_some (m2.slot y i) ≡ true → is_some (m2.slot y j) ≡ true → m.prop i ≡ Some p → m.prop j ≡ Some r → folded p.name ≡ folded r.name → i ≡ j
-  one_name2 y i j p r = by (same_object x y)
-    where
-      by : (b : Bool) → is_some (if b then option_map (fresh_row owner) (m.slot q i) else m.slot y i) ≡ true → is_some (if b then option_map (fresh_row owner) (m.slot q j) else m.slot y j) ≡ true → m.prop i ≡ Some p → m.prop j ≡ Some r → folded p.name ≡ folded r.name → i ≡ j
-      by true h k e f n = sound.one_name q i j p r (from_parent (m.slot q i) h) (from_parent (m.slot q j) k) e f n
-      by false h k e f n = sound.one_name y i j p r h k e f n
+  one_name2 y i j p r h k e f n = grind (arith, from_parent)
 
   pub sound_new : AreSound m2
   sound_new = record {

@@ -1,5 +1,5 @@
 -- Rows with a new property show the world with it, and are sound.
-use Rattle.moo_props.{proofs.Words.{◌≡◌, ℕ, ◌+◌, ◌<◌, Bool, true, false, eqb, Option, None, Some, List, [], ◌∷◌, ◌++◌, refl, sym, ap, ◌∙◌, subst, arith, ◌&&◌, is_some, unwrap_or, slice_get, if◌then◌else◌, option_map, option_and_then, option_or, filter_map, cons_option, false≢true, eqb-true, eq-eqb, filter_map-append, none-some, same_Some, ObjNo, Value, ObjRow, PropRow, SlotRow, Set, clashes, property_added, Name, nothing, same_object, same_text, folded, is_among, same_object-Decides, same_text-Decides, World, WorldObject, Slot, IsWellFormed, is_object, is_property_name, chain, owner_of, property_names_of, fresh, slot_fits, LookUps, AreSound, numbers_below, name_on, slot_on, slot_seen, object_shown, world_shown, names_shown, is_object_seen, object_seen, Chain-chain, fresh_of, some_of, slots_shown, ne_eqb, false_from_ne_true}, proofs.Shared.{has_owed, no_value, none_of, object_of_chain, put_some, same_below, seen_at}}
+use Rattle.moo_props.{proofs.Words.{◌≡◌, ℕ, ◌+◌, ◌<◌, Bool, true, false, eqb, Option, None, Some, List, [], ◌∷◌, ◌++◌, refl, sym, ap, ◌∙◌, subst, arith, ◌&&◌, is_some, unwrap_or, slice_get, if◌then◌else◌, option_map, option_and_then, option_or, filter_map, cons_option, eqb-true, eq-eqb, filter_map-append, none-some, same_Some, ObjNo, Value, ObjRow, PropRow, SlotRow, Set, clashes, property_added, Name, nothing, same_object, same_text, folded, is_among, same_object-Decides, same_text-Decides, World, WorldObject, Slot, IsWellFormed, is_object, is_property_name, chain, owner_of, property_names_of, fresh, slot_fits, LookUps, AreSound, numbers_below, name_on, slot_on, slot_seen, object_shown, world_shown, names_shown, is_object_seen, object_seen, Chain-chain, fresh_of, some_of, slots_shown, ne_eqb}, proofs.Shared.{has_owed, none_of, object_of_chain, put_some, same_below, seen_at}}
 use Rattle.std.proofs.Common.{add-one}
 use Rattle.moo_rows.specs.declared.row.Bits.{Bits}
 use Rattle.moo_world.{proofs.Shown.RowLaws.{with_prop, names_with_prop, other_names_with_prop}, proofs.Inheritance.Insertion.{IsWellFormed-property_added, none_owed}}
@@ -33,23 +33,11 @@ module _ (m : LookUps) (sound : AreSound m) (wf : IsWellFormed (world_shown m)) 
   abbrev prop : PropRow
   prop = record { definer = x; name = name }
 
-  x_row : (r : ObjRow) × (m.object x ≡ Some r)
-  x_row = some_of (m.object x) (sym (is_object_seen m x) ∙ xo)
-
   counter : w.next_prop ≡ next
   unfolding world_shown
   counter = refl
 
-  above_zero : 0 < next
-  above_zero = subst (λ k. 0 < k) counter wf.limits.props.0
-
-  -- ---- no slot is of the next number yet
-
-  no_prop : m.prop next ≡ None
-  no_prop = no_value (m.prop next) (λ p e. let l = (sound.props_below next (ap is_some e)).1 in omega arith)
-
-  no_slot : (y : ObjNo) → m.slot y next ≡ None
-  no_slot y = no_value (m.slot y next) (λ k e. false≢true (ap is_some (sym no_prop) ∙ (sound.slots y next (ap is_some e)).1))
+  -- ---- the next number
 
   is_next : eqb next next ≡ true
   is_next = eq-eqb next next refl
@@ -80,8 +68,7 @@ module _ (m : LookUps) (sound : AreSound m) (wf : IsWellFormed (world_shown m)) 
   first_of_two (k ∷ l) o = refl
 
   or_none : (o : Option Slot) → option_or o None ≡ o
-  or_none None = refl
-  or_none (Some k) = refl
+  or_none b = grind arith
 
   abbrev old : ObjNo → Name → Option Slot
   old y n = slice_get (filter_map (slot_on m y n) (numbers_below next)) 0
@@ -93,9 +80,7 @@ module _ (m : LookUps) (sound : AreSound m) (wf : IsWellFormed (world_shown m)) 
   made y = if same_object x y then row else fresh_of (owner_of w y) (record { id = record { 0 = next }; owner = owner; bits = bits })
 
   last : (y : ObjNo) (n : Name) → slot_on m2 y n next ≡ (if same_text (folded name) n then option_map (slot_seen x) (if under y then Some (made y) else None) else None)
-  last y n =
-      ap (λ b. option_and_then (λ (p : PropRow). if same_text (folded p.name) n then option_map (slot_seen p.definer) (if b && under y then Some (made y) else m.slot y next) else None) (if b then Some prop else m.prop next)) is_next
-      ∙ ap (λ o. if same_text (folded name) n then option_map (slot_seen x) (if under y then Some (made y) else o) else None) (no_slot y)
+  last y n = grind (arith)
 
   all_slots : (y : ObjNo) (n : Name) → slice_get (filter_map (slot_on m2 y n) (numbers_below (next + 1))) 0 ≡ option_or (old y n) (if same_text (folded name) n then option_map (slot_seen x) (if under y then Some (made y) else None) else None)
   all_slots y n =
@@ -110,8 +95,7 @@ module _ (m : LookUps) (sound : AreSound m) (wf : IsWellFormed (world_shown m)) 
       none_of (old y (folded name)) (ap is_some (sym (slots_shown m y (folded name) r e)) ∙ has_owed w wf y (folded name) ∙ ap is_some (none_owed w wf x name s xo free y (chain w y) (Chain-chain w wf.tree y yo) u))
 
   seen : (y : ObjNo) (o : ObjNo) (b : Bool) → slot_seen x (if b then row else fresh_of o (record { id = record { 0 = next }; owner = owner; bits = bits })) ≡ (if b then s else fresh o s)
-  seen y o true = refl
-  seen y o false = refl
+  seen y o b = grind arith
 
   slots : (y : ObjNo) (r : ObjRow) → m.object y ≡ Some r → (n : Name) → slice_get (filter_map (slot_on m2 y n) (numbers_below (next + 1))) 0 ≡ (if under y then (if same_text (folded name) n then Some (if same_object x y then s else fresh r.owner s) else old y n) else old y n)
   slots y r e n = all_slots y n ∙ by (under y) refl (same_text (folded name) n) refl
@@ -145,9 +129,6 @@ module _ (m : LookUps) (sound : AreSound m) (wf : IsWellFormed (world_shown m)) 
 
   -- ---- the rows are sound
 
-  x_there : is_some (m.object x) ≡ true
-  x_there = ap is_some x_row.1
-
   there : (y : ObjNo) → under y ≡ true → is_some (m.object y) ≡ true
   there y u = sym (is_object_seen m y) ∙ object_of_chain w x y u
 
@@ -157,12 +138,7 @@ module _ (m : LookUps) (sound : AreSound m) (wf : IsWellFormed (world_shown m)) 
     before_it : is_some (m.slot y j) ≡ true → Origin y j
 
   origin : (y : ObjNo) (j : ℕ) → is_some (m2.slot y j) ≡ true → Origin y j
-  origin y j = by (eqb j next) refl (under y) refl
-    where
-      by : (b : Bool) → eqb j next ≡ b → (u : Bool) → under y ≡ u → is_some (if b && u then Some (made y) else m.slot y j) ≡ true → Origin y j
-      by true e true u h = new (eqb-true j next e) u
-      by true e false u h = before_it h
-      by false e u v h = before_it h
+  origin y j h = grind (arith, eqb-true)
 
   rows_of : (y : ObjNo) (j : ℕ) → Origin y j → (is_some (m.object y) ≡ true) × (is_some (m2.prop j) ≡ true)
   rows_of y j (new e u) = (there y u, ap (λ k. is_some (if eqb k next then Some prop else m.prop k)) e ∙ ap (λ b. is_some (if b then Some prop else m.prop next)) is_next)
@@ -170,9 +146,7 @@ module _ (m : LookUps) (sound : AreSound m) (wf : IsWellFormed (world_shown m)) 
 
   -- the property of an old slot is an old one
   old_prop : (y : ObjNo) (j : ℕ) (p : PropRow) → is_some (m.slot y j) ≡ true → m2.prop j ≡ Some p → m.prop j ≡ Some p
-  old_prop y j p h f =
-      let other = false_from_ne_true (eqb j next) (λ e. false≢true (ap is_some (sym (no_slot y)) ∙ ap (λ k. is_some (m.slot y k)) (sym (eqb-true j next e)) ∙ h)) in
-      sym (ap (λ b. if b then Some prop else m.prop j) other) ∙ f
+  old_prop y j p h f = grind (arith, eqb-true)
 
   new_prop : (j : ℕ) (p : PropRow) → j ≡ next → m2.prop j ≡ Some p → prop ≡ p
   new_prop j p e f = same_Some prop p (sym (ap (λ k. if eqb k next then Some prop else m.prop k) e ∙ ap (λ b. if b then Some prop else m.prop next) is_next) ∙ f)
@@ -185,24 +159,13 @@ module _ (m : LookUps) (sound : AreSound m) (wf : IsWellFormed (world_shown m)) 
       none-some (slot_seen r.definer k.0) (sym (none_yet y o.0 o.1 u) ∙ sym (slots_shown m y (folded name) o.0 o.1) ∙ found)
 
   one_name : (y : ObjNo) (i j : ℕ) (p r : PropRow) → Origin y i → Origin y j → m2.prop i ≡ Some p → m2.prop j ≡ Some r → folded p.name ≡ folded r.name → i ≡ j
-  one_name y i j p r (new e u) (new f v) g h n = e ∙ sym f
-  one_name y i j p r (before_it k) (before_it l) g h n = sound.one_name y i j p r k l (old_prop y i p k g) (old_prop y j r l h) n
-  one_name y i j p r (new e u) (before_it l) g h n = absurd (clash y j r u l (old_prop y j r l h) (ap (λ (q : PropRow). folded q.name) (new_prop i p e g) ∙ n))
-  one_name y i j p r (before_it k) (new f v) g h n = absurd (clash y i p v k (old_prop y i p k g) (ap (λ (q : PropRow). folded q.name) (new_prop j r f h) ∙ sym n))
+  one_name y i j p r b o g h n = grind (arith, old_prop, clash, new_prop)
 
   low : (j : ℕ) → is_some (m2.prop j) ≡ true → (0 < j) × (j < next + 1)
-  low j = by (eqb j next) refl
-    where
-      by : (b : Bool) → eqb j next ≡ b → is_some (if b then Some prop else m.prop j) ≡ true → (0 < j) × (j < next + 1)
-      by true e h = let k = eqb-true j next e in (omega (arith, above_zero), omega arith)
-      by false e h = let l = sound.props_below j h in (l.0, omega (arith, l.1))
+  low j e = grind (arith, eqb-true, subst (λ k. 0 < k) counter wf.limits.props.0)
 
   definer : (j : ℕ) (p : PropRow) → m2.prop j ≡ Some p → is_some (m.object p.definer) ≡ true
-  definer j p = by (eqb j next)
-    where
-      by : (b : Bool) → (if b then Some prop else m.prop j) ≡ Some p → is_some (m.object p.definer) ≡ true
-      by true e = ap (λ (q : PropRow). is_some (m.object q.definer)) (sym (same_Some prop p e)) ∙ x_there
-      by false e = sound.definers j p e
+  definer j p e = grind (arith, sym (is_object_seen m x) ∙ xo)
 
   pub sound_with : AreSound m2
   sound_with = record {

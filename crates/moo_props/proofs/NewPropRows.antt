@@ -1,5 +1,5 @@
 -- The rows once a property is defined, by their look-ups.
-use Rattle.moo_props.{proofs.Words.{◌≡◌, ℕ, ◌+◌, Bool, true, false, cond, eqb, Option, Some, [], ◌∷◌, refl, sym, ap, ◌∙◌, ◌&&◌, if◌then◌else◌, unsigned_tied, get, insert, get-insert, false≢true, ObjNo, PropId, SlotRow, Maps, Held, wrote, prop_total, slot_total, Name, same_object, is_among, same_object-Decides, IsTree, is_object, chain, owner_of, LookUps, look_ups, world_of, prop_id, Origin, with_definition, owners_under, fresh_of, slots_moved}, proofs.Shared.{key_parts, own_among, same_maps}, proofs.Moved.{keeps-moved, slots_of_moved}, proofs.NewProp.{with_property}}
+use Rattle.moo_props.{proofs.Words.{arith, ◌≡◌, ℕ, ◌+◌, Bool, true, cond, eqb, Option, Some, [], ◌∷◌, refl, ap, ◌∙◌, ◌&&◌, if◌then◌else◌, unsigned_tied, get, insert, get-insert, ObjNo, PropId, SlotRow, Maps, Held, wrote, prop_total, slot_total, Name, same_object, is_among, same_object-Decides, IsTree, is_object, chain, owner_of, LookUps, look_ups, world_of, prop_id, Origin, with_definition, owners_under, fresh_of, slots_moved}, proofs.Shared.{key_parts, own_among, same_maps}, proofs.Moved.{keeps-moved, slots_of_moved}, proofs.NewProp.{with_property}}
 
 module _ (t : Maps) (tree : IsTree (world_of t)) (x : ObjNo) (xo : is_object (world_of t) x ≡ true) (name : Name) (row : SlotRow) (id : PropId) (numbered : id.0 ≡ t.head.next_prop) (held : Held) (same : held.maps ≡ t) where
   abbrev m : LookUps
@@ -25,14 +25,7 @@ module _ (t : Maps) (tree : IsTree (world_of t)) (x : ObjNo) (xo : is_object (wo
       settle c g = cond (same_object x y && c) (Some row) (cond (is_among x (chain (world_of t) y)) (cond c (Some (fresh_of (owner_of (world_of t) y) o)) g) g)
 
       by : (a : Bool) → same_object x y ≡ a → (c u : Bool) → is_among x (chain (world_of t) y) ≡ u → cond (a && c) (Some row) (cond u (cond c (Some (fresh_of (owner_of (world_of t) y) o)) (get t.slots (y, prop_id j))) (get t.slots (y, prop_id j))) ≡ (if c && u then Some (if a then row else fresh_of (owner_of (world_of t) y) o) else get t.slots (y, prop_id j))
-      by true e true false h = absurd (false≢true (sym h ∙ ap (λ k. is_among x (chain (world_of t) k)) (sym ((same_object-Decides x y).0 e)) ∙ own_among t tree x xo))
-      by true e true true h = refl
-      by true e false true h = refl
-      by true e false false h = refl
-      by false e true true h = refl
-      by false e true false h = refl
-      by false e false true h = refl
-      by false e false false h = refl
+      by b e o u h = grind (arith, same_object-Decides, own_among)
 
   -- all but the slots
   pub only2 : held2.maps ≡ record t { head = record (t.head) { next_prop = t.head.next_prop + 1 }; props = insert t.props (prop_id t.head.next_prop) (record { definer = x; name = name }); slots = held2.maps.slots }

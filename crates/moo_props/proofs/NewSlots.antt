@@ -1,5 +1,5 @@
 -- The rows once a new object has its slots.
-use Rattle.moo_props.{proofs.Words.{◌≡◌, Bool, true, false, cond, Option, None, Some, List, [], ◌∷◌, map, refl, sym, ap, ◌∙◌, ◌&&◌, is_some, if◌then◌else◌, option_map, int_eq, cons_option, AllByRecursion, get, insert, get-insert, false≢true, Decides-int_eq, ObjNo, PropId, SlotRow, Maps, Held, object_total, same_object, same_object-Decides, LookUps, IsSound, look_ups, prop_id, object_key, new_row, with_new_row, origins_among, origin_of, origins, with_fresh, fresh_row, any_map}, proofs.Shared.{Entry, has_id, is_id, is_id-Decides, keeps-fresh, no_value, same_maps, walk, walk_held, walk_meets, cond_same}, proofs.Folding.{slot_at-fresh, fresh_in, fresh_in-origins}}
+use Rattle.moo_props.{proofs.Words.{arith, ◌≡◌, Bool, true, cond, Option, None, Some, List, [], ◌∷◌, map, refl, sym, ap, ◌∙◌, ◌&&◌, is_some, if◌then◌else◌, option_map, int_eq, cons_option, AllByRecursion, get, insert, get-insert, false≢true, Decides-int_eq, ObjNo, PropId, SlotRow, Maps, Held, object_total, same_object, same_object-Decides, LookUps, IsSound, look_ups, prop_id, object_key, new_row, with_new_row, origins_among, origin_of, origins, with_fresh, fresh_row, any_map}, proofs.Shared.{Entry, has_id, is_id, is_id-Decides, keeps-fresh, no_value, same_maps, walk, walk_held, walk_meets, cond_same}, proofs.Folding.{slot_at-fresh, fresh_in, fresh_in-origins}}
 
 -- ---- the origins that the walk gives are those of the properties of q
 
@@ -13,9 +13,6 @@ module _ (m : Maps) (q : ObjNo) where
       let own : e.0.0 ≡ q = let k = (Decides-int_eq e.0.0.0 q.0).0 a.0.1 in λ i. record { 0 = k i } in
       let here : get m.slots (q, e.0.1) ≡ Some e.1 = ap (λ y. get m.slots (y, e.0.1)) (sym own) ∙ a.0.0 in
       (λ i. origin_of e.0.1 e.1 ∷ among_is es a.1 i) ∙ sym (ap (λ o. cons_option (option_map (origin_of e.0.1) o) (origins m.slots q (map (λ e. e.0.1) es))) here)
-
-  pub walk_origins : origins_among (walk m q) ≡ origins m.slots q ids_on
-  walk_origins = among_is (walk m q) (walk_held m q)
 
   -- each slot of q is met
   pub has_all : IsSound m → (j : PropId) (s : SlotRow) → get m.slots (q, j) ≡ Some s → has_id j ids_on ≡ true
@@ -45,19 +42,14 @@ module _ (t : Maps) (sound : IsSound t) (x q owner : ObjNo) (free : get t.object
   slots2 : (z : ObjNo) (j : PropId) → get held2.maps.slots (z, j) ≡ (if same_object x z then option_map (fresh_row owner) (get t.slots (q, j)) else get t.slots (z, j))
   slots2 z j =
       slot_at-fresh x z owner j (origins_among (walk t q)) held1
-      ∙ (λ i. cond (same_object x z) (fresh_in owner (walk_origins t q i) j (get (at i).slots (z, j))) (get (at i).slots (z, j)))
+      ∙ (λ i. cond (same_object x z) (fresh_in owner (among_is t q (walk t q) (walk_held t q) i) j (get (at i).slots (z, j))) (get (at i).slots (z, j)))
       ∙ by (same_object x z) refl
     where
       all_here : (o : Option SlotRow) → get t.slots (q, j) ≡ o → cond (has_id j (ids_on t q) && is_some o) (option_map (fresh_row owner) o) None ≡ option_map (fresh_row owner) o
-      all_here None e = cond_same (has_id j (ids_on t q) && false) None
-      all_here (Some s) e = ap (λ b. cond (b && true) (Some (fresh_row owner s)) None) (has_all t q sound j s e)
+      all_here b e = grind (arith, cond_same, has_all)
 
       by : (b : Bool) → same_object x z ≡ b → cond b (fresh_in owner (origins t.slots q (ids_on t q)) j (get t.slots (z, j))) (get t.slots (z, j)) ≡ (if b then option_map (fresh_row owner) (get t.slots (q, j)) else get t.slots (z, j))
-      by false e = refl
-      by true e =
-          ap (fresh_in owner (origins t.slots q (ids_on t q)) j) (ap (λ y. get t.slots (y, j)) (sym ((same_object-Decides x z).0 e)) ∙ no_slots j)
-          ∙ fresh_in-origins t.slots q owner j (get t.slots (q, j)) refl (ids_on t q) None
-          ∙ all_here (get t.slots (q, j)) refl
+      by b e = grind (arith, same_object-Decides, no_slots, fresh_in-origins, all_here)
 
   only2 : held2.maps ≡ record t { head = record (t.head) { top = x.0 }; objects = insert t.objects x (new_row q owner); slots = held2.maps.slots }
   only2 = same_maps (keeps-fresh x owner (origins_among (walk t q)) held1) held2.maps.slots ∙ ap (λ (z : Maps). record z { head = record (z.head) { top = x.0 }; objects = insert z.objects x (new_row q owner); slots = held2.maps.slots }) at

@@ -1,5 +1,5 @@
 -- What a function gives over numbers, by what it gives at each.
-use Rattle.moo_props.{proofs.Words.{◌≡◌, ℕ, zero, suc, ◌<◌, Bool, true, false, cond, Option, None, Some, List, [], ◌∷◌, ◌++◌, map, refl, sym, ap, ◌∙◌, arith, if◌then◌else◌, option_map, filter, filter_map, cons_option, filter_map-append, slice_get, numbers_below, LookUps, AreSound, ObjNo, PropRow, Name, name_on, option_and_then, same_object, same_object-Decides, none-some, false≢true, is_some, cond_some}, proofs.Cases.{no_value}}
+use Rattle.moo_props.{proofs.Words.{◌≡◌, ℕ, zero, suc, ◌<◌, Bool, Option, None, Some, List, [], ◌∷◌, ◌++◌, map, refl, sym, ap, ◌∙◌, arith, if◌then◌else◌, option_map, filter, filter_map, cons_option, filter_map-append, slice_get, numbers_below, LookUps, AreSound, ObjNo, PropRow, Name, name_on, option_and_then, same_object, same_object-Decides, none-some, false≢true, is_some, cond_some}, proofs.Cases.{no_value}}
 use Rattle.moo_world.proofs.Shown.Numbered.{first_from, no_first}
 
 -- what passes a test
@@ -14,22 +14,10 @@ module _ {A B : Type 0} (f : List A → List B) (g : Option A → Option B) (nil
   over_numbers h k (j ∷ l) e = (λ i. cons_option (e j i) (over_numbers h k l e i)) ∙ sym (more (h j) (filter_map h l))
 
 pub fewer : {A : Type 0} (test : A → Bool) (h k : ℕ → Option A) (l : List ℕ) → ((j : ℕ) → k j ≡ kept test (h j)) → filter_map k l ≡ filter test (filter_map h l)
-fewer {A = A} test = over_numbers (filter test) (kept test) refl by
-  where
-    by : (o : Option A) (l : List A) → filter test (cons_option o l) ≡ cons_option (kept test o) (filter test l)
-    by None l = refl
-    by (Some v) l = one (test v)
-      where
-        one : (b : Bool) → cond b (v ∷ filter test l) (filter test l) ≡ cons_option (if b then Some v else None) (filter test l)
-        one true = refl
-        one false = refl
+fewer test = over_numbers (filter test) (kept test) refl (λ o l. grind arith)
 
 pub changed : {A B : Type 0} (f : A → B) (h : ℕ → Option A) (k : ℕ → Option B) (l : List ℕ) → ((j : ℕ) → k j ≡ option_map f (h j)) → filter_map k l ≡ map f (filter_map h l)
-changed {A = A} f = over_numbers (map f) (option_map f) refl by
-  where
-    by : (o : Option A) (l : List A) → map f (cons_option o l) ≡ cons_option (option_map f o) (map f l)
-    by None l = refl
-    by (Some v) l = refl
+changed f = over_numbers (map f) (option_map f) refl (λ o l. grind arith)
 
 pub same_below : {X : Type 0} (h g : ℕ → Option X) (n : ℕ) → ((j : ℕ) → j < n → h j ≡ g j) → filter_map h (numbers_below n) ≡ filter_map g (numbers_below n)
 same_below h g zero e = refl

@@ -1,5 +1,5 @@
 -- The names that objects define once another row, or none, is under the number of a property of x.
-use Rattle.moo_props.{proofs.Words.{◌≡◌, ℕ, Bool, true, false, eqb, Option, None, Some, refl, sym, ap, ◌∙◌, if◌then◌else◌, option_and_then, get, both_ways, eqb-true, eq-eqb, ObjNo, PropRow, Maps, Name, same_object, same_text, folded, same_object-Decides, same_text-Decides, LookUps, IsGood, look_ups, prop_id, false_from_ne_true}, proofs.Gains.{one_prop}}
+use Rattle.moo_props.{proofs.Words.{arith, ◌≡◌, ℕ, Bool, true, false, eqb, Option, None, Some, refl, sym, ap, ◌∙◌, if◌then◌else◌, option_and_then, get, both_ways, eqb-true, eq-eqb, ObjNo, PropRow, Maps, Name, same_object, same_text, folded, same_object-Decides, same_text-Decides, LookUps, IsGood, look_ups, prop_id, false_from_ne_true}, proofs.Gains.{one_prop}}
 
 module _ (t : Maps) (good : IsGood t) (x : ObjNo) (id : ℕ) (p : PropRow) (there : get t.props (prop_id id) ≡ Some p) (own : p.definer ≡ x) where
   abbrev m : LookUps
@@ -29,8 +29,4 @@ module _ (t : Maps) (good : IsGood t) (x : ObjNo) (id : ℕ) (p : PropRow) (ther
 
     -- and those of another object stay, if the row isn't its own
     pub other_names : (y : ObjNo) → same_object x y ≡ false → name_in y put ≡ None → (j : ℕ) → name_in y (if eqb j id then put else m.prop j) ≡ name_in y (m.prop j)
-    other_names y e not_its j = by (eqb j id) refl
-      where
-        by : (b : Bool) → eqb j id ≡ b → name_in y (if b then put else m.prop j) ≡ name_in y (m.prop j)
-        by false f = refl
-        by true f = not_its ∙ sym (ap (name_in y) (ap m.prop (eqb-true j id f) ∙ there) ∙ ap (λ b. if b then Some p.name else None) (ap (λ d. same_object d y) own ∙ e))
+    other_names y e not_its j = grind (arith, eqb-true)

@@ -1,12 +1,9 @@
 -- What is owed along a list of definers, by the rows of properties.
-use Rattle.moo_props.{proofs.Words.{◌||◌, ◌≡◌, ℕ, Bool, true, false, Option, None, Some, List, [], ◌∷◌, refl, sym, ap, ◌∙◌, inl, inr, ◌&&◌, is_some, unwrap_or, if◌then◌else◌, option_map, option_and_then, filter_map, list_any, cons_option, AllByRecursion, get, entries, get-entries, false≢true, and_parts, or_cases, or_right, none-some, same_Some, ObjNo, ObjRow, PropId, PropRow, Maps, prop_cmp, prop_exact, prop_total, Name, Property, same_object, same_text, same_property, folded, is_among, same_object-Decides, same_text-Decides, World, WorldObject, Slot, IsWellFormed, is_object, chain, property_names_of, defined_by, defined_by_any, property_named, slot_of, LookUps, IsSound, look_ups, world_of, numbers_below, name_on, prop_id, decided_alike, any-append, no_slot, names_shown, is_object_seen, owed_listed, Chain-chain, chain_of_none, any_map, IsGood, SlotRow, name_of, slot_seen, defines, definer_among, named_owed, or_left, cond_some, some_of}, proofs.Cases.{none_of, passing, some_map}, proofs.Gains.{defines_pair}, proofs.Walked.{all_held, any_held, slot_here}}
+use Rattle.moo_props.{proofs.Words.{arith, ◌||◌, ◌≡◌, ℕ, Bool, true, false, Option, None, Some, List, [], ◌∷◌, refl, sym, ap, ◌∙◌, inl, inr, ◌&&◌, is_some, unwrap_or, if◌then◌else◌, option_map, option_and_then, filter_map, list_any, cons_option, AllByRecursion, get, entries, get-entries, false≢true, and_parts, or_cases, or_right, none-some, same_Some, ObjNo, ObjRow, PropId, PropRow, Maps, prop_cmp, prop_exact, prop_total, Name, Property, same_object, same_text, same_property, folded, is_among, same_object-Decides, same_text-Decides, World, WorldObject, Slot, IsWellFormed, is_object, chain, property_names_of, defined_by, defined_by_any, property_named, slot_of, LookUps, IsSound, look_ups, world_of, numbers_below, name_on, prop_id, decided_alike, any-append, no_slot, names_shown, is_object_seen, owed_listed, Chain-chain, chain_of_none, any_map, IsGood, SlotRow, name_of, slot_seen, defines, definer_among, named_owed, cond_some, some_of}, proofs.Cases.{none_of, passing, some_map}, proofs.Gains.{defines_pair}, proofs.Walked.{all_held, any_held, slot_here}}
 use Rattle.moo_world.proofs.Inheritance.Keeping.{same_property-is}
 use Rattle.moo_world.proofs.Inheritance.Owed.{named_so}
 
 -- ---- lists
-
-alike : (a b : Bool) → (a ≡ true → b ≡ true) → (b ≡ true → a ≡ true) → a ≡ b
-alike a b f g = decided_alike a b (b ≡ true) (f, g) (λ e. e, λ e. e)
 
 -- one that passes, of those of which all is said
 one_passing : {A : Type 0} (P : A → Type 0) (test : A → Bool) (l : List A) → AllByRecursion P l → list_any test l ≡ true → (a : A) × P a × (test a ≡ true)
@@ -18,18 +15,14 @@ one_passing {A = A} P test (x ∷ l) h e = elim (or_cases (test x) (list_any tes
 
 any_pair : (test : Property → Bool) (l : List Property) (p : Property) → list_any (same_property p) l ≡ true → test p ≡ true → list_any test l ≡ true
 any_pair test [] p h k = absurd (false≢true h)
-any_pair test (y ∷ l) p h k = elim (or_cases (same_property p y) (list_any (same_property p) l) h) [
-  | inl g ↦ or_left (test y) (list_any test l) (ap test (sym (same_property-is p y g)) ∙ k)
-  | inr g ↦ or_right (test y) (list_any test l) (any_pair test l p g k)
-]
+any_pair test (y ∷ l) p h k = grind (arith, same_property-is p y, any_pair test l p)
 
 any_number : {X : Type 0} (h : ℕ → Option X) (test : X → Bool) (l : List ℕ) → list_any test (filter_map h l) ≡ true → (k : ℕ) × (v : X) × (h k ≡ Some v) × (test v ≡ true)
 any_number h test [] e = absurd (false≢true e)
 any_number {X} h test (k ∷ l) e = by (h k) refl e (any_number h test l)
   where
     by : (o : Option X) → h k ≡ o → list_any test (cons_option o (filter_map h l)) ≡ true → (list_any test (filter_map h l) ≡ true → (k : ℕ) × (v : X) × (h k ≡ Some v) × (test v ≡ true)) → (k : ℕ) × (v : X) × (h k ≡ Some v) × (test v ≡ true)
-    by None g e r = r e
-    by (Some v) g e r = elim (or_cases (test v) (list_any test (filter_map h l)) e) [ inl t ↦ (k, v, g, t) | inr t ↦ r t ]
+    by b g e r = grind (arith, or_cases)
 
 module _ (t : Maps) (sound : IsSound t) where
   abbrev m : LookUps
@@ -70,7 +63,7 @@ module _ (t : Maps) (sound : IsSound t) where
 
   -- what passes of what is owed, by the rows
   pub any_owed : (test : Property → Bool) (l : List ObjNo) → list_any test (defined_by_any w l) ≡ list_any (λ e. is_among e.1.definer l && test (e.1.definer, e.1.name)) (entries t.props)
-  any_owed test l = alike _ _ to from
+  any_owed test l = decided_alike _ _ (list_any (λ e. is_among e.1.definer l && test (e.1.definer, e.1.name)) (entries t.props) ≡ true) (to, from) (λ e. e, λ e. e)
     where
       to : list_any test (defined_by_any w l) ≡ true → list_any (λ e. is_among e.1.definer l && test (e.1.definer, e.1.name)) (entries t.props) ≡ true
       to h =

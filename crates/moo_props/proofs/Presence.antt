@@ -1,19 +1,15 @@
 -- Removed keys had rows and have none, added ones had none and have rows.
-use Rattle.moo_props.{proofs.Words.{◌≡◌, Bool, true, false, Option, None, Some, List, [], ◌∷◌, ◌++◌, refl, ap, ◌∙◌, is_some, if◌then◌else◌, option_map, AllByRecursion, FinMap, get, entries, get-entries, entries_sorted, and_parts, both_ways, ObjNo, PropId, PropRow, SlotRow, Maps, object_cmp, prop_cmp, slot_cmp, object_exact, prop_exact, object_total, prop_total, folded, is_among, World, Slot, is_object, chain, owner_of, IsSound, world_of, MayReparent, ancestors, lost, gained, owners_under, props_of, is_defined_among, slot_after, removed_keys, added_keys, ArePresent, AreAbsent, keys_on, keys_over, fresh_row, own_entries, all_made, false_from_ne_true, not-true}, proofs.Shared.{new_is, no_clash, no_value, object_of_chain, slot_on_heir, some_map}, proofs.Definers.{only_lost, only_gained}, proofs.Gains.{slot_on_new}, proofs.After.{slot_is, tests, gained_named, no_both}}
+use Rattle.moo_props.{proofs.Words.{◌≡◌, Bool, true, false, Option, None, Some, List, [], ◌∷◌, refl, ap, ◌∙◌, is_some, if◌then◌else◌, option_map, AllByRecursion, FinMap, get, entries, get-entries, entries_sorted, and_parts, both_ways, ObjNo, PropId, PropRow, SlotRow, Maps, object_cmp, prop_cmp, slot_cmp, object_exact, prop_exact, object_total, prop_total, folded, is_among, World, Slot, chain, owner_of, IsSound, world_of, MayReparent, ancestors, lost, gained, owners_under, props_of, is_defined_among, slot_after, removed_keys, added_keys, ArePresent, AreAbsent, keys_on, keys_over, fresh_row, own_entries, all_made, false_from_ne_true, not-true}, proofs.Shared.{new_is, no_clash, no_value, object_of_chain, slot_on_heir, some_map}, proofs.Definers.{only_lost, only_gained}, proofs.Gains.{slot_on_new}, proofs.After.{slot_is, tests, gained_named, no_both}}
 use Rattle.std.specs.FinMap.{find}
-use Rattle.moo_world.{proofs.Inheritance.ManualLaw.{chain_y}, proofs.Inheritance.Owed.{is_among-right}}
+use Rattle.moo_world.{proofs.Inheritance.ManualLaw.{chain_y}, proofs.Inheritance.Owed.{is_among-right}, proofs.Inheritance.Reparenting.{all_join}}
 
 all_keys : (P : ObjNo × PropId → Type 0) (good : ObjNo → Type 0) (right : PropId → Type 0) → ((y : ObjNo) (id : PropId) → good y → right id → P (y, id)) → (ids : List PropId) → AllByRecursion right ids → (es : List (ObjNo × ObjNo)) → AllByRecursion (λ e. good e.0) es → AllByRecursion P (keys_over ids es)
 all_keys P good right h ids r [] g = tt
-all_keys P good right h ids r (e ∷ es) g = join (keys_on e.0 ids) (each ids r) (all_keys P good right h ids r es g.1)
+all_keys P good right h ids r (e ∷ es) g = all_join P (keys_on e.0 ids) (keys_over ids es) (each ids r) (all_keys P good right h ids r es g.1)
   where
     each : (ids : List PropId) → AllByRecursion right ids → AllByRecursion P (keys_on e.0 ids)
     each [] r = tt
     each (id ∷ ids) r = (h e.0 id g.0 r.0, each ids r.1)
-
-    join : (l : List (ObjNo × PropId)) → AllByRecursion P l → AllByRecursion P (keys_over ids es) → AllByRecursion P (l ++ keys_over ids es)
-    join [] a b = b
-    join (k ∷ l) a b = (a.0, join l a.1 b)
 
 module _ (t : Maps) (sound : IsSound t) (x q : ObjNo) (may : MayReparent (world_of t) x q) where
   abbrev w : World
@@ -32,22 +28,16 @@ module _ (t : Maps) (sound : IsSound t) (x q : ObjNo) (may : MayReparent (world_
   over : (P : ObjNo × PropId → Type 0) (definers : List ObjNo) → ((y : ObjNo) (id : PropId) → is_among x (chain w y) ≡ true → IsOf definers id → P (y, id)) → AllByRecursion P (keys_over (props_of definers t.props) (owners_under t x))
   over P definers h = all_keys P (λ y. is_among x (chain w y) ≡ true) (IsOf definers) h (props_of definers t.props) (all_of definers) (owners_under t x) all_under
 
-  there : (y : ObjNo) → is_among x (chain w y) ≡ true → is_object w y ≡ true
-  there y u = object_of_chain w x y u
-
   lost_above : (d : ObjNo) → is_among d (lost w x q) ≡ true → is_among d (ancestors w x) ≡ true
   lost_above d h = (and_parts _ _ (only_lost w x q may d ∙ h)).0
 
-  gained_apart : (d : ObjNo) → is_among d (gained w x q) ≡ true → is_among d (ancestors w x) ≡ false
-  gained_apart d h = not-true _ (and_parts (is_among d (chain w q)) _ (only_gained w x q may d ∙ h)).1
-
   never_both : (d : ObjNo) → is_among d (lost w x q) ≡ true → is_among d (gained w x q) ≡ false
-  never_both d h = false_from_ne_true (is_among d (gained w x q)) (λ g. both_ways (is_among d (ancestors w x)) (gained_apart d g) (lost_above d h))
+  never_both d h = false_from_ne_true (is_among d (gained w x q)) (λ g. both_ways (is_among d (ancestors w x)) (not-true _ (and_parts (is_among d (chain w q)) _ (only_gained w x q may d ∙ g)).1) (lost_above d h))
 
   pub removed_had : ArePresent t.slots (removed_keys t x q)
   removed_had = over (λ key. is_some (get t.slots key) ≡ true) (lost w x q) (λ y id u p.
-      slot_on_heir t sound may.well_formed y (there y u) id.0 p.0 p.1
-      (ap (is_among p.0.definer) (chain_y w x q may.well_formed may.object (new_is w x q may) may.outside (no_clash w x q may) y [] (there y u) u)
+      slot_on_heir t sound may.well_formed y (object_of_chain w x y u) id.0 p.0 p.1
+      (ap (is_among p.0.definer) (chain_y w x q may.well_formed may.object (new_is w x q may) may.outside (no_clash w x q may) y [] (object_of_chain w x y u) u)
       ∙ is_among-right p.0.definer _ (ancestors w x) (lost_above p.0.definer p.2)))
 
   pub added_had : AreAbsent t.slots (added_keys t x q)
@@ -57,7 +47,7 @@ module _ (t : Maps) (sound : IsSound t) (x q : ObjNo) (may : MayReparent (world_
       has_none y id u p s e =
           let named = gained_named t sound x q may (folded p.0.name) id.0 p.0 p.1 refl p.2 in
           let seen = slot_is t sound x q may y (folded p.0.name) id.0 (record { prop = p.0; row = s; there = p.1; held = e; name = refl }) in
-          no_both t sound x q may y (there y u) u (folded p.0.name) p.0.definer named.0 (ap (option_map (λ (z : Slot). z.definer)) seen)
+          no_both t sound x q may y (object_of_chain w x y u) u (folded p.0.name) p.0.definer named.0 (ap (option_map (λ (z : Slot). z.definer)) seen)
           (false_from_ne_true _ (λ l. both_ways (is_among p.0.definer (gained w x q)) (never_both p.0.definer l) p.2)) named.1
 
   module _ (S : FinMap slot_cmp SlotRow) (slots : (key : ObjNo × PropId) → get S key ≡ slot_after t x q key) where

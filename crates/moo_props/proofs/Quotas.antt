@@ -1,7 +1,7 @@
 -- What an object reads as its quota.
-use Rattle.moo_props.proofs.Words.{◌≡◌, [], Option, Some, None, refl, sym, ap, ◌∙◌, is_some, unwrap_or, ◌+ℤ◌, option_map, get, ObjNo, Value, Int, PropId, PropRow, Set, Maps, with_slot_of, Name, folded, quota_in, quota_of, World, WorldObject, IsTree, object_changed, read_in, read_along, read_of, slot_of, chain-step, chain_of_none, name_of, spelling_of}
+use Rattle.moo_props.proofs.Words.{arith, ◌≡◌, Option, Some, None, refl, sym, ap, ◌∙◌, is_some, ◌+ℤ◌, ObjNo, Value, Int, PropId, Set, Maps, with_slot_of, Name, folded, quota_in, quota_of, World, WorldObject, IsTree, read_in, read_along, read_of, slot_of, chain-step, chain_of_none, name_of, spelling_of}
 use Rattle.std.proofs.Common.{ℤ}
-use Rattle.moo_world.specs.Quota.{quota_name, quota_changed, set_slot}
+use Rattle.moo_world.specs.Quota.{quota_name, quota_changed}
 
 -- without a slot nothing is read
 pub nothing_read : (w : World) → IsTree w → (x : ObjNo) (n : Name) → slot_of w x n ≡ None → read_of w x n ≡ None
@@ -19,19 +19,12 @@ quota_is w o n v e h = ap quota_in (ap (read_of w o) (sym e) ∙ h)
 
 -- a value that is no integer is no quota
 pub no_integer : (v : Value) → ((k : ℤ) → v ≡ Int k → ⊥) → quota_in (Some v) ≡ None
-no_integer (Int k) h = absurd (h k refl)
-no_integer v h = refl
+no_integer v h = grind arith
 
 pub folded_spelling : (m : Maps) (id : PropId) → folded (spelling_of m id) ≡ name_of m id
 unfolding folded
-folded_spelling m id = by (get m.props id)
-  where
-    by : (o : Option PropRow) → folded (unwrap_or (option_map (λ p. p.name) o) []) ≡ unwrap_or (option_map (λ p. folded p.name) o) []
-    by None = refl
-    by (Some p) = refl
+folded_spelling m id = grind arith
 
 -- the state set on the slot is the quota moved
 pub moved : (w : World) (o : ObjNo) (n : Name) (had by : ℤ) → folded n ≡ quota_name → quota_of w o ≡ Some had → with_slot_of w o n (λ s. record s { state = Set (Int (had +ℤ by)) }) ≡ quota_changed w o by
-moved w o n had by e h =
-    ap (λ k. object_changed w o (set_slot k (Set (Int (had +ℤ by))))) e
-    ∙ sym (ap (λ q. elim q [ None ↦ w | Some k ↦ object_changed w o (set_slot quota_name (Set (Int (k +ℤ by)))) ]) h)
+moved w o n had by e h = grind (arith)

@@ -1,5 +1,5 @@
 -- Rows whose property has another name show the world with that name, and are sound.
-use Rattle.moo_props.{proofs.Words.{◌≡◌, ℕ, Bool, true, false, cond, eqb, Option, None, Some, map, refl, sym, ap, ◌∙◌, is_some, unwrap_or, slice_get, if◌then◌else◌, unsigned_tied, option_map, option_and_then, filter_map, list_any, get, insert, get-insert, both_ways, eqb-true, eq-eqb, none-some, same_Some, ObjNo, ObjRow, PropRow, Maps, prop_total, clashes, property_renamed, Name, same_object, same_text, same_property, folded, is_among, same_object-Decides, same_text-Decides, World, WorldObject, Slot, IsWellFormed, is_object, is_property_name, chain, defined_by, slot_of, LookUps, AreSound, IsGood, look_ups, world_of, world_shown, numbers_below, name_on, slot_on, slot_seen, object_shown, prop_id, is_object_seen, Chain-chain, some_of, SlotHere, slots_shown, slot_from}, proofs.Shared.{changed, cond_same, has_owed, no_value, none_of, own_under, put_some, same_below, seen_at, slot_on_heir}, proofs.Gains.{defines_pair}, proofs.OtherRow.{own_names, other_names}}
+use Rattle.moo_props.{proofs.Words.{arith, ◌≡◌, ℕ, Bool, true, false, cond, eqb, Option, None, Some, map, refl, sym, ap, ◌∙◌, is_some, slice_get, if◌then◌else◌, unsigned_tied, option_map, option_and_then, filter_map, list_any, get, insert, get-insert, both_ways, eqb-true, eq-eqb, none-some, ObjNo, ObjRow, PropRow, Maps, prop_total, clashes, property_renamed, Name, same_object, same_text, same_property, folded, is_among, same_object-Decides, same_text-Decides, World, WorldObject, Slot, IsWellFormed, is_object, is_property_name, chain, defined_by, slot_of, LookUps, AreSound, IsGood, look_ups, world_of, world_shown, numbers_below, name_on, slot_on, slot_seen, object_shown, prop_id, is_object_seen, Chain-chain, some_of, SlotHere, slots_shown, slot_from}, proofs.Shared.{changed, cond_same, has_owed, no_value, none_of, own_under, put_some, same_below, seen_at, slot_on_heir}, proofs.Gains.{defines_pair}, proofs.OtherRow.{own_names, other_names}}
 use Rattle.moo_world.proofs.Inheritance.Replacement.{renames, none_of_name, IsWellFormed-property_renamed}
 
 -- the look-ups with a property of x under another name
@@ -25,9 +25,6 @@ module _ (t : Maps) (good : IsGood t) (x : ObjNo) (id : ℕ) (p : PropRow) (ther
   abbrev under : ObjNo → Bool
   under y = is_among x (chain w y)
 
-  is_it : eqb id id ≡ true
-  is_it = eq-eqb id id refl
-
   x_row : (r : ObjRow) × (m.object x ≡ Some r)
   x_row = let r = some_of (m.object p.definer) (good.sound.definers id p there) in (r.0, ap m.object (sym own) ∙ r.1)
 
@@ -39,10 +36,7 @@ module _ (t : Maps) (good : IsGood t) (x : ObjNo) (id : ℕ) (p : PropRow) (ther
 
   -- an object has a slot of the property just where it is under x
   slot_under : (y : ObjNo) → is_some (m.slot y id) ≡ true → under y ≡ true
-  slot_under y h =
-      let k = some_of (m.slot y id) h in
-      own_under t good x y (prop_id id) k.0 k.1
-      (ap (λ o. unwrap_or (option_map (λ (r : PropRow). same_object r.definer x) o) false) there ∙ (same_object-Decides p.definer x).1 own)
+  slot_under y h = grind (arith, some_of, own_under, same_object-Decides)
 
   under_slot : (y : ObjNo) → is_object w y ≡ true → under y ≡ true → is_some (m.slot y id) ≡ true
   under_slot y o u = slot_on_heir t good.sound good.formed y o id p there (ap (λ d. is_among d (chain w y)) own ∙ u)
@@ -54,11 +48,7 @@ module _ (t : Maps) (good : IsGood t) (x : ObjNo) (id : ℕ) (p : PropRow) (ther
   -- ---- sound rows
 
   prop_was : (j : ℕ) → is_some (m2.prop j) ≡ true → is_some (m.prop j) ≡ true
-  prop_was j = by (eqb j id) refl
-    where
-      by : (b : Bool) → eqb j id ≡ b → is_some (if b then Some put else m.prop j) ≡ true → is_some (m.prop j) ≡ true
-      by true f e = ap is_some (ap m.prop (eqb-true j id f) ∙ there)
-      by false f e = e
+  prop_was j e = grind (arith, eqb-true)
 
   -- a row is the one with the new name, or is as it was
   data Origin (j : ℕ) (r : PropRow) : Type 0 where
@@ -66,15 +56,10 @@ module _ (t : Maps) (good : IsGood t) (x : ObjNo) (id : ℕ) (p : PropRow) (ther
     other : eqb j id ≡ false → m.prop j ≡ Some r → Origin j r
 
   origin : (j : ℕ) (r : PropRow) → m2.prop j ≡ Some r → Origin j r
-  origin j r = by (eqb j id) refl
-    where
-      by : (b : Bool) → eqb j id ≡ b → (if b then Some put else m.prop j) ≡ Some r → Origin j r
-      by true f e = it (eqb-true j id f) (same_Some put r e)
-      by false f e = other f e
+  origin j r e = grind (arith, eqb-true)
 
   definer : (j : ℕ) (r : PropRow) → Origin j r → is_some (m.object r.definer) ≡ true
-  definer j r (it e f) = ap (λ (q : PropRow). is_some (m.object q.definer)) (sym f) ∙ ap is_some x_row.1
-  definer j r (other e f) = good.sound.definers j r f
+  definer j r b = grind (arith, x_row)
 
   clash : (y : ObjNo) (j : ℕ) (r : PropRow) → is_some (m.slot y id) ≡ true → is_some (m.slot y j) ≡ true → m.prop j ≡ Some r → folded new ≡ folded r.name → ⊥
   clash y j r h k e n =
@@ -83,10 +68,7 @@ module _ (t : Maps) (good : IsGood t) (x : ObjNo) (id : ℕ) (p : PropRow) (ther
       none-some (slot_seen r.definer s.0) (sym (none_yet y yo (slot_under y h)) ∙ seen_at m good.sound y (folded new) j (record { prop = r; row = s.0; there = e; held = s.1; name = sym n }))
 
   one_name : (y : ObjNo) (i j : ℕ) (a b : PropRow) → is_some (m.slot y i) ≡ true → is_some (m.slot y j) ≡ true → Origin i a → Origin j b → folded a.name ≡ folded b.name → i ≡ j
-  one_name y i j a b k l (it e f) (it g h) n = e ∙ sym g
-  one_name y i j a b k l (other e f) (other g h) n = good.sound.one_name y i j a b k l f h n
-  one_name y i j a b k l (it e f) (other g h) n = absurd (clash y j b (ap (λ z. is_some (m.slot y z)) (sym e) ∙ k) l h (ap (λ (q : PropRow). folded q.name) f ∙ n))
-  one_name y i j a b k l (other e f) (it g h) n = absurd (clash y i a (ap (λ z. is_some (m.slot y z)) (sym g) ∙ l) k f (ap (λ (q : PropRow). folded q.name) h ∙ sym n))
+  one_name y i j a b k l o u n = grind (arith, clash)
 
   pub sound_renamed : AreSound m2
   sound_renamed = record {
@@ -115,13 +97,7 @@ module _ (t : Maps) (good : IsGood t) (x : ObjNo) (id : ℕ) (p : PropRow) (ther
 
   -- where neither name is meant, or there is no such slot, each number shows what it did
   alike : (y : ObjNo) (n : Name) → slot_in y n id (Some put) ≡ slot_in y n id (Some p) → (j : ℕ) → slot_on m2 y n j ≡ slot_on m y n j
-  alike y n e j = by (eqb j id) refl
-    where
-      by : (b : Bool) → eqb j id ≡ b → slot_in y n j (if b then Some put else m.prop j) ≡ slot_in y n j (m.prop j)
-      by false f = refl
-      by true f =
-          let same = eqb-true j id f in
-          ap (λ k. slot_in y n k (Some put)) same ∙ e ∙ sym (ap (λ k. slot_in y n k (m.prop k)) same ∙ ap (slot_in y n id) there)
+  alike y n e j = grind (arith, eqb-true)
 
   same_slots : (y : ObjNo) (r : ObjRow) → m.object y ≡ Some r → (n : Name) → slot_in y n id (Some put) ≡ slot_in y n id (Some p) → slot_of (world_shown m2) y n ≡ slot_of w y n
   same_slots y r e n a =
@@ -130,16 +106,13 @@ module _ (t : Maps) (good : IsGood t) (x : ObjNo) (id : ℕ) (p : PropRow) (ther
       ∙ sym (slots_shown m y n r e)
 
   slotless : (y : ObjNo) (n : Name) → m.slot y id ≡ None → slot_in y n id (Some put) ≡ slot_in y n id (Some p)
-  slotless y n e = none put ∙ sym (none p)
-    where
-      none : (q : PropRow) → slot_in y n id (Some q) ≡ None
-      none q = ap (λ o. if same_text (folded q.name) n then option_map (slot_seen q.definer) o else None) e ∙ cond_same (same_text (folded q.name) n) None
+  slotless y n e = grind (arith, cond_same)
 
   -- under the new name stands what stood under the old one
   new_slot : (y : ObjNo) → is_object w y ≡ true → under y ≡ true → slot_of (world_shown m2) y (folded new) ≡ slot_of w y (folded p.name)
   new_slot y o u =
       let k = some_of (m.slot y id) (under_slot y o u) in
-      seen_at m2 sound_renamed y (folded new) id (record { prop = put; row = k.0; there = ap (λ b. if b then Some put else m.prop id) is_it; held = k.1; name = refl })
+      seen_at m2 sound_renamed y (folded new) id (record { prop = put; row = k.0; there = ap (λ b. if b then Some put else m.prop id) (eq-eqb id id refl); held = k.1; name = refl })
       ∙ ap (λ d. Some (slot_seen d k.0)) (sym own)
       ∙ sym (seen_at m good.sound y (folded p.name) id (record { prop = p; row = k.0; there = there; held = k.1; name = refl }))
 
@@ -153,22 +126,7 @@ module _ (t : Maps) (good : IsGood t) (x : ObjNo) (id : ℕ) (p : PropRow) (ther
           both_ways (eqb j id) f (eq-eqb j id (good.sound.one_name y j id h.prop p (ap is_some h.held) (under_slot y (is_object_seen m y ∙ ap is_some e) u) g there h.name))
 
   slots : (y : ObjNo) (r : ObjRow) → m.object y ≡ Some r → (n : Name) → slot_of (world_shown m2) y n ≡ (if under y then (if same_text (folded new) n then slot_of w y (folded p.name) else (if same_text (folded p.name) n then None else slot_of w y n)) else slot_of w y n)
-  slots y r e n = by (under y) refl (same_text (folded new) n) refl (same_text (folded p.name) n) refl
-    where
-      yo : is_object w y ≡ true
-      yo = is_object_seen m y ∙ ap is_some e
-
-      absent : under y ≡ false → m.slot y id ≡ None
-      absent u = no_value (m.slot y id) (λ k f. both_ways (under y) u (slot_under y (ap is_some f)))
-
-      by : (u : Bool) → under y ≡ u → (a : Bool) → same_text (folded new) n ≡ a → (b : Bool) → same_text (folded p.name) n ≡ b → slot_of (world_shown m2) y n ≡ (if u then (if a then slot_of w y (folded p.name) else (if b then None else slot_of w y n)) else slot_of w y n)
-      by false u a f b g = same_slots y r e n (slotless y n (absent u))
-      by true u true f b g = ap (slot_of (world_shown m2) y) (sym ((same_text-Decides (folded new) n).0 f)) ∙ new_slot y yo u
-      by true u false f true g =
-          let is : folded p.name ≡ n = (same_text-Decides (folded p.name) n).0 g in
-          ap (slot_of (world_shown m2) y) (sym is) ∙ old_slot y r e u (ap (same_text (folded new)) is ∙ f)
-      by true u false f false g =
-          same_slots y r e n (ap (λ b. if b then option_map (slot_seen x) (m.slot y id) else None) f ∙ sym (ap (λ b. if b then option_map (slot_seen p.definer) (m.slot y id) else None) g))
+  slots y r e n = grind (arith, is_object_seen, same_slots, slotless, same_text-Decides, new_slot, old_slot, slot_under)
 
   -- ---- the world
 
@@ -180,8 +138,7 @@ module _ (t : Maps) (good : IsGood t) (x : ObjNo) (id : ℕ) (p : PropRow) (ther
   world_renamed = λ i. record { object = λ y. at y (m.object y) refl i; top = m.head.top; next_prop = m.head.next_prop; next_verb = m.head.next_verb }
     where
       names : (y : ObjNo) (b : Bool) → same_object x y ≡ b → filter_map (name_on m2 y) (numbers_below m.head.next_prop) ≡ (if b then map (renames p.name new) (filter_map (name_on m y) (numbers_below m.head.next_prop)) else filter_map (name_on m y) (numbers_below m.head.next_prop))
-      names y true e = ap (λ z. filter_map (name_on m2 z) (numbers_below m.head.next_prop)) (sym ((same_object-Decides x y).0 e)) ∙ names_of_x ∙ ap (λ z. map (renames p.name new) (filter_map (name_on m z) (numbers_below m.head.next_prop))) ((same_object-Decides x y).0 e)
-      names y false e = ap (λ f. filter_map f (numbers_below m.head.next_prop)) (names_of_other y e)
+      names y b e = grind (arith, same_object-Decides, names_of_x, names_of_other)
 
       shown : (y : ObjNo) (r : ObjRow) → m.object y ≡ Some r → (n : Name) → slot_shown_by m2 y n ≡ (if under y then (if same_text (folded new) n then slot_shown_by m y (folded p.name) else (if same_text (folded p.name) n then None else slot_shown_by m y n)) else slot_shown_by m y n)
       shown y r e n =

@@ -1,8 +1,8 @@
 -- Lemmas of this crate that several of its proofs share.
-pub use Rattle.moo_props.proofs.Cases.{cond_alike, cond_same, left_some, left_value, no_value, none_of, passing, put_some, some_map}
+pub use Rattle.moo_props.proofs.Cases.{cond_same, left_some, left_value, no_value, none_of, passing, put_some, some_map}
 pub use Rattle.moo_props.proofs.Folds.{all_change, same_base, same_maps}
 pub use Rattle.moo_props.proofs.Numbers.{changed, same_below}
-pub use Rattle.moo_props.proofs.Kept.{good_by}
+pub use Rattle.moo_props.proofs.Kept.{good_by, numbers_by}
 pub use Rattle.moo_props.proofs.Walked.{Entry, seen_at, slot_here, walk, walk_held, walk_meets}
 pub use Rattle.moo_props.proofs.KeptSlots.{kept_slots, same_by_objects}
 pub use Rattle.moo_props.proofs.Gains.{object_of_chain, slot_on_heir}

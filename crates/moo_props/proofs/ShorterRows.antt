@@ -1,6 +1,6 @@
 -- Rows without a property show the world without it, and are sound.
-use Rattle.moo_props.{proofs.Words.{◌||◌, ◌≡◌, ℕ, Bool, true, false, cond, eqb, Option, None, Some, [], ◌∷◌, refl, sym, ap, ◌∙◌, subst, ◌&&◌, not, is_some, unwrap_or, if◌then◌else◌, unsigned_tied, option_map, filter, filter_map, get, remove, get-remove, both_ways, and_parts, eqb-true, same_Some, ObjNo, ObjRow, PropId, PropRow, SlotRow, Maps, Held, wrote, prop_total, property_removed, Name, nothing, same_object, same_text, folded, is_among, same_object-Decides, same_text-Decides, World, WorldObject, Slot, IsWellFormed, is_object, chain, slot_of, with_slots, without_slots, LookUps, AreSound, IsGood, look_ups, world_of, world_shown, numbers_below, name_on, slot_seen, object_shown, prop_id, SameButSlots-rebuilt, is_object_seen, defines, spelling_of, owners_under, SlotHere, false_from_ne_true, slots_moved}, proofs.Shared.{kept_slots, left_some, left_value, own_under, passing, same_maps, same_by_objects}, proofs.Moved.{keeps-moved, slots_of_moved}, proofs.OtherRow.{only, own_names, other_names}, proofs.Numbers.{fewer, kept}, proofs.Lessened.{is_own}}
-use Rattle.moo_world.proofs.Inheritance.Shorter.{s, kept_slot, undefined_law, IsWellFormed-property_removed}
+use Rattle.moo_props.{proofs.Words.{arith, ◌≡◌, ℕ, Bool, true, false, cond, eqb, Option, None, Some, [], ◌∷◌, refl, sym, ap, ◌∙◌, subst, ◌&&◌, not, is_some, unwrap_or, if◌then◌else◌, unsigned_tied, option_map, filter, filter_map, get, remove, get-remove, both_ways, and_parts, eqb-true, same_Some, ObjNo, ObjRow, PropId, PropRow, Maps, Held, wrote, prop_total, property_removed, Name, nothing, same_object, same_text, folded, same_object-Decides, same_text-Decides, World, WorldObject, Slot, is_object, slot_of, with_slots, without_slots, LookUps, AreSound, IsGood, look_ups, world_of, world_shown, numbers_below, name_on, slot_seen, object_shown, prop_id, SameButSlots-rebuilt, is_object_seen, defines, spelling_of, owners_under, SlotHere, false_from_ne_true, slots_moved}, proofs.Shared.{kept_slots, left_some, left_value, own_under, passing, same_maps, same_by_objects}, proofs.Moved.{keeps-moved, slots_of_moved}, proofs.OtherRow.{only, own_names, other_names}, proofs.Numbers.{fewer, kept}}
+use Rattle.moo_world.proofs.Inheritance.Shorter.{s, kept_slot, undefined_law}
 
 -- the look-ups without a property and its slots
 abbrev pub less_property : LookUps → ℕ → LookUps
@@ -41,12 +41,7 @@ module _ (t : Maps) (good : IsGood t) (x : ObjNo) (id : ℕ) (p : PropRow) (ther
 
   links : without_slots (world_shown m2) ≡ without_slots (s w good.formed x p.name)
   unfolding world_shown
-  links = λ i. record {
-    object = λ y. at y (same_object x y) refl (m.object y) i;
-    top = m.head.top;
-    next_prop = m.head.next_prop;
-    next_verb = m.head.next_verb;
-  }
+  links = λ i. record w { object = λ y. at y (same_object x y) refl (m.object y) i }
     where
       at : (y : ObjNo) (b : Bool) → same_object x y ≡ b → (o : Option ObjRow)
           → option_map (with_slots (λ n. None)) (option_map (object_shown m2 y) o)
@@ -93,13 +88,7 @@ module _ (t : Maps) (good : IsGood t) (x : ObjNo) (id : ℕ) (p : PropRow) (ther
           let mine = (same_object-Decides h.prop.definer x).1 (ap (λ (r : PropRow). r.definer) same ∙ own) in
           let called = (same_text-Decides n (folded p.name)).1 (sym h.name ∙ ap (λ (r : PropRow). folded r.name) same) in
           both_ways (gone (slot_seen h.prop.definer h.row)) f (λ i. mine i && called i)) in
-          record {
-            prop = h.prop;
-            row = h.row;
-            there = ap (λ b. if b then None else m.prop j) other ∙ h.there;
-            held = ap (λ b. if b then None else m.slot y j) other ∙ h.held;
-            name = h.name;
-          }
+          record { prop = h.prop; row = h.row; there = ap (λ b. if b then None else m.prop j) other ∙ h.there; held = ap (λ b. if b then None else m.slot y j) other ∙ h.held; name = h.name }
 
   pub world_shorter : world_shown m2 ≡ v
   world_shorter = same_by_objects (world_shown m2) v (links ∙ sym (SameButSlots-rebuilt w (s w good.formed x p.name) nothing)) (λ y n e.
@@ -119,19 +108,7 @@ module _ (t : Maps) (good : IsGood t) (x : ObjNo) (id : ℕ) (p : PropRow) (ther
     only2 = ap (λ (k : Maps). record k { props = remove k.props (prop_id id) }) (same_maps (keeps-moved (λ y. prop_id id ∷ []) [] (owners_under t x) held) held1.maps.slots) ∙ ap (λ (k : Maps). record k { slots = held1.maps.slots; props = remove k.props (prop_id id) }) same
 
     slots2 : (z : ObjNo) (j : ℕ) → get held1.maps.slots (z, prop_id j) ≡ (if eqb j id then None else m.slot z j)
-    slots2 z j =
-        slots_of_moved t x (λ y. prop_id id ∷ []) [] z (prop_id j) held
-        ∙ (λ i. cond (is_among x (chain w z)) (cond (unsigned_tied j id i || false) None (get (same i).slots (z, prop_id j))) (get (same i).slots (z, prop_id j)))
-        ∙ by (is_among x (chain w z)) (eqb j id) refl refl (m.slot z j) refl
-      where
-        by : (u c : Bool) → is_among x (chain w z) ≡ u → eqb j id ≡ c → (o : Option SlotRow) → m.slot z j ≡ o → cond u (cond (c || false) None o) o ≡ (if c then None else o)
-        by true true f g o h = refl
-        by true false f g o h = refl
-        by false false f g o h = refl
-        by false true f g None h = refl
-        by false true f g (Some k) h =
-            let mine : is_own m x j ≡ true = ap (λ o. unwrap_or (option_map (λ (r : PropRow). same_object r.definer x) o) false) (ap m.prop (eqb-true j id g) ∙ there) ∙ (same_object-Decides p.definer x).1 own in
-            absurd (both_ways (is_among x (chain w z)) f (own_under t good x z (prop_id j) k h mine))
+    slots2 z j = grind (arith, slots_of_moved, eqb-true, same_object-Decides, own_under)
 
     pub look_ups-shorter : look_ups held2.maps ≡ m2
     look_ups-shorter =
@@ -140,6 +117,3 @@ module _ (t : Maps) (good : IsGood t) (x : ObjNo) (id : ℕ) (p : PropRow) (ther
           prop = λ j. (get-remove prop_total t.props (prop_id id) (prop_id j) ∙ ap (λ b. cond b None (m.prop j)) (unsigned_tied j id)) i;
           slot = λ z j. slots2 z j i;
         })
-
-  pub formed_shorter : IsWellFormed v
-  formed_shorter = IsWellFormed-property_removed w good.formed x p.name

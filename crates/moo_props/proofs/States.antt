@@ -1,5 +1,5 @@
 -- What another row of one slot does to the World.
-use Rattle.moo_props.{proofs.Words.{◌≡◌, ℕ, Bool, true, false, eqb, Option, None, Some, [], refl, sym, ap, subst, ◌∙◌, ◌&&◌, is_some, unwrap_or, if◌then◌else◌, option_map, option_and_then, get, insert, and_parts, both_ways, eqb-true, same_Some, ObjNo, PropId, PropRow, SlotRow, Clear, Maps, with_slot_of, Name, same_object, same_text, folded, same_object-Decides, same_text-Decides, World, WorldObject, IsWellFormed, Slot, slot_of, object_changed, slot_fits, LookUps, IsSound, IsGood, look_ups, world_of, world_shown, slot_seen, prop_id, name_of, spelling_of, defines, some_of, false_from_ne_true}, proofs.Shared.{passing, seen_at, slot_here}}
+use Rattle.moo_props.{proofs.Words.{arith, ◌≡◌, ℕ, Bool, true, false, Option, None, Some, [], refl, sym, ap, subst, ◌∙◌, is_some, unwrap_or, if◌then◌else◌, option_map, option_and_then, get, insert, both_ways, eqb-true, same_Some, ObjNo, PropId, PropRow, SlotRow, Clear, Maps, with_slot_of, Name, same_object, same_text, folded, same_object-Decides, same_text-Decides, World, WorldObject, IsWellFormed, Slot, slot_of, object_changed, slot_fits, LookUps, IsSound, IsGood, look_ups, world_of, world_shown, slot_seen, prop_id, spelling_of, defines, some_of}, proofs.Shared.{seen_at, slot_here}}
 use Rattle.moo_world.{specs.Petitions.{PetitionsStand}, proofs.Shown.RowLaws.{world_shown-with_slot_row}, proofs.Shown.MapLaws.{look_ups-put_slot}, proofs.Form.Slots.{IsWellFormed-with_slot_of}}
 
 module _ (t : Maps) (sound : IsSound t) (x : ObjNo) (id : PropId) (k : SlotRow) (held : get t.slots (x, id) ≡ Some k) (next : SlotRow) (change : Slot → Slot) (agrees : (d : ObjNo) → change (slot_seen d k) ≡ slot_seen d next) where
@@ -42,13 +42,7 @@ module _ (t : Maps) (sound : IsSound t) (x : ObjNo) (id : PropId) (k : SlotRow) 
   put_slot_world = one ∙ same ∙ ap (λ n. with_slot_of w x n change) (sym (ap (λ o. unwrap_or (option_map (λ (p : PropRow). p.name) o) []) prop.1))
 
   still : (y : ObjNo) (j : ℕ) → is_some (get (insert t.slots (x, id) next) (y, prop_id j)) ≡ true → is_some (m.slot y j) ≡ true
-  still y j e = by (same_object x y && eqb id.0 j) refl (ap is_some (sym (ap (λ (r : LookUps). r.slot y j) (look_ups-put_slot t x id next))) ∙ e)
-    where
-      by : (b : Bool) → (same_object x y && eqb id.0 j) ≡ b → is_some (if b then Some next else m.slot y j) ≡ true → is_some (m.slot y j) ≡ true
-      by true h k =
-          let parts = and_parts (same_object x y) (eqb id.0 j) h in
-          (λ i. is_some (m.slot (sym ((same_object-Decides x y).0 parts.0) i) (sym (eqb-true id.0 j parts.1) i))) ∙ ap is_some held
-      by false h k = k
+  still y j e = let h = ap is_some (sym (ap (λ (r : LookUps). r.slot y j) (look_ups-put_slot t x id next))) ∙ e in grind (arith, same_object-Decides, eqb-true)
 
   -- such rows stay sound
   pub put_slot_sound : IsSound (record t { slots = insert t.slots (x, id) next })
@@ -59,9 +53,6 @@ module _ (t : Maps) (sound : IsSound t) (x : ObjNo) (id : PropId) (k : SlotRow) 
     one_name = λ y i j p r e f. sound.one_name y i j p r (still y i e) (still y j f);
     verbs = sound.verbs;
   }
-
-  spelled : spelling_of t id ≡ prop.0.name
-  spelled = ap (λ o. unwrap_or (option_map (λ (p : PropRow). p.name) o) []) prop.1
 
   module _ (wf : IsWellFormed w) (keeps : (s : Slot) → (change s).definer ≡ s.definer) (set : next.state ≡ Clear → defines t x id ≡ false) (fits_still : (s : Slot) → slot_fits s ≡ true → slot_fits (change s) ≡ true) (petitions : PetitionsStand t.petitions t.head.next_petition) where
     stays_set : (s : Slot) → slot_of w x (folded prop.0.name) ≡ Some s → s.definer ≡ x → (change s).state ≡ Clear → ⊥
@@ -75,12 +66,10 @@ module _ (t : Maps) (sound : IsSound t) (x : ObjNo) (id : PropId) (k : SlotRow) 
     pub put_slot_good : IsGood (record t { slots = insert t.slots (x, id) next })
     put_slot_good = record {
       sound = put_slot_sound;
-      formed = subst IsWellFormed (sym (put_slot_world ∙ ap (λ n. with_slot_of w x n change) spelled)) (IsWellFormed-with_slot_of w x prop.0.name change wf keeps stays_set fits_still);
+      formed = subst IsWellFormed (sym (one ∙ same)) (IsWellFormed-with_slot_of w x prop.0.name change wf keeps stays_set fits_still);
       petitions = petitions;
     }
 
 -- a slot that is clear isn't the definer's
 pub clear_inherited : (t : Maps) → IsGood t → (x : ObjNo) (id : PropId) (k : SlotRow) → get t.slots (x, id) ≡ Some k → k.state ≡ Clear → defines t x id ≡ false
-clear_inherited t good x id k held clear = false_from_ne_true (defines t x id) (λ h.
-    let p = passing (λ (p : PropRow). same_object p.definer x) (get t.props id) h in
-    good.formed.set x (name_of t id) (slot_seen p.0.definer k) (slot_here t good.sound x id k held p.0 p.1) ((same_object-Decides p.0.definer x).0 p.2) clear)
+clear_inherited t good x id k held clear = grind (arith, slot_here, same_object-Decides)

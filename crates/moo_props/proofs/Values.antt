@@ -1,5 +1,5 @@
 -- What an object reads, by the rows.
-use Rattle.moo_props.{proofs.Words.{◌≡◌, true, Some, sym, ap, ◌∙◌, inl, inr, is_some, get, or_cases, same_Some, ObjNo, Value, ObjRow, PropId, PropRow, SlotRow, Clear, Set, Maps, same_object, is_among, same_object-Decides, World, IsWellFormed, is_object, chain, slot_of, read_of, LookUps, IsSound, look_ups, world_of, slot_seen, is_object_seen, chain_of_row, object_seen, name_of, some_of}, proofs.Shared.{object_of_chain, slot_here, slot_on_heir}, proofs.Owing.{definer_in}}
+use Rattle.moo_props.{proofs.Words.{◌≡◌, true, Some, sym, ap, ◌∙◌, inl, inr, is_some, get, or_cases, same_Some, ObjNo, Value, ObjRow, PropId, PropRow, SlotRow, Clear, Set, Maps, same_object, is_among, same_object-Decides, World, IsWellFormed, chain, slot_of, read_of, LookUps, IsSound, look_ups, world_of, slot_seen, is_object_seen, chain_of_row, object_seen, name_of, some_of}, proofs.Shared.{object_of_chain, slot_here, slot_on_heir}, proofs.Owing.{definer_in}}
 use Rattle.moo_world.proofs.Shown.Reading.{read_step}
 
 module _ (t : Maps) (sound : IsSound t) (wf : IsWellFormed (world_of t)) (x : ObjNo) (id : PropId) (k : SlotRow) (held : get t.slots (x, id) ≡ Some k) where
@@ -30,18 +30,12 @@ module _ (t : Maps) (sound : IsSound t) (wf : IsWellFormed (world_of t)) (x : Ob
         let same = same_Some s.0 _ (sym s.1 ∙ object_seen m x r there) in
         s.2 ∙ ap (λ z. elim z [ Clear ↦ read_of w s.0.row.parent (name_of t id) | Set u ↦ Some u ]) clear ∙ ap (λ z. read_of w z.row.parent (name_of t id)) same
 
-    xo : is_object w x ≡ true
-    xo = is_object_seen m x ∙ rows_there.0
-
     definer_above : is_among prop.0.definer (chain w r.parent) ≡ true
-    definer_above = elim (or_cases (same_object prop.0.definer x) (is_among prop.0.definer (chain w r.parent)) (sym (ap (is_among prop.0.definer) (chain_of_row m wf.tree x r (sym there))) ∙ definer_in w wf x xo (name_of t id) (slot_seen prop.0.definer k) slot_read)) [
+    definer_above = elim (or_cases (same_object prop.0.definer x) (is_among prop.0.definer (chain w r.parent)) (sym (ap (is_among prop.0.definer) (chain_of_row m wf.tree x r (sym there))) ∙ definer_in w wf x (is_object_seen m x ∙ rows_there.0) (name_of t id) (slot_seen prop.0.definer k) slot_read)) [
       | inl h ↦ absurd (wf.set x (name_of t id) (slot_seen prop.0.definer k) slot_read ((same_object-Decides prop.0.definer x).0 h) clear)
       | inr h ↦ h
     ]
 
-    parent_there : is_object w r.parent ≡ true
-    parent_there = object_of_chain w prop.0.definer r.parent definer_above
-
     -- the parent has the property too
     pub parent_has : is_some (get t.slots (r.parent, id)) ≡ true
-    parent_has = slot_on_heir t sound wf r.parent parent_there id.0 prop.0 prop.1 definer_above
+    parent_has = slot_on_heir t sound wf r.parent (object_of_chain w prop.0.definer r.parent definer_above) id.0 prop.0 prop.1 definer_above

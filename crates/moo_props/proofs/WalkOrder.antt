@@ -1,5 +1,6 @@
 -- The walk over an object's slots gives its properties in order.
 use Rattle.moo_props.{proofs.Words.{◌≡◌, Bool, true, Some, List, [], ◌∷◌, map, Ordering, Less, sym, ap, ◌∙◌, refl, subst, tied_itself, int_eq, ordering_then, filter, AllByRecursion, get, entries, entries_sorted, Decides-int_eq, ObjNo, Maps, object_cmp, prop_cmp, slot_cmp, object_total, ids_among, cond_both}, proofs.Ascending.{Rises, rises_made}, proofs.Walked.{Entry, all_filter, walk, walk_held}}
+use Rattle.moo_world.proofs.Shown.EntriesInOrder.{all_weaker}
 
 rises_fewer : {K A : Type 0} (cmp : K → K → Ordering) (key : A → K) (test : A → Bool) (l : List A) → Rises cmp key l → Rises cmp key (filter test l)
 rises_fewer cmp key test [] r = tt
@@ -19,11 +20,7 @@ ids_rise x (e ∷ es) a r = (each es a.1 r.0, ids_rise x es a.1 r.1)
 
 -- each slot is the object's
 pub walk_own : (t : Maps) (x : ObjNo) → AllByRecursion (λ (e : Entry). e.0.0 ≡ x) (walk t x)
-walk_own t x = each (walk t x) (walk_held t x)
-  where
-    each : (l : List Entry) → AllByRecursion (λ (e : Entry). (get t.slots e.0 ≡ Some e.1) × (int_eq e.0.0.0 x.0 ≡ true)) l → AllByRecursion (λ (e : Entry). e.0.0 ≡ x) l
-    each [] h = tt
-    each (e ∷ l) h = (let k = (Decides-int_eq e.0.0.0 x.0).0 h.0.1 in λ i. record { 0 = k i }, each l h.1)
+walk_own t x = all_weaker (λ (e : Entry). (get t.slots e.0 ≡ Some e.1) × (int_eq e.0.0.0 x.0 ≡ true)) (λ (e : Entry). e.0.0 ≡ x) (λ e h. let k = (Decides-int_eq e.0.0.0 x.0).0 h.1 in λ i. record { 0 = k i }) (walk t x) (walk_held t x)
 
 walk_rises : (t : Maps) (x : ObjNo) → Rises slot_cmp (λ (e : Entry). e.0) (walk t x)
 walk_rises t x = rises_fewer slot_cmp (λ (e : Entry). e.0) _ _ (rises_fewer slot_cmp (λ (e : Entry). e.0) _ (entries t.slots) entries_rise)

@@ -1,7 +1,8 @@
 -- The walk over an object's slots finds the property of a name.
-use Rattle.moo_props.proofs.Words.{arith, ◌||◌, ◌≡◌, ℕ, Bool, true, false, cond, Some, List, [], ◌∷◌, Ordering, Less, refl, sym, ap, ◌∙◌, ◌&&◌, is_some, unwrap_or, option_map, IsTotalOrder, tied_itself, nat_cmp_is, eq_by_cmp, is_lt, int_eq, ordering_then, filter, list_any, AllByRecursion, get, entries, get-entries, entries_sorted, or_right, Decides-int_eq, CmpEqualImpliesEq, none-some, same_Some, ObjNo, PropId, PropRow, SlotRow, Maps, prop_cmp, slot_cmp, slots_of_left, is_past, slot_exact, object_total, slot_total, Name, folded, slot_of, IsSound, look_ups, world_of, slot_seen, key-Decides, slot_shown, name_of, some_of, own_entries, SlotHere, LookUps, AreSound, world_shown, or_left, cond_both, FinMap}
+use Rattle.moo_props.proofs.Words.{arith, ◌≡◌, ℕ, Bool, true, Some, List, [], ◌∷◌, Ordering, Less, refl, sym, ap, ◌∙◌, ◌&&◌, is_some, unwrap_or, option_map, IsTotalOrder, tied_itself, nat_cmp_is, is_lt, int_eq, ordering_then, filter, list_any, AllByRecursion, get, entries, get-entries, entries_sorted, or_right, Decides-int_eq, CmpEqualImpliesEq, none-some, ObjNo, PropId, PropRow, SlotRow, Maps, prop_cmp, slot_cmp, slots_of_left, is_past, slot_exact, object_total, slot_total, Name, folded, slot_of, IsSound, look_ups, world_of, slot_seen, key-Decides, slot_shown, name_of, some_of, own_entries, SlotHere, LookUps, AreSound, world_shown, or_left, cond_both, FinMap}
 use Rattle.std.specs.List.{find}
 use Rattle.std.specs.FinMap as map
+use Rattle.moo_world.proofs.Shown.EntriesInOrder.{all_weaker}
 
 abbrev pub Entry : Type 0
 Entry = (ObjNo × PropId) × SlotRow
@@ -28,19 +29,12 @@ any_filter p test (x ∷ l) = grind (arith, any_filter p test l)
 
 pub any_held : {K X : Type 0} (cmp : K → K → Ordering) (total : IsTotalOrder cmp) (exact : CmpEqualImpliesEq cmp) (p : K × X → Bool) (k : K) (v : X) (es : List (K × X)) → map.find cmp k es ≡ Some v → p (k, v) ≡ true → list_any p es ≡ true
 any_held cmp total exact p k v [] e h = absurd (none-some v e)
-any_held cmp total exact p k v (a ∷ es) e h = by (eq_by_cmp cmp k a.0) refl e (any_held cmp total exact p k v es)
-  where
-    by : (b : Bool) → eq_by_cmp cmp k a.0 ≡ b → cond b (Some a.1) (map.find cmp k es) ≡ Some v → (map.find cmp k es ≡ Some v → p (k, v) ≡ true → list_any p es ≡ true) → (p a || list_any p es) ≡ true
-    by true g u r = or_left (p a) (list_any p es) ((λ i. p (sym ((key-Decides cmp total exact k a.0).0 g) i, same_Some a.1 v u i)) ∙ h)
-    by false g u r = or_right (p a) (list_any p es) (r u h)
+any_held cmp total exact p k v (a ∷ es) e h = grind (arith, or_left, key-Decides, or_right, any_held cmp total exact p k v es)
 
 -- each entry is held
 pub all_held : {K X : Type 0} {cmp : K → K → Ordering} (total : IsTotalOrder cmp) (exact : CmpEqualImpliesEq cmp) (m : FinMap cmp X) → AllByRecursion (λ (e : K × X). get m e.0 ≡ Some e.1) (entries m)
-all_held {K = K} {X = X} {cmp = cmp} total exact m = held (entries m) (own_entries cmp total exact (entries m) (entries_sorted m))
-  where
-    held : (es : List (K × X)) → AllByRecursion (λ e. map.find cmp e.0 (entries m) ≡ Some e.1) es → AllByRecursion (λ e. get m e.0 ≡ Some e.1) es
-    held [] a = tt
-    held (e ∷ es) a = (get-entries m e.0 ∙ a.0, held es a.1)
+all_held {K = K} {X = X} {cmp = cmp} total exact m =
+    all_weaker (λ (e : K × X). map.find cmp e.0 (entries m) ≡ Some e.1) (λ e. get m e.0 ≡ Some e.1) (λ e h. get-entries m e.0 ∙ h) (entries m) (own_entries cmp total exact (entries m) (entries_sorted m))
 
 -- ---- the walk over an object's slots
 
@@ -56,9 +50,7 @@ walk_held m x =
 
 -- a slot that is there is one of the world
 pub seen_at : (m : LookUps) → AreSound m → (x : ObjNo) (n : Name) (id : ℕ) (h : SlotHere m x n id) → slot_of (world_shown m) x n ≡ Some (slot_seen h.prop.definer h.row)
-seen_at m sound x n id h =
-    let row = some_of (m.object x) (sound.slots x id (ap is_some h.held)).0 in
-    ap (slot_of (world_shown m) x) (sym h.name) ∙ slot_shown m sound x row.0 row.1 id h.prop h.row h.there h.held
+seen_at m sound x n id h = grind (arith, some_of, slot_shown)
 
 module _ (m : Maps) (sound : IsSound m) (x : ObjNo) where
   -- a slot of the object is met

@@ -58,8 +58,8 @@ impl Whys {
         }
     }
 
-    /// Why the next batch got this reply: the call that failed, its error and the check, or what there is no room for. None if it is neither
-    /// refused nor full. AllocError: memory ran out.
+    /// Why the next batch got this reply: the call that failed, its error and the check, or what there is no room for. None if it is
+    /// neither refused nor full. AllocError: memory ran out.
     pub fn next(&mut self, reply: &Reply) -> Result<Option<String>, AllocError> {
         if self.is_lost {
             return Err(AllocError);

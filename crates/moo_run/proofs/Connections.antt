@@ -1,5 +1,5 @@
 -- A task over a connection.
-use Rattle.moo_run.proofs.Words.{◌≡◌, ◌⊎◌, inl, inr, ℕ, List, [], Option, Result, Ok, Err, refl, sym, subst, subst₂, ap, ◌∙◌, Bool, true, false, IsTrue, MatchResult, ⊤, HasCleanDisk, Survives, Held, state, Task, Stand, Failure, Store, Damaged, NewerVersion, Reports, store_failure, Given, Run, Leads, MayLead, Done, StopsTask, ShowsTables, EndsTask, RunsAction, RunsIn, RunsFrom, RunsUnseen, IsOpening, MayRefuse, LeadsFrom, LeavesAsBefore, LeavesNothingNew, only_reads, serves, Batch, State, LeavesLed, Maps, World, store_of, CrashLeaves, ShowsState}
+use Rattle.moo_run.proofs.Words.{◌≡◌, ◌⊎◌, inl, inr, ℕ, List, [], Option, Result, Ok, Err, refl, sym, subst, subst₂, ap, ◌∙◌, Bool, true, false, IsTrue, MatchResult, ⊤, HasCleanDisk, Survives, Held, state, Task, Stand, Failure, Reports, store_failure, Given, Run, Leads, MayLead, Done, StopsTask, ShowsTables, EndsTask, RunsAction, RunsIn, RunsFrom, RunsUnseen, IsOpening, MayRefuse, LeadsFrom, LeavesAsBefore, LeavesNothingNew, only_reads, serves, Batch, State, LeavesLed, Maps, World, store_of, CrashLeaves, ShowsState}
 use Rattle.sqlite.{specs.State.{State as Database}, specs.Store.{Ghosts}, specs.declared.error.Error.{Error}}
 use Rattle.moo_cli.{specs.declared.task.Action.{Action}, specs.declared.task.Action.TheVariants.{Init, Apply, Rehearse, Ask, Dump, Load, Check, Serve}}
 use Rattle.moo_store_rows.{specs.declared.fault.StoreFault.{StoreFault}, specs.Opening.{IsOfStore, Adopts}}

@@ -1,5 +1,5 @@
 -- The rows that files hold, and the run of a task from them.
-use Rattle.moo_run.proofs.Words.{LeadsFrom, ◌≡◌, true, refl, sym, subst, ⊤, Ghosts, State, World, StandsFor, store_of, over_files, only_reads, RunsUnseen, Image, HasCleanDisk, Held, file_state, Maps, IsGood, state_of, LeavesLed, CrashLeaves, Task, Run, RunsFrom, HoldsRows, RunsRows}
+use Rattle.moo_run.{proofs.Words.{LeadsFrom, ◌≡◌, true, refl, sym, subst, ⊤, Ghosts, State, World, StandsFor, store_of, over_files, only_reads, RunsUnseen, Image, HasCleanDisk, Held, file_state, Maps, IsGood, state_of, LeavesLed, CrashLeaves, Task, Run, RunsFrom, HoldsRows, RunsRows}, specs.Ends.{RanOnto, RunsCells}, proofs.Connections.{runs_when, unled, led_rows}}
 use Rattle.sqlite_store.specs.declared.store.FileStore.{FileStore}
 use Rattle.moo_tables_rows.specs.Tables.{Tables}
 use Rattle.moo_cells.{specs.Shows.{ShowsRows}, proofs.CellsLemmas.{one_good}, proofs.GoodRows.{good_within}}
@@ -7,7 +7,6 @@ use Rattle.moo_files.{specs.Contents.{HoldsTables, HoldsState}, specs.Opened.{Co
 use Rattle.sqlite.{specs.Tree.{Trees}, specs.State.{State as Content}}
 use Rattle.moo_store.specs.Untouched.{LeavesWritten}
 use Rattle.moo_store_rows.specs.Current.{RestsCurrent, unread_from}
-use Rattle.moo_run.{specs.Ends.{RanOnto, RunsCells}, proofs.Connections.{runs_when, unled, led_rows}}
 
 -- files that hold rows hold their tables and their state
 pub rows_tables : (image : Image) (rows : Maps) (it : HoldsRows image rows) → HoldsTables image it.1.such.tables

@@ -1,16 +1,10 @@
 -- From what was done to a World to how a task ends.
-use Rattle.moo_run.proofs.Words.{◌≡◌, ◌≢◌, NoBatches, NoMemory, Read, Write, TooLong, inl, inr, ℕ, ◌≤◌, Bool, true, false, List, [], Option, Result, Ok, Err, IfOk, IfErr, OnOk, MatchResult, refl, sym, ap, subst, arith, IsTrue, if◌then◌else◌, codes, bytes_eq, HasCleanDisk, Survives, Batch, IsGood, State, World, Stand, Works, store_of, StandsFor, CrashLeaves, text_failure, Texts, texts_by, None, Some, true≢false, ◌∙◌, lost_status, course_status, AppliesText, RehearsesText, StopsRehearsing, StopsApplying, RunsText, MayLead, EndsTask, Failure}
-use Rattle.sqlite.{specs.State.{State as Database}, specs.Store.{Ghosts}}
+use Rattle.moo_run.{proofs.Words.{◌≡◌, ◌≢◌, NoBatches, NoMemory, Read, Write, TooLong, inl, inr, ℕ, ◌≤◌, Bool, true, false, List, [], Option, Result, Ok, Err, IfOk, IfErr, OnOk, MatchResult, refl, sym, ap, subst, arith, IsTrue, if◌then◌else◌, codes, bytes_eq, HasCleanDisk, Survives, Batch, IsGood, State, World, Stand, Works, store_of, StandsFor, CrashLeaves, text_failure, Texts, texts_by, None, Some, true≢false, ◌∙◌, lost_status, course_status, AppliesText, RehearsesText, StopsRehearsing, StopsApplying, RunsText, MayLead, EndsTask, Failure}, specs.Texts.{OpenedBy, LacksBy}, specs.Run.{TellsLack}}
+use Rattle.sqlite.{specs.State.{State as Database}, specs.Store.{Ghosts}, specs.Held.{state}}
 use Rattle.moo_text.specs.declared.fault.TextFault.{TextFault}
-use Rattle.moo_run.specs.Texts.{OpenedBy, LacksBy}
-use Rattle.moo_run.specs.Run.{TellsLack}
 use Rattle.std.specs.Prelude.{IsErr}
 use Rattle.moo_text.specs.declared.fault.TextFault.TheVariants as text_fault
-use Rattle.moo_store.specs.declared.course.Course.{Course}
-use Rattle.moo_store.specs.Stopping.{AreAccepted, AppliesFirst, CompletesUntil, HaltsUntil, EndsEarly}
-use Rattle.moo_store.specs.Rehearsed.{RehearsesBatch}
-use Rattle.sqlite.specs.Held.{state}
-use Rattle.moo_store.{specs.Untouched.{IsMovedBy}, proofs.Untouched.{is_over, written_none}, specs.Text.{Applies, StopsRun}}
+use Rattle.moo_store.{specs.declared.course.Course.{Course}, specs.Stopping.{AreAccepted, AppliesFirst, CompletesUntil, HaltsUntil, EndsEarly}, specs.Rehearsed.{RehearsesBatch}, specs.Untouched.{IsMovedBy}, proofs.Untouched.{is_over, written_none}, specs.Text.{Applies, StopsRun}}
 use Rattle.moo_store_rows.proofs.Committed.{IsSettled}
 
 pub given_input : (batches : List ℕ) (input : Option (List ℕ)) (files : Texts) → bytes_eq batches (codes "-") ≡ true → texts_by input files batches ≡ input

@@ -18,11 +18,10 @@ use crate::over::{begins_anew, run_in, run_over};
 use crate::session::{Runs, Session, Streams};
 use moo_cli::Task;
 use moo_files::{Remains, WorldFiles, create_from, load_from, open_from};
-use moo_run_lines::{Failure, report};
+use moo_run_lines::Failure;
 use moo_store::{StoreFault, World};
 use sqlite::{Connection, Error, ErrorCode, FileStore, Start};
 use sqlite_disk::Disk;
-use std::alloc::Global;
 
 /// `run_in` at the store in files, over any disk. What is known of that store weighs on each function that calls a generic one at it,
 /// so this call has a function of its own.
@@ -90,19 +89,14 @@ fn run_loaded<'s, S: Streams>(
     ) {
         Ok(rows) => rows,
         Err(failure) => {
-            session.status = report(session.alloc, session.console, failure, &mut session.output);
+            session.fail(failure);
             return Ends::Refused(Remains::Untouched(start));
         }
     };
     match load_from(session.alloc, &session.host, file, start, rows) {
         Ok(world) => Ends::Ran(run_in_files(session, world, task)),
         Err((fault, remains)) => {
-            session.status = report(
-                session.alloc,
-                session.console,
-                refusal(fault),
-                &mut session.output,
-            );
+            session.fail(refusal(fault));
             Ends::Refused(remains)
         }
     }
@@ -125,12 +119,7 @@ fn run_created<'s, S: Streams>(
     match create_from(session.alloc, &session.host, file, start) {
         Ok(world) => Ends::Ran(run_in_files(session, world, task)),
         Err((fault, remains)) => {
-            session.status = report(
-                session.alloc,
-                session.console,
-                refusal(fault),
-                &mut session.output,
-            );
+            session.fail(refusal(fault));
             Ends::Refused(remains)
         }
     }
@@ -152,7 +141,7 @@ fn run_found<'s, S: Streams>(
         Ok(world) => Ends::Ran(run_in_files(session, world, task)),
         Err((fault, remains)) => {
             let failure = refusal_of(&session.host, task.file, fault);
-            session.status = report(session.alloc, session.console, failure, &mut session.output);
+            session.fail(failure);
             Ends::Refused(remains)
         }
     }
@@ -194,13 +183,7 @@ fn run_in_memory<'s, S: Streams>(session: &mut Session<'s, S>, task: Task<'_>)
     ensures input { reads_input task.entry ≡ false → session.new.input ≡ session.old.input }
 {
     let Ok(conn) = Connection::open_in_memory(session.alloc) else {
-        session.status = report(
-            session.alloc,
-            session.console,
-            Failure::NoMemory,
-            &mut session.output,
-        );
-        return;
+        return session.fail(Failure::NoMemory);
     };
     let _conn = run_over(session, conn, task);
 }

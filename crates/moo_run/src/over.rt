@@ -1,6 +1,6 @@
 //! A task over a connection.
 
-ghost use Rattle.std.specs.Prelude.{◌≡◌, ℕ, List, true, false, MatchResult, Bool};
+ghost use Rattle.std.specs.Prelude.{◌≡◌, ℕ, List, true, false, Bool};
 ghost use Rattle.sqlite.specs.State.{HasCleanDisk};
 ghost use Rattle.sqlite.specs.Held.{state};
 ghost use Rattle.moo_world.specs.Rows.{IsGood};
@@ -9,7 +9,6 @@ ghost use Rattle.moo_tables_rows.specs.Tables.{Tables};
 ghost use Rattle.moo_tables_rows.specs.Inside.{Rests};
 ghost use Rattle.moo_store_rows.specs.States.{ShowsState};
 ghost use Rattle.moo_store.specs.World.{store_of, StandsFor};
-ghost use Rattle.moo_run_lines.specs.Lines.{Reports};
 ghost use Rattle.moo_run.specs.Run.{begins_anew, is_load, dump_word, RunsIn, RunsAnew, RunsKept, RunsShown, RunsOpened};
 ghost use Rattle.moo_run.specs.Run.{LeavesNothingNew, only_reads, reads_input, ReadsFile};
 
@@ -17,34 +16,15 @@ use crate::commands::do_task;
 use crate::loading::{dump_word, read_world};
 use crate::session::{Runs, Session, Streams};
 use moo_cli::{Action, Task};
-use moo_run_lines::{Failure, report};
+use moo_run_lines::Failure;
 use moo_store::{World, adopt, create_in, load_in};
 use sqlite::{Alter, Connection};
-use std::alloc::Global;
-use std::io::{Eprint, Write};
 
 /// Whether a task begins with a new world: `init` and `load` do, and each task on `:memory:`.
 pub(crate) fn begins_anew(task: Task<'_>) -> bool
     ensures { result ≡ begins_anew task.entry }
 {
     matches!(task.action, Action::Init | Action::Load { .. }) || task.file == ":memory:"
-}
-
-/// The status of a task that is done; or the line of its failure, and the status of that.
-fn ended<C: Eprint, W: Write>(
-    alloc: Global,
-    console: &C,
-    done: Result<u8, Failure>,
-    output: &mut W,
-) -> u8
-    ensures { MatchResult done
-        (λ status. (result ≡ status) × (W.contents output.new ≡ W.contents output.old))
-        (λ failure. Reports failure (W.contents output.old) (W.contents output.new) result) }
-{
-    match done {
-        Ok(status) => status,
-        Err(failure) => report(alloc, console, failure, output),
-    }
 }
 
 /// Does what a task says over a World, writes the line of a failure, and hands the connection back. The status is that of
@@ -71,7 +51,7 @@ pub fn run_in<'s, S: Streams, B: Alter + Drop>(
 {
     world.has_good_rows();
     let done = do_task(session, &mut world, task);
-    session.status = ended(session.alloc, session.console, done, &mut session.output);
+    session.finish(done);
     world.into_connection()
 }
 
@@ -90,12 +70,7 @@ fn run_anew<'s, S: Streams, B: Alter + Drop>(
     match create_in(session.alloc, conn) {
         Ok(world) => run_in(session, world, task),
         Err((fault, conn)) => {
-            session.status = report(
-                session.alloc,
-                session.console,
-                Failure::from(fault),
-                &mut session.output,
-            );
+            session.fail(Failure::from(fault));
             conn
         }
     }
@@ -124,19 +99,14 @@ fn run_loaded<'s, S: Streams, B: Alter + Drop>(
     ) {
         Ok(rows) => rows,
         Err(failure) => {
-            session.status = report(session.alloc, session.console, failure, &mut session.output);
+            session.fail(failure);
             return conn;
         }
     };
     match load_in(session.alloc, conn, rows) {
         Ok(world) => run_in(session, world, task),
         Err((fault, conn)) => {
-            session.status = report(
-                session.alloc,
-                session.console,
-                Failure::from(fault),
-                &mut session.output,
-            );
+            session.fail(Failure::from(fault));
             conn
         }
     }
@@ -160,12 +130,7 @@ fn run_opened<'s, S: Streams, B: Alter + Drop>(
     match adopt(session.alloc, conn) {
         Ok(world) => run_in(session, world, task),
         Err((fault, conn)) => {
-            session.status = report(
-                session.alloc,
-                session.console,
-                Failure::from(fault),
-                &mut session.output,
-            );
+            session.fail(Failure::from(fault));
             conn
         }
     }

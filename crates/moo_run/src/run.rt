@@ -14,9 +14,7 @@ use crate::session::{Runs, Session, Streams};
 use clap::error::ErrorKind;
 use moo_cli::{Usage, read_words};
 use moo_files::{Remains, WorldFiles};
-use moo_run_lines::{Failure, put_line, report};
-use std::alloc::Global;
-use std::io::{Eprint, Write};
+use moo_run_lines::{Failure, put_line};
 
 /// The status of what the reader of the words says: 0 for help and the version, 2 for a mistake.
 fn mistake_status(kind: ErrorKind) -> u8
@@ -28,39 +26,33 @@ fn mistake_status(kind: ErrorKind) -> u8
     }
 }
 
-/// Writes what the reader of the words says, and answers its status.
-fn put_mistake<C: Eprint, W: Write>(
-    alloc: Global,
-    console: &C,
-    error: &clap::Error,
-    output: &mut W,
-) -> u8
-    ensures { (words : List (List ℕ)) → HasKind (mistakes words) error.now →
-        EndsUsage words (W.contents output.old) (W.contents output.new) result }
+/// Writes what the reader of the words says, and takes its status.
+fn put_mistake<'s, S: Streams>(session: &mut Session<'s, S>, error: &clap::Error)
+    ensures usage { (words : List (List ℕ)) → HasKind (mistakes words) error.now →
+        EndsUsage words (S.Output.contents session.old.output) (S.Output.contents session.new.output) session.new.status }
+    ensures host { session.new.host ≡ session.old.host }
+    ensures input { session.new.input ≡ session.old.input }
 {
     let kind = error.kind();
     if kind == ErrorKind::OutOfMemory {
-        return report(alloc, console, Failure::NoMemory, output);
+        return session.fail(Failure::NoMemory);
     }
-    let Ok(text) = error.to_string(alloc) else {
-        return report(alloc, console, Failure::NoMemory, output);
+    let Ok(text) = error.to_string(session.alloc) else {
+        return session.fail(Failure::NoMemory);
     };
-    put_line(text.as_str(), mistake_status(kind), output)
+    session.status = put_line(text.as_str(), mistake_status(kind), &mut session.output);
 }
 
 /// Says why the words name no task.
-fn report_usage<C: Eprint, W: Write>(
-    alloc: Global,
-    console: &C,
-    usage: &Usage,
-    output: &mut W,
-) -> u8
-    ensures { (words : List (List ℕ)) → IsRefusal words usage.now →
-        EndsUsage words (W.contents output.old) (W.contents output.new) result }
+fn report_usage<'s, S: Streams>(session: &mut Session<'s, S>, usage: &Usage)
+    ensures usage { (words : List (List ℕ)) → IsRefusal words usage.now →
+        EndsUsage words (S.Output.contents session.old.output) (S.Output.contents session.new.output) session.new.status }
+    ensures host { session.new.host ≡ session.old.host }
+    ensures input { session.new.input ≡ session.old.input }
 {
     match usage {
-        Usage::Refused(error) => put_mistake(alloc, console, error, output),
-        Usage::Absent => report(alloc, console, Failure::Usage, output),
+        Usage::Refused(error) => put_mistake(session, error),
+        Usage::Absent => session.fail(Failure::Usage),
     }
 }
 
@@ -98,12 +90,7 @@ pub fn run_words<'s, S: Streams>(
     match read_words(session.alloc, words) {
         Ok(task) => run_task(session, task, start),
         Err(usage) => {
-            session.status = report_usage(
-                session.alloc,
-                session.console,
-                &usage,
-                &mut session.output,
-            );
+            report_usage(session, &usage);
             Ends::NoFile(start)
         }
     }

@@ -1,10 +1,13 @@
 //! What a run has beside its words and their file.
 
+ghost use Rattle.std.specs.Prelude.{◌≡◌, MatchResult};
 ghost use Rattle.moo_run.specs.Given.{Run, given_to};
+ghost use Rattle.moo_run_lines.specs.Lines.{Reports};
 
 use crate::host::BatchFiles;
 use moo_files::WorldFiles;
 use moo_http::Ports;
+use moo_run_lines::{Failure, report};
 use sqlite::Start;
 use sqlite_disk::Disk;
 use std::alloc::Global;
@@ -33,6 +36,31 @@ pub struct Session<'s, S: Streams> {
     pub input: S::Input,
     pub output: S::Output,
     pub status: u8,
+}
+
+impl<'s, S: Streams> Session<'s, S> {
+    /// Writes the line of a failure, and takes its status.
+    pub(crate) fn fail(&mut self, failure: Failure)
+        ensures reports { Reports failure (S.Output.contents self.old.output) (S.Output.contents self.new.output) self.new.status }
+        ensures host { self.new.host ≡ self.old.host }
+        ensures input { self.new.input ≡ self.old.input }
+    {
+        self.status = report(self.alloc, self.console, failure, &mut self.output);
+    }
+
+    /// Takes the status of a task that is done; or writes the line of its failure, and takes the status of that.
+    pub(crate) fn finish(&mut self, done: Result<u8, Failure>)
+        ensures reports { MatchResult done
+            (λ status. (self.new.status ≡ status) × (S.Output.contents self.new.output ≡ S.Output.contents self.old.output))
+            (λ failure. Reports failure (S.Output.contents self.old.output) (S.Output.contents self.new.output) self.new.status) }
+        ensures host { self.new.host ≡ self.old.host }
+        ensures input { self.new.input ≡ self.old.input }
+    {
+        match done {
+            Ok(status) => self.status = status,
+            Err(failure) => self.fail(failure),
+        }
+    }
 }
 
 /// What a run is given and writes, from what its session was to what it is. `File` is what the file of its words holds, and `Disk` the disk

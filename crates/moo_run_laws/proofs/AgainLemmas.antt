@@ -1,5 +1,5 @@
 -- From what a crash left of a run to the next run.
-use Rattle.moo_run.{proofs.Words.{◌≡◌, ◌≢◌, ◌⊎◌, inl, inr, ℕ, zero, suc, Bool, true, false, List, length, codes, refl, sym, ap, subst, true≢false, false_from_ne_true, ◌||◌, bytes_eq, Ghosts, Image, HasCleanDisk, Held, file_state, Maps, Batch, IsGood, State, state_of, LeavesLed, LeavesRows, LeavesState, Task, Given, Run, makes_world, begins_anew, HoldsRows, RunsRows, RanFrom, RanOver, RefusedOver, EndsWith, RunsOver, IsClosedEnd, RunsClosed}, proofs.Connections.{runs_when, unled}, specs.declared.ends.Ends.{Ends}}
+use Rattle.moo_run.{proofs.Words.{◌≡◌, ◌≢◌, ◌⊎◌, inl, inr, ℕ, zero, suc, Bool, true, false, List, length, codes, refl, sym, ap, subst, true≢false, false_from_ne_true, ◌||◌, bytes_eq, Ghosts, Image, HasCleanDisk, Held, file_state, Maps, Batch, IsGood, State, state_of, LeavesLed, LeavesRows, LeavesState, Task, Given, Run, makes_world, begins_anew, HoldsRows, RunsRows, RanFrom, RanOver, RefusedOver, EndsWith, RunsOver, IsClosedEnd}, proofs.Connections.{runs_when, unled}, specs.declared.ends.Ends.{Ends}}
 use Rattle.moo_run_laws.specs.Again.{Started, StartedRows, LeadTo, TakesUp, TakesRows, IsLeftAfter, IsFoundOf, CrashesTo, LeadsOn, ClosesOn, IsFoundIn, ClosesTo}
 use Rattle.moo_run.specs.declared.ends.Ends.TheVariants as variant
 use Rattle.sqlite_store.specs.declared.store.FileStore.{FileStore}
@@ -8,8 +8,7 @@ use Rattle.sqlite.specs.declared.file.Leftover.TheVariants as left
 use Rattle.moo_tables.proofs.SchemaLemmas.{one_schema}
 use Rattle.moo_tables_rows.{specs.declared.version.Version.{Version}, specs.declared.version.Version.TheVariants.{First, Second}, specs.Tables.{Tables, schema_of, no_schema}, specs.Inside.{Leaves}}
 use Rattle.moo_cells.{proofs.CellsLemmas.{one_good}, proofs.GoodRows.{good_within}}
-use Rattle.moo_files.{specs.Contents.{HoldsSuch, HoldsState, HasAnyTable, IsKept, IsLeftBy}, specs.Remains.{IsCleanRemains, LeftoverKeeps, KeepsSuch, StillHolds}, specs.Closing.{IsLeftOf, IsClosedFrom}, specs.declared.remains.Remains.{Remains}, specs.Stop.{AreNumbered}, proofs.AgainLemmas.{held_after}, proofs.RemainsLemmas.{keeps_more}, proofs.StopLemmas.{left_by_store, such_by_bytes, state_is_database, states_are_databases}}
-use Rattle.moo_files.specs.Opened.{Database as a_database}
+use Rattle.moo_files.{specs.Contents.{HoldsSuch, HoldsState, HasAnyTable, IsKept, IsLeftBy}, specs.Remains.{IsCleanRemains, KeepsSuch, StillHolds}, specs.Closing.{IsLeftOf, IsClosedFrom}, specs.declared.remains.Remains.{Remains}, specs.Stop.{AreNumbered}, proofs.AgainLemmas.{held_after}, proofs.RemainsLemmas.{keeps_more, keeps_closed}, proofs.StopLemmas.{left_by_store, such_by_bytes, state_is_database, states_are_databases}, specs.Opened.{Database as a_database}}
 use Rattle.moo_files.specs.declared.remains.Remains.TheVariants as remains
 
 later_false : (a b : Bool) → (a || b) ≡ false → b ≡ false
@@ -116,12 +115,11 @@ module _ {T D : Type 0} {g : Ghosts D} where
 
   -- what a crash left of files that kept such a database holds such a one
   pub still_such : (P : Trees → Type 0) (image : Image) (rest : Remains T D g) (next : Image) → KeepsSuch P image rest → HoldsSuch P image → IsLeftAfter image rest next → HoldsSuch P next
-  still_such P image (remains.Untouched start) next keeps holds is = subst (HoldsSuch P) (sym is) holds
-  still_such P image (remains.NotOpened seal) next keeps holds is = subst (HoldsSuch P) (sym is) holds
   still_such P image (remains.Leftover (left.Files now)) next keeps holds left = keeps next left
   still_such P image (remains.Leftover (left.Unopened now)) next keeps holds left = (keeps next left.0).1 left.1
   still_such P image (remains.Leftover (left.Store now)) next keeps holds left = record { trees = left.trees; holds = left.holds; such = keeps left.trees left.such }
   still_such P image (remains.Connection conn) next keeps holds left = record { trees = left.trees; holds = left.holds; such = keeps left.trees left.such }
+  still_such P image rest next keeps holds is = subst (HoldsSuch P) (sym is) holds
 
   -- and so does any that is found of them
   pub such_after : (P : Trees → Type 0) (image : Image) (rest : Remains T D g) (next : Image) → AreDatabases P → IsCleanRemains rest → AreNumbered rest → KeepsSuch P image rest → HoldsSuch P image → IsFoundOf image rest next
@@ -131,16 +129,12 @@ module _ {T D : Type 0} {g : Ghosts D} where
 
   -- files that are closed have no connection, and before that its trees were numbered
   pub closed_numbered : (was now : Remains T D g) → IsClosedFrom was now → AreNumbered now
-  closed_numbered (remains.Untouched start) now is = subst AreNumbered (sym is) tt
-  closed_numbered (remains.NotOpened seal) now is = subst AreNumbered (sym is) tt
-  closed_numbered (remains.Leftover rest) now is = subst AreNumbered (sym is) tt
   closed_numbered (remains.Connection conn) now (rest, is, copied, closes) = subst AreNumbered (sym is) tt
+  closed_numbered was now is = subst AreNumbered (sym is) tt
 
   pub was_numbered : (was now : Remains T D g) → IsClosedFrom was now → IsCleanRemains now → AreNumbered was
-  was_numbered (remains.Untouched start) now is clean = tt
-  was_numbered (remains.NotOpened seal) now is clean = tt
-  was_numbered (remains.Leftover rest) now is clean = tt
   was_numbered (remains.Connection conn) now (rest, is, copied, closes) clean = (closes (subst IsCleanRemains is clean)).2
+  was_numbered was now is clean = tt
 
   -- files whose words were refused keep their state
   pub refused_left : (words : List (List ℕ)) (image : Image) (rest : Remains T D g) (run : Run)
@@ -210,21 +204,8 @@ module _ {T D : Type 0} {g : Ghosts D} where
       let still = subst (λ it. HoldsRows it rows) (sym same) holds in
       (still, goes rows still)
 
-  -- what is closed keeps what it kept
-  pub kept_closed : (P : Trees → Type 0) (image : Image) (was now : Remains T D g) → IsClosedFrom was now → IsCleanRemains now → (IsCleanRemains was → KeepsSuch P image was) → KeepsSuch P image now
-  kept_closed P image (remains.Untouched start) now is clean keeps = subst (KeepsSuch P image) (sym is) (keeps tt)
-  kept_closed P image (remains.NotOpened seal) now is clean keeps = subst (KeepsSuch P image) (sym is) (keeps tt)
-  kept_closed P image (remains.Leftover rest) now is clean keeps = subst (KeepsSuch P image) (sym is) (keeps (subst IsCleanRemains is clean))
-  kept_closed P image (remains.Connection conn) now (rest, is, copied, closes) clean keeps =
-      let both = closes (subst IsCleanRemains is clean) in
-      subst (KeepsSuch P image) (sym is) (kept_left rest both.1 (keeps both.0))
-    where
-      kept_left : (rest : Leftover D g) → IsLeftOf (file_state conn) rest → ((trees : Trees) → (file_state conn).may_leave trees → P trees) → LeftoverKeeps P image rest
-      kept_left (left.Files files) of all = λ found out. let it = of.1 found out in record { trees = it.trees; holds = it.holds; such = all it.trees it.such }
-      kept_left (left.Unopened files) of all = absurd of
-      kept_left (left.Store store) of all = λ trees recovers. all trees (of trees recovers)
-
-  closes_by : (words : List (List ℕ)) (image : Image) (ends : Ends T D g) (closed : Remains T D g) (run : Run) (next : Image) (Next : State → Type 0)
+  -- what is closed leads on as it did
+  pub closes_by : (words : List (List ℕ)) (image : Image) (ends : Ends T D g) (closed : Remains T D g) (run : Run) (next : Image) (Next : State → Type 0)
       → RunsOver words image ends run → IsClosedEnd ends closed → ((t : State) → HoldsState next t → Next t) → ClosesTo words image closed run next Next
   closes_by words image (variant.Ran conn) closed run next Next over (rest, is, copied, closes) goes = (
     variant.Ran conn,
@@ -248,7 +229,7 @@ module _ {T D : Type 0} {g : Ghosts D} where
     over,
     from,
     λ clean s holds found.
-        let kept = kept_closed (λ trees. LeavesState trees s) image was closed from clean (λ early. refused_left words image was run over s holds early) in
+        let kept = keeps_closed (λ trees. LeavesState trees s) image was closed from (refused_left words image was run over s holds) clean in
         let still = such_after (λ trees. LeavesState trees s) image closed next (state_is_database s) clean (closed_numbered was closed from) kept holds found in
         (still, goes s still),
   )
@@ -261,11 +242,7 @@ module _ {T D : Type 0} {g : Ghosts D} where
         (still, goes s still),
   )
 
-  pub closes_to : (words : List (List ℕ)) (image : Image) (closed : Remains T D g) (run : Run) (next : Image) (Next : State → Type 0)
-      → RunsClosed words image closed run → ((t : State) → HoldsState next t → Next t) → ClosesTo words image closed run next Next
-  closes_to words image closed run next Next it goes = closes_by words image it.0 closed run next Next it.1 it.2 goes
-
-  closes_by_rows : (words : List (List ℕ)) (image : Image) (ends : Ends T D g) (closed : Remains T D g) (run : Run) (next : Image) (Next : Maps → Type 0)
+  pub closes_by_rows : (words : List (List ℕ)) (image : Image) (ends : Ends T D g) (closed : Remains T D g) (run : Run) (next : Image) (Next : Maps → Type 0)
       → RunsOver words image ends run → IsClosedEnd ends closed → ((rows : Maps) → HoldsRows next rows → Next rows) → ClosesOn words image closed run next Next
   closes_by_rows words image (variant.Ran conn) closed run next Next over (rest, is, copied, closes) goes = (
     variant.Ran conn,
@@ -289,7 +266,7 @@ module _ {T D : Type 0} {g : Ghosts D} where
     over,
     from,
     λ clean rows holds found.
-        let kept = kept_closed (IsKept holds.1.trees) image was closed from clean (λ early. refused_rows words image was run over rows holds early) in
+        let kept = keeps_closed (IsKept holds.1.trees) image was closed from (refused_rows words image was run over rows holds) clean in
         let still = rows_after image closed next rows holds clean (closed_numbered was closed from) kept found in
         (still, goes rows still),
   )
@@ -301,33 +278,3 @@ module _ {T D : Type 0} {g : Ghosts D} where
         let still = subst (λ it. HoldsRows it rows) (sym (same_untouched image next (subst (λ it. IsFoundOf image it next) is found))) holds in
         (still, goes rows still),
   )
-
-  pub closes_on : (words : List (List ℕ)) (image : Image) (closed : Remains T D g) (run : Run) (next : Image) (Next : Maps → Type 0)
-      → RunsClosed words image closed run → ((rows : Maps) → HoldsRows next rows → Next rows) → ClosesOn words image closed run next Next
-  closes_on words image closed run next Next it goes = closes_by_rows words image it.0 closed run next Next it.1 it.2 goes
-
--- ---- two runs
-
-pub crash_run : {T D U E S N : Type 0} {d : Ghosts D} {e : Ghosts E} (run : S → S → Run) (next_run : N → N → Run) (words next_words : List (List ℕ)) (session after : S) (next next_after : N)
-    (image next_image : Image) (ends : Ends T D d) (next_ends : Ends U E e) → RunsOver words image ends (run session after) → RunsOver next_words next_image next_ends (next_run next next_after)
-    → CrashesTo words image ends (run session after) next_image (λ t. TakesUp next_words next_image t next_ends (next_run next next_after))
-crash_run run next_run words next_words session after next next_after image next_image ends next_ends over then =
-    crashes_to words image ends (run session after) next_image _ over (takes_up next_words next_image next_ends (next_run next next_after) then)
-
-pub crash_rows : {T D U E S N : Type 0} {d : Ghosts D} {e : Ghosts E} (run : S → S → Run) (next_run : N → N → Run) (words next_words : List (List ℕ)) (session after : S) (next next_after : N)
-    (image next_image : Image) (ends : Ends T D d) (next_ends : Ends U E e) → RunsOver words image ends (run session after) → RunsOver next_words next_image next_ends (next_run next next_after)
-    → LeadsOn words image ends (run session after) next_image (λ rows. TakesRows next_words rows next_ends (next_run next next_after))
-crash_rows run next_run words next_words session after next next_after image next_image ends next_ends over then =
-    leads_on words image ends (run session after) next_image _ over (takes_rows next_words next_image next_ends (next_run next next_after) then)
-
-pub close_run : {T D U E S N : Type 0} {d : Ghosts D} {e : Ghosts E} (run : S → S → Run) (next_run : N → N → Run) (words next_words : List (List ℕ)) (session after : S) (next next_after : N)
-    (image next_image : Image) (closed : Remains T D d) (next_ends : Ends U E e) → RunsClosed words image closed (run session after) → RunsOver next_words next_image next_ends (next_run next next_after)
-    → ClosesTo words image closed (run session after) next_image (λ t. TakesUp next_words next_image t next_ends (next_run next next_after))
-close_run run next_run words next_words session after next next_after image next_image closed next_ends over then =
-    closes_to words image closed (run session after) next_image _ over (takes_up next_words next_image next_ends (next_run next next_after) then)
-
-pub close_rows : {T D U E S N : Type 0} {d : Ghosts D} {e : Ghosts E} (run : S → S → Run) (next_run : N → N → Run) (words next_words : List (List ℕ)) (session after : S) (next next_after : N)
-    (image next_image : Image) (closed : Remains T D d) (next_ends : Ends U E e) → RunsClosed words image closed (run session after) → RunsOver next_words next_image next_ends (next_run next next_after)
-    → ClosesOn words image closed (run session after) next_image (λ rows. TakesRows next_words rows next_ends (next_run next next_after))
-close_rows run next_run words next_words session after next next_after image next_image closed next_ends over then =
-    closes_on words image closed (run session after) next_image _ over (takes_rows next_words next_image next_ends (next_run next next_after) then)

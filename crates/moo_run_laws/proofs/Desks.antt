@@ -1,17 +1,11 @@
 -- From what the service sees of a connection of a desk to what its peer sees.
-use Rattle.std.proofs.Common.{◌≡◌, ◌⊎◌, inl, inr, ℕ, zero, suc, List, [], drop, refl, sym, ap, subst, ◌∙◌}
-use Rattle.std.specs.Io.KnownBytes.{Keeps, append_known, prepend_known}
-use Rattle.std.proofs.KnownBytes.{Keeps-refl, Keeps-trans}
+use Rattle.std.{proofs.Common.{◌≡◌, ◌⊎◌, inl, inr, ℕ, zero, suc, List, [], drop, refl, sym, ap, subst, ◌∙◌}, specs.Io.KnownBytes.{Keeps, append_known, prepend_known}, proofs.KnownBytes.{Keeps-refl, Keeps-trans}}
 use Rattle.std.specs.declared.io.Read as Reading
 use Rattle.std.specs.declared.io.Write as Writing
 use Rattle.moo_arrivals.specs.declared.arrivals.Connection.{Connection}
 use Rattle.moo_http_request.specs.Given.{HasFailed}
-use Rattle.moo_desk.specs.Broken.{IsBroken}
-use Rattle.moo_desk.specs.declared.gathered.Coming.TheVariants.{Unread}
-use Rattle.moo_desk.specs.declared.gathered.Gathered.{Gathered}
-use Rattle.moo_desk.specs.declared.outgoing.Outgoing.{Outgoing}
-use Rattle.moo_http.specs.Traffic.{Traffic, traffic_of}
-use Rattle.moo_http.specs.Through.{Passes}
+use Rattle.moo_desk.{specs.Broken.{IsBroken}, specs.declared.gathered.Coming.TheVariants.{Unread}, specs.declared.gathered.Gathered.{Gathered}, specs.declared.outgoing.Outgoing.{Outgoing}}
+use Rattle.moo_http.{specs.Traffic.{Traffic, traffic_of}, specs.Through.{Passes}}
 use Rattle.moo_run_laws.specs.Desk.{Gathers, Sends, PassesDesk, peer_of}
 
 -- of an answer of which nothing is left to be sent

@@ -8,10 +8,9 @@ use Rattle.sqlite.specs.declared.file.Leftover.TheVariants as left
 use Rattle.moo_files.{specs.Closing.{IsClosedAs, IsClosedFrom}, specs.Remains.{IsCleanRemains}, specs.Stop.{KeepsTreesNumbered, DiskLeaves}, specs.declared.remains.Remains.{Remains}}
 use Rattle.moo_files.specs.declared.remains.Remains.TheVariants as remains
 use Rattle.moo_run.{specs.Ends.{IsClosedEnd}, specs.declared.ends.Ends.{Ends}}
-use Rattle.moo_run_laws.{specs.Again.{IfRan, IsFoundIn, IsFoundOf}, specs.FileRuns.{FileRun, IsFileRun, Follows, GoesTo, GoesToRows, ServesTo, GoesOnFrom, GoesOnFromRows}}
+use Rattle.moo_run_laws.{specs.Again.{IfRan, IsFoundIn, IsFoundOf}, specs.FileRuns.{FileRun, IsFileRun, Follows, GoesTo, GoesToRows, ServesTo, GoesOnFrom, GoesOnFromRows}, specs.Halted.{ClosedLeaves, EndLeaves}}
 use Rattle.moo_run.specs.declared.session.Runs as Runs
 use Rattle.moo_run.specs.declared.ends.Ends.TheVariants as variant
-use Rattle.moo_run_laws.specs.Halted.{ClosedLeaves, EndLeaves}
 
 -- what wasn't open and is shut now was shut before, or is open still
 still_open : (was now : Bool) → ¬ (IsTrue was × (now ≡ false)) → IsTrue now ⊎ (was ≡ false)
@@ -35,8 +34,7 @@ module _ {T D : Type 0} {g : Ghosts D} where
   pub end_found : (image : Image) (ends : Ends T D g) (closed : Remains T D g) (next : Image) → IsClosedEnd ends closed → IsCleanRemains closed → EndLeaves image ends closed next
       → IfRan ends (λ conn. DiskLeaves conn next ⊎ IsFoundIn closed next) (λ rest. IsFoundOf image rest next ⊎ IsFoundOf image closed next)
   end_found image (variant.Ran conn) closed next is clean bytes = inr (closed_found image conn closed next is clean bytes)
-  end_found image (variant.Refused rest) closed next is clean bytes = inr (inl bytes)
-  end_found image (variant.NoFile start) closed next is clean bytes = inr (inl bytes)
+  end_found image ends closed next is clean bytes = inr (inl bytes)
 
 module _ {S T D N U E : Type 0} {g : Runs.Ghosts S T D} {disk : Ghosts D} {h : Runs.Ghosts N U E} {other : Ghosts E} where
   -- what the law of the program says of a run that came to a stop and of the next one

@@ -1,11 +1,11 @@
 -- From a run over a file to the run over what is found after it.
 use Rattle.moo_run.{proofs.Words.{◌≡◌, ◌⊎◌, inl, inr, ℕ, false, List, codes, sym, subst, ⊤, false_from_ne_true, ◌||◌, bytes_eq, Ghosts, Image, HasCleanDisk, Held, file_state, Maps, State, state_of, Stand, CrashLeaves, LeavesState, Leads, Task, Run, makes_world, begins_anew, Done, StopsTask, HoldsRows, RanFrom, RunsFrom, RunsOver, IsClosedEnd, Failure}, proofs.Connections.{runs_when}, specs.declared.ends.Ends.{Ends}}
-use Rattle.moo_run_laws.{specs.Again.{Started, StartedRows, LeadTo, IfRan, IsFoundOf, IsFoundIn}, specs.FileRuns.{ServedTo}, proofs.AgainLemmas.{started_map, started_rows_map, found_left, ran_file, refused_left, refused_rows, such_after, rows_after, closed_numbered, was_numbered, same_untouched, kept_closed, crashes_to, leads_on}, proofs.Stopped.{left_at_end, early_clean}}
+use Rattle.moo_run_laws.{specs.Again.{Started, StartedRows, LeadTo, IfRan, IsFoundOf, IsFoundIn}, specs.FileRuns.{ServedTo}, proofs.AgainLemmas.{started_map, started_rows_map, found_left, ran_file, refused_left, refused_rows, such_after, rows_after, closed_numbered, was_numbered, same_untouched, crashes_to, leads_on}, proofs.Stopped.{left_at_end, early_clean}}
 use Rattle.moo_run.specs.declared.ends.Ends.TheVariants as variant
 use Rattle.sqlite_store.specs.declared.store.FileStore.{FileStore}
 use Rattle.moo_store.specs.Stand.{MayLeave}
 use Rattle.moo_cli.{specs.Tasks.{NamesTask}, specs.declared.task.Action.TheVariants.{Serve}, specs.declared.task.Service.{Service}}
-use Rattle.moo_files.{specs.Contents.{HoldsState, IsKept, IsLeftBy}, specs.Remains.{IsCleanRemains}, specs.Stop.{DiskLeaves}, specs.Closing.{IsClosedFrom}, specs.Opened.{Database as a_database}, specs.declared.remains.Remains.{Remains}, proofs.AgainLemmas.{held_after}, proofs.StopLemmas.{state_is_database, states_are_databases}}
+use Rattle.moo_files.{specs.Contents.{HoldsState, IsKept, IsLeftBy}, specs.Remains.{IsCleanRemains}, specs.Stop.{DiskLeaves}, specs.Closing.{IsClosedFrom}, specs.Opened.{Database as a_database}, specs.declared.remains.Remains.{Remains}, proofs.AgainLemmas.{held_after}, proofs.RemainsLemmas.{keeps_closed}, proofs.StopLemmas.{state_is_database, states_are_databases}}
 use Rattle.moo_files.specs.declared.remains.Remains.TheVariants as remains
 
 -- ---- a service
@@ -72,7 +72,7 @@ module _ {T D : Type 0} {g : Ghosts D} where
       let kept = refused_left words image was run over s holds early in
       goes s (such_after (λ trees. LeavesState trees s) image was next (state_is_database s) early (was_numbered was closed from clean) kept holds found)
   goes_by words image (variant.Refused was) closed run next Then over from clean (inr found) goes = λ s holds.
-      let kept = kept_closed (λ trees. LeavesState trees s) image was closed from clean (λ early. refused_left words image was run over s holds early) in
+      let kept = keeps_closed (λ trees. LeavesState trees s) image was closed from (refused_left words image was run over s holds) clean in
       goes s (such_after (λ trees. LeavesState trees s) image closed next (state_is_database s) clean (closed_numbered was closed from) kept holds found)
   goes_by words image (variant.NoFile start) closed run next Then over is clean (inl found) goes = λ s holds. goes s (subst (λ it. HoldsState it s) (sym (same_untouched image next found)) holds)
   goes_by words image (variant.NoFile start) closed run next Then over is clean (inr found) goes = λ s holds.
@@ -97,7 +97,7 @@ module _ {T D : Type 0} {g : Ghosts D} where
       let early = early_clean was closed from clean in
       goes rows (rows_after image was next rows holds early (was_numbered was closed from clean) (refused_rows words image was run over rows holds early) found)
   goes_by_rows words image (variant.Refused was) closed run next Then over from clean (inr found) goes = λ rows holds.
-      let kept = kept_closed (IsKept holds.1.trees) image was closed from clean (λ early. refused_rows words image was run over rows holds early) in
+      let kept = keeps_closed (IsKept holds.1.trees) image was closed from (refused_rows words image was run over rows holds) clean in
       goes rows (rows_after image closed next rows holds clean (closed_numbered was closed from) kept found)
   goes_by_rows words image (variant.NoFile start) closed run next Then over is clean (inl found) goes = λ rows holds. goes rows (subst (λ it. HoldsRows it rows) (sym (same_untouched image next found)) holds)
   goes_by_rows words image (variant.NoFile start) closed run next Then over is clean (inr found) goes = λ rows holds.

@@ -1,6 +1,6 @@
 -- From what the disk left of a run that was stopped to the next run.
-use Rattle.moo_run.{proofs.Words.{ℕ, List, subst, Ghosts, Image, HasCleanDisk, Held, file_state, Maps, State, CrashLeaves, LeavesState, Stand, Run, HoldsRows, RunsOver, IsClosedEnd, RunsClosed}, proofs.Connections.{runs_when}, specs.declared.ends.Ends.{Ends}}
-use Rattle.moo_run_laws.{specs.Again.{TakesUp, TakesRows, StopsTo, StopsOn}, proofs.AgainLemmas.{started_map, started_rows_map, crashes_to, leads_on, takes_up, takes_rows, refused_left, refused_rows, such_after, rows_after, was_numbered, same_untouched}}
+use Rattle.moo_run.{proofs.Words.{ℕ, List, subst, Ghosts, Image, HasCleanDisk, Held, file_state, Maps, State, CrashLeaves, LeavesState, Stand, Run, HoldsRows, RunsOver, IsClosedEnd}, proofs.Connections.{runs_when}, specs.declared.ends.Ends.{Ends}}
+use Rattle.moo_run_laws.{specs.Again.{StopsTo, StopsOn}, proofs.AgainLemmas.{started_map, started_rows_map, crashes_to, leads_on, refused_left, refused_rows, such_after, rows_after, was_numbered, same_untouched}}
 use Rattle.moo_run.specs.declared.ends.Ends.TheVariants as variant
 use Rattle.sqlite_store.specs.declared.store.FileStore.{FileStore}
 use Rattle.moo_files.{specs.Contents.{HoldsState, IsLeftBy}, specs.Remains.{IsCleanRemains}, specs.Stop.{DiskLeaves, HasNumberedTrees}, specs.Closing.{IsClosedFrom}, specs.declared.remains.Remains.{Remains}, proofs.StopLemmas.{left_by_disk, state_is_database, states_are_databases}}
@@ -14,12 +14,11 @@ module _ {D : Type 0} {g : Ghosts D} where
 module _ {T D : Type 0} {g : Ghosts D} where
   -- the disk was clean before the closing, if it is after it
   pub early_clean : (was now : Remains T D g) → IsClosedFrom was now → IsCleanRemains now → IsCleanRemains was
-  early_clean (remains.Untouched start) now is clean = tt
-  early_clean (remains.NotOpened seal) now is clean = tt
   early_clean (remains.Leftover rest) now is clean = subst IsCleanRemains is clean
   early_clean (remains.Connection conn) now (rest, is, copied, closes) clean = (closes (subst IsCleanRemains is clean)).0
+  early_clean was now is clean = tt
 
-  stops_by : (words : List (List ℕ)) (image : Image) (ends : Ends T D g) (closed : Remains T D g) (run : Run) (next : Image) (Next : State → Type 0)
+  pub stops_by : (words : List (List ℕ)) (image : Image) (ends : Ends T D g) (closed : Remains T D g) (run : Run) (next : Image) (Next : State → Type 0)
       → RunsOver words image ends run → IsClosedEnd ends closed → ((t : State) → HoldsState next t → Next t) → StopsTo words image closed run next Next
   stops_by words image (variant.Ran conn) closed run next Next over (rest, is, copied, closes) goes = (
     variant.Ran conn,
@@ -50,7 +49,7 @@ module _ {T D : Type 0} {g : Ghosts D} where
     λ clean s holds found. crashes_to words image (variant.NoFile start) run next Next over goes tt s holds (same_untouched image next found),
   )
 
-  stops_by_rows : (words : List (List ℕ)) (image : Image) (ends : Ends T D g) (closed : Remains T D g) (run : Run) (next : Image) (Next : Maps → Type 0)
+  pub stops_by_rows : (words : List (List ℕ)) (image : Image) (ends : Ends T D g) (closed : Remains T D g) (run : Run) (next : Image) (Next : Maps → Type 0)
       → RunsOver words image ends run → IsClosedEnd ends closed → ((rows : Maps) → HoldsRows next rows → Next rows) → StopsOn words image closed run next Next
   stops_by_rows words image (variant.Ran conn) closed run next Next over (rest, is, copied, closes) goes = (
     variant.Ran conn,
@@ -82,17 +81,3 @@ module _ {T D : Type 0} {g : Ghosts D} where
     is,
     λ clean rows holds found. leads_on words image (variant.NoFile start) run next Next over goes tt rows holds (same_untouched image next found),
   )
-
--- ---- two runs, by what each is given
-
-pub stop_run : {T D U E S N : Type 0} {d : Ghosts D} {e : Ghosts E} (run : S → S → Run) (next_run : N → N → Run) (words next_words : List (List ℕ)) (session after : S) (next next_after : N)
-    (image next_image : Image) (closed : Remains T D d) (next_ends : Ends U E e) → RunsClosed words image closed (run session after) → RunsOver next_words next_image next_ends (next_run next next_after)
-    → StopsTo words image closed (run session after) next_image (λ t. TakesUp next_words next_image t next_ends (next_run next next_after))
-stop_run run next_run words next_words session after next next_after image next_image closed next_ends over then =
-    stops_by words image over.0 closed (run session after) next_image _ over.1 over.2 (takes_up next_words next_image next_ends (next_run next next_after) then)
-
-pub stop_rows : {T D U E S N : Type 0} {d : Ghosts D} {e : Ghosts E} (run : S → S → Run) (next_run : N → N → Run) (words next_words : List (List ℕ)) (session after : S) (next next_after : N)
-    (image next_image : Image) (closed : Remains T D d) (next_ends : Ends U E e) → RunsClosed words image closed (run session after) → RunsOver next_words next_image next_ends (next_run next next_after)
-    → StopsOn words image closed (run session after) next_image (λ rows. TakesRows next_words rows next_ends (next_run next next_after))
-stop_rows run next_run words next_words session after next next_after image next_image closed next_ends over then =
-    stops_by_rows words image over.0 closed (run session after) next_image _ over.1 over.2 (takes_rows next_words next_image next_ends (next_run next next_after) then)

@@ -1,5 +1,5 @@
 -- What the asking of a text answers.
-use Rattle.moo_store.{proofs.Words.{◌≡◌, inl, inr, ℕ, List, Option, Result, Ok, Err, refl, ap, subst, sym, Bool, ◌⊎◌, IsTrue, IfOk, Ghosts, Batch, State, judge, TextFault, Answer, Reply, answer_of, IsRun, StandsFor, StandsAt, Stand, Works, Failed, StoreFailed, AsksBatch, World, answer_to, Completes, Halts, StoreFault, Closed}, proofs.Following.{completes-follows, halts-follows}}
+use Rattle.moo_store.{proofs.Words.{◌≡◌, inl, inr, ℕ, List, Option, Result, Ok, Err, refl, ap, subst, sym, Bool, ◌⊎◌, IsTrue, IfOk, Ghosts, Batch, State, judge, TextFault, Answer, Reply, answer_of, IsRun, StandsFor, StandsAt, Stand, Works, AsksBatch, World, answer_to, Completes, Halts, StoreFault, Closed}, proofs.Following.{completes-follows, halts-follows}}
 use Rattle.std.specs.Result.{IsOkAnd}
 use Rattle.moo_text.specs.declared.reply.Reply.TheVariants.{NoMemory}
 use Rattle.moo_text.specs.declared.reply.Answer.TheVariants as answer
@@ -19,8 +19,7 @@ pub asked_one : {S : Type 0} (g : Ghosts S) (world : World S) (batch : Batch) (r
     → ((known : Bool) (s : State) → StandsFor g known world s → IsOkAnd r (λ reply. (reply ≡ NoMemory) ⊎ (reply ≡ answer_of s (judge s batch)))) → ((known : Bool) (s : State) → StandsFor g known world s → IfOk r (λ reply. reply ≡ NoMemory → IsRun s batch))
     → (IsTrue world.failed → r ≡ Err Closed) → (known : Bool) (stand : Stand) → StandsAt g known world stand → AsksBatch stand batch (answer_to r) stand
 asked_one g world batch r judged run closed known (Works s) at = replies_judged s batch r (judged known s at) (run known s at)
-asked_one g world batch r judged run closed known (Failed s) at = (ap answer_to (closed at.0), refl)
-asked_one g world batch r judged run closed known (StoreFailed s hand) at = (ap answer_to (closed at.0), refl)
+asked_one g world batch r judged run closed known stand at = (ap answer_to (closed at.0), refl)
 
 -- ---- a text
 

@@ -1,5 +1,5 @@
 -- From what a check found to the World that it leaves.
-use Rattle.moo_store.{proofs.Words.{◌≡◌, ◌≢◌, ℕ, Bool, true, false, Result, Ok, Err, refl, sym, ◌∙◌, IfErr, MatchResult, HasCleanDisk, Ghosts, Held, state, Maps, State, Tables, Rests, ShowsRows, KeepsRows, World, store_of, StandsFor, IsOfStore, StoreFault, Store, Damaged, NewerVersion, OutOfMemory, Closed}, specs.World.{FailsWorld}}
+use Rattle.moo_store.{proofs.Words.{◌≡◌, ◌≢◌, ℕ, Bool, true, false, Result, Ok, Err, refl, sym, ◌∙◌, IfErr, MatchResult, HasCleanDisk, Ghosts, Held, state, Maps, State, Tables, Rests, ShowsRows, KeepsRows, World, store_of, StandsFor, IsOfStore, StoreFault, OutOfMemory, Closed}, specs.World.{FailsWorld}}
 use Rattle.moo_store_rows.specs.Checked.{Checks}
 use Rattle.sqlite.specs.State.{State as Database}
 
@@ -15,11 +15,8 @@ whole_checked own old new (Err fault) it worked clean t rests shows = it.whole w
 -- a World that works on was answered Ok, or OutOfMemory
 pub works_on : (r : Result ℕ StoreFault) (failed : Bool) (P : Type 0) → FailsWorld r failed → failed ≡ false → MatchResult r (λ _. P) (λ fault. fault ≡ OutOfMemory → P) → P
 works_on (Ok count) failed P fails works it = it
-works_on (Err (Store error)) failed P fails works it = absurd (let e : true ≡ false = sym fails ∙ works in cc)
-works_on (Err (Damaged kind key)) failed P fails works it = absurd (let e : true ≡ false = sym fails ∙ works in cc)
-works_on (Err NewerVersion) failed P fails works it = absurd (let e : true ≡ false = sym fails ∙ works in cc)
 works_on (Err OutOfMemory) failed P fails works it = it refl
-works_on (Err Closed) failed P fails works it = absurd (let e : true ≡ false = sym fails ∙ works in cc)
+works_on r failed P fails works it = absurd (let e : true ≡ false = sym fails ∙ works in cc)
 
 pub stands_on : {S : Type 0} (g : Ghosts S) (known : Bool) (old : World S) (conn : Held S) (failed : Bool) (s : State) → StandsFor g known old s → failed ≡ false → (HasCleanDisk (state g conn) → HasCleanDisk (store_of g old))
     → ((tables : Tables) → Rests (store_of g old) tables → Rests (state g conn) tables) → HasCleanDisk (state g conn) → StandsFor g known (record { connection = conn; rows = old.rows; failed = failed }) s

@@ -1,15 +1,14 @@
 -- What answers the items of a text, seen as something else.
 use Rattle.moo_store.proofs.Words.{EndsEarly, ℕ, List, [], ◌∷◌, Option, refl, sym, subst, Batch, items, Next, Answer, TextFault, Turn, Turns, Completes, Halts}
-use Rattle.moo_text.specs.declared.next.Next.TheVariants.{Batch as Whole, Malformed, Truncated, End}
+use Rattle.moo_text.specs.declared.next.Next.TheVariants.{Batch as Whole, End}
 
 -- Where the one stands as the other before a step, it does so behind it.
 module _ {A B : Type 0} (P : A → Batch → Answer → A → Type 0) (Q : B → Batch → Answer → B → Type 0) (As : A → B → Type 0)
     (step : (old new : A) (stand : B) (batch : Batch) (a : Answer) → As old stand → P old batch a new → (next : B) × As new next × Q stand batch a next) where
   pub turn-follows : (old new : A) (stand : B) (item : Next) (a : Answer) → As old stand → Turn P old item a new → (next : B) × As new next × Turn Q stand item a next
   turn-follows old new stand (Whole batch) a it turn = step old new stand batch a it turn
-  turn-follows old new stand (Malformed number) a it turn = (stand, subst (λ x. As x stand) (sym turn.1) it, (turn.0, refl))
-  turn-follows old new stand Truncated a it turn = (stand, subst (λ x. As x stand) (sym turn.1) it, (turn.0, refl))
   turn-follows old new stand End a it turn = absurd turn
+  turn-follows old new stand item a it turn = (stand, subst (λ x. As x stand) (sym turn.1) it, (turn.0, refl))
 
   pub turns-follow : (old new : A) (stand : B) (items : List Next) (answers : List Answer) → As old stand → Turns P old items answers new → (next : B) × As new next × Turns Q stand items answers next
   turns-follow old new stand [] [] it turns = (stand, subst (λ x. As x stand) (sym turns) it, refl)

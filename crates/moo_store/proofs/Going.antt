@@ -18,18 +18,9 @@ count-push p answers a = sum_by-append (λ x. cond (p x) 1 0) answers (a ∷ [])
 pub not_end : {A : Type 0} (P : A → Batch → Answer → A → Type 0) (now next : A) (item : Next) (a : Answer) → Turn P now item a next → item ≡ End → ⊥
 not_end P now next item a one end = subst (λ i. Turn P now i a next) end one
 
--- a fault of the writer
-pub no_read : {X : Type 0} (fault : TextFault) → (fault ≡ Write) ⊎ (fault ≡ OutOfMemory) → fault ≡ Read → X
-no_read fault it read = elim it [
-  | inl w ↦ (let odd : Read ≡ Write = sym read ∙ w in absurd cc)
-  | inr m ↦ (let odd : Read ≡ OutOfMemory = sym read ∙ m in absurd cc)
-]
-
-pub not_long : {X : Type 0} (fault : TextFault) → (fault ≡ Write) ⊎ (fault ≡ OutOfMemory) → fault ≡ Long → X
-not_long fault it long = elim it [
-  | inl w ↦ (let odd : Long ≡ Write = sym long ∙ w in absurd cc)
-  | inr m ↦ (let odd : Long ≡ OutOfMemory = sym long ∙ m in absurd cc)
-]
+-- a fault of the writer is no other
+pub not_other : {X : Type 0} (fault other : TextFault) → (fault ≡ Write) ⊎ (fault ≡ OutOfMemory) → other ≢ Write → other ≢ OutOfMemory → fault ≡ other → X
+not_other fault other it written none is = elim it [ inl w ↦ absurd (written (sym is ∙ w)) | inr m ↦ absurd (none (sym is ∙ m)) ]
 
 -- what a reader gave stands in front of its bytes
 pub gives_front : (text : Option (List ℕ)) (room : ℕ) (c : Side) (given : List ℕ) → ReaderGives (untouched text room) c given → GivesFrontOrAll text c.ended given
@@ -42,10 +33,9 @@ gives_front text room c given g = by text c.left g.known (g.at_end (λ e. absurd
 
 -- how much was given where reading was stopped
 pub counted : (count : ℕ) (fault : TextFault) → Explains 1073741824 count fault → (fault ≡ Long → count ≡ 1073741825) × (fault ≢ Long → count ≤ 1073741824)
-counted count Read e = ((λ is. absurd cc), λ other. e)
 counted count Write e = absurd e
-counted count OutOfMemory e = ((λ is. absurd cc), λ other. e)
 counted count Long e = ((λ is. e), λ other. absurd (other refl))
+counted count fault e = ((λ is. absurd cc), λ other. e)
 
 module _ {A : Type 0} (P : A → Batch → Answer → A → Type 0) (old : A) (text before : Option (List ℕ)) where
   -- these items are read and answered, and their answers are written
@@ -131,7 +121,7 @@ module _ {A : Type 0} (P : A → Batch → Answer → A → Type 0) (old : A) (t
         given = read.given;
         ended = more.ended;
         front = gives_front text 1073741824 more read.given read.gives;
-        long = ((λ is. not_long fault writing is), λ other. omega (arith, read.room));
+        long = ((λ is. not_other fault Long writing (λ e. cc) (λ e. cc) is), λ other. omega (arith, read.room));
         done = p.done;
         hand = item ∷ [];
         whole = λ rest none. (items (more.ahead ++ rest), read.holds rest none ∙ append_assoc p.done (item ∷ []) (items (more.ahead ++ rest)));
@@ -143,7 +133,7 @@ module _ {A : Type 0} (P : A → Batch → Answer → A → Type 0) (old : A) (t
         in_hand = (next, one, refl);
         count = count;
         wrote = subst (λ (t : List ℕ). Appends before longer (answers_text p.answers ++ take count t)) (sym (append-nil (answer_text a))) (Appends-trans before written longer (answers_text p.answers) (take count (answer_text a)) p.wrote wrote);
-        read = λ e. elim e [ inl r ↦ no_read fault writing r | inr long ↦ not_long fault writing long ];
+        read = λ e. elim e [ inl r ↦ not_other fault Read writing (λ e. cc) (λ e. cc) r | inr long ↦ not_other fault Long writing (λ e. cc) (λ e. cc) long ];
         cut = cut;
       }
 

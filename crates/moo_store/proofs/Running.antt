@@ -1,6 +1,6 @@
 -- One batch, and then a list of them.
-use Rattle.moo_store.proofs.Words.{◌≡◌, inl, inr, ℕ, zero, suc, ◌+◌, ◌≤◌, ◌<◌, Bool, List, [], ◌∷◌, ◌++◌, take, drop, length, get_or, append_assoc, length-append, Result, Ok, Err, OnOk, IfErr, true, false, refl, sym, ap, subst, ◌∙◌, arith, is_err, IsTrue, map, append-nil, take_more, HasCleanDisk, Ghosts, Batch, Reply, Value, nat_lt, if◌then◌else◌, State, Ran, Through, FailedAt, FullAt, Verdict, Accepted, Refused, NoRoom, Stale, is_due, last_seq, run_calls, verdict_of, judge, left_by, after, LeavesState, reply_of, state_behind, IsRun, AnsweredOne, Answered, acknowledged, added, Stand, Works, Failed, StoreFailed, state_at, VerdictLeaves, RunsBatch, Turns, StandsBehind, RunsAll, answer_to, store_of, IsAt, StandsAt, LeftOrNext, MatchStore, World, StoreFault, Store, Damaged, NewerVersion, OutOfMemory, Closed}
-use Rattle.std.proofs.Math.Seq.{drop-append_seam, drop-cons, take-append_seam}
+use Rattle.moo_store.{proofs.Words.{◌≡◌, inl, inr, ℕ, zero, suc, ◌+◌, ◌≤◌, ◌<◌, Bool, List, [], ◌∷◌, ◌++◌, take, drop, length, get_or, append_assoc, length-append, Result, Ok, Err, OnOk, IfErr, true, false, refl, sym, ap, subst, ◌∙◌, arith, is_err, IsTrue, map, append-nil, take_more, HasCleanDisk, Ghosts, Batch, Reply, Value, nat_lt, if◌then◌else◌, State, Ran, Through, FailedAt, FullAt, Verdict, Accepted, Refused, NoRoom, Stale, is_due, last_seq, run_calls, verdict_of, judge, left_by, after, LeavesState, reply_of, state_behind, IsRun, AnsweredOne, Answered, acknowledged, added, Stand, Works, Failed, StoreFailed, state_at, VerdictLeaves, RunsBatch, Turns, StandsBehind, RunsAll, answer_to, store_of, IsAt, StandsAt, LeftOrNext, MatchStore, World, StoreFault, Store, OutOfMemory, Closed, subst₂}, proofs.Going.{turns-push}}
+use Rattle.std.{proofs.Math.Seq.{drop-append_seam, drop-cons, take-append_seam}, proofs.lemmas.List.{map-append}}
 use Rattle.sqlite.specs.declared.error.Error.{Error}
 use Rattle.moo_text.specs.declared.reply.Reply.TheVariants as reply
 use borrow.Author.Tests.{ltb-true}
@@ -68,25 +68,18 @@ pub by_fault : {S : Type 0} (g : Ghosts S) (old new : World S) (P : StoreFault �
     → ((error : Error) → old.failed ≡ false → new.failed ≡ true → P (Store error)) → (old.failed ≡ true → new ≡ old → P Closed) → P fault
 by_fault g old new P (Store error) fails stopped closed = stopped error fails.0 fails.1
 by_fault g old new P Closed fails stopped closed = closed fails.0 fails.1
-by_fault g old new P (Damaged kind key) fails stopped closed = absurd fails
-by_fault g old new P NewerVersion fails stopped closed = absurd fails
-by_fault g old new P OutOfMemory fails stopped closed = absurd fails
+by_fault g old new P fault fails stopped closed = absurd fails
 
 -- ---- a list of batches
 
 accepts : Reply → Bool
 accepts (reply.Accepted seq answers) = true
-accepts (reply.Refused k e) = false
-accepts (reply.Full k) = false
-accepts (reply.Stale seq) = false
-accepts reply.NoMemory = false
+accepts r = false
 
 stays : (s : State) (v : Verdict) → accepts (reply_of v) ≡ false → left_by s v ≡ s
 unfolding accepts
 stays s (Accepted answers next) e = absurd cc
-stays s (Refused k code) e = refl
-stays s (NoRoom k) e = refl
-stays s (Stale seq) e = refl
+stays s v e = refl
 
 -- a reply that isn't Accepted keeps the state
 keeps : (s next : State) (batch : Batch) (r : Reply) → accepts r ≡ false → AnsweredOne s batch r next → next ≡ s
@@ -102,19 +95,14 @@ answered_after s [] [] end it = it
 answered_after s [] (r ∷ rs) end it = absurd it
 answered_after s (b ∷ bs) [] end it = absurd it
 answered_after s (b ∷ bs) (reply.Accepted seq vs ∷ rs) end it = answered_after it.0 bs rs end it.2 ∙ ap (λ t. after t (acknowledged bs rs)) (takes s it.0 b seq vs it.1)
-answered_after s (b ∷ bs) (reply.Refused k e ∷ rs) end it = answered_after it.0 bs rs end it.2 ∙ ap (λ t. after t (acknowledged bs rs)) (keeps s it.0 b _ refl it.1)
-answered_after s (b ∷ bs) (reply.Full k ∷ rs) end it = answered_after it.0 bs rs end it.2 ∙ ap (λ t. after t (acknowledged bs rs)) (keeps s it.0 b _ refl it.1)
-answered_after s (b ∷ bs) (reply.Stale seq ∷ rs) end it = answered_after it.0 bs rs end it.2 ∙ ap (λ t. after t (acknowledged bs rs)) (keeps s it.0 b _ refl it.1)
-answered_after s (b ∷ bs) (reply.NoMemory ∷ rs) end it = answered_after it.0 bs rs end it.2 ∙ ap (λ t. after t (acknowledged bs rs)) (keeps s it.0 b _ refl it.1)
+answered_after s (b ∷ bs) (r ∷ rs) end it = answered_after it.0 bs rs end it.2 ∙ ap (λ t. after t (acknowledged bs rs)) (keeps s it.0 b _ refl it.1)
 
 -- ---- one batch, wherever the World stands
 
 -- what a verdict leaves is at the state that it leaves
 pub leaves_at : (s : State) (v : Verdict) (new : Stand) → VerdictLeaves s v new → state_at new ≡ left_by s v
 leaves_at s (Accepted answers next) new it = elim it [ inl on ↦ ap state_at on | inr on ↦ ap state_at on ]
-leaves_at s (Refused call code) new it = ap state_at it
-leaves_at s (NoRoom call) new it = ap state_at it
-leaves_at s (Stale seq) new it = ap state_at it
+leaves_at s v new it = ap state_at it
 
 -- a reply of a World that works is one of its judgement
 pub replied_one : (s : State) (batch : Batch) (reply : Reply) (new : Stand) → RunsBatch (Works s) batch (answer.Replied reply) new → AnsweredOne s batch reply (state_at new)
@@ -123,9 +111,7 @@ replied_one s batch reply new it = elim it [ inl none ↦ inl (none.0, ap state_
 -- no verdict leaves a store that failed
 no_store_failed : {X : Type 0} (s t : State) (hand : Batch) (v : Verdict) → VerdictLeaves s v (StoreFailed t hand) → X
 no_store_failed s t hand (Accepted answers next) it = elim it [ inl on ↦ (let no : StoreFailed t hand ≡ Works next = on in absurd cc) | inr on ↦ (let no : StoreFailed t hand ≡ Failed next = on in absurd cc) ]
-no_store_failed s t hand (Refused call code) it = let no : StoreFailed t hand ≡ Works s = it in absurd cc
-no_store_failed s t hand (NoRoom call) it = let no : StoreFailed t hand ≡ Works s = it in absurd cc
-no_store_failed s t hand (Stale seq) it = let no : StoreFailed t hand ≡ Works s = it in absurd cc
+no_store_failed s t hand v it = let no : StoreFailed t hand ≡ Works s = it in absurd cc
 
 replied_at : {S : Type 0} (g : Ghosts S) (known : Bool) (new : World S) (s : State) (batch : Batch) (reply : Reply) (next : Stand) → StandsAt g known new next → RunsBatch (Works s) batch (answer.Replied reply) next → IsAt g known new (state_at next)
 replied_at g known new s batch reply (Works t) it ran = it.is_at
@@ -157,10 +143,7 @@ acknowledged-take [] [] = refl
 acknowledged-take [] (r ∷ rs) = refl
 acknowledged-take (b ∷ bs) [] = refl
 acknowledged-take (b ∷ bs) (reply.Accepted seq vs ∷ rs) = ap (λ t. b ∷ t) (acknowledged-take bs rs)
-acknowledged-take (b ∷ bs) (reply.Refused k e ∷ rs) = acknowledged-take bs rs
-acknowledged-take (b ∷ bs) (reply.Full k ∷ rs) = acknowledged-take bs rs
-acknowledged-take (b ∷ bs) (reply.Stale seq ∷ rs) = acknowledged-take bs rs
-acknowledged-take (b ∷ bs) (reply.NoMemory ∷ rs) = acknowledged-take bs rs
+acknowledged-take (b ∷ bs) (r ∷ rs) = acknowledged-take bs rs
 
 answered-push : (s mid end : State) (batches : List Batch) (replies : List Reply) (batch : Batch) (r : Reply) → Answered s batches replies mid → AnsweredOne mid batch r end → Answered s (batches ++ batch ∷ []) (replies ++ r ∷ []) end
 answered-push s mid end [] [] batch r it one = (end, subst (λ t. AnsweredOne t batch r end) it one, refl)
@@ -176,12 +159,11 @@ pub record Progress {S : Type 0} (g : Ghosts S) (old now : World S) (all : List 
   pub answered : (known : Bool) (s : State) → IsAt g known old s → (end : State) × Answered s (take count all) new end × IsAt g known now end
   pub turned : (known : Bool) (stand : Stand) → StandsAt g known old stand → (mid : Stand) × StandsAt g known now mid × Turns RunsBatch stand (map Whole (take count all)) (map answer.Replied new) mid
 
-turns-push : (old mid end : Stand) (batches : List Batch) (replies : List Reply) (batch : Batch) (r : Reply) → Turns RunsBatch old (map Whole batches) (map answer.Replied replies) mid → RunsBatch mid batch (answer.Replied r) end
+turned-push : (old mid end : Stand) (batches : List Batch) (replies : List Reply) (batch : Batch) (r : Reply) → Turns RunsBatch old (map Whole batches) (map answer.Replied replies) mid → RunsBatch mid batch (answer.Replied r) end
     → Turns RunsBatch old (map Whole (batches ++ batch ∷ [])) (map answer.Replied (replies ++ r ∷ [])) end
-turns-push old mid end [] [] batch r it one = (end, subst (λ t. RunsBatch t batch (answer.Replied r) end) it one, refl)
-turns-push old mid end [] (x ∷ xs) batch r it one = absurd it
-turns-push old mid end (b ∷ bs) [] batch r it one = absurd it
-turns-push old mid end (b ∷ bs) (x ∷ xs) batch r it one = (it.0, it.1, turns-push it.0 mid end bs xs batch r it.2 one)
+turned-push old mid end batches replies batch r it one =
+    subst₂ (λ items answers. Turns RunsBatch old items answers end) (sym (map-append Whole batches (batch ∷ []))) (sym (map-append answer.Replied replies (r ∷ [])))
+    (turns-push RunsBatch old mid end (map Whole batches) (map answer.Replied replies) (Whole batch) (answer.Replied r) it one)
 
 pub starts : {S : Type 0} (g : Ghosts S) (old : World S) (all : List Batch) (before replies : List Reply) → replies ≡ before → Progress g old old all 0 before replies
 starts g old all before replies same = record { new = []; whole = same ∙ sym (append-nil before); each = refl; answered = λ known s it. (s, refl, it); turned = λ known stand it. (stand, it, refl) }
@@ -202,7 +184,7 @@ goes_on g old now next all count before replies longer batch r low is p pushed r
       let done = p.turned known stand it in
       let one = stands known done.0 done.1 in
       let more : take (count + 1) all ≡ take count all ++ batch ∷ [] = take_more all count batch low ∙ ap (λ y. take count all ++ y ∷ []) (sym is) in
-      (one.0, one.1, subst (λ t. Turns RunsBatch stand (map Whole t) (map answer.Replied (p.new ++ r ∷ [])) one.0) (sym more) (turns-push stand done.0 one.0 (take count all) p.new batch r done.2 one.2));
+      (one.0, one.1, subst (λ t. Turns RunsBatch stand (map Whole t) (map answer.Replied (p.new ++ r ∷ [])) one.0) (sym more) (turned-push stand done.0 one.0 (take count all) p.new batch r done.2 one.2));
 }
 
 pub added_is : {S : Type 0} (g : Ghosts S) (old now : World S) (all : List Batch) (count : ℕ) (before replies : List Reply) (p : Progress g old now all count before replies) → added before replies ≡ p.new

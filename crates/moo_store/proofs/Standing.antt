@@ -45,8 +45,7 @@ plain_one (Works s) new batch answer.Fault it plain = let odd : false ≡ true =
 plain_one (Works s) new batch answer.Closed it plain = absurd it
 plain_one (Works s) new batch (answer.Malformed number) it plain = absurd it
 plain_one (Works s) new batch answer.Truncated it plain = absurd it
-plain_one (Failed s) new batch a it plain = closed_is_not_plain a it.0 plain
-plain_one (StoreFailed s hand) new batch a it plain = closed_is_not_plain a it.0 plain
+plain_one old new batch a it plain = closed_is_not_plain a it.0 plain
 
 pub plain_run : (old new : Stand) (items : List Next) (answers : List Answer) → Turns RunsBatch old items answers new → AllByRecursion (λ a. is_plain a ≡ true) answers
     → (answers ≡ replies (state_at old) items) × (state_at new ≡ after (state_at old) (batches_of items))

@@ -1,11 +1,10 @@
 -- What the accepted batches of a run leave of the tables, one after another.
-use Rattle.moo_store.{proofs.Words.{◌≡◌, subst₂, ◌⊎◌, inl, inr, ℕ, zero, suc, ◌<◌, ◌≤◌, Bool, List, [], ◌∷◌, ◌++◌, append_assoc, take, drop, length, get_or, Result, Ok, Err, OnOk, OnErr, IfOk, IfErr, IsTrue, true, false, refl, sym, ap, subst, ◌∙◌, arith, append-nil, ⊤, Ghosts, Trees, Maps, Tables, Rests, IsCurrent, Batch, Reply, Value, IsGood, State, Accepted, state_of, judge, left_by, acknowledged, added, ShowsRows, store_of, ShowsItsRows, IsAt, StandsFor, MatchStore, KeepsRows, LeavesRows, BatchesLead, LeavesLed, World, KeepsCells, LeavesEither, LeavesWritten, unread_of, SparesUnread, Writes, StandsOver, HasWritten, WritesOne, IsKnown, taken_of, lost_of, IsMovedBy, StoreFault, Store}, proofs.Crashes.{rows_at_rest, unread_at_rest}, proofs.Numbered.{led-append, led_good, writes_led}, proofs.Running.{Progress, FailsAtStore, by_fault}}
+use Rattle.moo_store.{proofs.Words.{◌≡◌, subst₂, ◌⊎◌, inl, inr, ℕ, zero, suc, ◌<◌, ◌≤◌, Bool, List, [], ◌∷◌, ◌++◌, append_assoc, take, drop, length, get_or, Result, Ok, Err, IsTrue, true, false, refl, sym, ap, subst, ◌∙◌, arith, append-nil, ⊤, Ghosts, Maps, Tables, Rests, Batch, Reply, IsGood, State, Accepted, acknowledged, added, ShowsRows, store_of, ShowsItsRows, IsAt, StandsFor, MatchStore, KeepsRows, BatchesLead, LeavesLed, World, LeavesWritten, unread_of, Writes, StandsOver, HasWritten, WritesOne, IsKnown, taken_of, lost_of, IsMovedBy, StoreFault}, proofs.Crashes.{rows_at_rest, unread_at_rest}, proofs.Numbered.{led-append, led_good, writes_led}, proofs.Running.{Progress, FailsAtStore, by_fault}}
 use Rattle.moo_store_rows.proofs.Committed.{IsSettled, shown_by, current_by}
 use Rattle.std.proofs.Math.Seq.{drop-append_seam}
 use Rattle.sqlite.specs.State.{State as Database, HasCleanDisk}
 use Rattle.moo_tables_rows.proofs.InsideLemmas.{left_by as tables_left}
 use Rattle.moo_text.specs.declared.reply.Reply.TheVariants as reply
-use Rattle.moo_world.specs.Between.{BatchLeads}
 
 -- tables that rest in the store of a World that is at a state
 pub is_over : {S : Type 0} (g : Ghosts S) (known : Bool) (world : World S) (s : State) (tables : Tables) → IsTrue known → IsAt g known world s → HasCleanDisk (store_of g world) → Rests (store_of g world) tables → StandsOver g world tables

@@ -1,6 +1,5 @@
 -- Where a World stands behind one batch.
-use Rattle.moo_store.proofs.Words.{◌≡◌, ◌⊎◌, inl, inr, Bool, true, false, Result, Ok, Err, OnOk, OnErr, IfOk, IfErr, refl, sym, ap, subst, ◌∙◌, List, IsTrue, HasCleanDisk, Ghosts, Trees, Value, Batch, State, Verdict, Accepted, judge, left_by, state_of, Reply, reply_of, World, Stand, Works, Failed, StoreFailed, VerdictLeaves, ReachesStore, RunsBatch, LeavesState, StandsBehind, answer_to, store_of, IsAt, StandsAt, StoreFault, Store, Closed}
-use Rattle.sqlite.specs.declared.error.Error.{Error}
+use Rattle.moo_store.proofs.Words.{◌≡◌, inr, Bool, true, false, Result, Ok, refl, sym, ap, subst, ◌∙◌, Ghosts, Batch, State, Verdict, judge, state_of, Reply, reply_of, World, Stand, Works, Failed, StoreFailed, VerdictLeaves, RunsBatch, StandsBehind, answer_to, IsAt, StandsAt, StoreFault, Closed}
 use Rattle.moo_text.specs.declared.reply.Answer.TheVariants as answer
 use Rattle.moo_text.specs.declared.reply.Reply.TheVariants as reply
 
@@ -17,8 +16,7 @@ closed_stands g world batch failed known (StoreFailed s hand) at = (StoreFailed 
 pub works_stand : {S : Type 0} (g : Ghosts S) (old new : World S) (batch : Batch) (r : Result Reply StoreFault) → old.failed ≡ false
     → ((known : Bool) (s : State) → IsAt g known old s → (next : Stand) × StandsAt g known new next × RunsBatch (Works s) batch (answer_to r) next) → StandsBehind g old batch (answer_to r) new
 works_stand g old new batch r works it known (Works s) at = it known s at.is_at
-works_stand g old new batch r works it known (Failed s) at = not_both old.failed works at.0
-works_stand g old new batch r works it known (StoreFailed s hand) at = not_both old.failed works at.0
+works_stand g old new batch r works it known other at = not_both old.failed works at.0
 
 -- a verdict that isn't Accepted keeps the state
 pub refused_stays : (s : State) (batch : Batch) (v : Verdict) → judge s batch ≡ v → VerdictLeaves s v (Works s) → RunsBatch (Works s) batch (answer.Replied (reply_of v)) (Works s)

@@ -1,5 +1,5 @@
 -- The words that most proofs of this crate share.
-pub use Rattle.std.proofs.Common.{Bool, Err, IfErr, IfOk, IsTrue, List, None, Ok, OnErr, OnOk, Option, Result, Some, [], ap, append_assoc, arith, cond, drop, false, get_or, inl, inr, length, length-append, map, not, refl, rules, subst, subst₂, suc, sym, take, true, vec_capacity, vec_len, zero, zero-add, ℕ, ◌&&◌, ◌++◌, ◌+◌, ◌-◌, ◌<◌, ◌∙◌, ◌∷◌, ◌≡◌, ◌≢◌, ◌≤◌, ◌⊎◌}
+pub use Rattle.std.proofs.Common.{Bool, Err, IfErr, IfOk, IsTrue, List, None, Ok, OnOk, Option, Result, Some, [], ap, append_assoc, arith, cond, drop, false, get_or, inl, inr, length, length-append, map, not, refl, rules, subst, subst₂, suc, sym, take, true, vec_capacity, vec_len, zero, zero-add, ℕ, ◌&&◌, ◌++◌, ◌+◌, ◌-◌, ◌<◌, ◌∙◌, ◌∷◌, ◌≡◌, ◌≢◌, ◌≤◌, ◌⊎◌}
 pub use Rattle.std.proofs.lemmas.List.{append-nil, take_more}
 pub use Rattle.std.specs.Prelude.{IfNone, MatchResult, if◌then◌else◌, is_err, nat_lt, ⊤}
 pub use Rattle.moo_cells.specs.Shows.{ShowsRows}
@@ -19,13 +19,13 @@ pub use Rattle.moo_store.specs.Stopping.{AppliesFirst, AreAccepted, CompletesUnt
 pub use Rattle.moo_store.specs.Text.{Applies, KeepsLed, KeepsLeft, KeepsRest, RunsAll, RunsAndAnswers, StandsBehind, StopsRun, accepted, accepted_at, answer_to, answers_asked, batches_of, faulted, faulted_at, is_plain, replies}
 pub use Rattle.moo_store.specs.Turns.{Completes, GivesFrontOrAll, Halts, Turn, Turns, answers_text, is_batch, is_lost_answer}
 pub use Rattle.moo_store.specs.Untouched.{HasWritten, IsKnown, IsMovedBy, LeavesWritten, StandsOver, Writes, WritesOne, lost_of, taken_of}
-pub use Rattle.moo_store_rows.specs.Untouched.{KeepsCells, LeavesEither}
+pub use Rattle.moo_store_rows.specs.Untouched.{LeavesEither}
 pub use Rattle.moo_store_rows.specs.Current.{unread_of}
 pub use Rattle.moo_store.specs.World.{CrashLeaves, IsAt, Left, LeftOrNext, MatchStore, ShowsItsRows, StandsAt, StandsFor, store_of}
 pub use Rattle.moo_store_rows.specs.declared.fault.StoreFault.{StoreFault}
-pub use Rattle.moo_store_rows.specs.declared.fault.StoreFault.TheVariants.{Closed, Damaged, NewerVersion, OutOfMemory, Store}
+pub use Rattle.moo_store_rows.specs.declared.fault.StoreFault.TheVariants.{Closed, OutOfMemory, Store}
 pub use Rattle.moo_tables_rows.proofs.InsideLemmas.{clean_before, stays}
-pub use Rattle.moo_tables_rows.specs.Inside.{IsCurrent, MayOpenAs, Rests, SparesUnread}
+pub use Rattle.moo_tables_rows.specs.Inside.{MayOpenAs, Rests}
 pub use Rattle.moo_tables_rows.specs.Tables.{Tables}
 pub use Rattle.moo_text.specs.Items.{items}
 pub use Rattle.moo_text.specs.Side.{EndsAt, IsOver, Side, feed_room, feed_side, untouched}

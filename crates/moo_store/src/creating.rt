@@ -10,7 +10,7 @@ use crate::world::World;
 use moo_memory::opening_world;
 use moo_store_rows::StoreFault;
 use moo_world::laws::good_opening;
-use sqlite::{Alter, Connection, Error, ErrorCode};
+use sqlite::{Alter, Connection};
 use std::alloc::Global;
 
 /// Makes the tables of a new world in a database that has none, in one transaction, and answers the World over them: `seq`

@@ -1,13 +1,10 @@
 -- Why the world of tables isn't opened.
-use Rattle.moo_store_rows.{proofs.Words.{inl, inr, ◌≡◌, ◌≢◌, ◌∙◌, sym, ap, subst, Version, Tables, schema_of, Rests, HasTables, ReadsTables, StoreFault, Store, Damaged, NewerVersion, OutOfMemory, Closed, HasCleanDisk}, specs.Opening.{StopsBy}}
+use Rattle.moo_store_rows.{proofs.Words.{inl, inr, ◌≡◌, ◌≢◌, ◌∙◌, sym, ap, subst, Version, Tables, schema_of, Rests, HasTables, ReadsTables, StoreFault, Store, OutOfMemory, HasCleanDisk}, specs.Opening.{StopsBy}}
 use Rattle.moo_tables.{specs.declared.reading.CellLists.{CellLists}, specs.Listing.{ListsTables, AreListed}, specs.ReadCause.{StopsQuery}, proofs.ReadCauseLemmas.{query_stops_since}}
 use Rattle.moo_tables_rows.specs.Cause.{StopsChange}
-use Rattle.sqlite.specs.State.{State as Database, store_error}
+use Rattle.sqlite.{specs.State.{State as Database, store_error}, specs.declared.error.Error.{Error}, specs.declared.error.Error.TheVariants.{SqliteFailure}, specs.declared.error.ErrorCode.TheVariants.{NotADatabase}}
 use Rattle.sqlite_trees.specs.declared.error.StoreError.{StoreError}
 use Rattle.sqlite_trees.specs.declared.error.StoreError.TheVariants as kinds
-use Rattle.sqlite.specs.declared.error.Error.{Error}
-use Rattle.sqlite.specs.declared.error.Error.TheVariants.{SqliteFailure}
-use Rattle.sqlite.specs.declared.error.ErrorCode.TheVariants.{NotADatabase}
 
 -- rows that are read of tables come in the order of their keys
 pub rows_rise : (lists : CellLists) (tables : Tables) → ListsTables lists tables → AreListed lists
@@ -30,10 +27,7 @@ ran_out P fault is = subst (StopsBy P) (sym is) tt
 
 pub stops_more : (P Q : Error → Type 0) (fault : StoreFault) → ((error : Error) → P error → Q error) → StopsBy P fault → StopsBy Q fault
 stops_more P Q (Store error) more it = more error it
-stops_more P Q (Damaged kind key) more it = it
-stops_more P Q NewerVersion more it = it
-stops_more P Q OutOfMemory more it = it
-stops_more P Q Closed more it = it
+stops_more P Q fault more it = it
 
 pub has_tables : (store : Database) (version : Version) (tables : Tables) → Rests store tables → tables.version ≡ version → HasTables (schema_of version) store
 has_tables store version tables rests is = rests.holds.schema ∙ ap schema_of is

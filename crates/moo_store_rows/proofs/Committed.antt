@@ -30,16 +30,6 @@ shown_by store rows t it rests = subst (λ x. ShowsRows x rows) (one_tables stor
 pub current_by : (store : Database) (rows : Maps) (t : Tables) → KeepsRows store rows → Rests store t → IsCurrent t
 current_by store rows t it rests = subst IsCurrent (one_tables store it.tables t it.rests rests) it.current
 
-pub survives-map : (old new : Database) (P Q : Trees → Type 0) → Survives old new P → (HasCleanDisk old → (trees : Trees) → P trees → Q trees) → Survives old new Q
-survives-map old new P Q s f = record {
-  clean = s.clean;
-  shield = s.shield;
-  counts = s.counts;
-  limit = s.limit;
-  closes = s.closes;
-  crash = λ clean trees left. elim (s.crash clean trees left) [ inl was ↦ inl was | inr p ↦ inr (f (clean_before old new P s clean) trees p) ];
-}
-
 in_doubt : (b : Bool) → (doubt b ≡ 0) ⊎ (doubt b ≡ 0 → ⊥)
 unfolding doubt
 in_doubt true = inl refl

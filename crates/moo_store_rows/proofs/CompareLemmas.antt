@@ -1,5 +1,5 @@
 -- From what was read to what is said of the tables.
-use Rattle.moo_store_rows.{proofs.Words.{◌≡◌, ◌≤◌, ◌≤ℤ◌, ℕ, ℤ, pos, negsuc, suc, zero, [], ◌∷◌, length, map, Result, Ok, Err, refl, sym, ap, subst, ◌∙◌, arith, length-append, length-map, IfOk, IfErr, OnOk, entries, HasCleanDisk, Maps, IsGood, world_of, numbers_below, Tables, Rests, ShowsRows, IsOfStore, StoreFault, Store, Damaged, NewerVersion, OutOfMemory, Closed}, specs.Checked.{SaysInCheck, IsUnchecked, Checks}}
+use Rattle.moo_store_rows.{proofs.Words.{◌≡◌, ◌≤◌, ◌≤ℤ◌, ℕ, ℤ, pos, negsuc, suc, zero, [], ◌∷◌, length, map, Result, Ok, Err, refl, sym, ap, subst, ◌∙◌, arith, length-append, length-map, IfOk, IfErr, OnOk, entries, HasCleanDisk, Maps, IsGood, world_of, numbers_below, Tables, Rests, ShowsRows, IsOfStore, StoreFault, Store, OutOfMemory}, specs.Checked.{SaysInCheck, IsUnchecked, Checks}}
 use Rattle.sqlite.specs.State.{State as Database}
 use Rattle.std.{proofs.lemmas.List.Sums.{count_by-le-length, length-filter}, proofs.lemmas.Int.{ints}}
 use Rattle.moo_world.{specs.Objects.{object_at}, specs.ObjectLists.{objects_of}, specs.World.{is_object, numbers_to}, proofs.Shown.ObjectEntries.{objects_listed}}
@@ -22,10 +22,8 @@ checked_by own cells old new (Err fault) shown is says whole are rests = record 
 -- a check that finds nothing out isn't of damage
 pub unchecked : (own : Maps) (old new : Database) (fault : StoreFault) → IsOfStore fault → (fault ≡ OutOfMemory → HasCleanDisk new → (t : Tables) → Rests old t → Rests new t) → IsUnchecked own old new fault
 unchecked own old new (Store error) it rests = record { fault = λ clean t here. tt; whole = λ worked clean t here shows. tt; rests = λ clean is. absurd cc }
-unchecked own old new (Damaged kind key) it rests = absurd it
-unchecked own old new NewerVersion it rests = absurd it
 unchecked own old new OutOfMemory it rests = record { fault = λ clean t here. tt; whole = λ worked clean t here shows. tt; rests = λ clean is. rests is clean }
-unchecked own old new Closed it rests = absurd it
+unchecked own old new fault it rests = absurd it
 
 -- ---- how many objects there are
 

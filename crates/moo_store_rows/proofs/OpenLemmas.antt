@@ -1,5 +1,5 @@
 -- From what was read of a connection to what is opened.
-use Rattle.moo_store_rows.{proofs.Words.{◌≡◌, ◌⊎◌, inl, inr, IsTrue, false, sym, ap, subst, ◌∙◌, Trees, Ghosts, Held, state, Maps, IsGood, state_of, Version, Tables, schema_of, Rests, RestsAt, HasTables, ReadsTables, FailsToRead, stays, clean_before, ShowsRows, Says, IsOfStore, Adopts, TakesOver, StoreFault, Store, Damaged, NewerVersion, OutOfMemory, Closed, IsEarlier}, proofs.Versions.{version_is}}
+use Rattle.moo_store_rows.{proofs.Words.{◌≡◌, ◌⊎◌, inl, inr, IsTrue, false, sym, ap, subst, ◌∙◌, Trees, Ghosts, Held, state, Maps, IsGood, state_of, Version, Tables, schema_of, Rests, RestsAt, HasTables, ReadsTables, FailsToRead, stays, clean_before, ShowsRows, Says, IsOfStore, Adopts, TakesOver, StoreFault, Store, OutOfMemory, IsEarlier}, proofs.Versions.{version_is}}
 use Rattle.sqlite.{specs.Effect.{Database as Content}, proofs.StateLemmas.{survives_then}, specs.State.{State as Database, HasCleanDisk, IsUnchanged, IsRolledBack, Survives}}
 use Rattle.moo_tables.proofs.ReadLemmas.{rests_on}
 
@@ -92,7 +92,5 @@ module _ {S : Type 0} (g : Ghosts S) (old mid : Held S) (version : Version) (row
 -- a fault of the store says nothing of any tables
 pub says_of_store : (tables : Tables) (fault : StoreFault) → IsOfStore fault → Says tables fault
 says_of_store tables (Store error) it = tt
-says_of_store tables (Damaged kind key) it = absurd it
-says_of_store tables NewerVersion it = absurd it
 says_of_store tables OutOfMemory it = tt
-says_of_store tables Closed it = absurd it
+says_of_store tables fault it = absurd it

@@ -1,5 +1,5 @@
 -- The tables of a whole world.
-use Rattle.moo_store_rows.{proofs.Words.{◌≡◌, Option, None, Ordering, refl, sym, subst, FinMap, empty, get, get-empty, Maps, no_maps, object_cmp, prop_cmp, slot_cmp, verb_cmp, petition_cmp, ObjRow, SlotRow, PetitionRow, IsGood, state_of, present, no_schema, tables_with, Rests, Leaves, HasNoTables, no_tables, CellChanges, IsChanges, AreChanges, ShowsObject, ShowsProp, ShowsSlot, ShowsVerb, ShowsPetition, ShowsOrNone, ShowsMaps, ShowsRows, Prints, all_of, all_changes, KeepsRows, LeavesState}, proofs.AllRows.{all_changed}, proofs.Committed.{survives-map}, proofs.Shown.{shows-written}}
+use Rattle.moo_store_rows.{proofs.Words.{◌≡◌, Option, None, Ordering, refl, sym, subst, FinMap, empty, get, get-empty, Maps, no_maps, object_cmp, prop_cmp, slot_cmp, verb_cmp, petition_cmp, ObjRow, SlotRow, PetitionRow, IsGood, state_of, present, no_schema, tables_with, Rests, Leaves, HasNoTables, no_tables, CellChanges, IsChanges, AreChanges, ShowsObject, ShowsProp, ShowsSlot, ShowsVerb, ShowsPetition, ShowsOrNone, ShowsMaps, ShowsRows, Prints, all_of, all_changes, KeepsRows, LeavesState}, proofs.AllRows.{all_changed}, proofs.OpenLemmas.{survives_more}, proofs.Shown.{shows-written}}
 use Rattle.sqlite.{specs.State.{State as Database, Survives}, specs.Effect.{Database as Content}}
 use Rattle.moo_rows.{specs.declared.row.PropRow.{PropRow}, specs.declared.row.VerbRow.{VerbRow}}
 
@@ -44,5 +44,5 @@ keeps_all store cells m p rests = record { tables = tables_with cells no_tables;
 
 -- and so does what a crash leaves of them
 pub survives_all : (old new : Database) (cells : CellChanges) (m : Maps) → Prints None no_maps cells (all_changes m) → IsGood m → Survives old new (λ trees. Leaves trees (tables_with cells no_tables)) → Survives old new (λ trees. LeavesState trees (state_of m))
-survives_all old new cells m p good survives = survives-map old new (λ trees. Leaves trees (tables_with cells no_tables)) (λ trees. LeavesState trees (state_of m)) survives
-    (λ clean trees lies. record { rows = m; good = good; state = refl; leaves = record { tables = tables_with cells no_tables; leaves = lies; shows = shows_all cells m p } })
+survives_all old new cells m p good survives = survives_more old new (λ trees. Leaves trees (tables_with cells no_tables)) (λ trees. LeavesState trees (state_of m))
+    (λ clean trees lies. record { rows = m; good = good; state = refl; leaves = record { tables = tables_with cells no_tables; leaves = lies; shows = shows_all cells m p } }) survives

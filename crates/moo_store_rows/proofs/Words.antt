@@ -18,7 +18,7 @@ pub use Rattle.moo_store_rows.specs.States.{KeepsRows, LeavesState}
 pub use Rattle.moo_store_rows.specs.Untouched.{IfBoth, KeepsCells, LeavesEither}
 pub use Rattle.moo_store_rows.specs.Current.{unread_from}
 pub use Rattle.moo_store_rows.specs.declared.fault.StoreFault.{StoreFault}
-pub use Rattle.moo_store_rows.specs.declared.fault.StoreFault.TheVariants.{Closed, Damaged, NewerVersion, OutOfMemory, Store}
+pub use Rattle.moo_store_rows.specs.declared.fault.StoreFault.TheVariants.{OutOfMemory, Store}
 pub use Rattle.moo_tables_rows.proofs.InsideLemmas.{clean_before, stays}
 pub use Rattle.moo_tables_rows.specs.Head.{HeadColumns}
 pub use Rattle.moo_tables_rows.specs.Object.{ObjectColumns}

@@ -2,7 +2,7 @@
 use Rattle.std.specs.Prelude.{◌≡◌, ℕ, false, if◌then◌else◌, map, List, [], ◌∷◌, Some, None}
 use Rattle.sqlite.specs.Table.{Table}
 use Rattle.sqlite_value.specs.Keys.{plain}
-use Rattle.moo_tables.specs.declared.columns.OurTable.{OurTable}
+use Rattle.moo_tables_rows.specs.declared.our_table.OurTable.{OurTable}
 use Rattle.moo_tables_rows.specs.Columns.{numbered, paired, required}
 
 -- no constraint but the key, and no column that is computed

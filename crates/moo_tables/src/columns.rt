@@ -1,4 +1,4 @@
-//! What our tables are, and whether columns are those of one.
+//! Whether columns are those of a table of ours.
 
 ghost use Rattle.std.specs.Prelude.{◌≡◌, ◌↔◌, map, IsTrue};
 ghost use Rattle.moo_tables_rows.specs.Tables.{required};
@@ -6,16 +6,6 @@ ghost use Rattle.moo_tables_rows.specs.Tables.{required};
 use sqlite_schema::schema::{Column, Kind};
 use sqlite_value::keys::Collation;
 use sqlite_value::value::Value;
-
-/// A table of ours, as a database has it.
-pub(crate) struct OurTable {
-    pub name: &'static str,
-    pub tree: u32,
-    /// Whether its key is the first two columns. Else it is the first.
-    pub is_paired: bool,
-    /// The name and the type of each column.
-    pub columns: &'static [(&'static str, Kind)],
-}
 
 /// Whether it is a column of a STRICT table with this name and type that is never empty, and has no default.
 fn is_required(column: &Column, name: &[u8], kind: Kind) -> bool

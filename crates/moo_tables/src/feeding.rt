@@ -12,8 +12,7 @@ ghost use Rattle.moo_tables.specs.Listing.{ListsNumbers, ListsPairs};
 ghost use Rattle.moo_tables.specs.ReadCause.{HasCauseIfNotShown, HasCauseOfReading};
 ghost use Rattle.moo_tables_rows.specs.Tables.{Tables, schema_of};
 
-use crate::tables::{READ_OBJECT, READ_PROP, READ_SLOT, READ_SLOT2, READ_VERB};
-use moo_tables_rows::Version;
+use moo_tables_rows::{OBJECT, PROP, SLOT, SLOT2, VERB, Version};
 use sqlite::{Alter, Connection, Error, Row};
 use std::alloc::{AllocError, Global};
 use std::mem;
@@ -102,7 +101,7 @@ pub fn feed_objects<S: Alter, T: TakeRows>(
     ensures failed { OnErr result (FailsToRead (schema_of version) (state S.Store conn.old) (state S.Store conn.new)) }
     ensures cause { HasCauseOfReading (schema_of version) (state S.Store conn.old) (state S.Store conn.new) result }
 {
-    feed_rows(alloc, conn, READ_OBJECT, taker)
+    feed_rows(alloc, conn, OBJECT.read, taker)
 }
 
 /// Hands on the rows of `prop`, in the order of their numbers. False if they can't be taken.
@@ -120,7 +119,7 @@ pub fn feed_props<S: Alter, T: TakeRows>(
     ensures failed { OnErr result (FailsToRead (schema_of version) (state S.Store conn.old) (state S.Store conn.new)) }
     ensures cause { HasCauseOfReading (schema_of version) (state S.Store conn.old) (state S.Store conn.new) result }
 {
-    feed_rows(alloc, conn, READ_PROP, taker)
+    feed_rows(alloc, conn, PROP.read, taker)
 }
 
 /// Hands on the rows of the slots, in the order of their objects, then of their properties. False if they can't be taken.
@@ -139,9 +138,9 @@ pub fn feed_slots<S: Alter, T: TakeRows>(
     ensures cause { HasCauseOfReading (schema_of version) (state S.Store conn.old) (state S.Store conn.new) result }
 {
     if version.has_lettered_bits() {
-        return feed_rows(alloc, conn, READ_SLOT, taker);
+        return feed_rows(alloc, conn, SLOT.read, taker);
     }
-    feed_rows(alloc, conn, READ_SLOT2, taker)
+    feed_rows(alloc, conn, SLOT2.read, taker)
 }
 
 /// Hands on the rows of `verb`, in the order of their objects, then of their numbers. False if they can't be taken.
@@ -159,5 +158,5 @@ pub fn feed_verbs<S: Alter, T: TakeRows>(
     ensures failed { OnErr result (FailsToRead (schema_of version) (state S.Store conn.old) (state S.Store conn.new)) }
     ensures cause { HasCauseOfReading (schema_of version) (state S.Store conn.old) (state S.Store conn.new) result }
 {
-    feed_rows(alloc, conn, READ_VERB, taker)
+    feed_rows(alloc, conn, VERB.read, taker)
 }

@@ -7,9 +7,10 @@ ghost use Rattle.moo_tables_rows.specs.Inside.{StaysInside};
 ghost use Rattle.moo_tables.specs.Migrated.{GrowsTables, HasCauseOfMigrating, MigratesInside};
 ghost use Rattle.moo_tables.specs.Transaction.{MigratesTables};
 
-use crate::tables::{CREATE_PETITION, CREATE_PETITION_HEAD, CREATE_SLOT2};
 use moo_rows::{Head, PropId};
-use moo_tables_rows::{Run, SlotCells, put_counter, put_head, write_rows};
+use moo_tables_rows::{
+    PETITION, PETITION_HEAD, Run, SLOT2, SlotCells, put_counter, put_head, write_rows,
+};
 use moo_value::ObjNo;
 use sqlite::{Alter, Connection, Error};
 
@@ -20,9 +21,9 @@ pub(crate) fn create_added_tables<T: Run>(tx: &mut T) -> Result<usize, Error>
     ensures made { OnOk result (GrowsTables (T.state tx.old) (T.state tx.new)) }
     ensures cause { HasCauseOfMigrating (T.state tx.old) (T.state tx.new) result }
 {
-    tx.run(CREATE_SLOT2, &[])?;
-    tx.run(CREATE_PETITION, &[])?;
-    tx.run(CREATE_PETITION_HEAD, &[])
+    tx.run(SLOT2.create, &[])?;
+    tx.run(PETITION.create, &[])?;
+    tx.run(PETITION_HEAD.create, &[])
 }
 
 /// Makes the tables of the present version with this head and these slots, within a transaction.

@@ -6,9 +6,10 @@ ghost use Rattle.sqlite_value.specs.Keys.{plain};
 ghost use Rattle.moo_tables_rows.specs.Tables.{key_index, first_schema, second_schema, schema_of};
 ghost use Rattle.moo_tables.specs.Ours.{HasNoRules, IsNumbered, IsPaired, our_table};
 
-use crate::columns::{OurTable, are_required};
-use crate::tables::{HEAD, OBJECT, PETITION, PETITION_HEAD, PROP, SLOT, SLOT2, VERB};
-use moo_tables_rows::Version;
+use crate::columns::are_required;
+use moo_tables_rows::{
+    HEAD, OBJECT, OurTable, PETITION, PETITION_HEAD, PROP, SLOT, SLOT2, VERB, Version,
+};
 use sqlite_items::Items;
 use sqlite_schema::code::Terms;
 use sqlite_schema::schema::{Index, Schema, Table};

@@ -10,11 +10,7 @@ ghost use Rattle.moo_tables.specs.Reading.{Lists};
 ghost use Rattle.moo_tables_rows.specs.Tables.{schema_of};
 
 use crate::query::all_rows;
-use crate::tables::{
-    READ_HEAD, READ_OBJECT, READ_PETITION, READ_PETITION_HEAD, READ_PROP, READ_SLOT, READ_SLOT2,
-    READ_VERB,
-};
-use moo_tables_rows::Version;
+use moo_tables_rows::{HEAD, OBJECT, PETITION, PETITION_HEAD, PROP, SLOT, SLOT2, VERB, Version};
 use sqlite::{Alter, Connection, Error, Row};
 use std::alloc::Global;
 
@@ -51,8 +47,8 @@ fn both_petition_cells_of<S: Alter>(
     if !version.has_petitions() {
         return Ok((Vec::new(alloc), Vec::new(alloc)));
     }
-    let petition = all_rows(alloc, conn, READ_PETITION)?;
-    let petition_head = all_rows(alloc, conn, READ_PETITION_HEAD)?;
+    let petition = all_rows(alloc, conn, PETITION.read)?;
+    let petition_head = all_rows(alloc, conn, PETITION_HEAD.read)?;
     Ok((petition, petition_head))
 }
 
@@ -73,7 +69,7 @@ pub fn small_cells_of<S: Alter>(
     ensures failed { OnErr result (FailsToRead (schema_of version) (state S.Store conn.old) (state S.Store conn.new)) }
     ensures cause { HasCauseOfReading (schema_of version) (state S.Store conn.old) (state S.Store conn.new) result }
 {
-    let head = all_rows(alloc, conn, READ_HEAD)?;
+    let head = all_rows(alloc, conn, HEAD.read)?;
     let (petition, petition_head) = both_petition_cells_of(alloc, conn, version)?;
     Ok((head, petition, petition_head))
 }
@@ -91,7 +87,7 @@ pub fn object_cells_of<S: Alter>(
     ensures failed { OnErr result (FailsToRead (schema_of version) (state S.Store conn.old) (state S.Store conn.new)) }
     ensures cause { HasCauseOfReading (schema_of version) (state S.Store conn.old) (state S.Store conn.new) result }
 {
-    all_rows(alloc, conn, READ_OBJECT)
+    all_rows(alloc, conn, OBJECT.read)
 }
 
 /// The rows of `prop`, in the order of their numbers.
@@ -107,7 +103,7 @@ pub fn prop_cells_of<S: Alter>(
     ensures failed { OnErr result (FailsToRead (schema_of version) (state S.Store conn.old) (state S.Store conn.new)) }
     ensures cause { HasCauseOfReading (schema_of version) (state S.Store conn.old) (state S.Store conn.new) result }
 {
-    all_rows(alloc, conn, READ_PROP)
+    all_rows(alloc, conn, PROP.read)
 }
 
 /// The rows of the slots, in the order of their objects, then of their properties.
@@ -124,9 +120,9 @@ pub fn slot_cells_of<S: Alter>(
     ensures cause { HasCauseOfReading (schema_of version) (state S.Store conn.old) (state S.Store conn.new) result }
 {
     if version.has_lettered_bits() {
-        return all_rows(alloc, conn, READ_SLOT);
+        return all_rows(alloc, conn, SLOT.read);
     }
-    all_rows(alloc, conn, READ_SLOT2)
+    all_rows(alloc, conn, SLOT2.read)
 }
 
 /// The rows of `verb`, in the order of their objects, then of their numbers.
@@ -142,7 +138,7 @@ pub fn verb_cells_of<S: Alter>(
     ensures failed { OnErr result (FailsToRead (schema_of version) (state S.Store conn.old) (state S.Store conn.new)) }
     ensures cause { HasCauseOfReading (schema_of version) (state S.Store conn.old) (state S.Store conn.new) result }
 {
-    all_rows(alloc, conn, READ_VERB)
+    all_rows(alloc, conn, VERB.read)
 }
 
 /// Reads the rows of each table, from the one that the version has them in; those of petitions if it has any.
@@ -163,11 +159,11 @@ pub fn read_tables<S: Alter>(
     ensures failed { OnErr result (FailsToRead (schema_of version) (state S.Store conn.old) (state S.Store conn.new)) }
     ensures cause { HasCauseOfReading (schema_of version) (state S.Store conn.old) (state S.Store conn.new) result }
 {
-    let head = all_rows(alloc, conn, READ_HEAD)?;
+    let head = all_rows(alloc, conn, HEAD.read)?;
     let object = object_cells_of(alloc, conn, version)?;
-    let prop = all_rows(alloc, conn, READ_PROP)?;
+    let prop = all_rows(alloc, conn, PROP.read)?;
     let slot = slot_cells_of(alloc, conn, version)?;
-    let verb = all_rows(alloc, conn, READ_VERB)?;
+    let verb = all_rows(alloc, conn, VERB.read)?;
     let (petition, petition_head) = both_petition_cells_of(alloc, conn, version)?;
     Ok(CellLists {
         version,

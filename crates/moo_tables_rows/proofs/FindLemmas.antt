@@ -1,5 +1,5 @@
 -- Which row of a table is found, and that its key tells it.
-use Rattle.moo_tables_rows.{proofs.Words.{◌≡◌, inl, inr, ℕ, ℤ, List, [], ◌∷◌, find, map, drop, codes, option_map, Option, Some, None, Bool, true, false, not, ◌&&◌, cond, IsTrue, refl, sym, ap, ◌∙◌, true≢false, is_eq, is_ne, Ordering, Less, Equal, Greater, and_parts, and_from, not-true, tied_itself, Value, Null, Int, Real, Text, Blob, Row, column, value_cmp, binary, is_true, rowid, id_in, first_key, plain, is_int, agree, clashes, differ, is_of, are_typed, are_present, has_computed, Datatype, NotNull, Unique, Table, Trees, Column, Binary, Compare, Eq, AllByRecursion, IsSound, Has, all_has, some_from, has_found, value_cmp_total, Version, First, Second, required, schema_of, slot_tree, slot_table, slot2_table, verb_table, has_pair, AreKeyed}, proofs.KeyLemmas.{is_false, one_row, int_value, ties_one}, proofs.RowLemmas.{equal_number, told}}
+use Rattle.moo_tables_rows.{proofs.Words.{suc, length, ◌++◌, ◌≡◌, inl, inr, ℕ, ℤ, List, [], ◌∷◌, find, map, drop, codes, option_map, Option, Some, None, Bool, true, false, not, ◌&&◌, cond, IsTrue, refl, sym, ap, ◌∙◌, true≢false, is_eq, is_ne, Ordering, Less, Equal, Greater, and_parts, and_from, not-true, Value, Null, Int, Real, Text, Blob, Row, column, value_cmp, binary, is_true, rowid, id_in, first_key, plain, is_int, agree, clashes, differ, is_of, are_typed, are_present, has_computed, Datatype, NotNull, Unique, Table, Trees, Column, Binary, Compare, Eq, AllByRecursion, IsSound, Has, all_has, some_from, has_found, Version, First, Second, required, schema_of, slot_tree, slot_table, slot2_table, verb_table, has_pair, AreKeyed}, proofs.KeyLemmas.{ties_itself, is_false, one_row, int_value, ties_one}, proofs.RowLemmas.{equal_number, told}, proofs.CellLemmas.{IsApart, place_behind, cell_in}}
 use Rattle.sqlite_sql.specs.Ops.{is_null}
 use Rattle.sqlite_schema.specs.declared.schema.Kind.TheVariants as kind
 
@@ -46,17 +46,21 @@ find_alike p xs ys over back one = go (find p xs) (find p ys) refl refl
 
 -- ---- what the schema asks of a row of two key columns
 
-int_of : (v : Value) → is_of kind.Integer v ≡ true → (v ≡ Null → ⊥) → IsTrue (is_int v)
-int_of Null h some = absurd (some refl)
-int_of (Int n) h some = refl
-int_of (Real x) h some = absurd (true≢false (sym h))
-int_of (Text t) h some = absurd (true≢false (sym h))
-int_of (Blob b) h some = absurd (true≢false (sym h))
+int_of : (v : Value) → (is_of kind.Integer v ≡ true) × (is_null v ≡ false) → IsTrue (is_int v)
+int_of Null it = absurd (true≢false it.1)
+int_of (Int n) it = refl
+int_of (Real x) it = absurd (true≢false (sym it.0))
+int_of (Text t) it = absurd (true≢false (sym it.0))
+int_of (Blob b) it = absurd (true≢false (sym it.0))
+
+pub int_in : (key : Option ℕ) (front : List Column) (name : List ℕ) (more : List Column) (row : Row) → IsApart key 0 front → place_behind key 0 front ≡ suc (length front) → are_typed key 0 (front ++ required kind.Integer name ∷ more) (drop 1 row) ≡ true → are_present key 0 (front ++ required kind.Integer name ∷ more) row ≡ true
+    → IsTrue (is_int (column row (suc (length front))))
+int_in key front name more row apart is typed present = int_of (column row (suc (length front))) (cell_in key kind.Integer front name more row apart is typed present)
 
 pub exactly : (v : Value) (n : ℤ) → IsTrue (is_int v) → is_eq (value_cmp v (Int n)) ≡ true → v ≡ Int n
 exactly v n int tie =
     let is = int_value v int in
-    is ∙ ap Int (ties_one v (id_in v) n (ap is_eq (ap (value_cmp v) (sym is) ∙ tied_itself value_cmp_total v)) tie)
+    is ∙ ap Int (ties_one v (id_in v) n (ties_itself v (id_in v) is) tie)
 
 pub differ_numbers : (m n : ℤ) → differ (Int m) (Int n) ≡ is_ne (value_cmp (Int m) (Int n))
 unfolding binary
@@ -93,30 +97,6 @@ one_pair rows keyed unique ints key r s p q here there =
     let tie = not_ne _ (sym (differ_numbers _ _) ∙ numbers) in
     one_row rows r s keyed.0 p q (ap (λ v. value_cmp v (rowid s)) (value r p) ∙ ap (value_cmp (Int (id_in (rowid r)))) (value s q) ∙ tie)
 
--- two required whole numbers come first
-pub two_ints : (row : Row) (one two : List ℕ) (more : List Column) → are_typed None 0 (required kind.Integer one ∷ required kind.Integer two ∷ more) (drop 1 row) ≡ true → are_present None 0 (required kind.Integer one ∷ required kind.Integer two ∷ more) row ≡ true
-    → IsTrue (is_int (column row 1)) × IsTrue (is_int (column row 2))
-two_ints [] one two more typed present = absurd (true≢false (sym present))
-two_ints (id ∷ []) one two more typed present = absurd (true≢false (sym present))
-two_ints (id ∷ a ∷ []) one two more typed present = absurd (true≢false (sym (and_parts _ _ present).1))
-two_ints (id ∷ a ∷ b ∷ tail) one two more typed present =
-    let first = and_parts _ _ typed in
-    let second = and_parts _ _ first.1 in
-    let here = and_parts _ _ present in
-    let there = and_parts _ _ here.1 in (
-      int_of a first.0 (λ none. true≢false (sym here.0 ∙ ap (λ v. not (is_null v)) none)),
-      int_of b second.0 (λ none. true≢false (sym there.0 ∙ ap (λ v. not (is_null v)) none)),
-    )
-
--- a required whole number comes behind the row's own
-pub one_int : (row : Row) (one two : List ℕ) (more : List Column) → are_typed (Some 0) 0 (required kind.Integer one ∷ required kind.Integer two ∷ more) (drop 1 row) ≡ true → are_present (Some 0) 0 (required kind.Integer one ∷ required kind.Integer two ∷ more) row ≡ true
-    → IsTrue (is_int (column row 2))
-one_int [] one two more typed present = absurd (true≢false (sym present))
-one_int (id ∷ []) one two more typed present = absurd (true≢false (sym present))
-one_int (id ∷ a ∷ []) one two more typed present = absurd (true≢false (sym present))
-one_int (id ∷ a ∷ b ∷ tail) one two more typed present =
-    int_of b (and_parts _ _ (and_parts _ _ typed).1).0 (λ none. true≢false (sym (and_parts _ _ present).0 ∙ ap (λ v. not (is_null v)) none))
-
 -- two columns are whole numbers, and tell the row
 pub record ArePairs (rows : List Row) : Type 0 where
   pub ints : (r : Row) → Has rows r → IsTrue (is_int (column r 1)) × IsTrue (is_int (column r 2))
@@ -129,7 +109,8 @@ pairs_in : (one two : List ℕ) (more : List Column) (t : Table) (rows : List Ro
     → AllByRecursion (λ r. are_present None 0 (required kind.Integer one ∷ required kind.Integer two ∷ more) r ≡ true) rows
     → AllByRecursion (λ r. (not (clashes plain (1 ∷ 2 ∷ []) rows r) && true) ≡ true) rows → ArePairs rows
 pairs_in one two more t rows keyed typed present unique =
-    let ints = λ (r : Row) (has : Has rows r). two_ints r one two more (and_parts _ (has_computed t r) (all_has _ rows r typed has)).0 (all_has _ rows r present has) in
+    let typed_so = λ (r : Row) (has : Has rows r). (and_parts _ (has_computed t r) (all_has _ rows r typed has)).0 in
+    let ints : (r : Row) → Has rows r → IsTrue (is_int (column r 1)) × IsTrue (is_int (column r 2)) = λ r has. (int_in None [] one (required kind.Integer two ∷ more) r refl refl (typed_so r has) (all_has _ rows r present has), int_in None (required kind.Integer one ∷ []) two more r refl refl (typed_so r has) (all_has _ rows r present has)) in
     let alone = λ (r : Row) (has : Has rows r). not-true _ (and_parts (not (clashes plain (1 ∷ 2 ∷ []) rows r)) true (all_has _ rows r unique has)).0 in
     record { ints = ints; one = one_pair rows keyed alone ints }
 

@@ -1,6 +1,6 @@
 -- What the statement on the head does.
-use Rattle.moo_tables_rows.{proofs.Words.{◌≡◌, ℕ, ℤ, pos, Option, Result, refl, Error, Row, State, present, head_cells, with_head_cells, Tables, head_table, numbered_with, RanStatement, List, WritesRow}, proofs.TextLemmas.{head_writes}, proofs.RefusalLemmas.{each}, proofs.StoppedLemmas.{Ran}, proofs.StopNumberLemmas.{PassesNumbers}, proofs.NumberLemmas.{HasNumbers}, proofs.SeenLemmas.{sees_head}}
-use Rattle.moo_tables_rows.proofs.StopNumberLemmas as stop
+use Rattle.moo_tables_rows.{proofs.Words.{ap, ◌≡◌, ℕ, ℤ, pos, Option, Result, refl, Error, Row, State, present, head_cells, with_head_cells, Tables, head_table, numbered_with, RanStatement, List, WritesRow}, proofs.TextLemmas.{head_writes}, proofs.RefusalLemmas.{each}, proofs.StoppedLemmas.{Ran}, proofs.StopLemmas.{PassesRows}, proofs.NumberLemmas.{number_kind}, proofs.WrittenLemmas.{HasRows, IsSeen}, proofs.SeenLemmas.{rows_seen, sees_head}}
+use Rattle.moo_tables_rows.proofs.StopLemmas as stop
 use Rattle.moo_rows.specs.declared.row.Head.{Head}
 
 -- its one row has the number 1
@@ -10,21 +10,24 @@ number_of _ = pos 1
 abbrev cells : Unit {0} → Head → Row
 cells _ head = head_cells present head
 
-has_numbers : HasNumbers head_table number_of cells
-has_numbers = record { stored = λ db. refl; counted = λ key row. refl; begins = λ key row. refl; fitting = λ key row. refl; placed = λ key row. refl; alone = λ key row. refl; there = λ key row. refl; over = λ key row r. refl; updated = λ key row r. refl; conflicting = λ new r. refl }
+has_rows : HasRows number_kind head_table number_of cells
+has_rows = record { bare = λ db. refl; counted = λ key row. refl; begins = λ key row. refl; fitting = λ key row. refl; placed = λ id key row. refl; alone = λ key row. refl; there = λ next id key row. refl; over = λ next id key row r. refl; updated = λ key row r. refl; conflicting = λ new r. refl }
 
 abbrev With : ℤ → Option Row → Tables → Tables
 With key cells tables = record tables { head = numbered_with key cells tables.head }
 
-passes : PassesNumbers head_table.name 0 head_table.columns number_of cells
+is_seen : IsSeen number_kind head_table (λ tables. tables.head) With
+is_seen = record { keyed = λ s tables seen. seen.holds.heads; told = λ db sound keyed. tt; shows = λ s tables seen. ap (λ (t : Tables). t.head) (rows_seen seen); changes = sees_head }
+
+passes : PassesRows number_kind head_table.name 0 head_table.columns number_of cells
 passes = record {
-  fit = λ db key row. record { typed = refl; present = refl; keyed = refl };
+  fit = λ db id key row. record { typed = refl; present = refl; keyed = refl };
   puts = λ key row. refl;
-  overs = λ key row. refl;
+  overs = λ next id key row. refl;
   updates = λ key row. refl;
   removes = λ n. refl;
-  unique = λ db rows k. (each _, (each _, (each _, (k.1.1.1.0, (k.1.1.1.1.0, (k.1.1.1.1.1.0, (each _, (each _, tt))))))));
+  unique = λ db rows k apart. (each _, (each _, (each _, (k.1.1.1.0, (k.1.1.1.1.0, (k.1.1.1.1.1.0, (each _, (each _, tt))))))));
 }
 
 pub wrote : (old new : State) (row : Head) (text : List ℕ) (params : Row) (r : Result ℕ Error) → params ≡ head_cells present row → RanStatement text params old new r → Ran text params old new r → WritesRow head_table (with_head_cells row) text old new r
-wrote old new row = stop.wrote _ 0 _ number_of cells has_numbers passes 0 refl head_writes (λ s tables seen. seen.holds.heads) With sees_head old new tt row
+wrote old new row = stop.wrote number_kind _ 0 _ number_of cells has_rows passes 0 refl (λ tables. tables.head) With is_seen head_writes old new tt row

@@ -1,5 +1,5 @@
 -- Rows found by their keys, after a row is put in place of those with its key, and after they are taken out.
-use Rattle.moo_tables_rows.proofs.Words.{◌≡◌, inl, inr, ℤ, List, [], ◌∷◌, filter, find, map, option_map, Some, None, Bool, true, false, not, ◌||◌, cond, refl, sym, ap, subst, ◌∙◌, arith, true≢false, IsTrue, list_any, is_eq, int_cmp, match_ordering, Ordering, Less, Equal, Greater, not-true, and_parts, and_from, tied_itself, tied_back, Value, Null, Int, Real, Text, Blob, Row, column, value_cmp, rowid, has_rowid, put_row, without_rowid, IsTable, id_in, without_all, is_int, Has, ids_of, all_has, some_has, some_from, has_filtered, value_cmp_total, value_cmp-Int, has_pair, found_in, with_cells, same_number, same_numbers, AreKeyed}
+use Rattle.moo_tables_rows.proofs.Words.{◌≡◌, inl, inr, ℤ, List, [], ◌∷◌, filter, find, map, option_map, Option, Some, None, Bool, true, false, not, ◌||◌, cond, refl, sym, ap, subst, ◌∙◌, arith, true≢false, IsTrue, list_any, is_eq, int_cmp, match_ordering, Ordering, Less, Equal, Greater, not-true, and_parts, and_from, tied_itself, tied_back, Value, Null, Int, Real, Text, Blob, Row, column, value_cmp, rowid, has_rowid, put_row, without_rowid, IsTable, id_in, without_all, is_int, Has, ids_of, all_has, some_has, some_from, has_filtered, value_cmp_total, value_cmp-Int, has_pair, found_in, with_cells, same_number, same_numbers, AreKeyed}
 use Rattle.std.proofs.lemmas.Int.{ints}
 use Rattle.sqlite_rules.proofs.ProbeLemmas.{has_mapped}
 
@@ -27,6 +27,10 @@ int_value (Real x) h = cc
 int_value (Text t) h = cc
 int_value (Blob b) h = cc
 
+-- a number ties with itself
+pub ties_itself : (v : Value) (n : ℤ) → v ≡ Int n → is_eq (value_cmp v (Int n)) ≡ true
+ties_itself v n is = ap is_eq (ap (λ w. value_cmp w (Int n)) is ∙ tied_itself value_cmp_total (Int n))
+
 -- two numbers that a value ties with are one
 pub ties_one : (v : Value) (m n : ℤ) → is_eq (value_cmp v (Int m)) ≡ true → is_eq (value_cmp v (Int n)) ≡ true → m ≡ n
 ties_one v m n p q =
@@ -41,19 +45,27 @@ mapped_has f (y ∷ xs) x (inr later) = inr (mapped_has f xs x later)
 
 -- ---- what a statement takes out
 
+-- no row has the number of the one before it
+pub first_apart : (x s : Row) (rows : List Row) → IsTable (x ∷ rows) → Has rows s → value_cmp (rowid x) (rowid s) ≡ Equal → ⊥
+first_apart x s rows up in_it tie = let e : Less ≡ Equal = sym (all_has (λ y. value_cmp (rowid x) (rowid y) ≡ Less) rows s up.0 in_it) ∙ tie in cc
+
 -- two rows with one number are one row
 pub one_row : (rows : List Row) (r s : Row) → IsTable rows → Has rows r → Has rows s → value_cmp (rowid r) (rowid s) ≡ Equal → r ≡ s
 one_row [] r s up p q tie = absurd p
 one_row (x ∷ rows) r s up (inl p) (inl q) tie = p ∙ sym q
-one_row (x ∷ rows) r s up (inl p) (inr q) tie =
-    let less = all_has (λ y. value_cmp (rowid x) (rowid y) ≡ Less) rows s up.0 q in
-    let tie′ : value_cmp (rowid x) (rowid s) ≡ Equal = subst (λ y. value_cmp (rowid y) (rowid s) ≡ Equal) p tie in
-    absurd (let e : Less ≡ Equal = sym less ∙ tie′ in cc)
-one_row (x ∷ rows) r s up (inr p) (inl q) tie =
-    let less = all_has (λ y. value_cmp (rowid x) (rowid y) ≡ Less) rows r up.0 p in
-    let tie′ : value_cmp (rowid x) (rowid r) ≡ Equal = subst (λ y. value_cmp (rowid y) (rowid r) ≡ Equal) q (tied_back value_cmp_total (rowid r) (rowid s) tie) in
-    absurd (let e : Less ≡ Equal = sym less ∙ tie′ in cc)
+one_row (x ∷ rows) r s up (inl p) (inr q) tie = absurd (first_apart x s rows up q (subst (λ y. value_cmp (rowid y) (rowid s) ≡ Equal) p tie))
+one_row (x ∷ rows) r s up (inr p) (inl q) tie = absurd (first_apart x r rows up p (subst (λ y. value_cmp (rowid y) (rowid r) ≡ Equal) q (tied_back value_cmp_total (rowid r) (rowid s) tie)))
 one_row (x ∷ rows) r s up (inr p) (inr q) tie = one_row rows r s up.1 p q tie
+
+-- two rows that both have a number tie
+pub tie_by : (x y : Row) (id : ℤ) → has_rowid id x ≡ true → has_rowid id y ≡ true → value_cmp (rowid x) (rowid y) ≡ Equal
+tie_by x y id here there =
+    let both : value_cmp (rowid x) (rowid y) ≡ value_cmp (Int id) (rowid y) = value_cmp_total.congr (rowid x) (Int id) (rowid y) (tied_as_equal _ here) in
+    both ∙ tied_back value_cmp_total (rowid y) (Int id) (tied_as_equal _ there)
+
+-- so they are one row
+pub number_one : (id : ℤ) (rows : List Row) → AreKeyed rows → (r s : Row) → Has rows r → Has rows s → has_rowid id r ≡ true → has_rowid id s ≡ true → r ≡ s
+number_one id rows keyed r s p q here there = one_row rows r s keyed.0 p q (tie_by r s id here there)
 
 filter_twice : {X : Type 0} (p q : X → Bool) (xs : List X) → filter (λ x. not (q x)) (filter (λ x. not (p x)) xs) ≡ filter (λ x. not (p x || q x)) xs
 filter_twice p q [] = refl
@@ -98,7 +110,7 @@ removed test rows found keyed sound complete =
     named : (r : Row) → Has rows r → test r ≡ true → list_any (λ id. has_rowid id r) (ids_of found) ≡ true
     named r has passes =
         let there = mapped_has (λ r. id_in (rowid r)) found (rowid r ∷ []) (complete r has passes) in
-        let tie : has_rowid (id_in (rowid r)) r ≡ true = ap is_eq (ap (value_cmp (rowid r)) (sym (value_of r has)) ∙ tied_itself value_cmp_total (rowid r)) in
+        let tie : has_rowid (id_in (rowid r)) r ≡ true = ties_itself (rowid r) (id_in (rowid r)) (value_of r has) in
         some_from (λ id. has_rowid id r) (ids_of found) (id_in (rowid r)) there tie
 
 -- ---- what is found then
@@ -140,34 +152,32 @@ module _ {K : Type 0} (same : K → K → Bool) (has : K → Row → Bool) (show
   not_both : (k key : K) (r : Row) → same k key ≡ false → has k r ≡ true → has key r ≡ false
   not_both k key r other here = is_false _ (λ both. true≢false (sym (apart k key r here both) ∙ other))
 
+  -- what is found at a key and what is found beside it tell the whole table
+  at_key : (key : K) (rows after : List Row) (cells : Option Row) → found_in has shown after key ≡ cells → ((k : K) → same k key ≡ false → find (has k) after ≡ find (has k) rows) → (k : K) → found_in has shown after k ≡ with_cells same key cells (found_in has shown rows) k
+  at_key key rows after cells here beside k = go (same k key) refl
+    where
+      go : (b : Bool) → same k key ≡ b → found_in has shown after k ≡ with_cells same key cells (found_in has shown rows) k
+      go true e = rw e (ap (found_in has shown after) (exact k key e) ∙ here)
+      go false e = rw e (ap (option_map shown) (beside k e))
+
+  gone : (key : K) (rows : List Row) (r : Row) → Has (filter (λ r. not (has key r)) rows) r → has key r ≡ false
+  gone key rows r in_it = not-true _ (has_filtered (λ r. not (has key r)) rows r in_it).1
+
+  others : (key : K) (rows : List Row) (k : K) → same k key ≡ false → find (has k) (filter (λ r. not (has key r)) rows) ≡ find (has k) rows
+  others key rows k other = find_kept (has k) (λ r. not (has key r)) rows (λ r there. ap not (not_both k key r other there))
+
   pub after_put : (key : K) (new : Row) (rows : List Row) → has key new ≡ true → ((r : Row) → Has (filter (λ r. not (has key r)) rows) r → value_cmp (rowid r) (rowid new) ≡ Equal → ⊥)
       → (k : K) → found_in has shown (put_row new (filter (λ r. not (has key r)) rows)) k ≡ with_cells same key (Some (shown new)) (found_in has shown rows) k
-  after_put key new rows here fresh k = go (same k key) refl
-    where
-      go : (b : Bool) → same k key ≡ b → found_in has shown (put_row new (filter (λ r. not (has key r)) rows)) k ≡ with_cells same key (Some (shown new)) (found_in has shown rows) k
-      go true e =
-          let is = exact k key e in
-          rw e (ap (option_map shown) (ap (λ j. find (has j) (put_row new (filter (λ r. not (has key r)) rows))) is ∙ find_put (has key) new _ here (λ r in_it. not-true _ (has_filtered (λ r. not (has key r)) rows r in_it).1)))
-      go false e =
-          let other : has k new ≡ false = is_false _ (λ both. true≢false (sym (apart k key new both here) ∙ e)) in
-          rw e (ap (option_map shown) (find_past (has k) new _ other fresh ∙ find_kept (has k) (λ r. not (has key r)) rows (λ r there. ap not (not_both k key r e there))))
+  after_put key new rows here fresh =
+      at_key key rows (put_row new (filter (λ r. not (has key r)) rows)) (Some (shown new)) (ap (option_map shown) (find_put (has key) new (filter (λ r. not (has key r)) rows) here (gone key rows)))
+      (λ k other. find_past (has k) new (filter (λ r. not (has key r)) rows) (is_false _ (λ both. true≢false (sym (apart k key new both here) ∙ other))) fresh ∙ others key rows k other)
 
   pub after_removal : (key : K) (rows : List Row) → (k : K) → found_in has shown (filter (λ r. not (has key r)) rows) k ≡ with_cells same key None (found_in has shown rows) k
-  after_removal key rows k = go (same k key) refl
-    where
-      go : (b : Bool) → same k key ≡ b → found_in has shown (filter (λ r. not (has key r)) rows) k ≡ with_cells same key None (found_in has shown rows) k
-      go true e =
-          let is = exact k key e in
-          rw e (ap (option_map shown) (ap (λ j. find (has j) (filter (λ r. not (has key r)) rows)) is ∙ find_none (has key) _ (λ r in_it. not-true _ (has_filtered (λ r. not (has key r)) rows r in_it).1)))
-      go false e = rw e (ap (option_map shown) (find_kept (has k) (λ r. not (has key r)) rows (λ r there. ap not (not_both k key r e there))))
+  after_removal key rows = at_key key rows (filter (λ r. not (has key r)) rows) None (ap (option_map shown) (find_none (has key) (filter (λ r. not (has key r)) rows) (gone key rows))) (others key rows)
 
-  -- where no row has the key, none is taken out
-  pub after_nothing : (key : K) (rows : List Row) → find (has key) rows ≡ None → (k : K) → found_in has shown rows k ≡ with_cells same key None (found_in has shown rows) k
-  after_nothing key rows none k = go (same k key) refl
-    where
-      go : (b : Bool) → same k key ≡ b → found_in has shown rows k ≡ with_cells same key None (found_in has shown rows) k
-      go true e = rw e (ap (option_map shown) (ap (λ j. find (has j) rows) (exact k key e) ∙ none))
-      go false e = rw e refl
+  -- to put what a key has changes nothing
+  pub after_same : (key : K) (rows : List Row) → (k : K) → found_in has shown rows k ≡ with_cells same key (found_in has shown rows key) (found_in has shown rows) k
+  after_same key rows = at_key key rows rows (found_in has shown rows key) refl (λ k other. refl)
 
 -- ---- the two kinds of key
 

@@ -1,6 +1,6 @@
 -- What the statements on petitions do.
-use Rattle.moo_tables_rows.{proofs.Words.{remove_text, keep_text, ℕ, ℤ, pos, List, [], ◌∷◌, Option, Some, None, Result, OnOk, Vec, ◌≡◌, refl, sym, ap, subst, Global, Value, Null, Int, Text, Error, Row, State, cells_over, all_but, petition_row, with_petition_cells, Tables, petition_table, numbered_with, numbered_over, Changes, RanStatement, HasCauseIn, WritesRow}, specs.declared.petition.PetitionCells.{PetitionCells}, proofs.TextLemmas.{petition_writes, petition_keeps}, proofs.RefusalLemmas.{each}, proofs.StoppedLemmas.{Ran}, proofs.StopNumberLemmas.{PassesNumbers}, proofs.NumberLemmas.{HasNumbers}, proofs.KeepNumberLemmas.{KeepsNumbers}, proofs.TypedLemmas.{petition_texts}, proofs.SeenLemmas.{petitions_seen, rows_seen, sees_petition}}
-use Rattle.moo_tables_rows.proofs.StopNumberLemmas as stop
+use Rattle.moo_tables_rows.{proofs.Words.{remove_text, keep_text, ℕ, ℤ, pos, List, [], ◌∷◌, Option, Some, None, Result, OnOk, Vec, ◌≡◌, refl, sym, ap, subst, Global, Value, Null, Int, Text, Error, Row, State, cells_over, all_but, petition_row, with_petition_cells, Tables, petition_table, numbered_with, numbered_over, Changes, RanStatement, HasCauseIn, WritesRow}, specs.declared.petition.PetitionCells.{PetitionCells}, proofs.TextLemmas.{petition_writes, petition_keeps}, proofs.RefusalLemmas.{each}, proofs.StoppedLemmas.{Ran}, proofs.StopLemmas.{PassesRows}, proofs.NumberLemmas.{number_kind}, proofs.WrittenLemmas.{HasRows, IsSeen}, proofs.KeepLemmas.{KeepsRows}, proofs.TypedLemmas.{petition_texts}, proofs.SeenLemmas.{petitions_seen, rows_seen, sees_petition}}
+use Rattle.moo_tables_rows.proofs.StopLemmas as stop
 use Rattle.moo_rows.specs.declared.row.PetitionId.{PetitionId}
 
 abbrev number_of : PetitionId → ℤ
@@ -20,11 +20,11 @@ values id row = all_but 2 (petition_row id row Null)
 abbrev over : PetitionId → PetitionCells → Value → Row
 over id row = petition_row id row
 
-has_numbers : HasNumbers petition_table number_of whole
-has_numbers = record { stored = λ db. refl; counted = λ key row. refl; begins = λ key row. refl; fitting = λ key row. refl; placed = λ key row. refl; alone = λ key row. refl; there = λ key row. refl; over = λ key row r. refl; updated = λ key row r. refl; conflicting = λ new r. refl }
+has_rows : HasRows number_kind petition_table number_of whole
+has_rows = record { bare = λ db. refl; counted = λ key row. refl; begins = λ key row. refl; fitting = λ key row. refl; placed = λ id key row. refl; alone = λ key row. refl; there = λ next id key row. refl; over = λ next id key row r. refl; updated = λ key row r. refl; conflicting = λ new r. refl }
 
-keeps_numbers : KeepsNumbers petition_table 2 number_of values over
-keeps_numbers = record { stored = λ db. refl; counted = λ key row. refl; given = λ key row. refl; fitting = λ key row text. refl; placed = λ key row v. refl; updated = λ key row r. refl; there = λ r. refl }
+keeps_rows : KeepsRows number_kind petition_table 2 number_of values over
+keeps_rows = record { bare = λ db. refl; counted = λ key row. refl; begins = λ key row. refl; fitting = λ key row text. refl; placed = λ id key row v. refl; updated = λ key row r. refl; there = λ r. refl }
 
 abbrev With : ℤ → Option Row → Tables → Tables
 With key cells tables = record tables { petition = numbered_with key cells tables.petition }
@@ -33,26 +33,29 @@ With key cells tables = record tables { petition = numbered_with key cells table
 abbrev Over : PetitionId → PetitionCells → Option (Vec ℕ Global) → Tables → Tables
 Over id row text tables = record tables { petition = numbered_over (number_of id) (cells_over (over id row) 2 text) tables.petition }
 
-passes : PassesNumbers petition_table.name 9 petition_table.columns number_of whole
+is_seen : IsSeen number_kind petition_table (λ tables. tables.petition) With
+is_seen = record { keyed = λ s tables seen. petitions_seen seen; told = λ db sound keyed. tt; shows = λ s tables seen. ap (λ (t : Tables). t.petition) (rows_seen seen); changes = sees_petition }
+
+passes : PassesRows number_kind petition_table.name 9 petition_table.columns number_of whole
 passes = record {
-  fit = λ db key row. record { typed = refl; present = refl; keyed = refl };
+  fit = λ db id key row. record { typed = refl; present = refl; keyed = refl };
   puts = λ key row. refl;
-  overs = λ key row. refl;
+  overs = λ next id key row. refl;
   updates = λ key row. refl;
   removes = λ n. refl;
-  unique = λ db rows k. (each _, (each _, (each _, (k.1.1.1.0, (k.1.1.1.1.0, (k.1.1.1.1.1.0, (each _, (each _, tt))))))));
+  unique = λ db rows k apart. (each _, (each _, (each _, (k.1.1.1.0, (k.1.1.1.1.0, (k.1.1.1.1.1.0, (each _, (each _, tt))))))));
 }
 
 pub wrote : (old new : State) (id : PetitionId) (row : PetitionCells) (written : Vec ℕ Global) (text : List ℕ) (params : Row) (r : Result ℕ Error) → row.calls ≡ Some written → params ≡ whole id (row, written.items) → RanStatement text params old new r → Ran text params old new r
     → WritesRow petition_table (with_petition_cells id (Some row)) text old new r
 wrote old new id row written text params r is given ran stopped = subst (λ o. WritesRow petition_table (Over id row o) text old new r) (sym is)
-    (stop.wrote _ 9 _ number_of whole has_numbers passes 6 refl petition_writes (λ s tables seen. petitions_seen seen) With sees_petition old new id (row, written.items) text params r given ran stopped)
+    (stop.wrote number_kind _ 9 _ number_of whole has_rows passes 6 refl (λ tables. tables.petition) With is_seen petition_writes old new id (row, written.items) text params r given ran stopped)
 
 -- without its calls, which stays
 pub kept : (old new : State) (id : PetitionId) (row : PetitionCells) (text : List ℕ) (params : Row) (r : Result ℕ Error) → row.calls ≡ None → params ≡ values id row → RanStatement (keep_text 2 petition_table) params old new r → Ran (keep_text 2 petition_table) params old new r
     → WritesRow petition_table (with_petition_cells id (Some row)) text old new r
 kept old new id row text params r is given ran stopped = subst (λ o. WritesRow petition_table (Over id row o) text old new r) (sym is)
-    (stop.kept _ 9 _ number_of whole has_numbers passes 2 values over keeps_numbers (λ row text. (row, text)) (λ key row text. refl) (λ key row. refl) 6 refl petition_keeps With (λ tables. tables.petition) (λ s tables seen. petitions_seen seen) (λ s tables seen. petition_texts seen) (λ s tables seen. ap (λ (t : Tables). t.petition) (rows_seen seen)) sees_petition old new id row text params r given ran stopped)
+    (stop.kept number_kind _ 9 _ number_of whole has_rows passes 6 refl (λ tables. tables.petition) With is_seen 2 values over keeps_rows (λ row text. (row, text)) (λ key row text. refl) (λ key row. refl) petition_keeps (λ s tables seen. petition_texts seen) old new id row text params r given ran stopped)
 
 pub removed : (old new : State) (id : PetitionId) (params : Row) (r : Result ℕ Error) → params ≡ Int (pos id.0) ∷ [] → RanStatement (remove_text petition_table) params old new r → Ran (remove_text petition_table) params old new r → OnOk r (Changes (with_petition_cells id None) old new) × HasCauseIn old new r
-removed = stop.removed _ 9 _ number_of whole has_numbers passes 6 refl petition_writes (λ s tables seen. petitions_seen seen) With sees_petition
+removed = stop.removed number_kind _ 9 _ number_of whole has_rows passes 6 refl (λ tables. tables.petition) With is_seen petition_writes

@@ -36,6 +36,11 @@ module _ (limit : Option ℕ) (table : Table) (params : Row) where
     | inr more ↦ elim (halted more.2) [ inl gave ↦ absurd (let x = gave in cc) | inr gives ↦ absurd (let x = gives.2 in cc) ]
   ]
 
+  -- so what failed is the change itself
+  pub unconcluded : {Changes : Type 0} {Counts : Written → Type 0} (e : Error) → Changes ⊎ ((w : Written) × Counts w × Concludes task mode None w (Err (Some e))) → Changes
+  unconcluded e (inl wrote) = wrote
+  unconcluded e (inr done) = absurd (concluded done.0 e done.2)
+
 -- ---- a query
 
 pub queried : (limit : Option ℕ) (db : Trees) (params : Row) (tree : ℕ) (filter project : List Term) (e : Error) → accepts_program present_schema [] (plain_query tree filter project []) params ≡ true

@@ -1,5 +1,5 @@
 -- What one statement makes of the tables, where it changes one row.
-use Rattle.moo_tables_rows.{proofs.Words.{◌≡◌, ℕ, ℤ, List, [], ◌∷◌, filter, map, Some, Bool, true, false, ◌&&◌, not, Result, IsTrue, refl, sym, ap, subst, ◌∙◌, list_all, is_eq, IsPermutation, Contains-permutation, IsPermutation-sym, not-true, Equal, Value, Null, Int, Real, Text, Blob, Error, Row, column, value_cmp, binary, is_true, from_truth, Term, holds, Binary, Compare, Eq, rowid, has_rowid, put_row, without_all, next_rowid, State, is_int, Has, ids_of, has_filtered, has_kept, has_contained, contains_had, some_from, value_cmp_total, tied_itself, present_schema, has_pair, AreKeyed, RanStatement}, proofs.TextLemmas.{by_number, by_pair}, proofs.QueryLemmas.{chosen}, proofs.StepLemmas.{SetsOffNothing}, proofs.KeyLemmas.{is_false, removed, mapped_has}}
+use Rattle.moo_tables_rows.{proofs.Words.{true≢false, ◌≡◌, ℕ, ℤ, List, [], ◌∷◌, filter, map, Some, Bool, true, false, ◌&&◌, not, Result, IsTrue, refl, sym, ap, subst, ◌∙◌, list_all, is_eq, IsPermutation, Contains-permutation, IsPermutation-sym, not-true, Equal, Value, Null, Int, Real, Text, Blob, Error, Row, column, value_cmp, binary, is_true, from_truth, Term, holds, Binary, Compare, Eq, rowid, has_rowid, put_row, without_all, next_rowid, State, is_int, Has, ids_of, has_filtered, has_kept, has_contained, contains_had, some_from, present_schema, has_pair, AreKeyed, RanStatement}, proofs.TextLemmas.{by_given, by_pair}, proofs.QueryLemmas.{chosen}, proofs.StepLemmas.{SetsOffNothing}, proofs.KeyLemmas.{ties_itself, removed, mapped_has}}
 use Rattle.sqlite_trees.proofs.TreeLemmas.{IsShaped-put_row, IsShaped-filter}
 use Rattle.sqlite_trees.specs.declared.store.Shape.TheVariants as shape
 use Rattle.sqlite_rules.{specs.declared.error.Rowids.TheVariants.{Chosen}, proofs.ProbeLemmas.{has_mapped}, proofs.PlaceLemmas.{next_is_free}}
@@ -52,37 +52,24 @@ module _ {K : Type 0} (has : K → Row → Bool) (key : K) (rows : List Row) (ke
           let kept = has_kept _ rows r in_it (picks r ∙ passes) in
           has_contained _ _ (Contains-permutation _ ids (rowid r ∷ []) same (contains_had _ _ (mapped_has (λ r. rowid r ∷ []) _ r kept)))
 
--- the rows with the number, and no row that stays has it
-pub number_free : (n : ℤ) (row : Row) (rows : List Row) → rowid row ≡ Int n → (r : Row) → Has (filter (λ r. not (has_rowid n r)) rows) r → value_cmp (rowid r) (rowid row) ≡ Equal → ⊥
-number_free n row rows is r in_it tie =
-    let other = not-true _ (has_filtered (λ r. not (has_rowid n r)) rows r in_it).1 in
-    let ties : has_rowid n r ≡ true = ap is_eq (ap (value_cmp (rowid r)) (sym is) ∙ tie) in
-    let e : true ≡ false = sym ties ∙ other in cc
+-- no row that stays has the number
+pub number_free : (n : ℤ) (rows : List Row) (r : Row) → Has (filter (λ r. not (has_rowid n r)) rows) r → value_cmp (rowid r) (Int n) ≡ Equal → ⊥
+number_free n rows r in_it tie = true≢false (sym (ap is_eq tie) ∙ not-true _ (has_filtered (λ r. not (has_rowid n r)) rows r in_it).1)
 
 -- the next number is no row's
-next_free : (rows : List Row) (tail : Row) → AreKeyed rows → (r : Row) → Has rows r → is_eq (value_cmp (rowid r) (Int (next_rowid rows))) ≡ false
-next_free rows tail keyed r in_it = is_false _ (λ tie. let e : true ≡ false = sym (some_from (λ y. is_eq (value_cmp (rowid y) (Int (next_rowid rows)))) rows r in_it tie) ∙ next_is_free Chosen rows tail keyed.0 keyed.1 in cc)
-
-pub pair_free : (key : ℤ × ℤ) (rows : List Row) (tail : Row) → AreKeyed rows → (r : Row) → Has (filter (λ r. not (has_pair key r)) rows) r → value_cmp (rowid r) (Int (next_rowid rows)) ≡ Equal → ⊥
-pair_free key rows tail keyed r in_it tie =
-    let free = next_free rows tail keyed r (has_filtered (λ r. not (has_pair key r)) rows r in_it).0 in
-    let e : true ≡ false = sym (ap is_eq tie) ∙ free in cc
+pub pair_free : (key : ℤ × ℤ) (rows : List Row) → AreKeyed rows → (r : Row) → Has (filter (λ r. not (has_pair key r)) rows) r → value_cmp (rowid r) (Int (next_rowid rows)) ≡ Equal → ⊥
+pair_free key rows keyed r in_it tie =
+    true≢false (sym (some_from (λ y. is_eq (value_cmp (rowid y) (Int (next_rowid rows)))) rows r (has_filtered (λ r. not (has_pair key r)) rows r in_it).0 (ap is_eq tie)) ∙ next_is_free Chosen rows [] keyed.0 keyed.1)
 
 -- ---- keys that are written as terms
 
-pub has_itself : (n : ℤ) (tail : Row) → has_rowid n (Int n ∷ tail) ≡ true
-has_itself n tail = ap is_eq (tied_itself value_cmp_total (Int n))
-
-pub picks_number : (n : ℤ) (tail r : Row) → list_all (holds ((Int n ∷ tail) ∷ r ∷ [])) by_number ≡ has_rowid n r
-picks_number n tail r =
-    let plainly : list_all (holds ((Int n ∷ tail) ∷ r ∷ [])) by_number ≡ is_true (binary (Compare Eq Binary) (rowid r) (Int n)) = elim (is_true (binary (Compare Eq Binary) (rowid r) (Int n))) as (λ b. (b && true) ≡ b) [ true ↦ refl | false ↦ refl ] in
-    plainly ∙ equal_number (rowid r) n
-
-tied : (n : ℤ) → is_eq (value_cmp (Int n) (Int n)) ≡ true
-tied n = ap is_eq (tied_itself value_cmp_total (Int n))
+pub picks_given : (base : ℕ) (given : Row) (id : ℤ) → column given base ≡ Int id → (r : Row) → list_all (holds (given ∷ r ∷ [])) (by_given base) ≡ has_rowid id r
+picks_given base given id there r =
+    let plainly : list_all (holds (given ∷ r ∷ [])) (by_given base) ≡ is_true (binary (Compare Eq Binary) (rowid r) (column given base)) = elim (is_true (binary (Compare Eq Binary) (rowid r) (column given base))) as (λ b. (b && true) ≡ b) [ true ↦ refl | false ↦ refl ] in
+    plainly ∙ ap (λ v. is_true (binary (Compare Eq Binary) (rowid r) v)) there ∙ equal_number (rowid r) id
 
 pub pair_has : (pair : ℤ × ℤ) (tail : Row) (id : ℤ) → has_pair pair (Int id ∷ Int pair.0 ∷ Int pair.1 ∷ tail) ≡ true
-pair_has pair tail id = rw (tied pair.0, tied pair.1)
+pair_has pair tail id = rw (ties_itself (Int pair.0) pair.0 refl, ties_itself (Int pair.1) pair.1 refl)
 
 pub picks_pair : (pair : ℤ × ℤ) (tail r : Row) → list_all (holds ((Int pair.0 ∷ Int pair.1 ∷ tail) ∷ r ∷ [])) by_pair ≡ has_pair pair r
 picks_pair pair tail r =

@@ -114,76 +114,35 @@ module _ {old new : State} {tree : ℕ} (it : SetsTree old new tree (old.now.tre
       go true e = subst (λ u. new.now.trees u ≡ old.now.trees u) (sym ((Decides-eqb t tree).0 e)) it.rows_are
       go false e = it.others t (λ same. true≢false (sym ((Decides-eqb t tree).1 same) ∙ e)) no_index
 
-  stays_shown : {K : Type 0} (shown : List Row → K → Option Row) (table : K → Option Row) (t : ℕ) → IsNoIndex present_schema t → shown (old.now.trees t) ≡ table → AreKeyed (old.now.trees t) → ShowsTable new t shown table
-  stays_shown shown table t no_index was keyed = let same = still t no_index in record { cells = ap shown same ∙ was; keyed = subst AreKeyed (sym same) keyed }
-
+  -- as after a change of a tree that no table has
   pub sees_still : (tables : Tables) → Sees old tables → Sees new tables × KeepsUnread old.now new.now
-  sees_still tables seen = (
-    sees_all it tables seen.current
-        (stays_shown (numbered_in head_places) tables.head 0 ((λ e. cc), ((λ e. cc), ((λ e. cc), tt))) (ap (λ (t : Tables). t.head) (rows_seen seen)) seen.holds.heads)
-        (stays_shown (numbered_in object_places) tables.object 1 ((λ e. cc), ((λ e. cc), ((λ e. cc), tt))) (ap (λ (t : Tables). t.object) (rows_seen seen)) seen.holds.objects)
-        (stays_shown (numbered_in prop_places) tables.prop 2 ((λ e. cc), ((λ e. cc), ((λ e. cc), tt))) (ap (λ (t : Tables). t.prop) (rows_seen seen)) seen.holds.props)
-        (stays_shown (paired_in slot_places) tables.slot 7 ((λ e. cc), ((λ e. cc), ((λ e. cc), tt))) (ap (λ (t : Tables). t.slot) (rows_seen seen)) (slots_seen seen))
-        (stays_shown (paired_in verb_places) tables.verb 5 ((λ e. cc), ((λ e. cc), ((λ e. cc), tt))) (ap (λ (t : Tables). t.verb) (rows_seen seen)) seen.holds.verbs)
-        (stays_shown (numbered_in petition_places) tables.petition 9 ((λ e. cc), ((λ e. cc), ((λ e. cc), tt))) (ap (λ (t : Tables). t.petition) (rows_seen seen)) (petitions_seen seen))
-        (stays_shown (numbered_in petition_head_places) tables.petition_head 10 ((λ e. cc), ((λ e. cc), ((λ e. cc), tt))) (ap (λ (t : Tables). t.petition_head) (rows_seen seen)) (counter_seen seen)),
-    still 3 ((λ e. cc), ((λ e. cc), ((λ e. cc), tt))),
-  )
+  sees_still tables seen =
+      let beside : SetsTree old new 11 (new.now.trees 11) = record { schema_is = it.schema_is; sound = it.sound; is_open = it.is_open; inside = it.inside; rows_are = refl; others = λ t apart. still t } in
+      (sees_same beside tables seen (λ e. cc) (λ e. cc) (λ e. cc) (λ e. cc) (λ e. cc) (λ e. cc) (λ e. cc), kept_unread beside (λ e. cc))
 
 -- ---- one table was written, and at one key
 
-pub sees_head : (old new : State) (tables : Tables) (key : ℤ) (cells : Option Row) (rows : List Row) → Sees old tables → SetsTree old new 0 rows → AreKeyed rows
-    → ((k : ℤ) → numbered_in head_places rows k ≡ numbered_with key cells (numbered_in head_places (old.now.trees 0)) k) → Sees new (record tables { head = numbered_with key cells tables.head }) × KeepsUnread old.now new.now
-sees_head old new tables key cells rows seen it keyed at_keys = (
-  sees_all it (record tables { head = numbered_with key cells tables.head }) seen.current
-      (written it (numbered_in head_places) (numbered_with key cells) tables.head (ap (λ (t : Tables). t.head) (rows_seen seen)) keyed at_keys) (kept_object it tables seen (λ e. cc)) (kept_prop it tables seen (λ e. cc)) (kept_slot it tables seen (λ e. cc)) (kept_verb it tables seen (λ e. cc)) (kept_petition it tables seen (λ e. cc)) (kept_counter it tables seen (λ e. cc)),
-  kept_unread it (λ e. cc),
-)
+abbrev pub SeesWritten : {K : Type 0} → ℕ → (List Row → K → Option Row) → (K → Option Row → (K → Option Row) → K → Option Row) → (K → Option Row → Tables → Tables) → Type 1
+SeesWritten {K} tree shown at_key change = (old new : State) (tables : Tables) (key : K) (cells : Option Row) (rows : List Row) → Sees old tables → SetsTree old new tree rows → AreKeyed rows
+    → ((k : K) → shown rows k ≡ at_key key cells (shown (old.now.trees tree)) k) → Sees new (change key cells tables) × KeepsUnread old.now new.now
 
-pub sees_object : (old new : State) (tables : Tables) (key : ℤ) (cells : Option Row) (rows : List Row) → Sees old tables → SetsTree old new 1 rows → AreKeyed rows
-    → ((k : ℤ) → numbered_in object_places rows k ≡ numbered_with key cells (numbered_in object_places (old.now.trees 1)) k) → Sees new (record tables { object = numbered_with key cells tables.object }) × KeepsUnread old.now new.now
-sees_object old new tables key cells rows seen it keyed at_keys = (
-  sees_all it (record tables { object = numbered_with key cells tables.object }) seen.current
-      (kept_head it tables seen (λ e. cc)) (written it (numbered_in object_places) (numbered_with key cells) tables.object (ap (λ (t : Tables). t.object) (rows_seen seen)) keyed at_keys) (kept_prop it tables seen (λ e. cc)) (kept_slot it tables seen (λ e. cc)) (kept_verb it tables seen (λ e. cc)) (kept_petition it tables seen (λ e. cc)) (kept_counter it tables seen (λ e. cc)),
-  kept_unread it (λ e. cc),
-)
+pub sees_head : SeesWritten 0 (numbered_in head_places) numbered_with (λ key cells tables. record tables { head = numbered_with key cells tables.head })
+sees_head old new tables key cells rows seen it keyed at_keys = (sees_all it (record tables { head = numbered_with key cells tables.head }) seen.current (written it (numbered_in head_places) (numbered_with key cells) tables.head (ap (λ (t : Tables). t.head) (rows_seen seen)) keyed at_keys) (kept_object it tables seen (λ e. cc)) (kept_prop it tables seen (λ e. cc)) (kept_slot it tables seen (λ e. cc)) (kept_verb it tables seen (λ e. cc)) (kept_petition it tables seen (λ e. cc)) (kept_counter it tables seen (λ e. cc)), kept_unread it (λ e. cc))
 
-pub sees_prop : (old new : State) (tables : Tables) (key : ℤ) (cells : Option Row) (rows : List Row) → Sees old tables → SetsTree old new 2 rows → AreKeyed rows
-    → ((k : ℤ) → numbered_in prop_places rows k ≡ numbered_with key cells (numbered_in prop_places (old.now.trees 2)) k) → Sees new (record tables { prop = numbered_with key cells tables.prop }) × KeepsUnread old.now new.now
-sees_prop old new tables key cells rows seen it keyed at_keys = (
-  sees_all it (record tables { prop = numbered_with key cells tables.prop }) seen.current
-      (kept_head it tables seen (λ e. cc)) (kept_object it tables seen (λ e. cc)) (written it (numbered_in prop_places) (numbered_with key cells) tables.prop (ap (λ (t : Tables). t.prop) (rows_seen seen)) keyed at_keys) (kept_slot it tables seen (λ e. cc)) (kept_verb it tables seen (λ e. cc)) (kept_petition it tables seen (λ e. cc)) (kept_counter it tables seen (λ e. cc)),
-  kept_unread it (λ e. cc),
-)
+pub sees_object : SeesWritten 1 (numbered_in object_places) numbered_with (λ key cells tables. record tables { object = numbered_with key cells tables.object })
+sees_object old new tables key cells rows seen it keyed at_keys = (sees_all it (record tables { object = numbered_with key cells tables.object }) seen.current (kept_head it tables seen (λ e. cc)) (written it (numbered_in object_places) (numbered_with key cells) tables.object (ap (λ (t : Tables). t.object) (rows_seen seen)) keyed at_keys) (kept_prop it tables seen (λ e. cc)) (kept_slot it tables seen (λ e. cc)) (kept_verb it tables seen (λ e. cc)) (kept_petition it tables seen (λ e. cc)) (kept_counter it tables seen (λ e. cc)), kept_unread it (λ e. cc))
 
-pub sees_slot : (old new : State) (tables : Tables) (key : ℤ × ℤ) (cells : Option Row) (rows : List Row) → Sees old tables → SetsTree old new 7 rows → AreKeyed rows
-    → ((k : ℤ × ℤ) → paired_in slot_places rows k ≡ paired_with key cells (paired_in slot_places (old.now.trees 7)) k) → Sees new (record tables { slot = paired_with key cells tables.slot }) × KeepsUnread old.now new.now
-sees_slot old new tables key cells rows seen it keyed at_keys = (
-  sees_all it (record tables { slot = paired_with key cells tables.slot }) seen.current
-      (kept_head it tables seen (λ e. cc)) (kept_object it tables seen (λ e. cc)) (kept_prop it tables seen (λ e. cc)) (written it (paired_in slot_places) (paired_with key cells) tables.slot (ap (λ (t : Tables). t.slot) (rows_seen seen)) keyed at_keys) (kept_verb it tables seen (λ e. cc)) (kept_petition it tables seen (λ e. cc)) (kept_counter it tables seen (λ e. cc)),
-  kept_unread it (λ e. cc),
-)
+pub sees_prop : SeesWritten 2 (numbered_in prop_places) numbered_with (λ key cells tables. record tables { prop = numbered_with key cells tables.prop })
+sees_prop old new tables key cells rows seen it keyed at_keys = (sees_all it (record tables { prop = numbered_with key cells tables.prop }) seen.current (kept_head it tables seen (λ e. cc)) (kept_object it tables seen (λ e. cc)) (written it (numbered_in prop_places) (numbered_with key cells) tables.prop (ap (λ (t : Tables). t.prop) (rows_seen seen)) keyed at_keys) (kept_slot it tables seen (λ e. cc)) (kept_verb it tables seen (λ e. cc)) (kept_petition it tables seen (λ e. cc)) (kept_counter it tables seen (λ e. cc)), kept_unread it (λ e. cc))
 
-pub sees_verb : (old new : State) (tables : Tables) (key : ℤ × ℤ) (cells : Option Row) (rows : List Row) → Sees old tables → SetsTree old new 5 rows → AreKeyed rows
-    → ((k : ℤ × ℤ) → paired_in verb_places rows k ≡ paired_with key cells (paired_in verb_places (old.now.trees 5)) k) → Sees new (record tables { verb = paired_with key cells tables.verb }) × KeepsUnread old.now new.now
-sees_verb old new tables key cells rows seen it keyed at_keys = (
-  sees_all it (record tables { verb = paired_with key cells tables.verb }) seen.current
-      (kept_head it tables seen (λ e. cc)) (kept_object it tables seen (λ e. cc)) (kept_prop it tables seen (λ e. cc)) (kept_slot it tables seen (λ e. cc)) (written it (paired_in verb_places) (paired_with key cells) tables.verb (ap (λ (t : Tables). t.verb) (rows_seen seen)) keyed at_keys) (kept_petition it tables seen (λ e. cc)) (kept_counter it tables seen (λ e. cc)),
-  kept_unread it (λ e. cc),
-)
+pub sees_slot : SeesWritten 7 (paired_in slot_places) paired_with (λ key cells tables. record tables { slot = paired_with key cells tables.slot })
+sees_slot old new tables key cells rows seen it keyed at_keys = (sees_all it (record tables { slot = paired_with key cells tables.slot }) seen.current (kept_head it tables seen (λ e. cc)) (kept_object it tables seen (λ e. cc)) (kept_prop it tables seen (λ e. cc)) (written it (paired_in slot_places) (paired_with key cells) tables.slot (ap (λ (t : Tables). t.slot) (rows_seen seen)) keyed at_keys) (kept_verb it tables seen (λ e. cc)) (kept_petition it tables seen (λ e. cc)) (kept_counter it tables seen (λ e. cc)), kept_unread it (λ e. cc))
 
-pub sees_petition : (old new : State) (tables : Tables) (key : ℤ) (cells : Option Row) (rows : List Row) → Sees old tables → SetsTree old new 9 rows → AreKeyed rows
-    → ((k : ℤ) → numbered_in petition_places rows k ≡ numbered_with key cells (numbered_in petition_places (old.now.trees 9)) k) → Sees new (record tables { petition = numbered_with key cells tables.petition }) × KeepsUnread old.now new.now
-sees_petition old new tables key cells rows seen it keyed at_keys = (
-  sees_all it (record tables { petition = numbered_with key cells tables.petition }) seen.current
-      (kept_head it tables seen (λ e. cc)) (kept_object it tables seen (λ e. cc)) (kept_prop it tables seen (λ e. cc)) (kept_slot it tables seen (λ e. cc)) (kept_verb it tables seen (λ e. cc)) (written it (numbered_in petition_places) (numbered_with key cells) tables.petition (ap (λ (t : Tables). t.petition) (rows_seen seen)) keyed at_keys) (kept_counter it tables seen (λ e. cc)),
-  kept_unread it (λ e. cc),
-)
+pub sees_verb : SeesWritten 5 (paired_in verb_places) paired_with (λ key cells tables. record tables { verb = paired_with key cells tables.verb })
+sees_verb old new tables key cells rows seen it keyed at_keys = (sees_all it (record tables { verb = paired_with key cells tables.verb }) seen.current (kept_head it tables seen (λ e. cc)) (kept_object it tables seen (λ e. cc)) (kept_prop it tables seen (λ e. cc)) (kept_slot it tables seen (λ e. cc)) (written it (paired_in verb_places) (paired_with key cells) tables.verb (ap (λ (t : Tables). t.verb) (rows_seen seen)) keyed at_keys) (kept_petition it tables seen (λ e. cc)) (kept_counter it tables seen (λ e. cc)), kept_unread it (λ e. cc))
 
-pub sees_counter : (old new : State) (tables : Tables) (key : ℤ) (cells : Option Row) (rows : List Row) → Sees old tables → SetsTree old new 10 rows → AreKeyed rows
-    → ((k : ℤ) → numbered_in petition_head_places rows k ≡ numbered_with key cells (numbered_in petition_head_places (old.now.trees 10)) k) → Sees new (record tables { petition_head = numbered_with key cells tables.petition_head }) × KeepsUnread old.now new.now
-sees_counter old new tables key cells rows seen it keyed at_keys = (
-  sees_all it (record tables { petition_head = numbered_with key cells tables.petition_head }) seen.current
-      (kept_head it tables seen (λ e. cc)) (kept_object it tables seen (λ e. cc)) (kept_prop it tables seen (λ e. cc)) (kept_slot it tables seen (λ e. cc)) (kept_verb it tables seen (λ e. cc)) (kept_petition it tables seen (λ e. cc)) (written it (numbered_in petition_head_places) (numbered_with key cells) tables.petition_head (ap (λ (t : Tables). t.petition_head) (rows_seen seen)) keyed at_keys),
-  kept_unread it (λ e. cc),
-)
+pub sees_petition : SeesWritten 9 (numbered_in petition_places) numbered_with (λ key cells tables. record tables { petition = numbered_with key cells tables.petition })
+sees_petition old new tables key cells rows seen it keyed at_keys = (sees_all it (record tables { petition = numbered_with key cells tables.petition }) seen.current (kept_head it tables seen (λ e. cc)) (kept_object it tables seen (λ e. cc)) (kept_prop it tables seen (λ e. cc)) (kept_slot it tables seen (λ e. cc)) (kept_verb it tables seen (λ e. cc)) (written it (numbered_in petition_places) (numbered_with key cells) tables.petition (ap (λ (t : Tables). t.petition) (rows_seen seen)) keyed at_keys) (kept_counter it tables seen (λ e. cc)), kept_unread it (λ e. cc))
+
+pub sees_counter : SeesWritten 10 (numbered_in petition_head_places) numbered_with (λ key cells tables. record tables { petition_head = numbered_with key cells tables.petition_head })
+sees_counter old new tables key cells rows seen it keyed at_keys = (sees_all it (record tables { petition_head = numbered_with key cells tables.petition_head }) seen.current (kept_head it tables seen (λ e. cc)) (kept_object it tables seen (λ e. cc)) (kept_prop it tables seen (λ e. cc)) (kept_slot it tables seen (λ e. cc)) (kept_verb it tables seen (λ e. cc)) (kept_petition it tables seen (λ e. cc)) (written it (numbered_in petition_head_places) (numbered_with key cells) tables.petition_head (ap (λ (t : Tables). t.petition_head) (rows_seen seen)) keyed at_keys), kept_unread it (λ e. cc))

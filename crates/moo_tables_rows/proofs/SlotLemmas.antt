@@ -1,6 +1,6 @@
 -- What the statements on slots do.
-use Rattle.moo_tables_rows.{proofs.Words.{remove_text, keep_text, ℕ, ℤ, pos, List, [], ◌∷◌, Option, Some, None, Result, OnOk, Vec, ◌≡◌, refl, sym, ap, subst, Global, Value, Null, Int, Text, Error, Row, State, ObjNo, PropId, SlotCells, present, cells_over, all_but, slot_row, with_slot_cells, Tables, slot2_table, paired_with, paired_over, Changes, RanStatement, HasCauseIn, WritesRow}, proofs.TextLemmas.{slot_writes, slot_keeps}, proofs.RefusalLemmas.{each}, proofs.StoppedLemmas.{Ran}, proofs.StopPairLemmas.{PassesPairs}, proofs.PairLemmas.{HasPairs}, proofs.KeepPairLemmas.{KeepsPairs}, proofs.TypedLemmas.{slot_texts}, proofs.FindLemmas.{slot_pairs}, proofs.SeenLemmas.{sound_seen, slots_seen, rows_seen, sees_slot}}
-use Rattle.moo_tables_rows.proofs.StopPairLemmas as stop
+use Rattle.moo_tables_rows.{proofs.Words.{remove_text, keep_text, ℕ, ℤ, pos, List, [], ◌∷◌, Option, Some, None, Result, OnOk, Vec, ◌≡◌, refl, sym, ap, subst, Global, Value, Null, Int, Text, Error, Row, State, ObjNo, PropId, SlotCells, present, cells_over, all_but, slot_row, with_slot_cells, Tables, slot2_table, paired_with, paired_over, Changes, RanStatement, HasCauseIn, WritesRow}, proofs.TextLemmas.{slot_writes, slot_keeps}, proofs.RefusalLemmas.{each}, proofs.StoppedLemmas.{Ran}, proofs.StopLemmas.{PassesRows}, proofs.PairLemmas.{pair_kind}, proofs.WrittenLemmas.{HasRows, IsSeen}, proofs.KeepLemmas.{KeepsRows}, proofs.TypedLemmas.{slot_texts}, proofs.FindLemmas.{slot_pairs}, proofs.SeenLemmas.{slots_seen, rows_seen, sees_slot}}
+use Rattle.moo_tables_rows.proofs.StopLemmas as stop
 
 abbrev pair_of : ObjNo × PropId → ℤ × ℤ
 pair_of key = (key.0.0, pos key.1.0)
@@ -19,11 +19,11 @@ values key row = all_but 4 (slot_row key row Null)
 abbrev over : ObjNo × PropId → SlotCells → Value → Row
 over key row = slot_row key row
 
-has_pairs : HasPairs slot2_table pair_of whole
-has_pairs = record { stored = λ db. refl; counted = λ key row. refl; begins = λ key row. refl; fitting = λ key row. refl; placed = λ id key row. refl; alone = λ key row. refl; there = λ next id key row. refl; over = λ next id key row r. refl; updated = λ key row r. refl; conflicting = λ new r. refl }
+has_rows : HasRows pair_kind slot2_table pair_of whole
+has_rows = record { bare = λ db. refl; counted = λ key row. refl; begins = λ key row. refl; fitting = λ key row. refl; placed = λ id key row. refl; alone = λ key row. refl; there = λ next id key row. refl; over = λ next id key row r. refl; updated = λ key row r. refl; conflicting = λ new r. refl }
 
-keeps_pairs : KeepsPairs slot2_table 4 pair_of values over
-keeps_pairs = record { stored = λ db. refl; counted = λ key row. refl; given = λ key row. refl; begins = λ key row v. refl; fitting = λ key row text. refl; placed = λ id key row v. refl; updated = λ key row r. refl; there = λ r. refl }
+keeps_rows : KeepsRows pair_kind slot2_table 4 pair_of values over
+keeps_rows = record { bare = λ db. refl; counted = λ key row. refl; begins = λ key row. refl; fitting = λ key row text. refl; placed = λ id key row v. refl; updated = λ key row r. refl; there = λ r. refl }
 
 abbrev With : ℤ × ℤ → Option Row → Tables → Tables
 With key cells tables = record tables { slot = paired_with key cells tables.slot }
@@ -32,26 +32,29 @@ With key cells tables = record tables { slot = paired_with key cells tables.slot
 abbrev Over : ObjNo × PropId → SlotCells → Option (Vec ℕ Global) → Tables → Tables
 Over key row text tables = record tables { slot = paired_over (pair_of key) (cells_over (over key row) 4 text) tables.slot }
 
-passes : PassesPairs slot2_table.name 7 slot2_table.columns pair_of whole
+is_seen : IsSeen pair_kind slot2_table (λ tables. tables.slot) With
+is_seen = record { keyed = λ s tables seen. slots_seen seen; told = slot_pairs present; shows = λ s tables seen. ap (λ (t : Tables). t.slot) (rows_seen seen); changes = sees_slot }
+
+passes : PassesRows pair_kind slot2_table.name 7 slot2_table.columns pair_of whole
 passes = record {
   fit = λ db id key row. record { typed = refl; present = refl; keyed = refl };
   puts = λ key row. refl;
   overs = λ next id key row. refl;
   updates = λ key row. refl;
-  removes = λ two. refl;
+  removes = λ n. refl;
   unique = λ db rows k apart. (each _, (each _, (each _, (k.1.1.1.0, (k.1.1.1.1.0, (apart, (each _, (each _, tt))))))));
 }
 
 pub wrote : (old new : State) (key : ObjNo × PropId) (row : SlotCells) (written : Vec ℕ Global) (text : List ℕ) (params : Row) (r : Result ℕ Error) → row.value ≡ Some written → params ≡ whole key (row, written.items) → RanStatement text params old new r → Ran text params old new r
     → WritesRow slot2_table (with_slot_cells key (Some row)) text old new r
 wrote old new key row written text params r is given ran stopped = subst (λ o. WritesRow slot2_table (Over key row o) text old new r) (sym is)
-    (stop.wrote _ 7 _ pair_of whole has_pairs passes 5 refl slot_writes (λ s tables seen. slots_seen seen) (λ s tables seen. slot_pairs present _ (sound_seen seen) (slots_seen seen)) With sees_slot (slot_pairs present) old new key (row, written.items) text params r given ran stopped)
+    (stop.wrote pair_kind _ 7 _ pair_of whole has_rows passes 5 refl (λ tables. tables.slot) With is_seen slot_writes old new key (row, written.items) text params r given ran stopped)
 
 -- without its value, which stays
 pub kept : (old new : State) (key : ObjNo × PropId) (row : SlotCells) (text : List ℕ) (params : Row) (r : Result ℕ Error) → row.value ≡ None → params ≡ values key row → RanStatement (keep_text 4 slot2_table) params old new r → Ran (keep_text 4 slot2_table) params old new r
     → WritesRow slot2_table (with_slot_cells key (Some row)) text old new r
 kept old new key row text params r is given ran stopped = subst (λ o. WritesRow slot2_table (Over key row o) text old new r) (sym is)
-    (stop.kept _ 7 _ pair_of whole has_pairs passes 4 values over keeps_pairs (λ row text. (row, text)) (λ key row text. refl) (λ key row. refl) 5 refl slot_keeps With (λ tables. tables.slot) (λ s tables seen. slots_seen seen) (λ s tables seen. slot_pairs present _ (sound_seen seen) (slots_seen seen)) (λ s tables seen. slot_texts seen) (λ s tables seen. ap (λ (t : Tables). t.slot) (rows_seen seen)) sees_slot old new key row text params r given ran stopped)
+    (stop.kept pair_kind _ 7 _ pair_of whole has_rows passes 5 refl (λ tables. tables.slot) With is_seen 4 values over keeps_rows (λ row text. (row, text)) (λ key row text. refl) (λ key row. refl) slot_keeps (λ s tables seen. slot_texts seen) old new key row text params r given ran stopped)
 
 pub removed : (old new : State) (key : ObjNo × PropId) (params : Row) (r : Result ℕ Error) → params ≡ Int key.0.0 ∷ Int (pos key.1.0) ∷ [] → RanStatement (remove_text slot2_table) params old new r → Ran (remove_text slot2_table) params old new r → OnOk r (Changes (with_slot_cells key None) old new) × HasCauseIn old new r
-removed = stop.removed _ 7 _ pair_of whole has_pairs passes 5 refl slot_writes (λ s tables seen. slots_seen seen) (λ s tables seen. slot_pairs present _ (sound_seen seen) (slots_seen seen)) With sees_slot (slot_pairs present)
+removed = stop.removed pair_kind _ 7 _ pair_of whole has_rows passes 5 refl (λ tables. tables.slot) With is_seen slot_writes

@@ -1,5 +1,5 @@
 -- No two rows of a table share a key of two columns, whichever row is put or taken out.
-use Rattle.moo_tables_rows.{proofs.Words.{◌≡◌, ◌⊎◌, inl, inr, ℤ, List, [], ◌∷◌, true, true≢false, ◌&&◌, not, IsTrue, refl, sym, ap, subst, ◌∙◌, AllByRecursion, is_eq, is_ne, and_parts, and_from, tied_itself, Int, Row, column, value_cmp, binary, is_true, Binary, Compare, Eq, id_in, rowid, put_row, agree, differ, clashes, first_key, plain, value_cmp_total, Has, all_from, some_has, is_int, has_pair}, proofs.KeyLemmas.{is_false, int_value, pair_apart, pair_exact}, proofs.RowLemmas.{equal_number}, proofs.FindLemmas.{differ_numbers}}
+use Rattle.moo_tables_rows.{proofs.Words.{◌≡◌, ◌⊎◌, inl, inr, ℤ, List, [], ◌∷◌, true, true≢false, ◌&&◌, not, IsTrue, refl, sym, ap, subst, ◌∙◌, AllByRecursion, is_ne, and_parts, and_from, tied_itself, Int, Row, column, value_cmp, binary, is_true, Binary, Compare, Eq, id_in, rowid, put_row, agree, differ, clashes, first_key, plain, value_cmp_total, Has, all_from, some_has, is_int, has_pair}, proofs.KeyLemmas.{ties_itself, is_false, int_value, pair_apart, pair_exact}, proofs.RowLemmas.{equal_number}, proofs.FindLemmas.{differ_numbers}}
 use Rattle.sqlite_rules.proofs.TableLemmas.{put_has}
 
 -- no other row has the key of one
@@ -13,11 +13,8 @@ IsNumbered r = IsTrue (is_int (rowid r)) × (IsTrue (is_int (column r 1)) × IsT
 abbrev key_of : Row → ℤ × ℤ
 key_of r = (id_in (column r 1), id_in (column r 2))
 
-tied : (v : _) → IsTrue (is_int v) → is_eq (value_cmp v (Int (id_in v))) ≡ true
-tied v int = ap is_eq (ap (value_cmp v) (sym (int_value v int)) ∙ tied_itself value_cmp_total v)
-
 has_its_own : (r : Row) → IsNumbered r → has_pair (key_of r) r ≡ true
-has_its_own r is = and_from _ _ (tied (column r 1) is.1.0) (tied (column r 2) is.1.1)
+has_its_own r is = and_from _ _ (ties_itself (column r 1) (id_in (column r 1)) (int_value (column r 1) is.1.0)) (ties_itself (column r 2) (id_in (column r 2)) (int_value (column r 2) is.1.1))
 
 agrees : (o r : Row) → IsNumbered r → agree plain (1 ∷ 2 ∷ []) o (1 ∷ 2 ∷ []) r ≡ true → has_pair (key_of r) o ≡ true
 unfolding first_key

@@ -1,6 +1,6 @@
 -- What the statements on verbs do.
-use Rattle.moo_tables_rows.{proofs.Words.{remove_text, keep_text, ℕ, ℤ, pos, List, [], ◌∷◌, Option, Some, None, Result, OnOk, Vec, ◌≡◌, refl, sym, ap, subst, Global, Value, Null, Int, Text, Error, Row, State, ObjNo, present, cells_over, all_but, verb_row, with_verb_cells, Tables, verb_table, paired_with, paired_over, Changes, RanStatement, HasCauseIn, WritesRow}, specs.declared.verb.VerbCells.{VerbCells}, proofs.TextLemmas.{verb_writes, verb_keeps}, proofs.RefusalLemmas.{each}, proofs.StoppedLemmas.{Ran}, proofs.StopPairLemmas.{PassesPairs}, proofs.PairLemmas.{HasPairs}, proofs.KeepPairLemmas.{KeepsPairs}, proofs.TypedLemmas.{verb_texts}, proofs.FindLemmas.{verb_pairs}, proofs.SeenLemmas.{sound_seen, rows_seen, sees_verb}}
-use Rattle.moo_tables_rows.proofs.StopPairLemmas as stop
+use Rattle.moo_tables_rows.{proofs.Words.{remove_text, keep_text, ℕ, ℤ, pos, List, [], ◌∷◌, Option, Some, None, Result, OnOk, Vec, ◌≡◌, refl, sym, ap, subst, Global, Value, Null, Int, Text, Error, Row, State, ObjNo, present, cells_over, all_but, verb_row, with_verb_cells, Tables, verb_table, paired_with, paired_over, Changes, RanStatement, HasCauseIn, WritesRow}, specs.declared.verb.VerbCells.{VerbCells}, proofs.TextLemmas.{verb_writes, verb_keeps}, proofs.RefusalLemmas.{each}, proofs.StoppedLemmas.{Ran}, proofs.StopLemmas.{PassesRows}, proofs.PairLemmas.{pair_kind}, proofs.WrittenLemmas.{HasRows, IsSeen}, proofs.KeepLemmas.{KeepsRows}, proofs.TypedLemmas.{verb_texts}, proofs.FindLemmas.{verb_pairs}, proofs.SeenLemmas.{rows_seen, sees_verb}}
+use Rattle.moo_tables_rows.proofs.StopLemmas as stop
 use Rattle.moo_rows.specs.declared.row.VerbId.{VerbId}
 
 abbrev pair_of : ObjNo × VerbId → ℤ × ℤ
@@ -20,11 +20,11 @@ values key row = all_but 4 (verb_row key row Null)
 abbrev over : ObjNo × VerbId → VerbCells → Value → Row
 over key row = verb_row key row
 
-has_pairs : HasPairs verb_table pair_of whole
-has_pairs = record { stored = λ db. refl; counted = λ key row. refl; begins = λ key row. refl; fitting = λ key row. refl; placed = λ id key row. refl; alone = λ key row. refl; there = λ next id key row. refl; over = λ next id key row r. refl; updated = λ key row r. refl; conflicting = λ new r. refl }
+has_rows : HasRows pair_kind verb_table pair_of whole
+has_rows = record { bare = λ db. refl; counted = λ key row. refl; begins = λ key row. refl; fitting = λ key row. refl; placed = λ id key row. refl; alone = λ key row. refl; there = λ next id key row. refl; over = λ next id key row r. refl; updated = λ key row r. refl; conflicting = λ new r. refl }
 
-keeps_pairs : KeepsPairs verb_table 4 pair_of values over
-keeps_pairs = record { stored = λ db. refl; counted = λ key row. refl; given = λ key row. refl; begins = λ key row v. refl; fitting = λ key row text. refl; placed = λ id key row v. refl; updated = λ key row r. refl; there = λ r. refl }
+keeps_rows : KeepsRows pair_kind verb_table 4 pair_of values over
+keeps_rows = record { bare = λ db. refl; counted = λ key row. refl; begins = λ key row. refl; fitting = λ key row text. refl; placed = λ id key row v. refl; updated = λ key row r. refl; there = λ r. refl }
 
 abbrev With : ℤ × ℤ → Option Row → Tables → Tables
 With key cells tables = record tables { verb = paired_with key cells tables.verb }
@@ -33,26 +33,29 @@ With key cells tables = record tables { verb = paired_with key cells tables.verb
 abbrev Over : ObjNo × VerbId → VerbCells → Option (Vec ℕ Global) → Tables → Tables
 Over key row text tables = record tables { verb = paired_over (pair_of key) (cells_over (over key row) 4 text) tables.verb }
 
-passes : PassesPairs verb_table.name 5 verb_table.columns pair_of whole
+is_seen : IsSeen pair_kind verb_table (λ tables. tables.verb) With
+is_seen = record { keyed = λ s tables seen. seen.holds.verbs; told = verb_pairs present; shows = λ s tables seen. ap (λ (t : Tables). t.verb) (rows_seen seen); changes = sees_verb }
+
+passes : PassesRows pair_kind verb_table.name 5 verb_table.columns pair_of whole
 passes = record {
   fit = λ db id key row. record { typed = refl; present = refl; keyed = refl };
   puts = λ key row. refl;
   overs = λ next id key row. refl;
   updates = λ key row. refl;
-  removes = λ two. refl;
+  removes = λ n. refl;
   unique = λ db rows k apart. (each _, (each _, (each _, (k.1.1.1.0, (apart, (k.1.1.1.1.1.0, (each _, (each _, tt))))))));
 }
 
 pub wrote : (old new : State) (key : ObjNo × VerbId) (row : VerbCells) (written : Vec ℕ Global) (text : List ℕ) (params : Row) (r : Result ℕ Error) → row.bits ≡ Some written → params ≡ whole key (row, written.items) → RanStatement text params old new r → Ran text params old new r
     → WritesRow verb_table (with_verb_cells key (Some row)) text old new r
 wrote old new key row written text params r is given ran stopped = subst (λ o. WritesRow verb_table (Over key row o) text old new r) (sym is)
-    (stop.wrote _ 5 _ pair_of whole has_pairs passes 4 refl verb_writes (λ s tables seen. seen.holds.verbs) (λ s tables seen. verb_pairs present _ (sound_seen seen) seen.holds.verbs) With sees_verb (verb_pairs present) old new key (row, written.items) text params r given ran stopped)
+    (stop.wrote pair_kind _ 5 _ pair_of whole has_rows passes 4 refl (λ tables. tables.verb) With is_seen verb_writes old new key (row, written.items) text params r given ran stopped)
 
 -- without its bits, which stays
 pub kept : (old new : State) (key : ObjNo × VerbId) (row : VerbCells) (text : List ℕ) (params : Row) (r : Result ℕ Error) → row.bits ≡ None → params ≡ values key row → RanStatement (keep_text 4 verb_table) params old new r → Ran (keep_text 4 verb_table) params old new r
     → WritesRow verb_table (with_verb_cells key (Some row)) text old new r
 kept old new key row text params r is given ran stopped = subst (λ o. WritesRow verb_table (Over key row o) text old new r) (sym is)
-    (stop.kept _ 5 _ pair_of whole has_pairs passes 4 values over keeps_pairs (λ row text. (row, text)) (λ key row text. refl) (λ key row. refl) 4 refl verb_keeps With (λ tables. tables.verb) (λ s tables seen. seen.holds.verbs) (λ s tables seen. verb_pairs present _ (sound_seen seen) seen.holds.verbs) (λ s tables seen. verb_texts seen) (λ s tables seen. ap (λ (t : Tables). t.verb) (rows_seen seen)) sees_verb old new key row text params r given ran stopped)
+    (stop.kept pair_kind _ 5 _ pair_of whole has_rows passes 4 refl (λ tables. tables.verb) With is_seen 4 values over keeps_rows (λ row text. (row, text)) (λ key row text. refl) (λ key row. refl) verb_keeps (λ s tables seen. verb_texts seen) old new key row text params r given ran stopped)
 
 pub removed : (old new : State) (key : ObjNo × VerbId) (params : Row) (r : Result ℕ Error) → params ≡ Int key.0.0 ∷ Int (pos key.1.0) ∷ [] → RanStatement (remove_text verb_table) params old new r → Ran (remove_text verb_table) params old new r → OnOk r (Changes (with_verb_cells key None) old new) × HasCauseIn old new r
-removed = stop.removed _ 5 _ pair_of whole has_pairs passes 4 refl verb_writes (λ s tables seen. seen.holds.verbs) (λ s tables seen. verb_pairs present _ (sound_seen seen) seen.holds.verbs) With sees_verb (verb_pairs present)
+removed = stop.removed pair_kind _ 5 _ pair_of whole has_rows passes 4 refl (λ tables. tables.verb) With is_seen verb_writes

@@ -1,4 +1,4 @@
-//! The table `petition_head`: the writing of its rows.
+//! The table `petition_head`: what it is, and the writing of its rows.
 
 ghost use Rattle.std.specs.Prelude.{◌≡◌, OnOk};
 ghost use Rattle.sqlite.specs.Values.{bound};
@@ -7,9 +7,21 @@ ghost use Rattle.moo_tables_rows.specs.Cause.{HasCauseIn};
 ghost use Rattle.moo_tables_rows.specs.Head.{petition_head_cells};
 ghost use Rattle.moo_tables_rows.specs.Inside.{StaysInside, Changes};
 
+use crate::our_table::OurTable;
 use crate::statement::{Run, counter_value};
 use sqlite::Error;
+use sqlite_schema::schema::Kind;
 use sqlite_value::value::ValueRef;
+
+/// The table `petition_head`, as a database has it.
+pub const PETITION_HEAD: OurTable = OurTable {
+    name: "petition_head",
+    tree: 10,
+    is_paired: false,
+    columns: &[("id", Kind::Integer), ("next_petition", Kind::Integer)],
+    create: "CREATE TABLE petition_head (id INTEGER NOT NULL PRIMARY KEY, next_petition INTEGER NOT NULL) STRICT",
+    read: "SELECT id, next_petition FROM petition_head ORDER BY id",
+};
 
 fn counter_values(next: u32) -> [ValueRef<'static>; 2]
     ensures { bound result ≡ petition_head_cells next }

@@ -1,4 +1,4 @@
-//! The table `head`: the writing of its rows.
+//! The table `head`: what it is, and the writing of its rows.
 
 ghost use Rattle.std.specs.Prelude.{◌≡◌, ◌<◌, ◌^◌, OnOk};
 ghost use Rattle.sqlite.specs.Values.{bound};
@@ -8,11 +8,30 @@ ghost use Rattle.moo_tables_rows.specs.Head.{head_cells};
 ghost use Rattle.moo_tables_rows.specs.Inside.{StaysInside, Changes};
 ghost use Rattle.moo_tables_rows.specs.Version.{present};
 
+use crate::our_table::OurTable;
 use crate::statement::{Run, counter_value};
 use crate::version::Version;
 use moo_rows::Head;
 use sqlite::Error;
+use sqlite_schema::schema::Kind;
 use sqlite_value::value::ValueRef;
+
+/// The table `head`, as a database has it.
+pub const HEAD: OurTable = OurTable {
+    name: "head",
+    tree: 0,
+    is_paired: false,
+    columns: &[
+        ("id", Kind::Integer),
+        ("version", Kind::Integer),
+        ("seq", Kind::Integer),
+        ("top", Kind::Integer),
+        ("next_prop", Kind::Integer),
+        ("next_verb", Kind::Integer),
+    ],
+    create: "CREATE TABLE head (id INTEGER NOT NULL PRIMARY KEY, version INTEGER NOT NULL, seq INTEGER NOT NULL, top INTEGER NOT NULL, next_prop INTEGER NOT NULL, next_verb INTEGER NOT NULL) STRICT",
+    read: "SELECT id, version, seq, top, next_prop, next_verb FROM head ORDER BY id",
+};
 
 fn head_values(row: &Head) -> [ValueRef<'static>; 6]
     requires { row.now.seq < 2 ^ 63 }

@@ -1,4 +1,4 @@
-//! The table `object`: the writing of its rows.
+//! The table `object`: what it is, and the writing of its rows.
 
 ghost use Rattle.std.specs.Prelude.{◌≡◌};
 ghost use Rattle.sqlite.specs.Values.{bound};
@@ -7,12 +7,37 @@ ghost use Rattle.moo_tables_rows.specs.Cells.{with_object_cells};
 ghost use Rattle.moo_tables_rows.specs.Columns.{all_but};
 ghost use Rattle.moo_tables_rows.specs.Object.{object_row, object_table};
 
+use crate::our_table::OurTable;
 use crate::statement::{Run, flag_value, object_value, text_value};
 use crate::table_row::TableRow;
 use moo_rows::ObjRow;
 use moo_value::ObjNo;
 use sqlite::Error;
+use sqlite_schema::schema::Kind;
 use sqlite_value::value::ValueRef;
+
+/// The table `object`, as a database has it.
+pub const OBJECT: OurTable = OurTable {
+    name: "object",
+    tree: 1,
+    is_paired: false,
+    columns: &[
+        ("n", Kind::Integer),
+        ("name", Kind::Text),
+        ("owner", Kind::Integer),
+        ("parent", Kind::Integer),
+        ("location", Kind::Integer),
+        ("player", Kind::Integer),
+        ("programmer", Kind::Integer),
+        ("wizard", Kind::Integer),
+        ("r", Kind::Integer),
+        ("w", Kind::Integer),
+        ("f", Kind::Integer),
+        ("accept", Kind::Text),
+    ],
+    create: "CREATE TABLE object (n INTEGER NOT NULL PRIMARY KEY, name TEXT NOT NULL, owner INTEGER NOT NULL, parent INTEGER NOT NULL, location INTEGER NOT NULL, player INTEGER NOT NULL, programmer INTEGER NOT NULL, wizard INTEGER NOT NULL, r INTEGER NOT NULL, w INTEGER NOT NULL, f INTEGER NOT NULL, accept TEXT NOT NULL) STRICT",
+    read: "SELECT n, name, owner, parent, location, player, programmer, wizard, r, w, f, accept FROM object ORDER BY n",
+};
 
 /// A row of the table `object`, without its key: the row of its object, with the accept list printed.
 #[derive(Drop)]

@@ -1,4 +1,4 @@
-//! The table `petition`: the writing of its rows.
+//! The table `petition`: what it is, and the writing of its rows.
 
 ghost use Rattle.std.specs.Prelude.{◌≡◌};
 ghost use Rattle.sqlite.specs.Values.{bound};
@@ -7,12 +7,28 @@ ghost use Rattle.moo_tables_rows.specs.Cells.{with_petition_cells};
 ghost use Rattle.moo_tables_rows.specs.Columns.{all_but};
 ghost use Rattle.moo_tables_rows.specs.Petition.{petition_row, petition_table};
 
+use crate::our_table::OurTable;
 use crate::statement::{Run, counter_value, object_value, text_value};
 use crate::table_row::TableRow;
 use moo_rows::PetitionId;
 use moo_value::ObjNo;
 use sqlite::Error;
+use sqlite_schema::schema::Kind;
 use sqlite_value::value::ValueRef;
+
+/// The table `petition`, as a database has it.
+pub const PETITION: OurTable = OurTable {
+    name: "petition",
+    tree: 9,
+    is_paired: false,
+    columns: &[
+        ("id", Kind::Integer),
+        ("who", Kind::Integer),
+        ("calls", Kind::Text),
+    ],
+    create: "CREATE TABLE petition (id INTEGER NOT NULL PRIMARY KEY, who INTEGER NOT NULL, calls TEXT NOT NULL) STRICT",
+    read: "SELECT id, who, calls FROM petition ORDER BY id",
+};
 
 /// A row of the table `petition`, without its key.
 #[derive(Drop)]

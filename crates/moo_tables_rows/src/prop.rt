@@ -1,16 +1,32 @@
-//! The table `prop`: the writing of its rows.
+//! The table `prop`: what it is, and the writing of its rows.
 
 ghost use Rattle.std.specs.Prelude.{◌≡◌};
 ghost use Rattle.sqlite.specs.Values.{bound};
 ghost use Rattle.moo_tables_rows.specs.Cells.{with_prop_cells};
 ghost use Rattle.moo_tables_rows.specs.Prop.{prop_row, prop_table};
 
+use crate::our_table::OurTable;
 use crate::statement::{Run, counter_value, object_value, text_value};
 use crate::table_row::TableRow;
 use moo_rows::PropId;
 use moo_value::ObjNo;
 use sqlite::Error;
+use sqlite_schema::schema::Kind;
 use sqlite_value::value::ValueRef;
+
+/// The table `prop`, as a database has it.
+pub const PROP: OurTable = OurTable {
+    name: "prop",
+    tree: 2,
+    is_paired: false,
+    columns: &[
+        ("id", Kind::Integer),
+        ("definer", Kind::Integer),
+        ("name", Kind::Text),
+    ],
+    create: "CREATE TABLE prop (id INTEGER NOT NULL PRIMARY KEY, definer INTEGER NOT NULL, name TEXT NOT NULL) STRICT",
+    read: "SELECT id, definer, name FROM prop ORDER BY id",
+};
 
 /// A row of the table `prop`, without its key.
 #[derive(Drop)]

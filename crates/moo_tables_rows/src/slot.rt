@@ -1,4 +1,5 @@
-//! The table `slot2`, which has the slots: the writing of its rows. Nothing writes `slot`, which had them in the first version.
+//! The tables of the slots: what they are, and the writing of the rows of `slot2`. Nothing writes `slot`, which had them in the first
+//! version.
 
 ghost use Rattle.std.specs.Prelude.{◌≡◌, ◌∷◌, [], pos};
 ghost use Rattle.sqlite.specs.Values.{bound};
@@ -7,12 +8,46 @@ ghost use Rattle.moo_tables_rows.specs.Cells.{with_slot_cells};
 ghost use Rattle.moo_tables_rows.specs.Columns.{all_but};
 ghost use Rattle.moo_tables_rows.specs.Slot.{slot_row, slot2_table};
 
+use crate::our_table::OurTable;
 use crate::statement::{Run, counter_value, object_value, text_value};
 use crate::table_row::TableRow;
 use moo_rows::PropId;
 use moo_value::ObjNo;
 use sqlite::Error;
+use sqlite_schema::schema::Kind;
 use sqlite_value::value::ValueRef;
+
+/// The table `slot`, as a database has it.
+pub const SLOT: OurTable = OurTable {
+    name: "slot",
+    tree: 3,
+    is_paired: true,
+    columns: &[
+        ("object", Kind::Integer),
+        ("prop", Kind::Integer),
+        ("owner", Kind::Integer),
+        ("bits", Kind::Text),
+        ("value", Kind::Text),
+    ],
+    create: "CREATE TABLE slot (object INTEGER NOT NULL, prop INTEGER NOT NULL, owner INTEGER NOT NULL, bits TEXT NOT NULL, value TEXT NOT NULL, PRIMARY KEY (object, prop)) STRICT",
+    read: "SELECT object, prop, owner, bits, value FROM slot ORDER BY object, prop",
+};
+
+/// The table `slot2`, as a database has it.
+pub const SLOT2: OurTable = OurTable {
+    name: "slot2",
+    tree: 7,
+    is_paired: true,
+    columns: &[
+        ("object", Kind::Integer),
+        ("prop", Kind::Integer),
+        ("owner", Kind::Integer),
+        ("bits", Kind::Integer),
+        ("value", Kind::Text),
+    ],
+    create: "CREATE TABLE slot2 (object INTEGER NOT NULL, prop INTEGER NOT NULL, owner INTEGER NOT NULL, bits INTEGER NOT NULL, value TEXT NOT NULL, PRIMARY KEY (object, prop)) STRICT",
+    read: "SELECT object, prop, owner, bits, value FROM slot2 ORDER BY object, prop",
+};
 
 /// A row of the table `slot2`, without its key.
 #[derive(Drop)]

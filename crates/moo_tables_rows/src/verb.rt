@@ -1,4 +1,4 @@
-//! The table `verb`: the writing of its rows.
+//! The table `verb`: what it is, and the writing of its rows.
 
 ghost use Rattle.std.specs.Prelude.{◌≡◌, ◌∷◌, [], pos};
 ghost use Rattle.sqlite.specs.Values.{bound};
@@ -7,12 +7,33 @@ ghost use Rattle.moo_tables_rows.specs.Cells.{with_verb_cells};
 ghost use Rattle.moo_tables_rows.specs.Columns.{all_but};
 ghost use Rattle.moo_tables_rows.specs.Verb.{verb_row, verb_table};
 
+use crate::our_table::OurTable;
 use crate::statement::{Run, counter_value, object_value, text_value};
 use crate::table_row::TableRow;
 use moo_rows::VerbId;
 use moo_value::ObjNo;
 use sqlite::Error;
+use sqlite_schema::schema::Kind;
 use sqlite_value::value::ValueRef;
+
+/// The table `verb`, as a database has it.
+pub const VERB: OurTable = OurTable {
+    name: "verb",
+    tree: 5,
+    is_paired: true,
+    columns: &[
+        ("object", Kind::Integer),
+        ("id", Kind::Integer),
+        ("names", Kind::Text),
+        ("owner", Kind::Integer),
+        ("bits", Kind::Text),
+        ("dobj", Kind::Text),
+        ("prep", Kind::Text),
+        ("iobj", Kind::Text),
+    ],
+    create: "CREATE TABLE verb (object INTEGER NOT NULL, id INTEGER NOT NULL, names TEXT NOT NULL, owner INTEGER NOT NULL, bits TEXT NOT NULL, dobj TEXT NOT NULL, prep TEXT NOT NULL, iobj TEXT NOT NULL, PRIMARY KEY (object, id)) STRICT",
+    read: "SELECT object, id, names, owner, bits, dobj, prep, iobj FROM verb ORDER BY object, id",
+};
 
 /// A row of the table `verb`, without its key.
 #[derive(Drop)]

@@ -1,11 +1,13 @@
 -- What reading does to the bytes of a text, said of the bytes that the reader gave, whether or not it tells them beforehand.
-use Rattle.std.specs.Prelude.{◌≡◌, ◌≤◌, ◌+◌, ℕ, true, List, [], ◌++◌, length, Option, IfSome}
+use Rattle.std.specs.Prelude.{◌≡◌, ◌<◌, ◌≤◌, ◌+◌, ℕ, true, List, [], ◌++◌, length, Option, option_map, IfSome, MatchOption}
+use Rattle.std.specs.Global.{Vec}
 use Rattle.std.specs.Io.KnownBytes.{Consumes, IsAtEnd}
 use Rattle.moo_text.specs.Items.{items}
 use Rattle.moo_text.specs.Feed.{TakesLine, Carries, TakesFirst, TakesNext}
-use Rattle.moo_text.specs.Side.{Side, untouched}
+use Rattle.moo_text.specs.Side.{Side, untouched, lines_side, lines_room}
 use Rattle.moo_text.specs.declared.fault.TextFault.{TextFault}
 use Rattle.moo_text.specs.declared.fault.TextFault.TheVariants.{Read, Write, OutOfMemory, Long}
+use Rattle.moo_text.specs.declared.lines.LineReader.{LineReader}
 use Rattle.moo_text.specs.declared.next.Next.{Next}
 
 -- From old to new the reader gave these bytes. If it tells its bytes they were in front and are gone. Once it has given no bytes it
@@ -74,3 +76,18 @@ GivesAll left given = IfSome left (λ text. given ≡ text)
 
 abbrev pub GivesFront : Option (List ℕ) → List ℕ → Type 0
 GivesFront left given = IfSome left (λ text. (rest : List ℕ) × (text ≡ given ++ rest))
+
+-- ---- the same of what reads lines, before and after
+
+abbrev pub GivesLine : {R : Type 0} → (R → Option (List ℕ)) → (old new : LineReader R) → Option (Vec ℕ) → Type 0
+GivesLine remaining old new line = ReadsLine (lines_side remaining old) (lines_side remaining new) (option_map (λ l. l.items) line)
+
+abbrev pub GivesFirst : {R : Type 0} → (List (List ℕ) → List Next) → (R → Option (List ℕ)) → (old new : LineReader R) → Next → Type 0
+GivesFirst f remaining old new item = ReadsFirst f (lines_side remaining old) (lines_side remaining new) item
+
+abbrev pub LinesBreakOff : {R : Type 0} → (R → Option (List ℕ)) → (old new : LineReader R) → TextFault → Type 0
+LinesBreakOff remaining old new fault = BreaksOff (lines_side remaining old) (lines_side remaining new) fault
+
+-- a line takes some of the room, and at the end there is no more of it than before
+abbrev pub TakesRoom : {R : Type 0} → (old new : LineReader R) → Option (Vec ℕ) → Type 0
+TakesRoom old new line = MatchOption line (lines_room new ≤ lines_room old) (λ _. lines_room new < lines_room old)

@@ -1,7 +1,7 @@
 //! The batches of a text, read in pieces.
 
 ghost use Rattle.std.specs.Prelude.{◌≤◌, ◌<◌, ◌≢◌, [], IfOk, IfErr, OnOk};
-ghost use Rattle.moo_text.specs.Given.{ReadsFirst, ReadsNext, BreaksOff};
+ghost use Rattle.moo_text.specs.Given.{GivesFirst, ReadsNext, LinesBreakOff};
 ghost use Rattle.moo_text.specs.Items.{within, skipping};
 ghost use Rattle.moo_text.specs.Side.{lines_side, lines_room, EndsAt};
 
@@ -23,10 +23,10 @@ fn skip_batch<R: Read>(
     bad: Vec<u8>,
     lines: &mut LineReader<R>,
 ) -> Result<Next, TextFault>
-    ensures item { IfOk result (λ item. ReadsFirst (skipping number) (lines_side R.remaining lines.old) (lines_side R.remaining lines.new) item) }
+    ensures item { IfOk result (GivesFirst (skipping number) R.remaining lines.old lines.new) }
     ensures falls { OnOk result (lines_room lines.new ≤ lines_room lines.old) }
     ensures ends { IfOk result (λ item. EndsAt item (lines_side R.remaining lines.new)) }
-    ensures cause { IfErr result (λ fault. BreaksOff (lines_side R.remaining lines.old) (lines_side R.remaining lines.new) fault) }
+    ensures cause { IfErr result (LinesBreakOff R.remaining lines.old lines.new) }
 {
     lines.marks.spoil(bad);
     loop {
@@ -47,10 +47,10 @@ fn rest_of_batch<R: Read>(
     header: Header,
     lines: &mut LineReader<R>,
 ) -> Result<Next, TextFault>
-    ensures item { IfOk result (λ item. ReadsFirst (within header [] 1) (lines_side R.remaining lines.old) (lines_side R.remaining lines.new) item) }
+    ensures item { IfOk result (GivesFirst (within header [] 1) R.remaining lines.old lines.new) }
     ensures falls { OnOk result (lines_room lines.new ≤ lines_room lines.old) }
     ensures ends { IfOk result (λ item. EndsAt item (lines_side R.remaining lines.new)) }
-    ensures cause { IfErr result (λ fault. BreaksOff (lines_side R.remaining lines.old) (lines_side R.remaining lines.new) fault) }
+    ensures cause { IfErr result (LinesBreakOff R.remaining lines.old lines.new) }
 {
     let mut calls = Vec::new(alloc);
     let mut number = 1;
@@ -84,7 +84,7 @@ fn next_item<R: Read>(alloc: Global, lines: &mut LineReader<R>) -> Result<Next, 
     ensures item { IfOk result (λ item. ReadsNext (lines_side R.remaining lines.old) (lines_side R.remaining lines.new) item) }
     ensures falls { IfOk result (λ item. item ≢ Next.End → lines_room lines.new < lines_room lines.old) }
     ensures ends { IfOk result (λ item. EndsAt item (lines_side R.remaining lines.new)) }
-    ensures cause { IfErr result (λ fault. BreaksOff (lines_side R.remaining lines.old) (lines_side R.remaining lines.new) fault) }
+    ensures cause { IfErr result (LinesBreakOff R.remaining lines.old lines.new) }
 {
     loop {
         let Some(line) = lines.next_line()? else {
@@ -140,8 +140,9 @@ impl<R: Read> Feed<R> {
     }
 
     /// What comes next in the text: a batch, the number of the first bad line of one, that the text ends inside one, or its end.
-    /// A line of spaces and tabs is skipped. Read if the reader fails, Long if the text goes on after 1,073,741,824 bytes, OutOfMemory if memory
-    /// runs out. After a fault each call gives that fault again, and reads nothing. A reader that has given no bytes isn't read again.
+    /// A line of spaces and tabs is skipped. Read if the reader fails, Long if the text goes on after 1,073,741,824 bytes, OutOfMemory
+    /// if memory runs out. After a fault each call gives that fault again, and reads nothing. A reader that has given no bytes isn't
+    /// read again.
     pub fn next_batch(&mut self) -> Result<Next, TextFault>
         // As many bytes were given as were taken of the room, and these lead from the text before to its next item and the text after.
         ensures next { IfOk result (λ item. ReadsNext (feed_side R.remaining self.old) (feed_side R.remaining self.new) item) }
@@ -153,7 +154,8 @@ impl<R: Read> Feed<R> {
         ensures falls { IfOk result (λ item. item ≢ Next.End → feed_room self.new < feed_room self.old) }
         ensures ends { IfOk result (λ item. EndsAt item (feed_side R.remaining self.new)) }
         // A first fault is Long only if one byte more was given than there was room for, and never Write.
-        ensures cause { IfNone self.old.fault (IfErr result (λ fault. BreaksOff (feed_side R.remaining self.old) (feed_side R.remaining self.new) fault)) }
+        ensures cause { IfNone self.old.fault (IfErr result (λ fault.
+            BreaksOff (feed_side R.remaining self.old) (feed_side R.remaining self.new) fault)) }
     {
         if let Some(fault) = self.fault {
             return Err(fault);

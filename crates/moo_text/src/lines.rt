@@ -57,10 +57,9 @@ pub struct LineReader<R> {
 }
 
 impl<R: Read> LineReader<R> {
-    ghost use Rattle.std.specs.Prelude.{◌≡◌, ◌<◌, Ok, true, false, ◌≤◌, [], min, MatchOption, OnOk, IfOk, IfErr, IfNone};
-    ghost use Rattle.std.specs.Option.{option_map};
-    ghost use Rattle.moo_text.specs.Side.{untouched, lines_side, lines_room, IsOver};
-    ghost use Rattle.moo_text.specs.Given.{ReaderGives, ReadsLine, BreaksOff};
+    ghost use Rattle.std.specs.Prelude.{◌≡◌, ◌<◌, Ok, true, false, ◌≤◌, [], min, OnOk, IfOk, IfErr, IfNone};
+    ghost use Rattle.moo_text.specs.Side.{untouched, lines_side, IsOver};
+    ghost use Rattle.moo_text.specs.Given.{ReaderGives, GivesLine, TakesRoom, LinesBreakOff};
 
     /// Reads nothing yet. Of the reader at most so many bytes are read, and never more than [`LONGEST_TEXT`].
     pub fn new(alloc: Global, reader: R, room: usize) -> Self
@@ -83,7 +82,7 @@ impl<R: Read> LineReader<R> {
         ensures room { OnOk result (self.old.room ≡ length self.new.ahead + self.new.room) }
         ensures falls { IfOk result (λ more. more ≡ true → self.new.room < self.old.room) }
         ensures end { IfOk result (λ more. more ≡ false → IsOver (lines_side R.remaining self.new)) }
-        ensures cause { IfErr result (λ fault. BreaksOff (lines_side R.remaining self.old) (lines_side R.remaining self.new) fault) }
+        ensures cause { IfErr result (LinesBreakOff R.remaining self.old self.new) }
     {
         if self.ended {
             return Ok(false);
@@ -108,10 +107,10 @@ impl<R: Read> LineReader<R> {
 
     /// The next line, and none at the end of the text. Of a line over the limit so much is given that it is seen to be over it.
     fn read_line(&mut self) -> Result<Option<Vec<u8>>, TextFault>
-        ensures line { IfOk result (λ line. ReadsLine (lines_side R.remaining self.old) (lines_side R.remaining self.new) (option_map (λ l. l.items) line)) }
-        ensures falls { IfOk result (λ line. MatchOption line (lines_room self.new ≤ lines_room self.old) (λ _. lines_room self.new < lines_room self.old)) }
+        ensures line { IfOk result (GivesLine R.remaining self.old self.new) }
+        ensures falls { IfOk result (TakesRoom self.old self.new) }
         ensures ends { IfOk result (λ line. IfNone line (IsOver (lines_side R.remaining self.new))) }
-        ensures cause { IfErr result (λ fault. BreaksOff (lines_side R.remaining self.old) (lines_side R.remaining self.new) fault) }
+        ensures cause { IfErr result (LinesBreakOff R.remaining self.old self.new) }
     {
         let mut line = Vec::new(self.alloc);
         loop {
@@ -138,10 +137,10 @@ impl<R: Read> LineReader<R> {
 
     /// The next line, and none at the end of the text. Of a line over the limit so much is given that it is seen to be over it.
     pub fn next_line(&mut self) -> Result<Option<Vec<u8>>, TextFault>
-        ensures line { IfOk result (λ line. ReadsLine (lines_side R.remaining self.old) (lines_side R.remaining self.new) (option_map (λ l. l.items) line)) }
-        ensures falls { IfOk result (λ line. MatchOption line (lines_room self.new ≤ lines_room self.old) (λ _. lines_room self.new < lines_room self.old)) }
+        ensures line { IfOk result (GivesLine R.remaining self.old self.new) }
+        ensures falls { IfOk result (TakesRoom self.old self.new) }
         ensures ends { IfOk result (λ line. IfNone line (IsOver (lines_side R.remaining self.new))) }
-        ensures cause { IfErr result (λ fault. BreaksOff (lines_side R.remaining self.old) (lines_side R.remaining self.new) fault) }
+        ensures cause { IfErr result (LinesBreakOff R.remaining self.old self.new) }
     {
         let read = self.read_line();
         if let Ok(Some(line)) = &read {

@@ -23,7 +23,8 @@ pub fn headers_are_spelled()
 
 /// A word is read as the object that it spells, and as no other.
 pub fn objects_are_spelled()
-    ensures { (word : List ℕ) (object : ObjNo) → (object_of word ≡ Some object) ↔ (SpellsObject object.0 word × InRange an_object object.0) }
+    ensures { (word : List ℕ) (object : ObjNo) → (object_of word ≡ Some object)
+        ↔ (SpellsObject object.0 word × InRange an_object object.0) }
 {}
 
 /// A line is read as the call that it spells, and as no other.
@@ -41,9 +42,13 @@ pub fn one_cut()
 /// all of them once it has ended. After a fault the items that were read stay the first ones.
 pub fn items_are_joined()
     ensures none { (a : Side) → ReadsItems a a [] }
-    ensures more { (a b c : Side) (done : List Next) (item : Next) → ReadsItems a b done → ReadsNext b c item → item ≢ End → ReadsItems a c (done ++ item ∷ []) }
+    ensures more { (a b c : Side) (done : List Next) (item : Next) → ReadsItems a b done → ReadsNext b c item → item ≢ End →
+        ReadsItems a c (done ++ item ∷ []) }
     ensures end { (a b c : Side) (done : List Next) → ReadsItems a b done → ReadsNext b c End → ReadsAll a c done }
-    ensures stop { (left : Option (List ℕ)) (room : ℕ) (b c : Side) (done : List Next) (fault : TextFault) → ReadsItems (untouched left room) b done → BreaksOff b c fault → StopsBehind left room c done fault }
-    ensures whole { (left : Option (List ℕ)) (room : ℕ) (c : Side) (all : List Next) (read : ReadsAll (untouched left room) c all) → items read.given ≡ all }
-    ensures all { (left : Option (List ℕ)) (room : ℕ) (c : Side) (given : List ℕ) → ReaderGives (untouched left room) c given → c.ended ≡ true → GivesAll left given }
+    ensures stop { (left : Option (List ℕ)) (room : ℕ) (b c : Side) (done : List Next) (fault : TextFault) →
+        ReadsItems (untouched left room) b done → BreaksOff b c fault → StopsBehind left room c done fault }
+    ensures whole { (left : Option (List ℕ)) (room : ℕ) (c : Side) (all : List Next) (read : ReadsAll (untouched left room) c all) →
+        items read.given ≡ all }
+    ensures all { (left : Option (List ℕ)) (room : ℕ) (c : Side) (given : List ℕ) →
+        ReaderGives (untouched left room) c given → c.ended ≡ true → GivesAll left given }
 {}

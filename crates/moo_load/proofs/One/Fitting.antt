@@ -1,5 +1,5 @@
 -- The values of what a well formed state is dumped as are within the limits.
-use Rattle.moo_load.{proofs.Words.{◌≡◌, ℕ, ◌+◌, ◌<◌, Bool, true, false, List, [], ◌∷◌, ◌++◌, map, Option, Some, None, refl, sym, ap, subst, ◌∙◌, arith, ◌&&◌, pos, nat_le, is_some, length, option_map, list_all, AllByRecursion, false≢true, and_parts, leb-true, lt-ltb, same_Some, ObjNo, Value, Int, Obj, Str, a_list, Fits, gather, nesting, spread, Bits, ObjRow, PetitionId, PetitionRow, ObjectSpec, This, Preposition, SlotState, Clear, Set, VerbBits, VerbRow, letters_of, verb_letters_of, flag, is_number, fits, all_within_limits, accept_value, is_named, are_few, are_shallow, petition_fits, object_spec_text, prep_text, World, WorldObject, IsWellFormed, Climbs, is_object, verb_fits, accept_fits, row_fits, state_fits, linked, state_values, both_true, object_values, petition_values, verb_values, le-leb, levels, is_text, has_word, nothing_is_no_object, object_numbered, fits_tested}, proofs.One.Values.{three_bits}}
+use Rattle.moo_load.{proofs.Words.{◌≡◌, ℕ, ◌+◌, ◌<◌, Bool, true, false, List, [], ◌∷◌, map, Option, Some, None, refl, sym, ap, subst, ◌∙◌, arith, ◌&&◌, pos, nat_le, is_some, length, option_map, list_all, AllByRecursion, false≢true, and_parts, leb-true, lt-ltb, same_Some, ObjNo, Value, Int, Obj, Str, a_list, Fits, gather, nesting, spread, Bits, ObjRow, PetitionId, PetitionRow, ObjectSpec, This, Preposition, SlotState, Clear, Set, VerbBits, VerbRow, letters_of, verb_letters_of, flag, is_number, fits, all_within_limits, accept_value, is_named, are_few, are_shallow, petition_fits, object_spec_text, prep_text, World, WorldObject, IsWellFormed, Climbs, is_object, verb_fits, accept_fits, row_fits, state_fits, linked, state_values, both_true, object_values, petition_values, verb_values, le-leb, levels, is_text, has_word, nothing_is_no_object, object_numbered, fits_tested}, proofs.One.Values.{three_bits}}
 use Rattle.moo_rows.{specs.declared.row.Preposition.TheVariants.{Set as a_set}, specs.declared.row.PrepositionSet.TheVariants.{With}}
 
 pub fit : (v : Value) → fits v ≡ true → Fits v
@@ -45,10 +45,8 @@ pub object_fit : (x : ObjNo) (row : ObjRow) → is_number x ≡ true → row_fit
 object_fit x row number fitting parent location =
     let p = and_parts (is_text row.name) (is_number row.owner && accept_fits row.accept) fitting in
     let q = and_parts (is_number row.owner) (accept_fits row.accept) p.1 in
-    let accepting : Fits (accept_value row.accept) = fit (accept_value row.accept) (accept_fit row.accept q.1) in
-    let flags : AllByRecursion Fits (map flag (row.player ∷ row.programmer ∷ row.wizard ∷ row.r ∷ row.w ∷ row.f ∷ []) ++ accept_value row.accept ∷ []) =
-    (flagged row.player, (flagged row.programmer, (flagged row.wizard, (flagged row.r, (flagged row.w, (flagged row.f, (accepting, tt))))))) in
-    (fit (Obj x) number, (fit (Str row.name) p.0, (fit (Obj row.owner) q.0, (fit (Obj row.parent) parent, (fit (Obj row.location) location, flags)))))
+    let accepting = accept_fit row.accept q.1 in
+    search (fit, flagged) depth 20 fits 4000 parts 20
 
 pub verb_fit : (x : ObjNo) (v : VerbRow) → is_number x ≡ true → verb_fits v ≡ true → AllByRecursion Fits (verb_values x v)
 verb_fit x v number fitting =

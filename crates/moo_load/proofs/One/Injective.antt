@@ -13,7 +13,7 @@ IsFit e = AllByRecursion Fits (entry_values e) × IsOwn e
 -- the word of an entry's line and its values tell the entry
 same_entry : (e f : Entry) → IsOwn e → IsOwn f → word_of e ≡ word_of f → entry_values e ≡ entry_values f → e ≡ f
 same_entry (an_object x a) (an_object y b) own_e own_f word same = let p = one_object x y a b same in λ i. an_object (p.0 i) (p.1 i)
-same_entry (a_property x m) (a_property y n) own_e own_f word same = let p = one_property x y m n same in λ i. a_property (p.0 i) (p.1 i)
+same_entry (a_property x m) (a_property y n) own_e own_f word same = let p = one_property (record { definer = x; name = m }) (record { definer = y; name = n }) same in λ i. a_property (p i).definer (p i).name
 same_entry (a_slot x p s) (a_slot y n t) own_e own_f word same = let k = one_slot x y p n s t own_e own_f same in λ i. a_slot (k.0 i) (k.1 i) (k.2 i)
 same_entry (a_verb x a) (a_verb y b) own_e own_f word same = let p = one_verb x y a b same in λ i. a_verb (p.0 i) (p.1 i)
 same_entry (a_petition a) (a_petition b) own_e own_f word same = ap a_petition (one_petition a b same)

@@ -1,5 +1,5 @@
 -- The values of a line tell the row that they are printed from.
-use Rattle.moo_load.proofs.Words.{◌≡◌, ℕ, ℤ, Bool, true, false, List, [], ◌∷◌, map, get_or, drop, Option, Some, None, refl, sym, ap, ◌∙◌, pos, not, ◌==◌, option_map, same_Some, ObjNo, Value, Int, Obj, Str, a_list, gather, spread, Values, no_values, Bits, ObjRow, PetitionId, PetitionRow, ObjectSpec, This, Preposition, SlotState, Clear, Set, VerbBits, VerbRow, letters_of, verb_letters_of, flag, accept_value, Name, Property, same_text, folded, prep_text, object_spec_text, Slot, object_values, state_values, verb_values, petition_values, bits_of, verb_bits_of, objects_among}
+use Rattle.moo_load.proofs.Words.{◌≡◌, ℕ, ℤ, Bool, true, false, List, [], ◌∷◌, map, get_or, drop, Option, Some, None, refl, sym, ap, ◌∙◌, pos, not, ◌==◌, option_map, same_Some, ObjNo, Value, Int, Obj, Str, a_list, gather, spread, Values, no_values, Bits, ObjRow, PropRow, PetitionId, PetitionRow, ObjectSpec, This, Preposition, SlotState, Clear, Set, VerbBits, VerbRow, letters_of, verb_letters_of, flag, accept_value, Property, same_text, folded, prep_text, object_spec_text, Slot, object_values, state_values, verb_values, petition_values, bits_of, verb_bits_of, objects_among}
 use Rattle.moo_world.specs.VerbReading.{object_spec_of, prep_of}
 use Rattle.moo_verbs.proofs.TableLaw.{prep_read_again}
 
@@ -95,58 +95,48 @@ state_again (Set v) = refl
 
 -- ---- rows
 
-pub one_object : (x y : ObjNo) (a b : ObjRow) → object_values x a ≡ object_values y b → (x ≡ y) × (a ≡ b)
-one_object x y a b e =
-    let name : a.name ≡ b.name = ap (λ (l : List Value). text_in (at 1 l)) e in
-    let owner : a.owner ≡ b.owner = ap (λ (l : List Value). object_in (at 2 l)) e in
-    let parent : a.parent ≡ b.parent = ap (λ (l : List Value). object_in (at 3 l)) e in
-    let location : a.location ≡ b.location = ap (λ (l : List Value). object_in (at 4 l)) e in
-    let player : a.player ≡ b.player = one_flag a.player b.player (ap (at 5) e) in
-    let programmer : a.programmer ≡ b.programmer = one_flag a.programmer b.programmer (ap (at 6) e) in
-    let wizard : a.wizard ≡ b.wizard = one_flag a.wizard b.wizard (ap (at 7) e) in
-    let r : a.r ≡ b.r = one_flag a.r b.r (ap (at 8) e) in
-    let w : a.w ≡ b.w = one_flag a.w b.w (ap (at 9) e) in
-    let f : a.f ≡ b.f = one_flag a.f b.f (ap (at 10) e) in
-    let accept : a.accept ≡ b.accept = one_accept a.accept b.accept (ap (at 11) e) in (
-      ap (λ (l : List Value). object_in (at 0 l)) e,
-      λ i. record { name = name i; owner = owner i; parent = parent i; location = location i; player = player i; programmer = programmer i; wizard = wizard i; r = r i; w = w i; f = f i; accept = accept i },
-    )
+-- the row that is in the values of a line
+abbrev object_row : List Value → ObjRow
+object_row l = record { name = text_in (at 1 l); owner = object_in (at 2 l); parent = object_in (at 3 l); location = object_in (at 4 l); player = flag_in (at 5 l); programmer = flag_in (at 6 l); wizard = flag_in (at 7 l); r = flag_in (at 8 l); w = flag_in (at 9 l); f = flag_in (at 10 l); accept = accept_in (at 11 l) }
 
-pub one_property : (x y : ObjNo) (m n : Name) → Obj x ∷ Str m ∷ [] ≡ Obj y ∷ Str n ∷ [] → (x ≡ y) × (m ≡ n)
-one_property x y m n e = (ap (λ (l : List Value). object_in (at 0 l)) e, ap (λ (l : List Value). text_in (at 1 l)) e)
+object_again : (x : ObjNo) (row : ObjRow) → object_row (object_values x row) ≡ row
+object_again x row = simp (flag_again, accept_again)
+
+pub one_object : (x y : ObjNo) (a b : ObjRow) → object_values x a ≡ object_values y b → (x ≡ y) × (a ≡ b)
+one_object x y a b e = (ap (λ (l : List Value). object_in (at 0 l)) e, sym (object_again x a) ∙ ap object_row e ∙ object_again y b)
+
+pub one_property : (p q : PropRow) → Obj p.definer ∷ Str p.name ∷ [] ≡ Obj q.definer ∷ Str q.name ∷ [] → p ≡ q
+one_property p q e =
+    let definer : p.definer ≡ q.definer = cc in
+    let name : p.name ≡ q.name = cc in
+    λ i. record { definer = definer i; name = name i }
 
 abbrev pub slot_values : ObjNo → Property → Slot → List Value
 slot_values x p s = Obj x ∷ Obj p.0 ∷ Str p.1 ∷ Obj s.owner ∷ Str (letters_of s.bits) ∷ state_values s.state
 
 pub one_slot : (x y : ObjNo) (p q : Property) (s t : Slot) → s.definer ≡ p.0 → t.definer ≡ q.0 → slot_values x p s ≡ slot_values y q t → (x ≡ y) × (p ≡ q) × (s ≡ t)
 one_slot x y p q s t own_s own_t e =
-    let definer : p.0 ≡ q.0 = ap (λ (l : List Value). object_in (at 1 l)) e in
-    let name : p.1 ≡ q.1 = ap (λ (l : List Value). text_in (at 2 l)) e in
-    let owner : s.owner ≡ t.owner = ap (λ (l : List Value). object_in (at 3 l)) e in
-    let bits : s.bits ≡ t.bits = one_bits s.bits t.bits (ap (λ (l : List Value). text_in (at 4 l)) e) in
+    let definer : p.0 ≡ q.0 = cc in
+    let name : p.1 ≡ q.1 = cc in
+    let own : s.definer ≡ t.definer = own_s ∙ definer ∙ sym own_t in
+    let owner : s.owner ≡ t.owner = cc in
+    let bits : s.bits ≡ t.bits = one_bits s.bits t.bits cc in
     let state : s.state ≡ t.state = sym (state_again s.state) ∙ ap (λ (l : List Value). state_in (drop 5 l)) e ∙ state_again t.state in
-    let own : s.definer ≡ t.definer = own_s ∙ definer ∙ sym own_t in (
-      ap (λ (l : List Value). object_in (at 0 l)) e,
-      λ i. (definer i, name i),
-      λ i. record { definer = own i; owner = owner i; bits = bits i; state = state i },
-    )
+    (cc, λ i. (definer i, name i), λ i. record { definer = own i; owner = owner i; bits = bits i; state = state i })
 
 pub one_verb : (x y : ObjNo) (a b : VerbRow) → verb_values x a ≡ verb_values y b → (x ≡ y) × (a ≡ b)
 one_verb x y a b e =
-    let names : a.names ≡ b.names = ap (λ (l : List Value). text_in (at 1 l)) e in
-    let owner : a.owner ≡ b.owner = ap (λ (l : List Value). object_in (at 2 l)) e in
-    let bits : a.bits ≡ b.bits = one_verb_bits a.bits b.bits (ap (λ (l : List Value). text_in (at 3 l)) e) in
-    let dobj : a.args.dobj ≡ b.args.dobj = one_place a.args.dobj b.args.dobj (ap (λ (l : List Value). text_in (at 4 l)) e) in
-    let prep : a.args.prep ≡ b.args.prep = one_prep a.args.prep b.args.prep (ap (λ (l : List Value). text_in (at 5 l)) e) in
-    let iobj : a.args.iobj ≡ b.args.iobj = one_place a.args.iobj b.args.iobj (ap (λ (l : List Value). text_in (at 6 l)) e) in
-    let args : a.args ≡ b.args = λ i. record { dobj = dobj i; prep = prep i; iobj = iobj i } in (
-      ap (λ (l : List Value). object_in (at 0 l)) e,
-      λ i. record { names = names i; owner = owner i; bits = bits i; args = args i },
-    )
+    let names : a.names ≡ b.names = cc in
+    let owner : a.owner ≡ b.owner = cc in
+    let bits : a.bits ≡ b.bits = one_verb_bits a.bits b.bits cc in
+    let dobj : a.args.dobj ≡ b.args.dobj = one_place a.args.dobj b.args.dobj cc in
+    let prep : a.args.prep ≡ b.args.prep = one_prep a.args.prep b.args.prep cc in
+    let iobj : a.args.iobj ≡ b.args.iobj = one_place a.args.iobj b.args.iobj cc in
+    (cc, λ i. record { names = names i; owner = owner i; bits = bits i; args = record { dobj = dobj i; prep = prep i; iobj = iobj i } })
 
 pub one_petition : (e f : PetitionId × PetitionRow) → petition_values e.0 e.1 ≡ petition_values f.0 f.1 → e ≡ f
 one_petition e f same =
-    let id : e.0.0 ≡ f.0.0 = ap (λ (l : List Value). size_in (integer_in (at 0 l))) same in
-    let who : e.1.who ≡ f.1.who = ap (λ (l : List Value). object_in (at 1 l)) same in
-    let calls : e.1.calls ≡ f.1.calls = ap (λ (l : List Value). values_in (at 2 l)) same in
+    let id : e.0.0 ≡ f.0.0 = cc in
+    let who : e.1.who ≡ f.1.who = cc in
+    let calls : e.1.calls ≡ f.1.calls = cc in
     λ i. (record { 0 = id i }, record { who = who i; calls = calls i })

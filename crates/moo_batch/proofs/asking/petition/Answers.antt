@@ -1,12 +1,8 @@
-use Rattle.std.{proofs.Common.{◌≡◌, true, sym, ap, ◌∙◌, subst, rules}, specs.List.{list_all}}
+use Rattle.std.{proofs.Common.{◌≡◌, true, sym, ap, ◌∙◌, subst, rules, Ok}, specs.List.{list_all}}
 use Rattle.moo_value.specs.Value.{spread}
-use Rattle.moo_world.{specs.Outcomes.{given as given_to}, specs.Petitions.{is_named, are_few, are_shallow}, specs.Requests.{are_on_world, petition_filed, petition}}
-use Rattle.moo_calls_shared.proofs.Passed.{check_passed}
-use Rattle.moo_batch.specs.Outcomes.{state_in, Reaches}
-use Rattle.std.proofs.Common.{Ok}
-use Rattle.moo_world.specs.Requests.{one_list}
-use Rattle.moo_calls_shared.{specs.About.{about_given}, specs.Told.{IsTrueOf}}
-use Rattle.moo_batch.specs.Telling.{about_calls}
+use Rattle.moo_world.{specs.Outcomes.{given as given_to}, specs.Petitions.{is_named, are_few, are_shallow}, specs.Requests.{are_on_world, petition_filed, petition, one_list}}
+use Rattle.moo_calls_shared.{proofs.Passed.{check_passed}, specs.About.{about_given}, specs.Told.{IsTrueOf}}
+use Rattle.moo_batch.{specs.Outcomes.{state_in, Reaches}, specs.Telling.{about_calls}}
 use Rattle.moo_batch.proofs.asking.petition.Goals as goal
 
 pub returns-clause-reaches : goal.returns-clause-reaches

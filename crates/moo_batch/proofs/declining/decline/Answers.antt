@@ -1,11 +1,9 @@
-use Rattle.std.{proofs.Common.{◌≡◌, true, Ok, None, Some, sym, ap, ◌∙◌, rules}, specs.Prelude.{◌||◌}}
+use Rattle.std.{proofs.Common.{◌≡◌, true, Ok, None, Some, sym, ap, ◌∙◌, rules, false, subst}, specs.Prelude.{◌||◌}}
 use Rattle.moo_value.specs.declared.code.Code.TheVariants.{Permission, InvalidArgument}
 use Rattle.moo_world.{specs.Answers.{zero}, specs.Objects.{same_object}, specs.Outcomes.{Done, Failed, check, found_or, given as given_to}, specs.Requests.{decline, one_integer, petition_at, without}, specs.Rights.{is_wizard}}
-use Rattle.moo_batch.{specs.Outcomes.{state_in}, proofs.Beside.{removed-keeps, removed-state}}
-use Rattle.std.proofs.Common.{false, subst}
+use Rattle.moo_batch.{specs.Outcomes.{state_in}, proofs.Beside.{removed-keeps, removed-state}, specs.Telling.{about_number}}
 use Rattle.moo_rows.{specs.declared.row.PetitionId.{PetitionId}, specs.declared.row.PetitionRow.{PetitionRow}}
 use Rattle.moo_calls_shared.{specs.About.{about_given}, specs.Told.{IfAbout}}
-use Rattle.moo_batch.specs.Telling.{about_number}
 use Rattle.moo_batch.proofs.declining.decline.Goals as goal
 
 pub returns-in_default-clause-reaches : goal.returns-in_default-clause-reaches

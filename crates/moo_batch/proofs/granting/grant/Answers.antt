@@ -1,16 +1,9 @@
-use Rattle.std.{proofs.Common.{◌≡◌, true, Ok, Some, List, sym, ap, ◌∙◌, subst, rules}, specs.List.{list_all}}
+use Rattle.std.{proofs.Common.{◌≡◌, true, Ok, Some, List, sym, ap, ◌∙◌, subst, rules, ◌≤◌, length, None}, specs.List.{list_all}, specs.Prelude.{nat_le, nat_lt}, proofs.lemmas.Bool.{and_parts, leb-true}, proofs.lemmas.Result.{on_ok_weaker}}
 use Rattle.moo_value.{specs.declared.code.Code.TheVariants.{Permission, InvalidArgument}, specs.declared.value.Value.{Value}, specs.Value.{spread}}
 use Rattle.moo_rows.{specs.declared.row.PetitionId.{PetitionId}, specs.declared.row.PetitionRow.{PetitionRow}}
-use Rattle.moo_world.{specs.Arguments.{fits}, specs.Outcomes.{Failed, check, found_or, given as given_to}, specs.Requests.{State, grant, held_steps, in_world, one_integer, petition_at, without}, specs.Rights.{is_wizard}, specs.World.{World}, proofs.Batches.Requested.{found_there}, proofs.Form.Petitions.{held_fit}}
-use Rattle.moo_calls_shared.specs.Outcomes.{world_in}
-use Rattle.moo_batch.{specs.Outcomes.{state_in, ComesInTurn, KeepInTurn, Reaches}, proofs.Beside.{removed-keeps, removed-state}, proofs.InTurn.{granted-reaches, granted-keeps, on_ok}}
-use Rattle.std.{proofs.Common.{◌<◌, ◌≤◌, length, arith}, specs.Prelude.{nat_le, ◌&&◌}, specs.Prelude.{nat_lt}, proofs.lemmas.Bool.{and_parts, leb-true}}
-use Rattle.moo_world.specs.{Petitions.{is_named, are_few, are_shallow}, Arguments.{is_number, all_within_limits}}
-use Rattle.moo_calls_shared.specs.About.{about_given}
-use Rattle.moo_batch.{specs.Telling.{IsFaultInTurn, about_number}, proofs.TrueInTurn.{granted-told, if_told}}
-use Rattle.std.proofs.Common.{None}
-use Rattle.moo_calls_shared.specs.Told.{IfAbout}
-use Rattle.moo_batch.proofs.AtCheck.{held-stays}
+use Rattle.moo_world.{specs.Arguments.{fits, is_number}, specs.Outcomes.{Failed, check, found_or, given as given_to}, specs.Requests.{State, grant, held_steps, in_world, one_integer, petition_at, without}, specs.Rights.{is_wizard}, specs.World.{World}, proofs.Batches.Requested.{found_there}, proofs.Form.Petitions.{held_fit}, specs.Petitions.{is_named, are_few}}
+use Rattle.moo_calls_shared.{specs.Outcomes.{world_in}, specs.About.{about_given}, specs.Told.{IfAbout}}
+use Rattle.moo_batch.{specs.Outcomes.{state_in, ComesInTurn, KeepInTurn, Reaches}, proofs.Beside.{removed-keeps, removed-state}, proofs.InTurn.{granted-reaches, granted-keeps}, specs.Telling.{IsFaultInTurn, about_number}, proofs.TrueInTurn.{granted-told, if_told}, proofs.AtCheck.{held-stays}}
 use Rattle.moo_batch.proofs.granting.grant.Goals as goal
 
 pub returns-clause-check : goal.returns-clause-check
@@ -60,7 +53,7 @@ returns-clause-kept g c =
     let found : petition_at (state_in old) n ≡ Some e = search rules in
     let helds : c.items.result.now ≡ spread c.in-Some.row.now.calls = c.items.ensures.plain ∙ ap (λ (r : PetitionRow). spread r.calls) c.in_ok-row.ensures in
     let removed = removed-keeps old mid c.in-Some.id c.in_ok-remove_petition.ensures.ok c.requires.good in
-    on_ok c.held_steps.result
+    on_ok_weaker c.held_steps.result
     (λ kept. granted-keeps p c.args.args.now n e old mid new given found c.in_ok-remove_petition.ensures.ok removed (subst (λ l. KeepInTurn p l mid new) helds kept))
     c.held_steps.ensures.kept
 

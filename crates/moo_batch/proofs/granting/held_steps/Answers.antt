@@ -1,7 +1,7 @@
-use Rattle.std.{proofs.Common.{rules, ◌≡◌, ◌+◌, [], ◌∷◌, Err, drop, refl, ap, subst, arith}, proofs.lemmas.Grind.{common_steps}}
+use Rattle.std.{proofs.Common.{rules, ◌≡◌, ◌+◌, ◌∷◌, Err, drop, refl, ap, arith}, proofs.lemmas.Grind.{common_steps}}
 use Rattle.moo_world.specs.Requests.{held_steps}
 use Rattle.moo_calls_shared.specs.Outcomes.{world_in}
-use Rattle.moo_batch.{specs.Outcomes.{ComesInTurn, held_at}, specs.Telling.{IsFaultInTurn}, proofs.TrueInTurn.{HaveTold, told-one, told-started, told-stopped}, proofs.InTurn.{HaveStepped, stepped-one, stepped-fits, stepped-all, stepped-kept, stepped-stopped}}
+use Rattle.moo_batch.{specs.Outcomes.{ComesInTurn, held_at}, specs.Telling.{IsFaultInTurn}, proofs.TrueInTurn.{told-one, told-started, told-stopped}, proofs.InTurn.{stepped-one, stepped-fits, stepped-all, stepped-kept, stepped-stopped}}
 use Rattle.moo_batch.proofs.granting.held_steps.Goals as goal
 
 pub loop-held-init : goal.loop-held-init

@@ -1,7 +1,5 @@
 use Rattle.std.{proofs.Common.{◌≡◌, ◌+◌, [], ◌∷◌, ◌++◌, length, drop, sym, ap, ◌∙◌, subst, rules, arith}, proofs.lemmas.Grind.{common_steps}}
-use Rattle.moo_world.specs.Judge.{FailedAt, FullAt, run_calls}
 use Rattle.moo_calls_shared.specs.Reasons.{error_of}
-use Rattle.moo_batch.specs.Outcomes.{state_in}
 use Rattle.moo_batch.proofs.Running.{HaveRunSoFar, run-started, run-one_more, run-ended, run-kept, run-failed, run-full}
 use Rattle.moo_batch.proofs.judging.run_calls.Goals as goal
 

@@ -1,4 +1,4 @@
-use Rattle.moo_cells.proofs.Words.{rules, ◌∙◌, ◌<◌, List, find, sym, ap, subst, Row, has_rowid, Head, Maps, version_number, HeadIs, ReadsHead, ReadsCounter}
+use Rattle.moo_cells.proofs.Words.{rules, ◌∙◌, ◌<◌, List, sym, ap, subst, Row, Head, Maps, by_rowid, HoldsHead, ReadsCounter}
 use Rattle.moo_cells.proofs.{Apart.{numbered}, FillLemmas.{petitions_keep}}
 use Rattle.moo_tables_rows.specs.Inside.{AreKeyed}
 use Rattle.moo_cells.proofs.TakenLemmas.{no_petition, same_head, taken_shown, taken_within}
@@ -39,19 +39,19 @@ returns-in-Ok-read_table-clause-read g c = reads_then c.in_ok-head.ensures.read 
 
 pub returns-in-Ok-read_table-clause-shown : goal.returns-in-Ok-read_table-clause-shown
 returns-in-Ok-read_table-clause-shown g c clean tables was is =
-    let read = subst (λ (rows : List Row). (cells : Row) × HeadIs (λ n. find (has_rowid n) rows) cells × ReadsHead (version_number c.args.version) c.in-Ok.first cells) c.deref-4.ensures.value c.in-Ok.ensures.ok in
-    let head = subst (λ (h : Head). (cells : Row) × HeadIs (λ n. find (has_rowid n) c.in_ok-head.head.items) cells × ReadsHead (version_number c.args.version) h cells) (sym (ap (λ (m : Maps). m.head) c.under.ensures)) read in
-    let counted = subst (λ (rows : List Row). ReadsCounter c.args.version (λ n. find (has_rowid n) rows) c.in-Ok.first.next_petition) c.deref-5.ensures.value c.in-Ok.ensures.counter in
-    let next = subst (λ (h : Head). ReadsCounter c.args.version (λ n. find (has_rowid n) c.in_ok-head.petition_head.items) h.next_petition) (sym (ap (λ (m : Maps). m.head) c.under.ensures)) counted in
+    let read = subst (λ (rows : List Row). HoldsHead c.args.version rows c.in-Ok.first) c.deref-4.ensures.value c.in-Ok.ensures.ok in
+    let head = subst (λ (h : Head). HoldsHead c.args.version c.in_ok-head.head.items h) (sym (ap (λ (m : Maps). m.head) c.under.ensures)) read in
+    let counted = subst (λ (rows : List Row). ReadsCounter c.args.version (by_rowid rows) c.in-Ok.first.next_petition) c.deref-5.ensures.value c.in-Ok.ensures.counter in
+    let next = subst (λ (h : Head). ReadsCounter c.args.version (by_rowid c.in_ok-head.petition_head.items) h.next_petition) (sym (ap (λ (m : Maps). m.head) c.under.ensures)) counted in
     taken_shown (rw c.in-Some.is at c.in_ok-all.ensures.taken) c.in_ok-head.head c.in_ok-head.petition c.in_ok-head.petition_head _ head next c.in-Ok-read_table.ensures.kept c.in-Ok-read_table.ensures.holds
     c.in_ok-head.ensures.read c.in_ok-head.ensures.listed c.in_ok-all.ensures.read clean tables was is
 
 pub returns-in-Ok-read_table-clause-within : goal.returns-in-Ok-read_table-clause-within
 returns-in-Ok-read_table-clause-within g c =
-    let read = subst (λ (rows : List Row). (cells : Row) × HeadIs (λ n. find (has_rowid n) rows) cells × ReadsHead (version_number c.args.version) c.in-Ok.first cells) c.deref-4.ensures.value c.in-Ok.ensures.ok in
-    let head = subst (λ (h : Head). (cells : Row) × HeadIs (λ n. find (has_rowid n) c.in_ok-head.head.items) cells × ReadsHead (version_number c.args.version) h cells) (sym (ap (λ (m : Maps). m.head) c.under.ensures)) read in
-    let counted = subst (λ (rows : List Row). ReadsCounter c.args.version (λ n. find (has_rowid n) rows) c.in-Ok.first.next_petition) c.deref-5.ensures.value c.in-Ok.ensures.counter in
-    let next = subst (λ (h : Head). ReadsCounter c.args.version (λ n. find (has_rowid n) c.in_ok-head.petition_head.items) h.next_petition) (sym (ap (λ (m : Maps). m.head) c.under.ensures)) counted in
+    let read = subst (λ (rows : List Row). HoldsHead c.args.version rows c.in-Ok.first) c.deref-4.ensures.value c.in-Ok.ensures.ok in
+    let head = subst (λ (h : Head). HoldsHead c.args.version c.in_ok-head.head.items h) (sym (ap (λ (m : Maps). m.head) c.under.ensures)) read in
+    let counted = subst (λ (rows : List Row). ReadsCounter c.args.version (by_rowid rows) c.in-Ok.first.next_petition) c.deref-5.ensures.value c.in-Ok.ensures.counter in
+    let next = subst (λ (h : Head). ReadsCounter c.args.version (by_rowid c.in_ok-head.petition_head.items) h.next_petition) (sym (ap (λ (m : Maps). m.head) c.under.ensures)) counted in
     taken_within (rw c.in-Some.is at c.in_ok-all.ensures.taken) c.in_ok-head.head c.in_ok-head.petition c.in_ok-head.petition_head _ head next c.in-Ok-read_table.ensures.kept c.in-Ok-read_table.ensures.holds
 
 pub returns-in-Ok-read_table-clause-limit : goal.returns-in-Ok-read_table-clause-limit

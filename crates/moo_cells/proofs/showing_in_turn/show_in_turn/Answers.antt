@@ -1,4 +1,4 @@
-use Rattle.moo_cells.{proofs.Words.{List, find, refl, subst, entries, petition_total, petition_exact, Row, has_rowid, Head, version_number, ShowEach, HeadIs, ReadsHead, ReadsCounter, ReadsPetition}, proofs.Beside.{each_held}, proofs.Keys.{petitions_bear}, proofs.TakenLemmas.{taken_shown}}
+use Rattle.moo_cells.{proofs.Words.{List, refl, subst, entries, petition_total, petition_exact, Row, Head, ShowEach, by_rowid, HoldsHead, ReadsCounter, ReadsPetition}, proofs.Beside.{each_held}, proofs.Keys.{petitions_bear}, proofs.TakenLemmas.{taken_shown}}
 use Rattle.moo_tables.proofs.ReadLemmas.{reads_then, fails_then}
 use Rattle.moo_tables_rows.proofs.InsideLemmas.{always}
 use Rattle.moo_cells.proofs.showing_in_turn.show_in_turn.Goals as goal
@@ -16,10 +16,10 @@ pub returns-clause-shown : goal.returns-clause-shown
 returns-clause-shown g c clean all tables was is =
     let m = c.args.rows.now.maps in
     let version = c.args.version in
-    let read = subst (λ h. (cells : Row) × HeadIs (λ n. find (has_rowid n) c.deref-4.result.now) cells × ReadsHead (version_number version) h cells) c.head.ensures (c.if-not-shows_head.ensures.head refl) in
-    let head = subst (λ (rows : List Row). (cells : Row) × HeadIs (λ n. find (has_rowid n) rows) cells × ReadsHead (version_number version) m.head cells) c.deref-4.ensures.value read in
-    let counted = subst (λ (h : Head). ReadsCounter version (λ n. find (has_rowid n) c.deref-5.result.now) h.next_petition) c.head.ensures (c.if-not-shows_head.ensures.counter refl) in
-    let next = subst (λ (rows : List Row). ReadsCounter version (λ n. find (has_rowid n) rows) m.head.next_petition) c.deref-5.ensures.value counted in
+    let read = subst (λ h. HoldsHead version c.deref-4.result.now h) c.head.ensures (c.if-not-shows_head.ensures.head refl) in
+    let head = subst (λ (rows : List Row). HoldsHead version rows m.head) c.deref-4.ensures.value read in
+    let counted = subst (λ (h : Head). ReadsCounter version (by_rowid c.deref-5.result.now) h.next_petition) c.head.ensures (c.if-not-shows_head.ensures.counter refl) in
+    let next = subst (λ (rows : List Row). ReadsCounter version (by_rowid rows) m.head.next_petition) c.deref-5.ensures.value counted in
     let each = subst (λ (rows : List Row). ShowEach (ReadsPetition version) rows (entries m.petitions)) c.deref-6.ensures.value (c.if-not-are_shown.ensures refl) in
     taken_shown (c.in_ok-all.ensures.shown all) c.in_ok-head.head c.in_ok-head.petition c.in_ok-head.petition_head m head next refl
     (each_held (petitions_bear version) petition_total petition_exact c.in_ok-head.petition.items m.petitions each)

@@ -1,4 +1,4 @@
-use Rattle.moo_damage.{proofs.Words.{Bool, true, false, Some, sym, ◌∙◌, ◌≡◌, get, both_ways, PropId, PropRow, NamesApart, SlotsHold, Ok, Err, IfOk}, proofs.Locally.{slots_hold}, proofs.Nearby.{local}, proofs.Soundly.{each_has_own, each_comes_down, none_lacks_one}}
+use Rattle.moo_damage.{proofs.Words.{Bool, true, false, sym, ◌∙◌, ◌≡◌, both_ways, DefinersApart, SlotsHold, Ok, Err, IfOk}, proofs.Locally.{slots_hold}, proofs.Nearby.{local}, proofs.Soundly.{each_has_own, each_comes_down, none_lacks_one}}
 use Rattle.moo_damage.proofs.local.slots_hold.Goals as goal
 
 -- what a test found is not found of good rows
@@ -17,7 +17,7 @@ returns-then-any_lacks_one-clause-good g c sound = never _ _ c.any_lacks_one.ens
 pub returns-clause-hold : goal.returns-clause-hold
 returns-clause-hold g c =
     let m = (g.R.Rows.held c.args.rows.now).maps in
-    elim c.names_apart.result as (λ r. IfOk r (λ apart. apart ≡ true → (id : PropId) (p : PropRow) → get m.props id ≡ Some p → NamesApart m p.definer) → IfOk r (λ hold. hold ≡ true → SlotsHold m)) [
+    elim c.names_apart.result as (λ r. IfOk r (λ apart. apart ≡ true → DefinersApart m) → IfOk r (λ hold. hold ≡ true → SlotsHold m)) [
       | Ok b ↦ λ h e.
           slots_hold m c.requires.tree
           (local m c.requires.numbered (sym c.any_lacks_own.ensures ∙ c.if-any_lacks_own.false) (sym c.any_from_nowhere.ensures ∙ c.if-any_from_nowhere.false)

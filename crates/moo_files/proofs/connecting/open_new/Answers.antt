@@ -1,5 +1,4 @@
-use Rattle.moo_files.{proofs.Words.{sym, subst, inl, inr, HoldsDatabase, AreFoundIn, file_state, image_at, IsBlank}, proofs.RemainsLemmas.{spared_spares, unopened_spares}, proofs.MakingLemmas.{spared_site, unopened_site}}
-use Rattle.moo_files.{specs.Causes.{IsOpenable}, proofs.Words.{refl}, proofs.RefusalLemmas.{denied_cause}}
+use Rattle.moo_files.{proofs.Words.{sym, subst, inl, inr, HoldsDatabase, AreFoundIn, file_state, image_at, IsBlank, refl}, proofs.RemainsLemmas.{spared_spares, unopened_spares}, proofs.MakingLemmas.{spared_site, unopened_site}, specs.Causes.{IsOpenable}, proofs.RefusalLemmas.{denied_cause}}
 use Rattle.moo_files.proofs.connecting.open_new.Goals as goal
 use Rattle.sqlite_store.specs.Laws.{settled_at}
 

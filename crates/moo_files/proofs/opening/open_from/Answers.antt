@@ -1,6 +1,6 @@
-use Rattle.moo_files.{proofs.Words.{inl, inr, refl, subst, over_files, file_state, image_at, Adopts, store_of}, specs.Contents.{HoldsState, HoldsEarlier}, specs.Opened.{Nothing, Database, Unfit}, proofs.ContentsLemmas.{was_clean, earlier_held, rests_held, shows_held, shows_trees, left_held, left_none, empty_other, foreign_other, unsound_other, reads_ours, reads_something, own_tables, kept_or_migrated}, proofs.RefusalLemmas.{unfit_sound, unfit_of_store, says_nothing, refuses_unconnected, unconnected_cause, stops_over}}
+use Rattle.moo_files.{proofs.Words.{inl, inr, refl, subst, over_files, file_state, image_at, Adopts, store_of}, specs.Contents.{HoldsState, HoldsEarlier}, specs.Opened.{Nothing, Database, Unfit}, proofs.ContentsLemmas.{was_clean, earlier_held, rests_held, shows_held, shows_trees, left_held, left_none, empty_other, foreign_other, unsound_other, reads_ours, reads_something, own_tables, kept_or_migrated}, proofs.RefusalLemmas.{unfit_sound, unfit_of_store, refuses_unconnected, unconnected_cause, stops_over}}
 use Rattle.moo_store.proofs.AdoptLemmas.{left_still}
-use Rattle.moo_store_rows.specs.Current.{RestsCurrent}
+use Rattle.moo_store_rows.{specs.Current.{RestsCurrent}, proofs.OpenLemmas.{says_of_store}}
 use Rattle.moo_files.proofs.opening.open_from.Goals as goal
 
 -- ---- a World was opened
@@ -98,7 +98,7 @@ returns-in-Some-clause-refused g c = record { stopped = c.in-Some.ensures.fault;
 pub returns-in-Some-clause-refuses : goal.returns-in-Some-clause-refuses
 returns-in-Some-clause-refuses g c Nothing nothing clean = (unfit_of_store c.in-Some.fault c.in-Some.ensures.fault, inl nothing)
 returns-in-Some-clause-refuses g c (Database trees) holds clean = record {
-  tables = λ tables leaves. says_nothing tables c.in-Some.fault (unfit_of_store c.in-Some.fault c.in-Some.ensures.fault);
+  tables = λ tables leaves. says_of_store tables c.in-Some.fault (unfit_of_store c.in-Some.fault c.in-Some.ensures.fault);
   state = λ s leaves. unfit_of_store c.in-Some.fault c.in-Some.ensures.fault;
   other = λ others. unfit_of_store c.in-Some.fault c.in-Some.ensures.fault;
   ours = λ ours. tt;

@@ -1,8 +1,8 @@
-use Rattle.moo_load.{proofs.Words.{sym, subst, ◌∙◌, Held, AreRead, with_object}, proofs.Within.{object_put}, proofs.One.Values.{one_object}}
+use Rattle.moo_load.{proofs.Words.{sym, subst, ◌∙◌, Held, AreRead, with_object}, proofs.Within.{object_read}, proofs.One.Values.{one_object}}
 use Rattle.moo_load.proofs.taking.take_object.Goals as goal
 
 pub returns-clause-read : goal.returns-clause-read
-returns-clause-read c = subst (λ (h : Held). AreRead h.maps) (sym c.in_ok-put_object.ensures.ok) (object_put c.args.rows.now c.in_ok-number.number c.in_ok-number.row c.requires c.in_ok-number.ensures.fits)
+returns-clause-read c = subst (λ (h : Held). AreRead h.maps) (sym c.in_ok-put_object.ensures.ok) (object_read c.args.rows.now.maps c.requires c.in_ok-number.number c.in_ok-number.row c.in_ok-number.ensures.fits)
 
 pub returns-clause-put : goal.returns-clause-put
 returns-clause-put c x row is =

@@ -1,4 +1,4 @@
-use Rattle.moo_load.{proofs.Words.{◌≡◌, refl, sym, ap, subst, ◌∙◌, none-some, same_Some, from_err, ObjNo, PropId, SlotRow, Held, Maps, with_slot, Name, Property, Slot, LastSlot, slot_values, AreRead, dumped_slot, IsNextProperty}, proofs.One.Values.{one_slot}, proofs.Within.{slot_put}}
+use Rattle.moo_load.{proofs.Words.{◌≡◌, refl, sym, ap, subst, ◌∙◌, none-some, same_Some, from_err, ObjNo, PropId, SlotRow, Held, Maps, with_slot, Name, Property, Slot, LastSlot, slot_values, AreRead, dumped_slot, IsNextProperty}, proofs.One.Values.{one_slot}, proofs.Within.{slot_read}}
 use Rattle.moo_load.proofs.taking.take_slot.Goals as goal
 
 as_slot : ObjNo → SlotRow → Slot
@@ -15,7 +15,7 @@ moved : (m : Maps) (last : LastSlot) (x y : ObjNo) (p q : Property) (id : PropId
 moved m last x y p q id e f next = subst (λ (z : ObjNo). IsNextProperty m last z p id) (sym e) (subst (λ (r : Property). IsNextProperty m last y r id) (sym f) next)
 
 pub returns-clause-read : goal.returns-clause-read
-returns-clause-read c = subst (λ (h : Held). AreRead h.maps) (sym c.in_ok-put_slot.ensures.ok) (slot_put c.args.rows.now (c.in_ok-slot.slot.object, c.in-Some.id) c.in_ok-slot.slot.row c.requires c.in_ok-slot.ensures.fits)
+returns-clause-read c = subst (λ (h : Held). AreRead h.maps) (sym c.in_ok-put_slot.ensures.ok) (slot_read c.args.rows.now.maps c.requires (c.in_ok-slot.slot.object, c.in-Some.id) c.in_ok-slot.slot.row c.in_ok-slot.ensures.fits)
 
 pub returns-clause-put : goal.returns-clause-put
 returns-clause-put c x p k id is next =

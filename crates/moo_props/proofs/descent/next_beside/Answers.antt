@@ -1,17 +1,12 @@
-use Rattle.moo_props.{proofs.Words.{◌≡◌, Bool, true, false, Some, length, refl, sym, ap, ◌∙◌, arith, not, true≢false, get, int_eq, ObjNo, ObjRow, Maps, is_among, same_object-eq, same_object-Decides, look_ups, world_of, IsTree, chain, chain_of_no_row, after_below}, proofs.Descending.{linked_child, chain_up, parent_under, still_under, sideward, upward, at_top}}
+use Rattle.moo_props.{proofs.Words.{◌≡◌, Bool, true, false, Some, length, refl, sym, ap, ◌∙◌, arith, not, not-true, true≢false, get, int_eq, ObjNo, ObjRow, Maps, is_among, same_object-eq, same_object-Decides, look_ups, world_of, IsTree, chain, chain_of_no_row, after_below}, proofs.Descending.{linked_child, chain_up, parent_under, still_under, sideward, upward, at_top}}
 use Rattle.moo_props.proofs.descent.next_beside.Goals as goal
 
-fails : (b : Bool) → true ≡ not b → b ≡ false
-fails true e = absurd (true≢false e)
-fails false e = refl
-
 passes : (b : Bool) → false ≡ not b → b ≡ true
-passes true e = refl
-passes false e = absurd (true≢false (sym e))
+passes b e = grind arith
 
 -- what is below x has a parent that is under x
 above : (t : Maps) (tree : IsTree (world_of t)) (x y : ObjNo) (r : ObjRow) → Some r ≡ get t.objects y → true ≡ not (int_eq y.0 x.0) → is_among x (chain (world_of t) y) ≡ true → is_among x (chain (world_of t) r.parent) ≡ true
-above t tree x y r row other under = parent_under t tree x y r.parent r (sym row) refl (sym (same_object-eq x y) ∙ fails _ other) under
+above t tree x y r row other under = parent_under t tree x y r.parent r (sym row) refl (sym (same_object-eq x y) ∙ not-true _ (sym other)) under
 
 pub unreachable-requires : goal.unreachable-requires
 unreachable-requires g c =

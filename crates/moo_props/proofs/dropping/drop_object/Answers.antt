@@ -1,7 +1,6 @@
-use Rattle.moo_props.{proofs.Words.{◌≡◌, refl, sym, ap, ◌∙◌, subst, [], ◌∷◌, length, arith, Some, is_some, get, entries, false≢true, Held, without_object, object_cmp, prop_cmp, slot_cmp, verb_cmp, recycled, look_ups, world_of, world_shown, is_object_seen, dropped_keys, linked_among, ids_among, owners_under, props_removed, verbs_removed, rows_released, ArePresent, AreAbsent, AreAscending, props_of, as_high, beside_world, slots_moved, keys_by, ids_for}, proofs.Kept.{good_by}, proofs.Walked.{walk}, proofs.Lessened.{world_less, sound_less, formed_less, less_object}, proofs.LessRows.{look_ups-less, held1, held5, only5, base5}, proofs.Ascending.{ascend, props_rise, verbs_ascend, linked_ascend}, proofs.DroppedKeys.{dropped_list, dropped_ascend, dropped_had}, proofs.LeftRows.{writes5, slots_left, props_left, verbs_left, objects_left, head5, left_is, dropped_gone, relinked_there}}
+use Rattle.moo_props.{proofs.Words.{◌≡◌, refl, sym, ap, ◌∙◌, subst, [], ◌∷◌, length, arith, Some, is_some, get, entries, false≢true, Held, Maps, without_object, object_cmp, prop_cmp, slot_cmp, verb_cmp, recycled, look_ups, world_of, world_shown, is_object_seen, dropped_keys, linked_among, ids_among, owners_under, props_removed, verbs_removed, rows_released, ArePresent, AreAbsent, AreAscending, props_of, beside_world, slots_moved, keys_by, ids_for}, proofs.Kept.{good_by, numbers_by}, proofs.Walked.{walk}, proofs.Lessened.{world_less, sound_less, less_object}, proofs.LessRows.{look_ups-less, held1, held5, only5, base5}, proofs.Ascending.{ascend, props_rise, verbs_ascend, linked_ascend}, proofs.DroppedKeys.{dropped_list, dropped_ascend, dropped_had}, proofs.LeftRows.{writes5, slots_left, props_left, verbs_left, objects_left, left_is, dropped_gone, relinked_there}}
 use Rattle.moo_props.proofs.dropping.drop_object.Goals as goal
-use Rattle.moo_rows.specs.declared.row.Head.{Head}
-use Rattle.moo_world.specs.Numbers.{props_dropped, verbs_dropped}
+use Rattle.moo_world.{specs.Numbers.{props_dropped, verbs_dropped}, proofs.Inheritance.Recycling.{IsWellFormed-recycled}}
 
 abbrev before : (g : _) → goal.After-from_vec g → Held
 before g c = g.R.Rows.held c.args.rows.now
@@ -28,12 +27,10 @@ world : (g : _) (c : goal.After-from_vec g) → world_of (g.R.Rows.held c.drop_r
 world g c = ap world_shown (shown g c) ∙ world_less (look_ups (before g c).maps) c.requires.good.sound c.requires.good.formed c.args.x c.in-Some.row.now (here g c)
 
 pub unreachable-requires : goal.unreachable-requires
-unreachable-requires g c =
-    let m = look_ups (g.R.Rows.held c.args.rows.now).maps in
-    false≢true (ap is_some c.in-None.ensures ∙ sym (is_object_seen m c.args.x) ∙ c.requires.object)
+unreachable-requires g c = false≢true (ap is_some c.in-None.ensures ∙ sym (is_object_seen (look_ups (g.R.Rows.held c.args.rows.now).maps) c.args.x) ∙ c.requires.object)
 
 head_is : (g : _) (c : goal.After-from_vec g) → (g.R.Rows.held c.drop_rows.new.rows).maps.head ≡ (before g c).maps.head
-head_is g c = ap (λ (h : Held). h.maps.head) (ends g c) ∙ head5 (before g c).maps c.requires.good c.args.x c.in-Some.row.now (here g c) (before g c) refl
+head_is g c = ap (λ (h : Held). h.maps.head) (ends g c) ∙ ap (λ (k : Maps). k.head) (only5 (before g c).maps c.requires.good c.args.x c.in-Some.row.now (here g c) (before g c) refl)
 
 beside : (g : _) (c : goal.After-from_vec g) → beside_world (g.R.Rows.held c.drop_rows.new.rows).maps ≡ beside_world (before g c).maps
 beside g c = ap (λ (h : Held). beside_world h.maps) (ends g c) ∙ ap beside_world (only5 (before g c).maps c.requires.good c.args.x c.in-Some.row.now (here g c) (before g c) refl)
@@ -71,23 +68,16 @@ returns g c = record {
   };
   world = world g c;
   kept = record {
-    good = good_by (before g c).maps (g.R.Rows.held c.drop_rows.new.rows).maps c.requires.good (less_object (look_ups (before g c).maps) c.args.x c.in-Some.row.now.parent) (shown g c) (sound_less (look_ups (before g c).maps) c.requires.good.sound c.requires.good.formed c.args.x c.in-Some.row.now (here g c)) (recycled (world_of (before g c).maps) c.args.x) (world g c) (formed_less (look_ups (before g c).maps) c.requires.good.sound c.requires.good.formed c.args.x c.in-Some.row.now (here g c)) (beside g c);
+    good = good_by (before g c).maps (g.R.Rows.held c.drop_rows.new.rows).maps c.requires.good (less_object (look_ups (before g c).maps) c.args.x c.in-Some.row.now.parent) (shown g c) (sound_less (look_ups (before g c).maps) c.requires.good.sound c.requires.good.formed c.args.x c.in-Some.row.now (here g c)) (recycled (world_of (before g c).maps) c.args.x) (world g c) (IsWellFormed-recycled (world_of (before g c).maps) c.args.x c.requires.good.formed c.requires.object) (beside g c);
     beside = beside g c;
     base = ap (λ (h : Held). h.base) (ends g c) ∙ base5 (before g c).maps c.requires.good c.args.x c.in-Some.row.now (here g c) (before g c) refl;
-    numbers = record {
-      props = props_dropped c.args.x (λ id. ap (λ (h : Held). get h.maps.props id) (ends g c) ∙ props_left (before g c).maps c.requires.good c.args.x c.in-Some.row.now (here g c) (before g c) refl id ∙ left_is (before g c).maps c.args.x id);
-      verbs = verbs_dropped c.args.x (λ key. ap (λ (h : Held). get h.maps.verbs key) (ends g c) ∙ verbs_left (before g c).maps c.requires.good c.args.x c.in-Some.row.now (here g c) (before g c) refl key);
-      next_prop = as_high (before g c).maps.head.next_prop (g.R.Rows.held c.drop_rows.new.rows).maps.head.next_prop (ap (λ (h : Head). h.next_prop) (head_is g c));
-      next_verb = as_high (before g c).maps.head.next_verb (g.R.Rows.held c.drop_rows.new.rows).maps.head.next_verb (ap (λ (h : Head). h.next_verb) (head_is g c));
-    };
+    numbers = numbers_by (before g c).maps (g.R.Rows.held c.drop_rows.new.rows).maps
+        (props_dropped c.args.x (λ id. ap (λ (h : Held). get h.maps.props id) (ends g c) ∙ props_left (before g c).maps c.requires.good c.args.x c.in-Some.row.now (here g c) (before g c) refl id ∙ left_is (before g c).maps c.args.x id))
+        (verbs_dropped c.args.x (λ key. ap (λ (h : Held). get h.maps.verbs key) (ends g c) ∙ verbs_left (before g c).maps c.requires.good c.args.x c.in-Some.row.now (here g c) (before g c) refl key))
+        (head_is g c);
   };
   writes =
-      let t = (before g c).maps in
-      let total = ap (λ (h : Held). h.writes) (ends g c) in
-      let most = writes5 t c.requires.good c.args.x c.in-Some.row.now (here g c) (before g c) refl in
-      let removed = ap length (removed_is g c ∙ sym (dropped_list t c.requires.good c.args.x c.in-Some.row.now (here g c))) in
-      let props = ap length c.in_ok-own.ensures in
-      let verbs = ap length c.in_ok-verbs.ensures in
-      let relinked = ap length (relinked_is g c) in
-      omega (arith, total, most, removed, props, verbs, relinked);
+      let most = writes5 (before g c).maps c.requires.good c.args.x c.in-Some.row.now (here g c) (before g c) refl in
+      let removed = removed_is g c ∙ sym (dropped_list (before g c).maps c.requires.good c.args.x c.in-Some.row.now (here g c)) in
+      omega (arith, ap (λ (h : Held). h.writes) (ends g c), most, ap length removed, ap length c.in_ok-own.ensures, ap length c.in_ok-verbs.ensures, ap length (relinked_is g c));
 }

@@ -1,4 +1,4 @@
-use Rattle.moo_props.{proofs.Words.{◌≡◌, Some, sym, ap, ◌∙◌, get, insert, PropRow, Maps, Held, property_renamed, look_ups, world_of, world_shown, verbs_stay, as_high, beside_world}, proofs.Kept.{good_by}, proofs.RenamedRows.{with_new_name, look_ups-property_renamed, world_renamed, sound_renamed, formed_renamed}, proofs.ShorterRows.{own_row, spelled}}
+use Rattle.moo_props.{proofs.Words.{◌≡◌, Some, sym, ap, ◌∙◌, get, insert, PropRow, Maps, Held, property_renamed, look_ups, world_of, world_shown, verbs_stay, beside_world}, proofs.Kept.{good_by, numbers_by}, proofs.RenamedRows.{with_new_name, look_ups-property_renamed, world_renamed, sound_renamed, formed_renamed}, proofs.ShorterRows.{own_row, spelled}}
 use Rattle.moo_props.proofs.renaming.rename.Goals as goal
 use Rattle.moo_world.specs.Numbers.{prop_renamed}
 
@@ -25,10 +25,7 @@ returns-clause-kept g c = record {
   good = good_by (t g c) (g.R.Rows.held c.put_prop.new.self).maps c.requires.good (with_new_name (look_ups (t g c)) c.args.x c.args.id.0 c.args.name) (shown g c) (sound_renamed (t g c) c.requires.good c.args.x c.args.id.0 (prop g c).0 (prop g c).1 (prop g c).2 c.args.name c.requires.free) (property_renamed (world_of (t g c)) c.args.x (prop g c).0.name c.args.name) (world g c) (formed_renamed (t g c) c.requires.good c.args.x c.args.id.0 (prop g c).0 (prop g c).1 (prop g c).2 c.args.name c.requires.free c.requires.name) (beside g c);
   beside = beside g c;
   base = ap (λ (h : Held). h.base) c.in_ok-put_prop.ensures.ok;
-  numbers = record {
-    props = prop_renamed c.args.id (prop g c).0 c.args.name (prop g c).1 (ap (λ (h : Held). h.maps.props) c.in_ok-put_prop.ensures.ok ∙ ap (λ d. insert (t g c).props c.args.id (record { definer = d; name = c.args.name })) (sym (prop g c).2));
-    verbs = verbs_stay (ap (λ (h : Held). h.maps.verbs) c.in_ok-put_prop.ensures.ok);
-    next_prop = as_high (t g c).head.next_prop (g.R.Rows.held c.put_prop.new.self).maps.head.next_prop (ap (λ (h : Held). h.maps.head.next_prop) c.in_ok-put_prop.ensures.ok);
-    next_verb = as_high (t g c).head.next_verb (g.R.Rows.held c.put_prop.new.self).maps.head.next_verb (ap (λ (h : Held). h.maps.head.next_verb) c.in_ok-put_prop.ensures.ok);
-  };
+  numbers = numbers_by (t g c) (g.R.Rows.held c.put_prop.new.self).maps
+      (prop_renamed c.args.id (prop g c).0 c.args.name (prop g c).1 (ap (λ (h : Held). h.maps.props) c.in_ok-put_prop.ensures.ok ∙ ap (λ d. insert (t g c).props c.args.id (record { definer = d; name = c.args.name })) (sym (prop g c).2)))
+      (verbs_stay (ap (λ (h : Held). h.maps.verbs) c.in_ok-put_prop.ensures.ok)) (ap (λ (h : Held). h.maps.head) c.in_ok-put_prop.ensures.ok);
 }

@@ -1,4 +1,4 @@
-use Rattle.moo_props.{proofs.Words.{◌≡◌, length, Some, sym, ap, subst, ◌∙◌, arith, is_some, unwrap_or, [], option_map, get, false≢true, or_right, ObjNo, ObjRow, PropId, Maps, Held, slot_cmp, lost, gained, same_object, is_among, IsGood, IsWellFormed, MayReparent, chain, look_ups, world_of, IsSound, chain_of_row, is_object_seen, owners_under, slots_moved, relinked, relinked_list, props_of, removed_keys, added_keys, slot_after, IsSameButSlotsAndObjects, AreAscending, origins, keys_over, numbers_same, beside_world, petitions_stay}, proofs.Shared.{new_is, no_clash}, proofs.Moved.{lost_list, gained_list, held2, slots2, objects2, rest2, world2, sound2, base2, writes2}, proofs.Ascending.{removed_ascend, added_ascend}, proofs.Presence.{removed_had, added_had, removed_gone, added_there}}
+use Rattle.moo_props.{proofs.Words.{◌≡◌, length, Some, sym, ap, subst, ◌∙◌, arith, is_some, unwrap_or, [], option_map, get, false≢true, or_right, ObjNo, ObjRow, PropId, Maps, Held, slot_cmp, lost, gained, same_object, is_among, IsGood, IsWellFormed, MayReparent, chain, look_ups, world_of, IsSound, chain_of_row, is_object_seen, owners_under, slots_moved, relinked, relinked_list, props_of, removed_keys, added_keys, slot_after, IsSameButSlotsAndObjects, AreAscending, origins, keys_over, numbers_same, beside_world, petitions_stay}, proofs.Shared.{new_is, no_clash}, proofs.Moved.{lost_list, gained_list, held2, slots2, objects2, rest2, world2, sound2, base2, writes2}, proofs.Ascending.{keys_ascend}, proofs.Presence.{removed_had, added_had, removed_gone, added_there}}
 use Rattle.moo_props.proofs.reparenting.reparent.Goals as goal
 use Rattle.moo_world.{specs.Keeps.{Keeps}, specs.World.{reparented}, proofs.Inheritance.Reparenting.{IsWellFormed-reparented}}
 
@@ -50,9 +50,7 @@ added_is : (g : _) (c : goal.After-drop-lost-2 g) → c.in_ok-removed.added ≡ 
 added_is g c = c.in_ok-removed.ensures.added ∙ (λ i. keys_over ((c.as_slice-2.ensures.value ∙ gained_is g c) i) (owners_under (before g c).maps c.args.x))
 
 pub unreachable-requires : goal.unreachable-requires
-unreachable-requires g c =
-    let m = look_ups (g.R.Rows.held c.args.rows.now).maps in
-    false≢true (ap is_some c.in-None.ensures ∙ sym (is_object_seen m c.args.x) ∙ c.requires.may.object)
+unreachable-requires g c = false≢true (ap is_some c.in-None.ensures ∙ sym (is_object_seen (look_ups (g.R.Rows.held c.args.rows.now).maps) c.args.x) ∙ c.requires.may.object)
 
 -- what is above x is of its chain
 pub turnover-requires-clause-above : goal.turnover-requires-clause-above
@@ -71,8 +69,8 @@ returns g c = record {
     relinked =
         c.in_ok-relinked.ensures.list
         ∙ ap (λ o. unwrap_or (option_map (λ row. relinked_list c.args.x row c.args.new) o) []) (sym (here g c));
-    removed_order = subst (AreAscending slot_cmp) (sym (removed_is g c)) (removed_ascend (before g c).maps c.args.x c.args.new);
-    added_order = subst (AreAscending slot_cmp) (sym (added_is g c)) (added_ascend (before g c).maps c.args.x c.args.new);
+    removed_order = subst (AreAscending slot_cmp) (sym (removed_is g c)) (keys_ascend (before g c).maps c.args.x (lost (world_of (before g c).maps) c.args.x c.args.new));
+    added_order = subst (AreAscending slot_cmp) (sym (added_is g c)) (keys_ascend (before g c).maps c.args.x (gained (world_of (before g c).maps) c.args.x c.args.new));
     had = removed_had (before g c).maps c.requires.good.sound c.args.x c.args.new c.requires.may;
     lacked = added_had (before g c).maps c.requires.good.sound c.args.x c.args.new c.requires.may;
   };

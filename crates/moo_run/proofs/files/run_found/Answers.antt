@@ -1,4 +1,4 @@
-use Rattle.moo_run.{proofs.Words.{inl, true, false, refl, image_at, state_of, Run, given_to}, proofs.Held.{ran_onto}, proofs.Connections.{surely, unseen}, proofs.Refusals.{refuses_file, tells_fault, refused_onto, still_held, never_anew}}
+use Rattle.moo_run.{proofs.Words.{inl, true, false, image_at, state_of, Run, given_to}, proofs.Held.{ran_onto}, proofs.Connections.{surely, unseen}, proofs.Refusals.{refuses_file, tells_fault, refused_onto, still_held, never_anew}}
 use Rattle.moo_run.proofs.files.run_found.Goals as goal
 use Rattle.moo_files.specs.Opened.{Database}
 
@@ -23,11 +23,11 @@ returns-in-Ok-clause-runs g c =
 pub returns-in-Err-clause-runs : goal.returns-in-Err-clause-runs
 returns-in-Err-clause-runs g c =
     let fault = c.in-Err.fault in
-    let given = given_to g.S.Input.Read g.S.Host.BatchFiles g.S.Host.WorldFiles.denies g.S.Host.Ports g.S.Host.Source.Arrivals g.S.Host.Source.Reader.Read g.S.Host.Source.Reader.Incoming.fails g.S.Host.Source.Writer.Write c.args.session.now.input c.args.session.now.host c.args.session.now.host in
+    let given = given_to g.S.Input.Read g.S.Host.BatchFiles g.S.Host.WorldFiles.denies g.S.Host.Ports g.S.Host.Source.Arrivals g.S.Host.Source.Reader.Read g.S.Host.Source.Reader.Incoming.fails g.S.Host.Source.Writer.Write c.args.session.now.input c.args.session.now.host c.fail.new.self.host in
     let old = g.S.Output.Write.contents c.args.session.now.output in
-    let new = g.S.Output.Write.contents c.report-session.new.output in
-    let run : Run = record { given = given; before = old; after = new; status = c.report-session.result } in
-    let reports = tells_fault fault c.refusal_of-failure.result old new c.report-session.result c.refusal_of-failure.ensures c.report-session.ensures in
+    let new = g.S.Output.Write.contents c.fail.new.self.output in
+    let run : Run = record { given = given; before = old; after = new; status = c.fail.new.self.status } in
+    let reports = tells_fault fault c.refusal_of-failure.result old new c.fail.new.self.status c.refusal_of-failure.ensures c.fail.ensures.reports in
     record {
       anew = λ anew. never_anew c.args.task c.requires.other anew;
       over = λ other held holds clean. refused_onto (image_at g.S.File.Start) fault c.in-Err.remains run held (c.in-Err.ensures.refuses held holds clean) reports;
@@ -38,7 +38,7 @@ returns-in-Err-clause-runs g c =
       spares = λ some whole. c.in-Err.ensures.refused.spared some;
       fresh = λ anew. never_anew c.args.task c.requires.other anew;
       begun = λ anew. never_anew c.args.task c.requires.other anew;
-      rests = refl;
+      rests = c.fail.ensures.host;
       told = inl (fault, c.in-Err.ensures.refused.stopped, reports);
       cause = λ other s holds clean.
           (fault, (c.in-Err.ensures.refuses (Database holds.trees) holds.holds clean).state s holds.such, c.in-Err.ensures.stopped s holds clean, reports);

@@ -1,4 +1,4 @@
-use Rattle.moo_run.{proofs.Words.{inl, inr, true, false, refl, subst, state, state_of, Reports}, proofs.Connections.{of_opening, of_refusal, as_before, surely_ends, unseen}}
+use Rattle.moo_run.{proofs.Words.{inl, inr, true, false, subst, state, state_of, Reports}, proofs.Connections.{of_opening, of_refusal, as_before, surely_ends, unseen}}
 use Rattle.moo_run.proofs.over.run_opened.Goals as goal
 
 pub returns-in-Ok : goal.returns-in-Ok
@@ -19,8 +19,8 @@ returns-in-Ok g c =
 pub returns-in-Err : goal.returns-in-Err
 returns-in-Err g c = record {
   kept = λ s keeps clean.
-      inl (refl, (c.from.result, of_opening c.in-Err.fault c.from.result c.from.ensures (c.in-Err.ensures.adopts.whole s keeps clean), c.report-session.ensures), as_before (state g.B.Store c.args.conn) (state g.B.Store c.in-Err.conn) s keeps c.in-Err.ensures.adopts.crash clean);
-  only = λ tables rests clean. inl (refl, c.in-Err.fault, c.in-Err.ensures.adopts.says tables rests clean, subst (λ f. Reports f (g.S.Output.Write.contents c.args.session.now.output) (g.S.Output.Write.contents c.report-session.new.output) c.report-session.result) c.from.ensures c.report-session.ensures);
-  input = λ other. refl;
-  opened = inl (refl, (c.from.result, of_refusal c.in-Err.fault c.from.result c.from.ensures, c.report-session.ensures));
+      inl (c.fail.ensures.host, (c.from.result, of_opening c.in-Err.fault c.from.result c.from.ensures (c.in-Err.ensures.adopts.whole s keeps clean), c.fail.ensures.reports), as_before (state g.B.Store c.args.conn) (state g.B.Store c.in-Err.conn) s keeps c.in-Err.ensures.adopts.crash clean);
+  only = λ tables rests clean. inl (c.fail.ensures.host, c.in-Err.fault, c.in-Err.ensures.adopts.says tables rests clean, subst (λ f. Reports f (g.S.Output.Write.contents c.args.session.now.output) (g.S.Output.Write.contents c.fail.new.self.output) c.fail.new.self.status) c.from.ensures c.fail.ensures.reports);
+  input = λ other. c.fail.ensures.input;
+  opened = inl (c.fail.ensures.host, (c.from.result, of_refusal c.in-Err.fault c.from.result c.from.ensures, c.fail.ensures.reports));
 }

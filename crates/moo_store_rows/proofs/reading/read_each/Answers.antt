@@ -1,5 +1,4 @@
-use Rattle.moo_tables.proofs.ReadLemmas.{reads_then, fails_then, rests_read}
-use Rattle.moo_tables.{specs.ReadCause.{StopsQuery}, proofs.ReadCauseLemmas.{not_a_database}}
+use Rattle.moo_tables.{proofs.ReadLemmas.{reads_then, fails_then, rests_read}, specs.ReadCause.{StopsQuery}, proofs.ReadCauseLemmas.{not_a_database}}
 use Rattle.moo_store_rows.{proofs.Words.{state}, proofs.Causes.{has_tables, told_so, stopped_after}, proofs.Found.{found_as, none_as, none_of_store}, specs.Reading.{RestedAs}}
 use Rattle.moo_store_rows.proofs.reading.read_each.Goals as goal
 

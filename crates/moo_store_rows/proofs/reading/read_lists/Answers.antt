@@ -1,5 +1,4 @@
-use Rattle.moo_tables.proofs.ListedLemmas.{lists_are}
-use Rattle.moo_tables.{specs.ReadCause.{StopsQuery}, proofs.ReadCauseLemmas.{not_a_database}}
+use Rattle.moo_tables.{proofs.ListedLemmas.{lists_are}, specs.ReadCause.{StopsQuery}, proofs.ReadCauseLemmas.{not_a_database}}
 use Rattle.moo_store_rows.{proofs.Words.{state}, proofs.Causes.{rows_rise, told_so}}
 use Rattle.moo_store_rows.proofs.reading.read_lists.Goals as goal
 

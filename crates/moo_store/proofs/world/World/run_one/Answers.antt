@@ -1,7 +1,6 @@
 use Rattle.moo_store.{proofs.Words.{◌≡◌, ◌<◌, Some, inl, refl, sym, ap, ◌∙◌, subst, true, false, Head, IsGood, Works, RunsBatch, state_of, judge, Accepted, AreChanges, World, Prints, IsRun, store_of}, proofs.Verdicts.{closed_stands, still_stands}, proofs.Running.{accepted_low, accepted_is_run}, proofs.Untouched.{nothing_written}, proofs.Stopped.{faults_same}, proofs.Commits.{accepted_stands, accepted_writes, accepted_is_taken, accepted_fails, accepted_cause}}
 use Rattle.moo_store.proofs.world.World.run_one.Goals as goal
-use Rattle.std.proofs.lemmas.Bool.{true≢false}
-use Rattle.std.proofs.lemmas.Result.{IfErr-weaker}
+use Rattle.std.{proofs.lemmas.Bool.{true≢false}, proofs.lemmas.Result.{IfErr-weaker}}
 use Rattle.moo_world.specs.Between.{BatchLeads}
 use Rattle.moo_text.specs.declared.reply.Answer.TheVariants as answer
 use Rattle.moo_text.specs.declared.reply.Reply.TheVariants as reply
