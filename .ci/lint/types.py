@@ -12,7 +12,7 @@ from typing import Iterator, Optional
 
 TOP = Path(__file__).resolve().parents[2]
 MYPY = "/usr/bin/mypy"
-WHAT = ("tools", "bench", "packaging", "tests/support", "web", "web/moo_web", "docs", ".ci")
+WHAT = ("tools", "bench", "packaging", "packaging/python", "tests/support", "web", "web/moo_web", "docs", ".ci")
 
 
 def is_script(path: Path) -> bool:

@@ -15,7 +15,7 @@ from pathlib import Path
 from typing import Any
 
 import moo_client
-from moo_client import Moo, Obj
+from moo_client import AnswersLost, Moo, Obj
 
 from rehearsing.machines import SECONDS
 from rehearsing.page import PORT, WEB_PORT, is_wrong
@@ -36,7 +36,11 @@ class Client(threading.Thread):
         world = Moo(PORT, mark=(self.home, "mark"), patience=SECONDS)
         try:
             while not self.is_over.wait(0.02):
-                self.made += world.run([("create", self.home)], as_=3)
+                try:
+                    self.made += world.run([("create", self.home)], as_=3)
+                except AnswersLost:
+                    # It has acted, and nobody else makes objects there.
+                    self.made.append(world.ask([("children", self.home)], as_=3)[0][-1])
         except Exception as error:  # a thread's own failure is the rehearsal's
             self.wrong = repr(error)
 
@@ -142,6 +146,14 @@ def counts(made: Made) -> dict[Any, int]:
     return {home: len(answers) for home, answers in made.items()}
 
 
+def numbers(literal: str) -> list[Any]:
+    """The objects of a list, as its literal has them."""
+    found = moo_client.read(literal)
+    if not isinstance(found, list):
+        is_wrong(f"{literal} is no list")
+    return found
+
+
 def held(copy: Path, homes: list[Any], program: str) -> Made:
     """What is in a copy below each of these objects."""
     with tempfile.TemporaryDirectory() as room:
@@ -150,7 +162,7 @@ def held(copy: Path, homes: list[Any], program: str) -> Made:
         calls = [f"children({home})" for home in homes]
         text = "\n".join(["batch as #3", *calls, "end", ""])
         ran = subprocess.run([program, "ask", f"{room}/world.db", "-"], input=text, stdout=subprocess.PIPE, text=True, check=True)
-    return dict(zip(homes, map(moo_client.read, ran.stdout.splitlines()[1:])))
+    return {home: numbers(line) for home, line in zip(homes, ran.stdout.splitlines()[1:])}
 
 
 def compare(copy: Path, made: Made, before: dict[Any, int], program: str) -> None:

@@ -10,6 +10,7 @@ import sys
 import time
 from collections.abc import Iterator
 from pathlib import Path
+from typing import NoReturn
 
 TOP = Path(__file__).resolve().parents[2]
 # Each block of commands of the page that is followed: its heading, and how its first line begins.
@@ -45,7 +46,7 @@ BLOCKS = {
 }
 
 
-def is_wrong(why: str) -> None:
+def is_wrong(why: str) -> NoReturn:
     """Ends the rehearsal."""
     sys.exit(f"packaging/rehearse: {why}")
 

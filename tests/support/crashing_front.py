@@ -84,7 +84,9 @@ def crash_in(modules: tuple[Any, Any]) -> None:
 
 
 if __name__ == "__main__":
-    from moo_web import door, journal, serving
+    from moo_web import serving
+    from moo_web.journal import journal
+    from moo_web.world import door
 
     crash_in((journal, door))
     serving.main()

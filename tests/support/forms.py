@@ -11,7 +11,7 @@ from tests.support.operating import SECONDS
 from tests.support.pages import PagesTest
 from tests.support.reader import Page, Reader, in_process
 
-from moo_web.door import batch_body  # noqa: E402
+from moo_web.world.door import batch_body  # noqa: E402
 
 # Ada #4 and Bram #5 are residents, #6 is a fertile class of things, #7 one of rooms, #8 Ada's lamp in the room #2.
 WORLD = """batch as #3

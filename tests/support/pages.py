@@ -19,14 +19,14 @@ from tests.support.web import PASSWORD, use_web
 
 use_web()
 
-from moo_web import passwords  # noqa: E402
 from moo_web.api import Api  # noqa: E402
 from moo_web.app import App  # noqa: E402
-from moo_web.door import Door  # noqa: E402
-from moo_web.history import History  # noqa: E402
-from moo_web.journal import Journal  # noqa: E402
-from moo_web.people import People  # noqa: E402
-from moo_web.writer import Writer  # noqa: E402
+from moo_web.journal.history import History  # noqa: E402
+from moo_web.journal.journal import Journal  # noqa: E402
+from moo_web.journal.writer import Writer  # noqa: E402
+from moo_web.people import passwords  # noqa: E402
+from moo_web.people.people import People  # noqa: E402
+from moo_web.world.door import Door  # noqa: E402
 
 HOST = "front.example.org"
 HOME = "192.0.2.1"
@@ -177,7 +177,7 @@ class PagesTest(unittest.TestCase):
     def setUp(self) -> None:
         if why := lacking():
             self.skipTest(why)
-        from moo_web.site import make_pages
+        from moo_web.pages.site import make_pages
 
         room = tempfile.TemporaryDirectory()
         self.addCleanup(room.cleanup)

@@ -16,7 +16,7 @@ from typing import Any, Callable, Optional
 from tests.support.web import PASSWORD, SECONDS
 
 FORM_TYPE = "application/x-www-form-urlencoded"
-HOST = "front.example.org"
+HOST = "localhost"
 # What asks: a method, a path, a body and lines of a head; and the status, the head and the bytes that come.
 Head = list[tuple[str, str]]
 Way = Callable[[str, str, Optional[str], dict[str, str]], tuple[int, Head, bytes]]

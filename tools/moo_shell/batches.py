@@ -1,32 +1,20 @@
-"""Batches of calls with names: what each name stands for, and a batch that acts at most once.
-
-A call of a batch may use the answer of an earlier call of the same batch by its name, though a service takes no names. So the batch is
-asked first, with what these answers are expected to be, until each is what the service says it would be. Then it is sent for the world of
-that very number (`at`), so that the answers can't be others.
-"""
+"""Batches with names at a door: asked, or run, at most once."""
 
 from __future__ import annotations
 
 import dataclasses
-import time
 from collections.abc import Mapping
 from typing import Optional
 
-from moo_shell.door import FIRST_PAUSE, LONGEST_PAUSE, PATIENCE, Door, LostAnswer, NoService, Reply
-from moo_shell.lines import call_name, did_you_mean, filled, hint, names_in, strange_letter
+from moo_shell.door import PATIENCE, Door
+from moo_shell.losing import told_losses
 from moo_shell.manual import Manual
-from moo_shell.told import Failed
-
-LONGEST_BATCH = 1000
-
-
-@dataclasses.dataclass(frozen=True)
-class Item:
-    """A call as it was written, the name of its answer if it has one, and its file and line."""
-
-    text: str
-    name: Optional[str] = None
-    place: Optional[tuple[str, int]] = None
+from moolib import errors
+from moolib.batches import LONGEST_BATCH, Item, local_names, resolved, written_calls
+from moolib.calls import call_name
+from moolib.errors import Failed, Stale
+from moolib.lines import did_you_mean, hint, strange_letter
+from moolib.service import Answer, Patience
 
 
 @dataclasses.dataclass(frozen=True)
@@ -53,46 +41,7 @@ class Unsure(Failed):
             f"the answer was lost: the batch has become number {at + 1}, or it hasn't and something else has; "
             "look at the world before you go on"
         )
-
-
-class MovedOn(Exception):
-    """The world has another number than the one that was asked for."""
-
-    def __init__(self, seq: int) -> None:
-        super().__init__(str(seq))
-        self.seq = seq
-
-
-def local_names(items: list[Item]) -> bool:
-    """Whether a call uses the answer of an earlier one."""
-    known: set[str] = set()
-    for item in items:
-        if known & names_in(item.text):
-            return True
-        if item.name:
-            known.add(item.name)
-    return False
-
-
-def written_calls(items: list[Item], names: Mapping[str, str], expected: Mapping[int, str]) -> list[str]:
-    """The calls with the values of their names, up to the first one with a name whose answer isn't expected yet."""
-    values = dict(names)
-    unknown: set[str] = set()
-    calls = []
-    for place, item in enumerate(items):
-        if unknown & names_in(item.text):
-            break
-        try:
-            calls.append(filled(item.text, values))
-        except Failed as failed:
-            raise Failed(failed.reason, item.place) from None
-        if item.name:
-            unknown.discard(item.name)
-            if place in expected:
-                values[item.name] = expected[place]
-            else:
-                unknown.add(item.name)
-    return calls
+        self.at = at
 
 
 class Batches:
@@ -105,27 +54,35 @@ class Batches:
     def run(self, items: list[Item], who: int, names: Mapping[str, str], at: Optional[int] = None) -> Done:
         """Runs a batch, at most once. With `at` it acts only on the world of that number."""
         self.test_length(items)
-        end = time.monotonic() + PATIENCE
+        waiting = Patience(PATIENCE)
         while True:
             try:
                 calls, seq = self.prepared(items, who, names, at)
                 return self.sent(items, calls, who, seq)
-            except MovedOn as moved:
+            except Stale as moved:
                 self.seq = moved.seq
                 if at is not None:
                     raise Refused(f"the world has the number {moved.seq} and not {at}", 0, "stale", None) from None
-                if time.monotonic() > end:
+                if waiting.is_over:
                     raise Failed("others write all the time: the batch found no moment") from None
+            self.door.rest(waiting.pause())
 
     def ask(self, items: list[Item], who: int, names: Mapping[str, str]) -> Done:
         """What a batch would answer; nothing changes."""
         self.test_length(items)
         while True:
             try:
-                calls, at = self.resolved(items, who, names, None) if local_names(items) else (written_calls(items, names, {}), None)
-                return self.asked(items, calls, who, at)
-            except MovedOn:
+                calls, answer = self.prepared_to_ask(items, who, names)
+            except Stale:
                 continue
+            if not answer.is_good:
+                raise self.refusal(items, calls, answer)
+            return Done(answer.said["answers"], int(answer.said["seq"]))
+
+    def losses(self, items: list[Item], who: int, names: Mapping[str, str], done: Done, is_script: bool) -> list[str]:
+        """What a batch would destroy or replace that was asked and would be answered so, in lines."""
+        calls = written_calls(items, names, dict(enumerate(done.answers)))
+        return told_losses(self.door, who, calls, done.answers, done.seq, is_script)
 
     @staticmethod
     def test_length(items: list[Item]) -> None:
@@ -135,117 +92,74 @@ class Batches:
 
     def prepared(self, items: list[Item], who: int, names: Mapping[str, str], at: Optional[int]) -> tuple[list[str], int]:
         """The calls of a batch, and the number of the world that they are for."""
-        if local_names(items):
-            return self.resolved(items, who, names, at)
-        calls = written_calls(items, names, {})
-        if at is not None:
-            return calls, at
-        if self.seq is None:
+        if at is None and self.seq is None:
             self.seq = self.door.seq()
-        return calls, self.seq
+        seq = self.seq if at is None else at
+        assert seq is not None
+        if not local_names(items):
+            return written_calls(items, names, {}), seq
+        calls, answer = resolved(items, names, lambda some: self.asked(who, some, seq))
+        if not answer.is_good:
+            raise self.refusal(items, calls, answer)
+        return calls, seq
 
-    def resolved(self, items: list[Item], who: int, names: Mapping[str, str], at: Optional[int]) -> tuple[list[str], int]:
-        """The same of a batch with names of its own: each call is asked with what the names before it stand for."""
-        expected, seq = self.first_expected(items, who, at)
-        while True:
-            calls = written_calls(items, names, expected)
-            reply = self.door.ask(who, calls, seq)
-            refused = reply
-            if not reply.is_good and reply.error != "stale" and int(reply.said.get("call", 0)) > 1:
-                reply = self.door.ask(who, calls[: int(reply.said["call"]) - 1], seq)
-            if reply.error == "stale":
-                raise MovedOn(int(reply.said["seq"]))
-            answers = reply.said["answers"] if reply.is_good else []
-            came = {place: answer for place, answer in enumerate(answers) if items[place].name}
-            if all(expected.get(place) == answer for place, answer in came.items()):
-                if not refused.is_good:
-                    raise self.refusal(items, calls, refused)
-                return calls, seq
-            expected.update(came)
+    def prepared_to_ask(self, items: list[Item], who: int, names: Mapping[str, str]) -> tuple[list[str], Answer]:
+        """The calls of a batch that is only asked, and what they would answer."""
+        if local_names(items):
+            seq = self.door.seq()
+            return resolved(items, names, lambda some: self.asked(who, some, seq))
+        calls = written_calls(items, names, {})
+        return calls, self.asked(who, calls, None)
 
-    def first_expected(self, items: list[Item], who: int, at: Optional[int]) -> tuple[dict[int, str], int]:
-        """What calls of `create` answer, if nothing else makes objects: the numbers after the greatest one. And the number of the world."""
-        reply = self.door.ask(who, ["max_object()"], at)
-        if reply.error == "stale":
-            raise MovedOn(int(reply.said["seq"]))
-        if not reply.is_good:
-            return {}, self.door.seq() if at is None else at
-        number = int(reply.said["answers"][0].lstrip("#"))
-        expected = {}
-        for place, item in enumerate(items):
-            if call_name(item.text) == "create":
-                number += 1
-                if item.name:
-                    expected[place] = f"#{number}"
-        return expected, int(reply.said["seq"])
-
-    def asked(self, items: list[Item], calls: list[str], who: int, at: Optional[int]) -> Done:
-        """What calls would answer."""
-        reply = self.door.ask(who, calls, at)
-        if reply.error == "stale":
-            raise MovedOn(int(reply.said["seq"]))
-        if not reply.is_good:
-            raise self.refusal(items, calls, reply)
-        return Done(reply.said["answers"], int(reply.said["seq"]))
+    def asked(self, who: int, calls: list[str], at: Optional[int]) -> Answer:
+        """What calls would answer. `Stale`: the world has another number than `at`."""
+        answer = self.door.ask(who, calls, at)
+        if answer.error == "stale":
+            raise Stale(int(answer.said["seq"]))
+        return answer
 
     def sent(self, items: list[Item], calls: list[str], who: int, at: int) -> Done:
         """Sends a batch for the world of a number, until its answer comes."""
-        is_lost = False
-        pause = FIRST_PAUSE
-        end = time.monotonic() + PATIENCE
-        while True:
-            try:
-                reply = self.door.batch(who, calls, at)
-                break
-            except LostAnswer:
-                is_lost = True
-            except Failed:
-                # That nothing was done now doesn't say that nothing was done before.
-                if not is_lost:
-                    raise
-            except NoService as error:
-                if time.monotonic() > end and not is_lost:
-                    raise Failed(f"{self.door.where()} doesn't answer: {error}") from None
-            if time.monotonic() > end:
-                raise Unsure(at)
-            self.door.rest(pause)
-            pause = min(2 * pause, LONGEST_PAUSE)
-        if reply.error == "stale":
-            if is_lost:
-                self.seq = int(reply.said["seq"])
-                raise Unsure(at)
-            raise MovedOn(int(reply.said["seq"]))
-        if not reply.is_good:
-            raise self.refusal(items, calls, reply)
-        self.seq = int(reply.said["seq"])
-        return Done(reply.said["answers"], self.seq)
+        try:
+            answer, was_lost = self.door.settled(who, calls, at, Patience(PATIENCE))
+        except errors.Unreachable as error:
+            raise Failed(str(error)) from None
+        except errors.Unsure:
+            raise Unsure(at) from None
+        if answer.error == "stale":
+            self.seq = int(answer.said["seq"])
+            raise Unsure(at) if was_lost else Stale(self.seq)
+        if not answer.is_good:
+            raise self.refusal(items, calls, answer)
+        self.seq = int(answer.said["seq"])
+        return Done(answer.said["answers"], self.seq)
 
-    def refusal(self, items: list[Item], calls: list[str], reply: Reply) -> Refused:
+    def refusal(self, items: list[Item], calls: list[str], answer: Answer) -> Refused:
         """Why a batch was refused, by the service's words, or else by those of the help."""
-        call = int(reply.said.get("call", 0))
+        call = answer.call
         item = items[call - 1] if 0 < call <= len(items) else None
         text = calls[call - 1] if 0 < call <= len(calls) else ""
-        why = str(reply.said.get("why") or self.own_why(reply, text))
-        if text.startswith("#") and reply.error == "malformed" and "//" not in why:
+        why = answer.why or self.own_why(answer, text)
+        if text.startswith("#") and answer.error == "malformed" and "//" not in why:
             why += "; a comment begins with //"
         if strange_letter(text) and strange_letter(text) not in why:
             why += f": '{strange_letter(text)}'"
-        kind = reply.error if reply.error in ("malformed", "full") else "refused"
-        return Refused(f"{kind}: {why}", call, reply.error, item.place if item else None)
+        kind = answer.error if answer.error in ("malformed", "full") else "refused"
+        return Refused(f"{kind}: {why}", call, answer.error, item.place if item else None)
 
-    def own_why(self, reply: Reply, text: str) -> str:
+    def own_why(self, answer: Answer, text: str) -> str:
         """Why, in words of the shell's own, for a service that gives none."""
         shown = text if len(text) <= 200 else text[:198] + ".."
-        if reply.error == "malformed":
+        if answer.error == "malformed":
             return hint(text) or self.unknown_call(text) or f"{shown} isn't a call with values: \\help values"
-        if reply.error == "full":
+        if answer.error == "full":
             return f"{shown}: no number is left for what the call makes"
-        if reply.error == "too large":
+        if answer.error == "too large":
             return "the batch is too long for a service: make two of it"
-        if not reply.error.startswith("E_"):
-            return reply.error or f"the answer is {reply.status}"
-        means = self.manual.reasons.get(reply.error, "")
-        return f"{shown}: {reply.error}{', ' + means if means else ''}"
+        if not answer.error.startswith("E_"):
+            return answer.error or f"the answer is {answer.status}"
+        means = self.manual.reasons.get(answer.error, "")
+        return f"{shown}: {answer.error}{', ' + means if means else ''}"
 
     def unknown_call(self, text: str) -> str:
         """That a line names no call, if it doesn't."""

@@ -8,13 +8,14 @@ from pathlib import Path
 from typing import Optional
 
 from moo_shell import looks
-from moo_shell.batches import Item, Refused
+from moo_shell.batches import Refused
 from moo_shell.files import write_new
 from moo_shell.helping import ASIDE, TOPICS, fitted, help_on, overview
-from moo_shell.lines import counted, did_you_mean, read_line, unquoted
 from moo_shell.service import OwnService
 from moo_shell.session import Session
-from moo_shell.told import Failed
+from moolib.batches import Item
+from moolib.errors import Failed
+from moolib.lines import counted, did_you_mean, read_line, unquoted
 
 
 @dataclasses.dataclass(frozen=True)
@@ -88,6 +89,8 @@ def ask(session: Session, text: str) -> None:
         session.output.show("\n".join(answer for _, answer in rows))
     else:
         session.output.show("\n".join(f"{answer}  {session.output.dim('would answer ' + item.text)}" for item, answer in rows))
+    for told in session.batches.losses(items, who, session.names, done, session.is_script):
+        session.output.note(told)
 
 
 def names(session: Session, text: str) -> None:
@@ -213,7 +216,7 @@ COMMANDS = {
     "places": Command("[#2]", "the objects by where they are", places),
     "find": Command("WORD", "the objects with a word in their names", find),
     "petitions": Command("", "the petitions: all of them for a wizard, else one's own", petitions),
-    "ask": Command("CALL", "what a call would answer; nothing changes. In a batch without a CALL: the batch so far", ask),
+    "ask": Command("CALL", "what a call would answer, and what would be lost; nothing changes. In a batch without a CALL: the batch so far", ask),
     "as": Command("N", "the calls that follow are those of programmer #N", as_number),
     "names": Command("[FILE]", "the names and what they stand for; with FILE they are kept in it from now on", names),
     "seq": Command("", "the number of accepted batches", seq),

@@ -10,7 +10,7 @@ import subprocess
 import tempfile
 from pathlib import Path
 
-from moo_shell.told import Failed
+from moolib.errors import Failed
 
 # The bytes of a database file that SQLite locks for each reader: where they begin, and how many.
 SHARED_FIRST, SHARED_SIZE = 0x40000002, 510

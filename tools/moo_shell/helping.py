@@ -7,9 +7,9 @@ import textwrap
 from collections.abc import Iterator, Mapping
 from typing import Optional
 
-from moo_shell.lines import did_you_mean
 from moo_shell.manual import Manual
-from moo_shell.told import Failed
+from moolib.errors import Failed
+from moolib.lines import did_you_mean
 
 WIDTH = 79
 

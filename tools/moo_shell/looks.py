@@ -6,24 +6,30 @@ import textwrap
 from collections.abc import Callable, Iterable, Mapping
 from typing import Optional
 
-from moo_client import Obj, written
-from moo_shell.told import Failed
-from moo_shell.world import Answer, Slot, Thing, Whole
+from moo_shell.world import Slot, Thing, Whole
+from moolib.errors import Failed
+from moolib.service import Said
+from moolib.values import Obj, written
 
 Things = Mapping[int, Thing]
 
 
+def titled(thing: Thing) -> str:
+    """An object with its name: `#4 "Lantern"`."""
+    return f"#{thing.number} {written(thing.name)}"
+
+
 def named(number: int, things: Things) -> str:
-    """An object with its name, if it is known: `#4 "Lantern"`."""
+    """The object of a number, with its name if that is known."""
     thing = things.get(number)
-    return f"#{number} {written(thing.name)}" if thing else f"#{number}"
+    return titled(thing) if thing else f"#{number}"
 
 
 def mentioned(whole: Whole) -> set[int]:
     """The objects whose names are shown beside those of an object."""
     found = {whole.thing.owner, whole.thing.location}
     for _, answer in whole.accepts:
-        value = answer.value()
+        value = answer.value
         found.update(each.number for each in value or [] if isinstance(each, Obj))
     return found
 
@@ -43,13 +49,13 @@ def field(name: str, text: str, width: Optional[int]) -> str:
 
 def listed(things: Iterable[Thing], more: int = 0) -> str:
     """Objects with their names, and how many more there are."""
-    return ", ".join(f"#{thing.number} {written(thing.name)}" for thing in things) + (f" and {more} more" if more else "")
+    return ", ".join(map(titled, things)) + (f" and {more} more" if more else "")
 
 
 def shown_accepts(whole: Whole, things: Things) -> str:
     """What an object accepts, and by whose list."""
     for number, answer in whole.accepts:
-        value = answer.value()
+        value = answer.value
         if isinstance(value, list):
             kinds = ", ".join(named(each.number, things) if isinstance(each, Obj) else str(each) for each in value)
             by = "" if number == whole.thing.number else f" (the list of #{number})"
@@ -58,9 +64,9 @@ def shown_accepts(whole: Whole, things: Things) -> str:
     return "nothing (no accept list)"
 
 
-def shown_info(answer: Answer) -> str:
+def shown_info(answer: Said) -> str:
     """The owner and the perms that a call of `.._info` answers: `#3 "rc"`."""
-    value = answer.value()
+    value = answer.value
     return f"{value[0]} {written(value[1])}" if isinstance(value, list) and len(value) >= 2 else answer.text
 
 
@@ -95,7 +101,7 @@ def shown_verbs(whole: Whole) -> list[str]:
         return ["  verbs     may not be listed"]
     lines = []
     for place, (names, info, args) in enumerate(whole.verbs, 1):
-        value = args.value()
+        value = args.value
         words = " ".join(map(str, value)) if isinstance(value, list) else args.text
         lines.append(f"    {place}  {names}  ({words}; {shown_info(info)})")
     return ["  verbs", *lines] if lines else []
@@ -104,7 +110,7 @@ def shown_verbs(whole: Whole) -> list[str]:
 def shown(whole: Whole, things: Things, width: Optional[int] = None) -> str:
     """All of an object."""
     thing = whole.thing
-    lines = [f"#{thing.number} {written(thing.name)}", field("owner", named(thing.owner, things), width)]
+    lines = [titled(thing), field("owner", named(thing.owner, things), width)]
     lines.append(field("parents", listed(whole.chain) or "none", width))
     lines.append(field("place", named(thing.location, things) if thing.location >= 0 else "nowhere", width))
     lines.append(field("flags", " ".join(whole.bits) or "none", width))

@@ -7,7 +7,7 @@ import re
 import subprocess
 from typing import Optional
 
-from moo_shell.told import Failed
+from moolib.errors import Failed
 
 PATIENCE = 30
 ENTRY = re.compile(r"  (?=[a-z_]+\()")

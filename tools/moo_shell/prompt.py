@@ -8,13 +8,15 @@ import signal
 from pathlib import Path
 from typing import Optional
 
-from moo_client import written
 from moo_shell.batches import Refused
 from moo_shell.commands import COMMANDS
-from moo_shell.lines import call_name, counted, pieces
 from moo_shell.session import Session
-from moo_shell.told import BOLD, PLAIN, Failed
+from moo_shell.told import BOLD, PLAIN
 from moo_shell.world import BUILT_IN
+from moolib.calls import call_name
+from moolib.errors import Failed
+from moolib.lines import counted, pieces
+from moolib.values import written
 
 try:
     import readline

@@ -6,10 +6,10 @@ import sys
 from pathlib import Path
 from typing import Optional
 
-from moo_client import written
 from moo_shell.files import lines_of
-from moo_shell.lines import counted
 from moo_shell.session import Session
+from moolib.lines import counted
+from moolib.values import written
 
 LONGEST_LIST = 1000
 STANDARD_INPUT = "standard input"
@@ -26,7 +26,7 @@ def run_script(session: Session, name: str) -> None:
 def greatest(session: Session) -> Optional[int]:
     """The number that an object was given last, if the programmer may know it."""
     (answer,) = session.world.each(["max_object()"])
-    return answer.value().number if answer.is_good else None
+    return answer.value.number if answer.is_good else None
 
 
 def would_make(session: Session, before: Optional[int]) -> str:

@@ -16,7 +16,7 @@ from pathlib import Path
 from typing import IO, Optional
 
 from moo_shell.door import Door
-from moo_shell.told import Failed
+from moolib.errors import Failed
 
 # How many connections one run of the program takes. After them it is started again.
 COUNT = 1_000_000

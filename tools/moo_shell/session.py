@@ -9,25 +9,26 @@ from collections.abc import Callable, Collection
 from pathlib import Path
 from typing import Optional
 
-from moo_client import read
-from moo_shell.batches import Batches, Done, Item, Refused
+from moo_shell.batches import Batches, Done, Refused
 from moo_shell.door import Door
 from moo_shell.files import read_lines, write_whole
-from moo_shell.lines import (
+from moo_shell.manual import Manual
+from moo_shell.told import Output
+from moo_shell.world import BUILT_IN, World
+from moolib.batches import Item
+from moolib.calls import call_name
+from moolib.errors import Failed
+from moolib.lines import (
     Line,
     advice,
-    call_name,
     did_you_mean,
     expression_advice,
     filled,
     names_in,
     read_line,
-    strange_letter,
     unfinished,
 )
-from moo_shell.manual import Manual
-from moo_shell.told import Failed, Output
-from moo_shell.world import BUILT_IN, World
+from moolib.values import read
 
 DEEPEST = 20
 RunWord = Callable[["Session", str, str], None]
@@ -39,7 +40,7 @@ def is_value(text: str) -> bool:
         read(text)
     except ValueError:
         return False
-    return not strange_letter(text)
+    return True
 
 
 class Session:

@@ -1,4 +1,4 @@
-"""What the shell says: its failures, and the streams and colours that it writes with."""
+"""What the shell says, and the streams and colours that it writes with."""
 
 from __future__ import annotations
 
@@ -10,21 +10,6 @@ from typing import Optional
 
 RED, DIM, BOLD, PLAIN = "\x1b[31m", "\x1b[2m", "\x1b[1m", "\x1b[0m"
 PAGER = ("less", "-FRX")
-
-
-class Failed(Exception):
-    """Why a line of the shell wasn't done. `place` is the file and the line that it is about, if that isn't the line that is being done.
-
-    `status` is what a script ends with: 1, or what the program `moo` ended with. `afterword` is what is told in a line after it.
-    """
-
-    def __init__(self, reason: str, place: Optional[tuple[str, int]] = None, status: int = 1) -> None:
-        super().__init__(reason)
-        self.reason, self.place, self.status = reason, place, status
-        self.afterword = ""
-
-    def __str__(self) -> str:
-        return f"{self.place[0]}: line {self.place[1]}: {self.reason}" if self.place else self.reason
 
 
 class Output:

@@ -21,7 +21,8 @@ from moo_shell.prompt import Prompt
 from moo_shell.script import greatest, run_script, would_make
 from moo_shell.service import OwnService, find_program, look_at
 from moo_shell.session import Session
-from moo_shell.told import Failed, Output
+from moo_shell.told import Output
+from moolib.errors import Failed
 
 USAGE = """moo-shell [-f SCRIPT].. [OPTION].. FILE
        moo-shell [-f SCRIPT].. [OPTION].. --port PORT

@@ -8,9 +8,11 @@ from __future__ import annotations
 import dataclasses
 from typing import Any, Optional
 
-from moo_client import read, written
-from moo_shell.door import Door, Reply
-from moo_shell.told import Failed
+from moo_shell.door import Door
+from moolib.errors import Failed
+from moolib.handles import written_call
+from moolib.service import Answer, Said
+from moolib.values import written
 
 PIECE = 1000
 # How many of its children and of its contents are shown of an object.
@@ -19,21 +21,6 @@ MOST_NEAR = 50
 FACTS = {"name": 'get({}, "name")', "parent": "parent({})", "location": 'get({}, "location")', "owner": 'get({}, "owner")'}
 BITS = ("player", "programmer", "wizard", "r", "w", "f")
 BUILT_IN = ("name", "owner", "location", "contents", "programmer", "wizard", "r", "w", "f")
-
-
-@dataclasses.dataclass(frozen=True)
-class Answer:
-    """What a call would answer: a value as it is written, or an error."""
-
-    text: str
-    is_good: bool
-
-    def value(self) -> Any:
-        """The value; None of an error."""
-        try:
-            return read(self.text) if self.is_good else None
-        except ValueError:
-            raise Failed(f"the service answers what isn't a value: {self.text[:80]}") from None
 
 
 @dataclasses.dataclass(frozen=True)
@@ -55,8 +42,8 @@ class Slot:
     """
 
     name: str
-    value: Answer
-    info: Answer
+    value: Said
+    info: Said
     definer: int
     source: Optional[int]
 
@@ -73,14 +60,14 @@ class Whole:
     thing: Thing
     bits: list[str]
     chain: list[Thing]
-    accepts: list[tuple[int, Answer]]
+    accepts: list[tuple[int, Said]]
     children: list[Thing]
     more_children: int
     contents: list[Thing]
     more_contents: int
     slots: list[Slot]
     hidden: list[int]
-    verbs: Optional[list[tuple[str, Answer, Answer]]]
+    verbs: Optional[list[tuple[str, Said, Said]]]
 
 
 def shown_name(number: int) -> str:
@@ -94,40 +81,21 @@ class World:
     def __init__(self, door: Door) -> None:
         self.door = door
         self.who = 3
-        self.has_each: Optional[bool] = None
         self.has_objects: Optional[bool] = None
 
-    def each(self, calls: list[str]) -> list[Answer]:
+    def each(self, calls: list[str]) -> list[Said]:
         """What each call alone would answer. The calls have to be reading ones."""
-        answers: list[Answer] = []
+        answers: list[Said] = []
         for begin in range(0, len(calls), PIECE):
             answers += self.piece(calls[begin : begin + PIECE])
         return answers
 
-    def piece(self, calls: list[str]) -> list[Answer]:
+    def piece(self, calls: list[str]) -> list[Said]:
         """The same of at most as many calls as a request takes."""
-        if self.has_each is not False:
-            reply = self.door.each(self.who, calls)
-            self.has_each = not reply.is_missing
-            if self.has_each:
-                return [answer_of(said) for said in good(reply)["each"]]
-        return self.piece_by_asking(calls)
-
-    def piece_by_asking(self, calls: list[str]) -> list[Answer]:
-        """The same by batches: the call at which one is refused has an error, and the others are asked again."""
-        answers: list[Optional[Answer]] = [None] * len(calls)
-        left = list(range(len(calls)))
-        while left:
-            reply = self.door.ask(self.who, [calls[place] for place in left])
-            if reply.is_good:
-                for place, text in zip(left, reply.said["answers"]):
-                    answers[place] = Answer(text, True)
-                break
-            call = int(reply.said.get("call", 0))
-            if not call:
-                good(reply)
-            answers[left.pop(call - 1)] = Answer(reply.error, False)
-        return [answer for answer in answers if answer is not None]
+        said = self.door.alone(self.who, calls)
+        if isinstance(said, Answer):
+            raise refusal(said)
+        return said
 
     def things(self) -> dict[int, Thing]:
         """What everybody may know of each object, ascending."""
@@ -158,7 +126,7 @@ class World:
         (last,) = self.each(["max_object()"])
         if not last.is_good:
             raise Failed(f"max_object(): {last.text}: #{self.who} isn't an object of this world")
-        numbers = range(last.value().number + 1)
+        numbers = range(last.value.number + 1)
         valid = self.each([f"valid(#{number})" for number in numbers])
         return self.things_of([number for number, answer in zip(numbers, valid) if answer.text == "1"])
 
@@ -170,7 +138,7 @@ class World:
         for place, number in enumerate(numbers):
             facts = answers[place * len(FACTS) : (place + 1) * len(FACTS)]
             if all(fact.is_good for fact in facts):
-                values = dict(zip(FACTS, (fact.value() for fact in facts)))
+                values = dict(zip(FACTS, (fact.value for fact in facts)))
                 places = {key: values[key].number for key in ("parent", "location", "owner")}
                 found[number] = Thing(number=number, name=values["name"], **places)
         return found
@@ -195,12 +163,12 @@ class World:
     def properties(self, number: int) -> list[str]:
         """The names of all properties of an object that may be listed, those that it inherits after its own."""
         above = [number, *(thing.number for thing in self.chain(number))]
-        return [name for names in self.each([f"properties(#{each})" for each in above]) for name in names.value() or []]
+        return [name for names in self.each([f"properties(#{each})" for each in above]) for name in names.value or []]
 
     def verbs(self, number: int) -> list[str]:
         """The names of the verbs of an object itself, if they may be listed."""
         (answer,) = self.each([f"verbs(#{number})"])
-        return answer.value() or []
+        return answer.value or []
 
     def whole(self, number: int) -> Whole:
         """All of an object that may be read."""
@@ -222,10 +190,10 @@ class World:
             more_contents=max(len(contents) - MOST_NEAR, 0),
             slots=slots,
             hidden=hidden,
-            verbs=self.verb_rows(number, verbs.value()) if verbs.is_good else None,
+            verbs=self.verb_rows(number, verbs.value) if verbs.is_good else None,
         )
 
-    def verb_rows(self, number: int, names: list[str]) -> list[tuple[str, Answer, Answer]]:
+    def verb_rows(self, number: int, names: list[str]) -> list[tuple[str, Said, Said]]:
         """The verbs of an object: names, what `verb_info` answers, and what `verb_args` does."""
         places = range(1, len(names) + 1)
         answers = self.each([f"{call}(#{number}, {place})" for place in places for call in ("verb_info", "verb_args")])
@@ -234,7 +202,7 @@ class World:
     def slots(self, number: int, above: list[int]) -> tuple[list[Slot], list[int]]:
         """The properties of an object, those that its ancestors define first, and the ancestors whose properties may not be listed."""
         lists = self.each([f"properties(#{definer})" for definer in above])
-        defined = [(definer, name) for definer, names in zip(above, lists) for name in names.value() or []]
+        defined = [(definer, name) for definer, names in zip(above, lists) for name in names.value or []]
         calls = ("get", "property_info", "is_clear_property")
         answers = self.each([f"{call}(#{number}, {written(name)})" for _, name in defined for call in calls])
         rows = [answers[begin : begin + len(calls)] for begin in range(0, len(answers), len(calls))]
@@ -261,24 +229,19 @@ class World:
         (answer,) = self.each(["petitions()"])
         if not answer.is_good:
             raise Failed(f"petitions(): {answer.text}")
-        return [(number, who.number, [written_call(call) for call in calls]) for number, who, calls in answer.value()]
+        return [(number, who.number, [written_call(call) for call in calls]) for number, who, calls in answer.value]
 
 
-def written_call(call: list[Any]) -> str:
-    """A call of a petition, as it is written on a line."""
-    return f"{call[0]}({', '.join(map(written, call[1:]))})"
-
-
-def good(reply: Reply) -> dict[str, Any]:
+def good(reply: Answer) -> dict[str, Any]:
     """What an answer says; any but a good one is a failure."""
     if not reply.is_good:
-        raise Failed(str(reply.said.get("why") or reply.error or f"the service answers {reply.status}"))
+        raise refusal(reply)
     return reply.said
 
 
-def answer_of(said: dict[str, Any]) -> Answer:
-    """One answer of `/each`."""
-    return Answer(str(said["answer"]), True) if "answer" in said else Answer(str(said.get("error")), False)
+def refusal(reply: Answer) -> Failed:
+    """What an answer other than a good one says."""
+    return Failed(reply.why or reply.error or f"the service answers {reply.status}")
 
 
 def number_of(text: str) -> int:

@@ -2,37 +2,68 @@
 
 from __future__ import annotations
 
-import json
+import functools
+import io
 import tempfile
 import threading
 import time
-from typing import Any
+from typing import Any, cast
 
-from moo_web.app import App, Reply, Request, in_json
-from moo_web.door import Answer, Door, Unreachable, batch_body
-from moo_web.limits import Rate, network_of
-from moo_web.people import People, Person
-from moo_web.writer import Busy, Writer
+from moolib.batches import Item, resolved
+from moolib.errors import Failed
+
+from moo_web.app import App, Handler, Reply, Request, in_json
+from moo_web.interface.bodies import BadBody, Sent, read_body, read_sent, replied, wants
+from moo_web.interface.feed import Feed
+from moo_web.interface.followers import Followers
+from moo_web.interface.interface import ROUTES
+from moo_web.interface.openapi import description
+from moo_web.journal.writer import Busy, Writer
+from moo_web.paths import Path
+from moo_web.people.limits import Rate, network_of
+from moo_web.people.people import People, Person
+from moo_web.world.door import Answer, Door, Unreachable, batch_body, packed, said_by
+from moo_web.world.losing import answer_with_losses
+from moo_web.world.overseeing import Overseeing
 
 PREFIX = "/api/"
-MOST_CALLS = 1000
 # How long a question may take.
 READING = 10.0
 BURST_SECONDS = 10.0
 TRIES = 5
+# So many dumps may be in files at once: a file is there until its dump was read.
+DUMPS_AT_ONCE = 2
 NO_TOKEN = in_json(401, ("WWW-Authenticate", "Bearer"), error="unauthorized")
 FORBIDDEN = in_json(403, error="forbidden")
 TOO_MANY = in_json(429, ("Retry-After", "1"), error="too many")
-NOT_JSON = in_json(400, error="bad request", why="the body isn't JSON")
-NOT_AN_OBJECT = in_json(400, error="bad request", why="the body isn't an object")
+BAD_REQUEST = in_json(400, error="bad request")
+DESCRIPTION = Reply(200, packed(description()))
+# Paths that want no token.
+OPEN = frozenset(route.path for route in ROUTES if route.is_open)
 
 
-class BadBody(Exception):
-    """The body isn't an object in JSON; `reply` says so."""
+class OtherNumber(Exception):
+    """The world has another number than that of a question; `answer` says so."""
 
-    def __init__(self, reply: Reply) -> None:
+    def __init__(self, answer: Answer) -> None:
         super().__init__()
-        self.reply = reply
+        self.answer = answer
+
+
+class DumpFile(io.BufferedRandom):
+    """A temporary file for a dump. When it is closed another dump may be made."""
+
+    def __init__(self, places: threading.Semaphore) -> None:
+        super().__init__(cast(io.RawIOBase, tempfile.TemporaryFile(buffering=0)))
+        self.places = places
+
+    def close(self) -> None:
+        if self.closed:
+            return
+        try:
+            super().close()
+        finally:
+            self.places.release()
 
 
 def passed_on(answer: Answer) -> Reply:
@@ -40,51 +71,23 @@ def passed_on(answer: Answer) -> Reply:
     return Reply(answer.status, answer.body)
 
 
-def read_number(text: str) -> int | float:
-    """A number as Python has it. -0 becomes one that isn't written in digits alone, as it wasn't."""
-    return int(text) if text != "-0" else -0.0
-
-
-def read_body(request: Request) -> dict[str, Any]:
-    """The object in a request's body. `BadBody`: there is none."""
-    try:
-        said = json.loads(request.body().decode(), parse_int=read_number)
-    except (ValueError, RecursionError):
-        raise BadBody(NOT_JSON) from None
-    if not isinstance(said, dict):
-        raise BadBody(NOT_AN_OBJECT)
-    return said
-
-
-def body_for(person: Person, said: dict[str, Any]) -> bytes:
-    """The body that moo is sent: the person's own number, and what was said of `calls` and `at`. Nothing else gets through."""
-    asked = {"as": f"#{person.number}"} | {key: said[key] for key in ("at", "calls") if key in said}
-    text = json.dumps(asked, separators=(",", ":"), ensure_ascii=False)
-    return text.encode(errors="surrogatepass")
-
-
-def is_batch(said: dict[str, Any]) -> bool:
-    """Whether a body has the shape of a batch."""
-    calls, at = said.get("calls"), said.get("at")
-    is_number = at is None or (isinstance(at, int) and not isinstance(at, bool) and at >= 0)
-    return is_number and isinstance(calls, list) and len(calls) <= MOST_CALLS and all(isinstance(call, str) for call in calls)
-
-
 class Api:
     """The routes of `/api/`, put into an application. `rate` is how many requests a second a token may send, an address twice as many."""
 
     def __init__(self, app: App, door: Door, writer: Writer, people: People, rate: float) -> None:
-        self.door, self.writer, self.people = door, writer, people
+        self.app, self.door, self.writer, self.people = app, door, writer, people
         self.of_tokens = Rate(rate, BURST_SECONDS * rate)
         self.of_addresses = Rate(2 * rate, BURST_SECONDS * 2 * rate)
-        self.dumping = threading.Lock()
+        self.dumps = threading.Semaphore(DUMPS_AT_ONCE)
+        self.followers = Followers(Feed(writer, writer.journal.folder), self.is_wizard, self.top)
+        self.overseeing = Overseeing(door)
         app.add_guard(PREFIX, self.guard)
-        app.add("POST", "/api/batch", self.batch)
-        app.add("POST", "/api/ask", self.ask)
-        app.add("POST", "/api/each", self.each)
-        app.add("GET", "/api/seq", self.look)
-        app.add("GET", r"/api/objects?/[-+0-9]{1,32}", self.look)
-        app.add("GET", "/api/dump", self.dump)
+        handlers: dict[str, Handler] = {
+            "batch": self.batch, "ask": self.ask, "each": self.each, "seq": self.look, "object": self.look, "objects": self.look,
+            "since": self.since, "dump": self.dump, "openapi": lambda request: DESCRIPTION,
+        }  # fmt: skip
+        for route in ROUTES:
+            app.add(route.method, Path(route.path), handlers[route.name])
 
     # Who asks
 
@@ -92,69 +95,116 @@ class Api:
         """What is answered to those who may not ask, or not now."""
         if not self.of_addresses.take(network_of(request.address)):
             return TOO_MANY
-        secret = secret_of(request)
-        request.person = self.people.of_token(secret) if secret else None
-        if not request.person:
+        if request.path in OPEN:
+            return None
+        secret = token_of(request)
+        person = self.people.of_token(secret) if secret else None
+        if not person:
             return NO_TOKEN
-        return None if self.of_tokens.take(secret) else TOO_MANY
+        if not self.of_tokens.take(secret):
+            return TOO_MANY
+        self.app.admit(person, secret)
+        request.person = person
+        return None
 
-    def asked(self, request: Request) -> tuple[Person, dict[str, Any]] | Reply:
+    def asked(self, request: Request, may_name: bool = True) -> Sent | Reply:
         """Who asks, and what; or what is answered at once."""
         try:
             said = read_body(request)
+            person = person_of(request)
+            if "as" in said and said["as"] != f"#{person.number}":
+                return FORBIDDEN
+            return read_sent(person, said, wants(request, "json"), may_name)
         except BadBody as bad:
             return bad.reply
-        person = person_of(request)
-        if "as" in said and said["as"] != f"#{person.number}":
-            return FORBIDDEN
-        return person, said
 
     # What is asked
 
     def batch(self, request: Request) -> Reply:
         """A batch, which is journaled and acts at most once."""
-        asked = self.asked(request)
-        if isinstance(asked, Reply):
-            return asked
-        person, said = asked
-        if not is_batch(said):
+        sent = self.asked(request)
+        if isinstance(sent, Reply):
+            return sent
+        if not sent.is_batch:
             # moo says what is wrong with it.
-            refusal = self.question("/ask?why", body_for(person, said))
-            return passed_on(refusal) if refusal.status != 200 else in_json(400, error="bad request")
-        return passed_on(self.writer.write(person.name, person.number, said["calls"], said.get("at")))
+            refusal = self.question("/ask?why", sent.body())
+            return passed_on(refusal) if refusal.status != 200 else BAD_REQUEST
+        return replied(sent, self.writer.write(sent.person.name, sent.person.number, sent.calls, sent.at, sent.items))
 
     def ask(self, request: Request) -> Reply:
         """What a batch would answer."""
-        asked = self.asked(request)
-        return asked if isinstance(asked, Reply) else passed_on(self.question("/ask?why", body_for(*asked)))
+        sent = self.asked(request)
+        if isinstance(sent, Reply):
+            return sent
+        if wants(request, "losses"):
+            return replied(sent, answer_with_losses(self.overseeing, sent.person, functools.partial(self.asked_of, sent)))
+        return replied(sent, self.asked_of(sent)[1])
+
+    def asked_of(self, sent: Sent) -> tuple[list[str], Answer]:
+        """The calls that were sent, with numbers in place of names, and what they would answer."""
+        if sent.items:
+            return self.named(sent, sent.items)
+        return sent.said.get("calls", []), self.question("/ask?why", sent.body())
+
+    def named(self, sent: Sent, items: list[Item]) -> tuple[list[str], Answer]:
+        """The calls of a batch with names, and what they would answer, at one number of the world. No calls if that is a refusal."""
+        end = time.monotonic() + READING
+        for _ in range(TRIES):
+            at = self.door.asked("GET", "/seq", None, end).said["seq"] if sent.at is None else sent.at
+
+            def ask(calls: list[str]) -> Answer:
+                answer = self.door.asked("POST", "/ask?why", batch_body(sent.person.number, calls, at), end)
+                if answer.error == "stale":
+                    raise OtherNumber(answer)
+                return answer
+
+            try:
+                return resolved(items, {}, ask)
+            except OtherNumber as moved:
+                if sent.at is not None:
+                    return [], moved.answer
+            except ValueError:
+                return [], said_by(413, error="too large")
+            except Failed as failed:
+                return [], said_by(400, error="bad request", why=failed.reason)
+        raise Unreachable
 
     def each(self, request: Request) -> Reply:
         """What each call alone would answer."""
-        asked = self.asked(request)
-        if isinstance(asked, Reply):
-            return asked
-        person, said = asked
-        answer = self.question("/each?why", body_for(person, said))
+        sent = self.asked(request, may_name=False)
+        if isinstance(sent, Reply):
+            return sent
+        answer = self.question("/each?why", sent.body())
         if answer.status != 404 or answer.error != "not found":
-            return passed_on(answer)
-        return self.one_by_one(person, said)
+            return replied(sent, answer)
+        return self.one_by_one(sent)
 
-    def look(self, request: Request) -> Reply:
+    def look(self, request: Request, _: str = "") -> Reply:
         """A question of moo's that is the same for everybody."""
         path = request.path.removeprefix(PREFIX.rstrip("/"))
         return passed_on(self.door.asked("GET", path, None, time.monotonic() + READING))
+
+    def since(self, request: Request, at: int) -> Reply:
+        """What has changed since a number of the world."""
+        return self.followers.reply(request, person_of(request), at)
+
+    def top(self, person: Person, at: int) -> int | None:
+        """The object that was made last in the world of this number; None if it has another number now."""
+        answer = self.question("/ask?why", batch_body(person.number, ["max_object()"], at))
+        return int(answer.said["answers"][0][1:]) if answer.status == 200 else None
 
     def dump(self, request: Request) -> Reply:
         """The dump, for wizards. It is put into a file first, so that moo doesn't wait for a slow reader."""
         if not self.is_wizard(person_of(request)):
             return FORBIDDEN
-        if not self.dumping.acquire(timeout=READING):
+        if not self.dumps.acquire(timeout=READING):
             raise Busy
+        file = DumpFile(self.dumps)
         try:
-            file = tempfile.TemporaryFile()
             refusal = self.door.copied("/dump", file)
-        finally:
-            self.dumping.release()
+        except BaseException:
+            file.close()
+            raise
         if refusal:
             file.close()
             return passed_on(refusal)
@@ -173,20 +223,20 @@ class Api:
 
     # For a moo without /each
 
-    def one_by_one(self, person: Person, said: dict[str, Any]) -> Reply:
+    def one_by_one(self, sent: Sent) -> Reply:
         """What `/each` would answer, by a question for each call at one number of the world."""
-        if not is_batch(said):
-            refusal = self.question("/ask?why", body_for(person, said))
-            return passed_on(refusal) if refusal.status != 200 else in_json(400, error="bad request")
+        if not sent.is_batch:
+            refusal = self.question("/ask?why", sent.body())
+            return passed_on(refusal) if refusal.status != 200 else BAD_REQUEST
         end = time.monotonic() + READING
         for _ in range(TRIES):
-            first = self.door.asked("POST", "/ask?why", batch_body(person.number, [], said.get("at")), end)
+            first = self.door.asked("POST", "/ask?why", batch_body(sent.person.number, [], sent.at), end)
             if first.status != 200:
                 return passed_on(first)
-            each = self.answers_at(person, said["calls"], first.said["seq"], end)
+            each = self.answers_at(sent.person, sent.calls, first.said["seq"], end)
             if each is not None:
-                return in_json(200, each=each, seq=first.said["seq"])
-            if said.get("at") is not None:
+                return replied(sent, said_by(200, each=each, seq=first.said["seq"]))
+            if sent.at is not None:
                 return in_json(409, error="stale", seq=self.door.asked("GET", "/seq", None, end).said["seq"])
         raise Unreachable
 
@@ -204,7 +254,7 @@ class Api:
         return each
 
 
-def secret_of(request: Request) -> str:
+def token_of(request: Request) -> str:
     """The token that came, or an empty text."""
     scheme, _, secret = request.line("authorization").partition(" ")
     return secret.strip() if scheme.lower() == "bearer" else ""

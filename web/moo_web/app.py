@@ -1,30 +1,35 @@
 """Requests of HTTP and their answers: a router, as an application of WSGI (PEP 3333).
 
     app = App(tell)
-    app.add("GET", "/hello/(\\d+)", lambda request, number: Reply(200, b"hello"))
+    app.add("GET", Path("/hello/<number>"), lambda request, number: Reply(200, b"hello"))
 
-A route is a method and a pattern of the whole path. Its function is given the request and the pattern's groups. It may raise what `writer`
-and `door` raise. Only so many requests are worked on at once; one more is answered `busy` at once, so that no request waits for good.
+A route is a method and an address. Its function is given the request and the parts of the address. It may raise what `writer`, `door`,
+`history` and `shares` raise.
 """
 
 from __future__ import annotations
 
-import re
-import threading
 import traceback
 import urllib.parse
 from http import HTTPStatus
 from typing import IO, Any, Callable, Iterable, NamedTuple
 
-from moo_client import LONGEST_BODY
+from moolib.service import LONGEST_BODY
 
-from moo_web.door import TooLong, Unreachable, packed
-from moo_web.writer import Busy, Stopped, Unknown
+from moo_web.journal.history import StillRead
+from moo_web.journal.writer import Barred, Busy, Stopped, TooMuch, Unknown
+from moo_web.paths import Path
+from moo_web.people.limits import MOST_NAMES, network_of
+from moo_web.people.people import Person
+from moo_web.traffic.shares import TIME, Shares, Spent
+from moo_web.traffic.turns import NobodyWaits
+from moo_web.traffic.visitors import PRESENT, Visitor, never, present, visiting
+from moo_web.world.door import TooLong, Unreachable, packed
 
 JSON = "application/json"
 FOR_PROGRAMS = "/api/"
-# Of the server's threads, how many may be at work: the others say `busy`.
-PLACES = 24
+# In the environment of a request, whether it has waited for too long, and what tells that its peer is gone.
+REFUSED, IS_GONE = "moo.is_refused", "waitress.client_disconnected"
 MOST_FORM_FIELDS, MOST_QUERY_FIELDS = 10_000, 100
 ALWAYS = (("Cache-Control", "no-store"), ("X-Content-Type-Options", "nosniff"))
 
@@ -59,6 +64,7 @@ class Request:
         self.path: str = environ.get("PATH_INFO", "")
         self.query: str = environ.get("QUERY_STRING", "")
         self.address: str = environ.get("REMOTE_ADDR", "")
+        self.visitor = Visitor(network_of(self.address), is_gone=environ.get(IS_GONE, never))
         # Whom a guard has found, for the route.
         self.person: object = None
         self.sent: dict[str, str] | None = None
@@ -105,54 +111,73 @@ Guard = Callable[[Request], "Reply | None"]
 
 
 class Route(NamedTuple):
-    """What is done for a method and the paths of a pattern."""
+    """What is done for a method and an address."""
 
     method: str
-    pattern: re.Pattern[str]
+    path: Path
     handler: Handler
 
 
 class App:
     """The application. `tell` is given what went wrong, for an operator."""
 
-    def __init__(self, tell: Callable[[str], None], places: int = PLACES) -> None:
-        self.tell = tell
+    def __init__(self, tell: Callable[[str], None], shares: Shares | None = None) -> None:
+        self.tell, self.shares = tell, shares
         self.routes: list[Route] = []
         self.guards: list[tuple[str, Guard]] = []
-        self.places = threading.BoundedSemaphore(places)
+        # Whose secrets have come lately.
+        self.names: dict[str, str] = {}
         # What makes a page of an error, for paths that aren't for programs.
         self.for_people: Callable[[Request, Reply, dict[str, Any]], Reply] | None = None
 
-    def add(self, method: str, pattern: str, handler: Handler) -> None:
-        """A route. The first that fits is taken."""
-        self.routes.append(Route(method, re.compile(pattern), handler))
+    def add(self, method: str, path: Path | str, handler: Handler) -> None:
+        """A route, to an address or to those of a regular expression. The first that fits is taken."""
+        self.routes.append(Route(method, Path.of_pattern(path) if isinstance(path, str) else path, handler))
 
     def add_guard(self, prefix: str, guard: Guard) -> None:
         """What is asked before any route of a path that begins so, known or not: its answer is given, if there is one."""
         self.guards.append((prefix, guard))
 
     def reply(self, request: Request) -> Reply:
-        """The answer to a request."""
-        if not self.places.acquire(blocking=False):
+        """The answer to a request. One whose peer is gone isn't worked on."""
+        if request.environ.get(REFUSED) or request.visitor.is_gone():
             return self.failed(request, 503, error="busy")
+        with visiting(request.visitor):
+            return self.tried(request)
+
+    def tried(self, request: Request) -> Reply:
+        """What the guards and the route answer, or what went wrong."""
         try:
             for prefix, guard in self.guards:
                 if request.path.startswith(prefix) and (refusal := guard(request)):
                     return refusal
             return self.routed(request)
-        except (Busy, Unreachable):
+        except (Busy, Unreachable, NobodyWaits, StillRead):
             return self.failed(request, 503, error="busy")
+        except Spent as spent:
+            return self.failed(request, 429, ("Retry-After", str(spent.seconds)), error="too many", why=str(spent))
+        except Barred:
+            return self.failed(request, 401, error="unauthorized")
         except Unknown as unknown:
             return self.failed(request, 503, at=unknown.at, error="unknown")
         except Stopped:
             return self.failed(request, 503, error="gap")
+        except TooMuch as much:
+            return self.failed(request, 429, ("Retry-After", str(much.seconds)), error="too many", why=much.why)
         except (TooLarge, TooLong):
             return self.failed(request, 413, error="too large")
         except Exception:
             self.tell(f"{request.method} {request.path!r} failed:\n{traceback.format_exc()}")
             return self.failed(request, 500, error="internal")
-        finally:
-            self.places.release()
+
+    def admit(self, person: Person, secret: str) -> None:
+        """Goes on with the present request for this person, whose secret came with it. `Spent`: there is no time left for them."""
+        if len(self.names) >= MOST_NAMES:
+            self.names.clear()
+        self.names[secret] = person.name
+        PRESENT.set(present()._replace(person=person.name))
+        if self.shares:
+            self.shares.must_have(present(), person, TIME)
 
     def failed(self, request: Request, status: int, *lines: tuple[str, str], **parts: object) -> Reply:
         """An answer that isn't what was asked for: JSON for programs, and a page for people if there are pages."""
@@ -166,10 +191,11 @@ class App:
         # A page's head may be asked for by itself.
         wanted = "GET" if request.method == "HEAD" and not request.path.startswith(FOR_PROGRAMS) else request.method
         methods = []
-        for method, pattern, handler in self.routes:
-            if found := pattern.fullmatch(request.path):
-                if method == wanted:
-                    return handler(request, *found.groups())
+        for method, path, handler in self.routes:
+            parts = path.read(request.path)
+            if parts is not None and method == wanted:
+                return handler(request, *parts)
+            if parts is not None:
                 methods.append(method)
         if methods:
             return self.failed(request, 405, ("Allow", ", ".join(methods)), error="method not allowed")
@@ -179,7 +205,7 @@ class App:
         reply = self.reply(Request(environ))
         given = {name for name, _ in reply.lines}
         lines = [("Content-Type", reply.kind), *(line for line in ALWAYS if line[0] not in given), *reply.lines]
-        if reply.file is None:
+        if reply.file is None and reply.status != 304:
             lines.append(("Content-Length", str(len(reply.body))))
         start(f"{reply.status} {HTTPStatus(reply.status).phrase}", lines)
         if reply.file is not None:

@@ -8,7 +8,6 @@ from __future__ import annotations
 
 import argparse
 import contextlib
-import json
 import os
 import secrets
 import signal
@@ -16,14 +15,14 @@ import socket
 import subprocess
 import sys
 import tempfile
-import urllib.error
-import urllib.request
 from pathlib import Path
 from typing import NamedTuple
 
-from moo_web.people import People
+from moolib.front import FrontService
+
+from moo_web.people.people import People
+from moo_web.programs import PEOPLE_FILE, Failed, only_ours, port_number
 from moo_web.serving import DEBIANS_MODULES, PORT
-from moo_web.words import PEOPLE_FILE, Failed, only_ours, port_number
 
 WEB = Path(__file__).resolve().parents[1]
 TOP = WEB.parent
@@ -141,13 +140,10 @@ class Demo:
 
     def send(self, token: str, calls: tuple[str, ...]) -> None:
         """Sends a batch through the front."""
-        request = urllib.request.Request(f"http://127.0.0.1:{self.port}/api/batch", json.dumps({"calls": calls}).encode())
-        request.add_header("Authorization", f"Bearer {token}")
-        try:
-            with urllib.request.urlopen(request) as answer:
-                answer.read()
-        except urllib.error.HTTPError as error:
-            raise Failed(f"the village is another one than this program knows: {error.read().decode()}") from None
+        front = FrontService(f"http://127.0.0.1:{self.port}", token)
+        answer = front.sent("POST", "/batch", front.body(None, list(calls)))
+        if not answer.is_good:
+            raise Failed(f"the village is another one than this program knows: {answer.text}")
 
     def wait(self) -> None:
         """Waits until one of the programs ends."""

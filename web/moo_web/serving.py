@@ -3,39 +3,52 @@
 from __future__ import annotations
 
 import argparse
-import logging
+import contextlib
 import os
 import signal
-import socket
 import sys
 import threading
-from typing import Any, Callable
+import time
+from pathlib import Path
+from typing import Any
 
-from moo_web.api import Api
-from moo_web.app import App, Reply
-from moo_web.door import Door
-from moo_web.history import History
-from moo_web.journal import Broken, InUse, Journal, NoRoom
-from moo_web.keeping import Keeper
-from moo_web.people import People, Wrong
-from moo_web.segments import Damaged
-from moo_web.words import PEOPLE_FILE, Failed, Teller, only_ours, own_folder, port_number
-from moo_web.writer import Writer
+from moo_web.api import Api, token_of
+from moo_web.app import App, Reply, Request
+from moo_web.journal.history import History
+from moo_web.journal.journal import Broken, InUse, Journal, NoRoom
+from moo_web.journal.segments import Damaged
+from moo_web.journal.writer import Writer
+from moo_web.people.growth import DAILY_BYTES, Growth
+from moo_web.people.keeping import Keeper
+from moo_web.people.people import People, Person, Wrong
+from moo_web.people.sessions import secret_of
+from moo_web.programs import PEOPLE_FILE, Failed, Teller, only_ours, own_folder, port_number
+from moo_web.traffic.hosts import BY_SOCKET, Hosts, host_name
+from moo_web.traffic.places import Places
+from moo_web.traffic.shares import DEFAULT_SHARE, Shares, share_of
+from moo_web.traffic.turns import Turnstile
+from moo_web.traffic.visitors import Visitor
+from moo_web.traffic.ways import given_socket, own_socket, socket_at
+from moo_web.traffic.writing import Counted
+from moo_web.world.door import Door, Unreachable, batch_body
 
 PORT = 8088
 RATE = 100.0
-THREADS = 32
-MOST_CONNECTIONS = 500
-SILENT_SECONDS = 20
-# Longer bodies than moo's get an answer in JSON up to here; beyond it the server gives its own.
-LONGEST_READ = 1 << 22
 SEGMENT_BYTES = 1 << 26
-FIRST_SOCKET = 3
 DEBIANS_MODULES = "/usr/lib/python3/dist-packages"
 END_SECONDS = 5.0
+WIZARD_ASKING = 2.0
+SHARE_HELP = (
+    "what a person may use in a minute: seconds of moo's time, rows and bytes written "
+    f"({DEFAULT_SHARE.seconds:.0f},{DEFAULT_SHARE.rows:.0f},{DEFAULT_SHARE.bytes:.0f}); an address twice as much, a wizard ten times"
+)
+HOST_HELP = "a name by which people ask for the front, in the line host; again for more. Without it a proxy may ask by any"
 NO_PAGES = "there are no pages, since python3-jinja2 is missing: apt-get install python3-jinja2"
 
-USAGE = "moo-web FOLDER --moo-port M [--port P] [--journal FOLDER2] [--proxy ADDRESS] [--rebase]"
+USAGE = (
+    "moo-web FOLDER --moo-port M [--port P] [--journal FOLDER2] [--proxy ADDRESS | --proxy-socket PATH] [--host NAME].. [--share S,R,B]"
+    " [--daily-bytes N] [--full FILE] [--rebase]"
+)
 MORE = """
 It needs a world that `moo serve FILE M` keeps, and that nobody else writes to. FOLDER has the accounts and the journal. It prints
 `listening http://127.0.0.1:P/` once it answers. docs/WEB.md has the rest.
@@ -49,62 +62,72 @@ def read_words(words: list[str]) -> argparse.Namespace:
     parser.add_argument("--moo-port", metavar="M", type=port_number, required=True, help="the port of `moo serve` on this machine")
     parser.add_argument("--port", metavar="P", type=port_number, default=PORT, help=f"the port of the front ({PORT}); 0 is a free one")
     parser.add_argument("--journal", metavar="FOLDER2", help="a folder on another disk, which gets the journal and the accounts too")
-    parser.add_argument("--proxy", metavar="ADDRESS", help="the address of a reverse proxy whose x-forwarded-for is believed")
+    proxies = parser.add_mutually_exclusive_group()
+    proxies.add_argument("--proxy", metavar="ADDRESS", help="the address of a reverse proxy whose x-forwarded-for is believed")
+    proxies.add_argument("--proxy-socket", metavar="PATH", type=Path, help="listen there too, and believe x-forwarded-for of what comes there")
+    parser.add_argument("--host", metavar="NAME", type=host_name, action="append", default=[], help=HOST_HELP)
     parser.add_argument("--rebase", action="store_true", help="begin the journal anew at the world's present number")
     parser.add_argument("--rate", metavar="N", type=float, default=RATE, help=f"requests a second of a token ({RATE:g})")
+    parser.add_argument("--share", metavar="S,R,B", type=share_of, default=DEFAULT_SHARE, help=SHARE_HELP)
+    told = f"bytes that a person may add to the world in a day ({DAILY_BYTES:,}); a wizard ten times as many"
+    parser.add_argument("--daily-bytes", metavar="N", type=byte_count, default=DAILY_BYTES, help=told)
+    told = "while this file is there nothing is added to the world: moo-watch makes it when the world has no room"
+    parser.add_argument("--full", metavar="FILE", type=Path, help=told)
     parser.add_argument("--segment", metavar="BYTES", type=int, default=SEGMENT_BYTES, help="the size of a file of the journal (64 MiB)")
     return parser.parse_args(words)
 
 
-def server_module() -> Any:
-    """The module of Debian's python3-waitress, also for another Python than Debian's. `Failed`: it isn't there."""
+def byte_count(text: str) -> int:
+    """How many bytes: at least one."""
+    if not text.isascii() or not text.isdigit() or not 0 < int(text) < 1 << 63:
+        raise argparse.ArgumentTypeError(f"{text!r} isn't a number of bytes")
+    return int(text)
+
+
+def need_server() -> None:
+    """Finds the module of Debian's python3-waitress, also for another Python than Debian's. `Failed`: it isn't there."""
     sys.path.append(DEBIANS_MODULES)
     try:
-        import waitress
+        import waitress  # noqa: F401
     except ImportError:
         raise Failed("python3-waitress is missing: apt-get install python3-waitress") from None
-    return waitress
 
 
-def add_pages(app: App, people: People, writer: Writer, history: History, rate: float, tell: Teller) -> Callable[[], None]:
-    """Puts the pages into the application. Without Debian's python3-jinja2 there are none, and that is told.
-
-    It gives what makes the first page quick.
-    """
+def add_pages(app: App, people: People, writer: Writer, history: History, rate: float, tell: Teller) -> Any:
+    """Puts the pages into the application, and gives them. Without Debian's python3-jinja2 there are none, and that is told."""
     sys.path.append(DEBIANS_MODULES)
     try:
-        from moo_web.site import make_pages
+        from moo_web.pages.site import make_pages
     except ModuleNotFoundError as error:
         if error.name not in ("jinja2", "markupsafe"):
             raise
         tell(f"{NO_PAGES}. What programs ask for at /api is served")
         app.for_people = lambda request, reply, parts: Reply(503, f"{NO_PAGES}.\n".encode(), "text/plain; charset=utf-8")
-        return lambda: None
-    return make_pages(app, people, writer, history, rate).warm
+        return None
+    return make_pages(app, people, writer, history, rate)
 
 
-def given_socket() -> socket.socket | None:
-    """The listening socket that systemd gives, if it does."""
-    if os.environ.get("LISTEN_PID") == str(os.getpid()) and os.environ.get("LISTEN_FDS"):
-        return socket.socket(fileno=FIRST_SOCKET)
-    return None
+def whose_of(app: App, channel: Any) -> Visitor:
+    """Whose the request of a connection is, as far as it is known before it is read: the address, and the person of a known secret."""
+    head: dict[str, str] = channel.requests[0].headers
+    address = channel.addr[0]
+    if channel.adj.trusted_proxy == address:
+        address = head.get("X_FORWARDED_FOR", address).rpartition(",")[2].strip()
+    lines = {f"HTTP_{name}": head[name] for name in ("AUTHORIZATION", "COOKIE") if name in head}
+    request = Request({"REQUEST_METHOD": "", "REMOTE_ADDR": address, **lines})
+    return request.visitor._replace(person=app.names.get(token_of(request) or secret_of(request), ""))
 
 
 def make_server(app: App, said: argparse.Namespace) -> Any:
     """The server, which listens already. `Failed`: it can't."""
-    logging.getLogger("waitress.queue").setLevel(logging.ERROR)
-    how: dict[str, Any] = {
-        "threads": THREADS, "ident": None, "connection_limit": MOST_CONNECTIONS, "channel_timeout": SILENT_SECONDS,
-        "cleanup_interval": 5, "max_request_body_size": LONGEST_READ, "clear_untrusted_proxy_headers": True,
-    }  # fmt: skip
-    if said.proxy:
-        how |= {"trusted_proxy": said.proxy, "trusted_proxy_count": 1, "trusted_proxy_headers": {"x-forwarded-for"}}
-    given = given_socket()
-    how["sockets" if given else "listen"] = [given] if given else f"127.0.0.1:{said.port}"
-    try:
-        return server_module().create_server(app, **how)
-    except OSError as error:
-        raise Failed(f"port {said.port}: {error.strerror}") from error
+    need_server()
+    from moo_web.traffic.connections import Room, Way, listen
+
+    ways = [Way(given_socket() or own_socket(said.port), said.proxy)]
+    if said.proxy_socket:
+        # The port is the last, so that the server knows it.
+        ways.insert(0, Way(socket_at(said.proxy_socket), BY_SOCKET))
+    return listen(app, ways, Room(), Places(lambda channel: whose_of(app, channel)))
 
 
 class Front:
@@ -121,28 +144,46 @@ class Front:
             keeper = Keeper(folder, second, tell)
             keeper.keep()
             keeper.start()
-        self.door = Door(said.moo_port)
+        self.shares = Shares(said.share, self.is_wizard)
+        self.door = Door(said.moo_port, turnstile=Turnstile(self.shares.spend))
         self.writer = Writer(self.door, self.journal, tell)
-        self.app = App(tell)
+        self.writer.bound = Growth(self.door, said.daily_bytes, said.full).test
+        self.app = App(tell, self.shares)
+        self.app.add_guard("", Hosts(self.app, said.host).guard)
         self.api = Api(self.app, self.door, self.writer, self.people, said.rate)
-        self.warm = add_pages(self.app, self.people, self.writer, History(folder), said.rate, tell)
+        self.history = History(folder, second)
+        self.pages = add_pages(self.app, self.people, self.writer, self.history, said.rate, tell)
+        self.writer.watch = Counted(self.shares, self.people.may_come_in, lambda: self.pages.index.kept if self.pages else None)
+
+    def is_wizard(self, person: Person) -> bool:
+        """Whether somebody's object is a wizard. If that isn't told soon, it isn't."""
+        call = f'get(#{person.number}, "wizard")'
+        with contextlib.suppress(Unreachable):
+            answer = self.door.asked("POST", "/ask", batch_body(person.number, [call]), time.monotonic() + WIZARD_ASKING)
+            return answer.said.get("answers") == ["1"]
+        return False
 
 
 def serve(said: argparse.Namespace) -> None:
     """Serves until a signal comes."""
     only_ours()
     tell = Teller("moo-web")
-    server_module()
+    need_server()
     front = Front(said, tell)
     front.writer.start(said.rebase)
     server = make_server(front.app, said)
-    threading.Thread(target=front.warm, name="warm", daemon=True).start()
+    if front.pages:
+        threading.Thread(target=front.pages.warm, name="warm", daemon=True).start()
+    threading.Thread(target=front.history.keep_up, args=(tell,), name="history", daemon=True).start()
     port = server.effective_port if hasattr(server, "effective_port") else said.port
     print(f"listening http://127.0.0.1:{port}/", flush=True)
     try:
         server.run()
     finally:
+        if said.proxy_socket:
+            said.proxy_socket.unlink(missing_ok=True)
         front.writer.end(END_SECONDS)
+        front.history.end()
 
 
 def main() -> None:

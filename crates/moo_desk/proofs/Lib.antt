@@ -1,1 +1,3 @@
 pub mod Ripening
+pub mod Onward
+pub mod Ledgers

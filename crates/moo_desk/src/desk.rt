@@ -1,14 +1,22 @@
 //! The desk: connections side by side, and the next one whose request is whole.
 
-ghost use Rattle.std.specs.Prelude.{◌≡◌, ⊤, IfOk, IfSome, true, length};
+ghost use Rattle.std.specs.Prelude.{◌≡◌, ◌⊎◌, ◌++◌, ◌∷◌, [], IfOk, IfSome, true};
+ghost use Rattle.moo_arrivals.specs.declared.cause.Cause.{Cause as Why};
+ghost use Rattle.moo_desk.specs.declared.leaving.Stage.TheVariants.{Done, Lost};
+ghost use Rattle.moo_desk.specs.declared.losses.Losses.{Losses as Noted};
 ghost use Rattle.moo_desk.specs.Ripe.{IsRipe};
+ghost use Rattle.moo_desk.specs.Told.{TellsOf};
+ghost use Rattle.moo_desk.specs.Deeds.{LetsGo, Keep, Begins};
 
 use crate::gate::{Gate, NEWS, Taken};
 use crate::gathered::Gathered;
 use crate::leaving::{Leaving, Stage};
 use crate::losses::Losses;
 use crate::outgoing::Outgoing;
-use crate::rounds::{BUDGET, gather_all, held, mark_all, mark_due, step_all, watch_all};
+use crate::rounds::{
+    BUDGET, gather_all, held, step_all, wake_all_leaving, wake_all_slots, wake_leaving, wake_slots,
+    watch_all,
+};
 use crate::slot::Slot;
 use moo_arrivals::{Arrivals, Cause, Closing, Connection, Loss, Route};
 use moo_http_request::Routes;
@@ -64,7 +72,7 @@ pub struct Desk<'a, G: Gate, C> {
 impl<'a, G: Gate + Drop, C: Clock> Desk<'a, G, C> {
     /// A desk with no connections, and room for all that it may have.
     pub fn new(alloc: Global, clock: &'a C, gate: G) -> Result<Desk<'a, G, C>, AllocError>
-        ensures { IfOk result (λ desk. (length desk.slots.items ≡ 0) × (length desk.leaving.items ≡ 0)) }
+        ensures { IfOk result (λ desk. (desk.slots.items ≡ []) × (desk.leaving.items ≡ []) × (desk.losses.all.items ≡ []) × (desk.losses.more ≡ 0)) }
     {
         Ok(Desk {
             clock,
@@ -109,11 +117,11 @@ impl<'a, G: Gate + Drop, C: Clock> Desk<'a, G, C> {
         self.lingering().is_some() || self.stale(now).is_some()
     }
 
-    /// Ends the connection that can best be spared, if one can be: one that lingers, or else the oldest unfinished request.
+    /// LetsGo the connection that can best be spared, if one can be: one that lingers, or else the oldest unfinished request.
     fn shed(&mut self, now: Duration) {
         if let Some(place) = self.lingering() {
             if place < self.leaving.len() {
-                self.leaving[place].stage = Stage::Done;
+                self.leaving[place].give_up(Cause::Crowded);
             }
         } else if let Some(place) = self.stale(now) {
             if place < self.slots.len() {
@@ -123,7 +131,9 @@ impl<'a, G: Gate + Drop, C: Clock> Desk<'a, G, C> {
     }
 
     /// A mark that no other connection has.
-    fn next_mark(&mut self) -> usize {
+    fn next_mark(&mut self) -> usize
+        ensures { (self.new.leaving ≡ self.old.leaving) × (self.new.losses ≡ self.old.losses) }
+    {
         self.mark = self.mark.wrapping_add(1).max(NEWS + 1);
         self.mark
     }
@@ -167,20 +177,29 @@ impl<'a, G: Gate + Drop, C: Clock> Desk<'a, G, C> {
     fn send_all(&mut self, now: Duration) -> bool {
         let mut changed = step_all(&mut self.leaving, now);
         for _ in 0..=MOST {
-            let Some(place) = self.leaving.iter().position(|it| it.is_over()) else {
+            let Some(over) = self.next_over() else {
                 return changed;
             };
-            if place < self.leaving.len() {
-                let over = self.leaving.remove(place);
-                self.note(over);
-                changed = true;
-            }
+            self.note(over);
+            changed = true;
         }
         changed
     }
 
+    /// One that is over, which isn't held any more.
+    fn next_over(&mut self) -> Option<Leaving<G::Reader, G::Writer>> {
+        let place = self.leaving.iter().position(|it| it.is_over())?;
+        if place < self.leaving.len() && self.leaving[place].is_over() {
+            return Some(self.leaving.remove(place));
+        }
+        None
+    }
+
     /// Notes whether the answer of a connection that is over was lost.
-    fn note(&mut self, over: Leaving<G::Reader, G::Writer>) {
+    fn note(&mut self, over: Leaving<G::Reader, G::Writer>)
+        ensures ends { (over.stage ≡ Done) ⊎ ((cause : Why) × (over.stage ≡ Lost cause)) → LetsGo over self.old.losses self.new.losses }
+        ensures same { self.new.leaving ≡ self.old.leaving }
+    {
         if let Some(loss) = over.loss() {
             self.losses.add(loss);
         }
@@ -234,29 +253,53 @@ impl<'a, G: Gate + Drop, C: Clock> Desk<'a, G, C> {
         }
     }
 
+    /// Waits so, unless something changed.
+    fn pause_unless(&mut self, changed: bool, now: Duration) {
+        if !changed {
+            self.pause(now);
+        }
+    }
+
     /// Waits for so long at most, and has those be looked at of which something is told.
     fn wait(&mut self, most: Duration) {
         watch_all(&mut self.gate, &mut self.slots);
         self.gate.wait(most, &mut self.told);
-        for mark in &self.told {
-            self.has_news |= *mark == NEWS;
-            mark_due(&mut self.slots, &mut self.leaving, *mark);
-        }
+        self.wake_told();
         self.asked = self.now();
         self.turns = 0;
     }
 
+    /// Has those be looked at of which something was told.
+    fn wake_told(&mut self) {
+        for mark in &self.told {
+            self.has_news |= *mark == NEWS;
+            wake_slots(&mut self.slots, *mark);
+            wake_leaving(&mut self.leaving, *mark);
+        }
+    }
+
     /// Asks what may have changed, if that is due, so that nobody waits for long though some are always whole.
-    fn listen(&mut self, now: Duration) {
+    fn ask(&mut self, now: Duration) {
         let is_due = now.saturating_sub(self.asked) > Duration::from_millis(PERIOD);
         if is_due || self.turns >= TURNS {
             self.wait(Duration::from_secs(0));
         }
+    }
+
+    /// Has each be looked at, if that is due.
+    fn sweep(&mut self, now: Duration) {
         if now.saturating_sub(self.swept) >= self.period() {
             self.swept = now;
             self.has_news = true;
-            mark_all(&mut self.slots, &mut self.leaving);
+            wake_all_slots(&mut self.slots);
+            wake_all_leaving(&mut self.leaving);
         }
+    }
+
+    /// Asks what may have changed, and has each be looked at, as that is due.
+    fn listen(&mut self, now: Duration) {
+        self.ask(now);
+        self.sweep(now);
     }
 
     /// If too much of answers is held and a request is whole, gives up an answer of which its peer took nothing for a while.
@@ -266,15 +309,69 @@ impl<'a, G: Gate + Drop, C: Clock> Desk<'a, G, C> {
         }
         if let Some(place) = self.leaving.iter().position(|it| it.is_stuck(now)) {
             if place < self.leaving.len() {
-                self.leaving[place].stage = Stage::Lost(Cause::Crowded);
+                self.leaving[place].give_up(Cause::Crowded);
             }
+        }
+    }
+
+    /// Does what can be done without waiting: takes a connection, gathers and sends. What came of taking one, and whether anything else
+    /// changed.
+    fn go_round(&mut self, routes: &Routes, left: u32, now: Duration) -> (Took, bool) {
+        self.listen(now);
+        let took = self.take_next(left as usize, now);
+        let has_gathered = gather_all(&mut self.slots, routes, now);
+        self.relieve(now);
+        let has_sent = self.send_all(now);
+        (took, has_gathered || has_sent)
+    }
+
+    /// Sends what can be sent at once, and holds the connection until its answer is sent or lost.
+    fn hold(&mut self, mut leaving: Leaving<G::Reader, G::Writer>, now: Duration)
+        ensures { Keep G.Writer.Write G.Writer.peer (self.old.leaving.items ++ leaving ∷ []) self.old.losses self.new.leaving.items self.new.losses }
+    {
+        leaving.begin(now);
+        if leaving.is_over() {
+            self.note(leaving);
+            return;
+        }
+        leaving.mark = self.next_mark();
+        let _watched = self.gate.watch_writer(&leaving.writer.writer, leaving.mark);
+        match self.leaving.push(leaving) {
+            Ok(()) => {}
+            Err(back) => {
+                let mut lost = back.value;
+                lost.give_up(Cause::NoMemory);
+                self.note(lost);
+            }
+        }
+    }
+
+    /// Waits until each answer is sent or lost.
+    fn send_out(&mut self) {
+        for _ in 0..u64::MAX {
+            let now = self.now();
+            self.listen(now);
+            let has_sent = self.send_all(now);
+            if self.leaving.is_empty() {
+                return;
+            }
+            self.pause_unless(has_sent, now);
         }
     }
 }
 
 impl<'a, G: Gate + Drop, C: Clock> Arrivals for Desk<'a, G, C> {
-    // A connection is handed out only once its request is whole, or nothing more of it comes.
-    ghost hands_out = { λ _ handed _. IfSome handed (λ it. ∥ IsRipe it.is_limited it.reader.coming it.reader.bytes.items ∥₁) };
+    // A connection is handed out only once its request is whole, or nothing more of it comes; and with
+    // the reader and the writer of one peer.
+    ghost hands_out = { λ _ handed _. IfSome handed (λ it. ∥ IsRipe it.is_limited it.reader.coming it.reader.bytes.items ∥₁
+        × (G.Reader.peer it.reader.reader ≡ G.Writer.peer it.writer.writer)) };
+
+    // One that is given back is held until all of its answer was sent, or its loss is noted.
+    ghost takes_back = { λ old given new. (it : _) × Begins given it
+        × Keep G.Writer.Write G.Writer.peer (old.leaving.items ++ it ∷ []) old.losses new.leaving.items new.losses };
+
+    // A loss that was noted is told of, once; none is told of only if none is noted.
+    ghost loses = { λ _ told new. (noted : Noted) × TellsOf noted told new.losses };
 
     type Reader = Gathered<G::Reader>;
 
@@ -285,18 +382,15 @@ impl<'a, G: Gate + Drop, C: Clock> Arrivals for Desk<'a, G, C> {
         routes: &Routes,
         left: u32,
     ) -> Option<Connection<Gathered<G::Reader>, Outgoing<G::Writer>>>
-        ensures ripe { IfSome result (λ it. ∥ IsRipe it.is_limited it.reader.coming it.reader.bytes.items ∥₁) }
+        ensures ripe { IfSome result (λ it. ∥ IsRipe it.is_limited it.reader.coming it.reader.bytes.items ∥₁
+            × (G.Reader.peer it.reader.reader ≡ G.Writer.peer it.writer.writer)) }
     {
         for _ in 0..u64::MAX {
             let now = self.now();
-            self.listen(now);
-            let took = self.take_next(left as usize, now);
+            let (took, changed) = self.go_round(routes, left, now);
             if took == Took::Lost {
                 return None;
             }
-            let has_gathered = gather_all(&mut self.slots, routes, now);
-            self.relieve(now);
-            let has_sent = self.send_all(now);
             if let Some(slot) = self.next_whole() {
                 self.turns = self.turns.saturating_add(1);
                 return Some(Connection {
@@ -306,9 +400,7 @@ impl<'a, G: Gate + Drop, C: Clock> Arrivals for Desk<'a, G, C> {
                     cause: slot.cause,
                 });
             }
-            if took == Took::Nobody && !has_gathered && !has_sent {
-                self.pause(now);
-            }
+            self.pause_unless(changed || took == Took::One, now);
         }
         None
     }
@@ -319,10 +411,15 @@ impl<'a, G: Gate + Drop, C: Clock> Arrivals for Desk<'a, G, C> {
         closing: Closing,
         route: Route,
     )
-        ensures { ⊤ }
+        ensures back { (it : _) × Begins connection it
+            × Keep G.Writer.Write G.Writer.peer (self.old.leaving.items ++ it ∷ []) self.old.losses self.new.leaving.items self.new.losses }
+
+        // It is held with this route, and closed so.
+        ensures asked { (it : _) × (it.route ≡ route) × (it.closing ≡ closing) × Begins connection it
+            × Keep G.Writer.Write G.Writer.peer (self.old.leaving.items ++ it ∷ []) self.old.losses self.new.leaving.items self.new.losses }
     {
         let now = self.now();
-        let mut leaving = Leaving {
+        let leaving = Leaving {
             reader: connection.reader,
             writer: connection.writer,
             route,
@@ -334,44 +431,16 @@ impl<'a, G: Gate + Drop, C: Clock> Arrivals for Desk<'a, G, C> {
             mark: NEWS,
             is_due: true,
         };
-        let _began = leaving.step(now) && leaving.step(now);
-        if leaving.is_over() {
-            self.note(leaving);
-            return;
-        }
-        leaving.mark = self.next_mark();
-        let _watched = self.gate.watch_writer(&leaving.writer.writer, leaving.mark);
-        if self.leaving.push(leaving).is_err() {
-            self.losses.add(Loss {
-                route,
-                cause: Cause::NoMemory,
-            });
-        }
+        self.hold(leaving, now);
     }
 
     fn settle(&mut self, is_last: bool) -> Option<Loss>
-        ensures { ⊤ }
+        ensures told { (noted : Noted) × TellsOf noted result self.new.losses }
     {
         if is_last {
             self.send_out();
+            return self.losses.take();
         }
         self.losses.take()
-    }
-}
-
-impl<'a, G: Gate + Drop, C: Clock> Desk<'a, G, C> {
-    /// Waits until each answer is sent or lost.
-    fn send_out(&mut self) {
-        for _ in 0..u64::MAX {
-            let now = self.now();
-            self.listen(now);
-            let has_sent = self.send_all(now);
-            if self.leaving.is_empty() {
-                return;
-            }
-            if !has_sent {
-                self.pause(now);
-            }
-        }
     }
 }

@@ -1,7 +1,12 @@
 //! Where connections come from.
 
+ghost use Rattle.std.specs.Prelude.{◌≡◌, ℤ};
+ghost use Rattle.std.specs.Io.{ReadsAtMost, WritesAtMost};
+ghost use Rattle.std.specs.Io.KnownBytes.{ReadConsumes, WriteAppends};
+ghost use Rattle.moo_desk.specs.Pairs.{IsOfOnePeer};
+
 use moo_http_request::Incoming;
-use std::io::Write;
+use std::io::{Result, Write};
 use std::net::OpenStream;
 use std::time::Duration;
 
@@ -21,14 +26,40 @@ pub enum Taken<R, W> {
     Failed,
 }
 
+/// The reader of a peer. Whose it is, no read changes.
+pub trait Inward: Incoming {
+    /// The number of its connection.
+    ghost peer: { Self → ℤ };
+
+    /// Reads as `Read::read` does.
+    fn take_in(&mut self, buf: &mut [u8]) -> Result<usize>
+        ensures bound { ReadsAtMost result buf.new }
+        ensures bytes { ReadConsumes (Self.remaining self.old) (Self.remaining self.new) result buf.new }
+        ensures peer { peer self.new ≡ peer self.old };
+}
+
+/// The writer of a peer. Whose it is, no write changes.
+pub trait Outward: Write {
+    /// The number of its connection.
+    ghost peer: { Self → ℤ };
+
+    /// Writes as `Write::write` does.
+    fn put_out(&mut self, buf: &[u8]) -> Result<usize>
+        ensures bound { WritesAtMost result buf.now }
+        ensures bytes { WriteAppends (Self.contents self.old) (Self.contents self.new) result buf.now }
+        ensures peer { peer self.new ≡ peer self.old };
+}
+
 /// A gate, through which connections come. None is waited for but by `wait`.
 pub trait Gate {
-    type Reader: Incoming + OpenStream + Drop;
+    type Reader: Inward + OpenStream + Drop;
 
-    type Writer: Write + OpenStream + Drop;
+    type Writer: Outward + OpenStream + Drop;
 
-    /// Takes the next connection, if one is there. If it takes none and one is there, the next wait tells `NEWS`.
-    fn take(&mut self) -> Taken<Self::Reader, Self::Writer>;
+    /// Takes the next connection, if one is there: the reader and the writer of one peer. If it takes none and one is there, the next wait
+    /// tells `NEWS`.
+    fn take(&mut self) -> Taken<Self::Reader, Self::Writer>
+        ensures { IsOfOnePeer Self.Reader.peer Self.Writer.peer result };
 
     /// From now on a wait also ends when bytes may have come to this reader, and tells this mark then; whether it does.
     fn watch(&mut self, reader: &Self::Reader, mark: usize) -> bool;

@@ -1,8 +1,9 @@
 //! A reader whose bytes are gathered before they are read.
 
-ghost use Rattle.std.specs.Prelude.{◌≡◌, ◌≤◌, ◌<◌, ◌++◌, ℕ, List, length, drop};
+ghost use Rattle.std.specs.Prelude.{◌≡◌, ◌≤◌, ◌<◌, ◌++◌, ℕ, List, [], length, drop};
 ghost use Rattle.std.specs.Io.KnownBytes.{Keeps, prepend_known};
 
+use crate::gate::Inward;
 use moo_arrivals::Cause;
 use moo_http_request::Incoming;
 use std::alloc::Global;
@@ -48,7 +49,7 @@ pub struct Gathered<R> {
 impl<R> Gathered<R> {
     /// Nothing was gathered yet.
     pub fn new(alloc: Global, reader: R) -> Gathered<R>
-        ensures { (result.reader ≡ reader) × (length result.bytes.items ≡ 0) × (result.at ≡ 0) }
+        ensures { (result.reader ≡ reader) × (result.bytes.items ≡ []) × (result.at ≡ 0) }
     {
         Gathered {
             reader,
@@ -59,7 +60,7 @@ impl<R> Gathered<R> {
     }
 }
 
-impl<R: Read> Gathered<R> {
+impl<R: Inward> Gathered<R> {
     /// Takes a piece of what the reader has now, up to so many bytes in all. Whoever reads sees no difference.
     pub fn fill(&mut self, limit: usize) -> Filled
         requires { length self.old.bytes.items < limit }
@@ -68,13 +69,14 @@ impl<R: Read> Gathered<R> {
         ensures bound { length self.new.bytes.items ≤ limit }
         ensures grows { (more : List ℕ) × (self.new.bytes.items ≡ self.old.bytes.items ++ more) }
         ensures same { self.new.coming ≡ self.old.coming }
+        ensures peer { R.peer self.new.reader ≡ R.peer self.old.reader }
     {
         let mut piece = [0; PIECE];
         let room = (limit - self.bytes.len()).min(piece.len());
         if self.bytes.reserve(room).is_err() {
             return Filled::Failed(Cause::NoMemory);
         }
-        match self.reader.read(&mut piece[..room]) {
+        match self.reader.take_in(&mut piece[..room]) {
             Ok(0) => Filled::Ended,
             Ok(count) => match self.bytes.extend_from_slice(&piece[..count]) {
                 Ok(()) => Filled::Grew,

@@ -1,7 +1,9 @@
 //! A socket as a reader and as a writer.
 
-ghost use Rattle.std.specs.Prelude.{⊤};
+ghost use Rattle.std.specs.Prelude.{◌≡◌, ⊤, IfSome};
+ghost use Rattle.std.specs.Net.Tcp.{stream_raw_fd};
 
+use crate::gate::{Inward, Outward};
 use moo_http_request::Incoming;
 use std::alloc::Global;
 use std::io::{Read, Result, Write};
@@ -17,7 +19,9 @@ pub struct Half {
 
 impl Half {
     /// The reader and the writer of a socket. None if memory runs out; the socket is closed then.
-    pub(crate) fn both(alloc: Global, socket: TcpStream) -> Option<(Half, Half)> {
+    pub(crate) fn both(alloc: Global, socket: TcpStream) -> Option<(Half, Half)>
+        ensures { IfSome result (λ both. stream_raw_fd both.0.socket.value ≡ stream_raw_fd both.1.socket.value) }
+    {
         let socket = Rc::new(alloc, socket).ok()?;
         let writer = Half {
             socket: socket.clone().ok()?,
@@ -42,6 +46,16 @@ impl Incoming for Half {
     }
 }
 
+// It is known by the number of its socket.
+impl Inward for Half {
+    ghost peer = { λ it. stream_raw_fd it.socket.value };
+
+    fn take_in(&mut self, buf: &mut [u8]) -> Result<usize> {
+        let mut socket = self.socket.as_ref();
+        socket.read(buf)
+    }
+}
+
 impl Write for Half {
     fn write(&mut self, buf: &[u8]) -> Result<usize> {
         let mut socket = self.socket.as_ref();
@@ -50,6 +64,15 @@ impl Write for Half {
 
     fn flush(&mut self) -> Result<()> {
         Ok(())
+    }
+}
+
+impl Outward for Half {
+    ghost peer = { λ it. stream_raw_fd it.socket.value };
+
+    fn put_out(&mut self, buf: &[u8]) -> Result<usize> {
+        let mut socket = self.socket.as_ref();
+        socket.write(buf)
     }
 }
 

@@ -1,13 +1,15 @@
 //! A connection after its request was judged.
 
-ghost use Rattle.std.specs.Prelude.{◌≡◌, ◌≤◌, ◌+◌, ◌-◌, ◌⊎◌, ℕ, List, length, drop, true, false, IfSome};
+ghost use Rattle.std.specs.Prelude.{◌≡◌, ◌≢◌, ◌≤◌, ◌+◌, ◌-◌, ◌⊎◌, ℕ, List, length, drop, true, false, IfSome, IfNone};
 ghost use Rattle.std.specs.Io.KnownBytes.{Consumes, Keeps, append_known};
-ghost use Rattle.moo_desk.specs.declared.leaving.Stage.TheVariants.{Sending as StillSends, Lingering, Lost};
+ghost use Rattle.moo_desk.specs.declared.leaving.Stage.TheVariants.{Sending as StillSends, Lingering, Done, Lost};
+ghost use Rattle.moo_desk.specs.Stages.{IsSentAt, MayFollow};
 
+use crate::gate::{Inward, Outward};
 use crate::gathered::Gathered;
 use crate::outgoing::{Outgoing, Sending};
 use moo_arrivals::{Cause, Closing, Loss, Route};
-use std::io::{ErrorKind, Read, Write};
+use std::io::ErrorKind;
 use std::net::{OpenStream, Shutdown};
 use std::time::Duration;
 
@@ -56,9 +58,24 @@ pub struct Leaving<R, W> {
     pub mark: usize,
     /// Something may have changed since it was looked at.
     pub is_due: bool,
+    ghost whole: { IsSentAt stage → writer.sent ≡ length writer.text.items },
 }
 
 impl<R, W> Leaving<R, W> {
+    /// It is looked at if it has this mark.
+    pub fn wake_at(&mut self, mark: usize)
+        ensures { (self.new.writer ≡ self.old.writer) × (self.new.route ≡ self.old.route) }
+    {
+        self.is_due |= self.mark == mark;
+    }
+
+    /// It is looked at, since something may have changed.
+    pub fn wake(&mut self)
+        ensures { (self.new.writer ≡ self.old.writer) × (self.new.route ≡ self.old.route) }
+    {
+        self.is_due = true;
+    }
+
     fn has_waited(&self, now: Duration, seconds: u64) -> bool {
         now.saturating_sub(self.since) > Duration::from_secs(seconds)
     }
@@ -69,7 +86,7 @@ impl<R, W> Leaving<R, W> {
     }
 }
 
-impl<R: Read + OpenStream, W: Write + OpenStream> Leaving<R, W> {
+impl<R: Inward + OpenStream, W: Outward + OpenStream> Leaving<R, W> {
     /// Whether bytes came that weren't read.
     fn has_more(&self) -> bool {
         let mut byte = [0];
@@ -78,7 +95,12 @@ impl<R: Read + OpenStream, W: Write + OpenStream> Leaving<R, W> {
     }
 
     /// Closes it as it is to be closed, now that its answer is sent. If gently, its peer is told that nothing more is written.
-    fn close(&mut self, now: Duration) {
+    fn close(&mut self, now: Duration)
+        requires { self.old.writer.sent ≡ length self.old.writer.text.items }
+        ensures same { (self.new.writer.text ≡ self.old.writer.text) × (self.new.writer.sent ≡ self.old.writer.sent)
+            × (self.new.writer.writer ≡ self.old.writer.writer) × (self.new.route ≡ self.old.route) }
+        ensures gentle { self.old.closing ≡ Closing.Gently → self.new.stage ≡ Lingering }
+    {
         let is_gentle = match self.closing {
             Closing::AtOnce => false,
             Closing::IfMoreCame => self.has_more(),
@@ -94,7 +116,14 @@ impl<R: Read + OpenStream, W: Write + OpenStream> Leaving<R, W> {
     }
 
     /// Sends what its peer takes now; whether it took any.
-    fn send(&mut self, now: Duration) -> bool {
+    fn send(&mut self, now: Duration) -> bool
+        requires { self.old.stage ≡ StillSends }
+        ensures answer { (self.new.writer.text.items ≡ self.old.writer.text.items) × (self.new.route ≡ self.old.route) }
+        ensures invisible { Keeps (append_known (W.contents self.old.writer.writer) (drop self.old.writer.sent self.old.writer.text.items))
+            (append_known (W.contents self.new.writer.writer) (drop self.new.writer.sent self.new.writer.text.items)) }
+        ensures peer { W.peer self.new.writer.writer ≡ W.peer self.old.writer.writer }
+        ensures gentle { self.old.closing ≡ Closing.Gently → self.new.stage ≢ Done }
+    {
         if self.writer.unsent() == 0 {
             self.close(now);
             return true;
@@ -113,6 +142,9 @@ impl<R: Read + OpenStream, W: Write + OpenStream> Leaving<R, W> {
 
     /// Throws away a piece of what its peer sent; whether there was any. In all 65,536 bytes are taken at most.
     fn drain(&mut self, now: Duration) -> bool
+        requires { self.old.stage ≡ Lingering }
+        ensures same { (self.new.writer ≡ self.old.writer) × (self.new.route ≡ self.old.route) }
+        ensures stage { MayFollow Lingering self.new.stage }
         ensures few { self.old.drained ≤ 65536 → self.new.drained ≤ 65536 }
         ensures takes { (bytes : List ℕ) × Consumes (R.remaining self.old.reader.reader) (R.remaining self.new.reader.reader) bytes
             × (self.old.drained + length bytes ≡ self.new.drained) }
@@ -123,7 +155,7 @@ impl<R: Read + OpenStream, W: Write + OpenStream> Leaving<R, W> {
             return false;
         }
         let room = (DRAIN - self.drained).min(piece.len());
-        match self.reader.reader.read(&mut piece[..room]) {
+        match self.reader.reader.take_in(&mut piece[..room]) {
             Ok(0) => self.stage = Stage::Done,
             Ok(count) => {
                 self.drained += count;
@@ -139,7 +171,18 @@ impl<R: Read + OpenStream, W: Write + OpenStream> Leaving<R, W> {
     }
 
     /// Does what can be done without waiting; whether anything went or came. It isn't due if nothing did.
-    pub fn step(&mut self, now: Duration) -> bool {
+    pub fn step(&mut self, now: Duration) -> bool
+        // Its answer stays the same. Of what is written, now or later, nothing changes.
+        ensures answer { (self.new.writer.text.items ≡ self.old.writer.text.items) × (self.new.route ≡ self.old.route) }
+        ensures invisible { Keeps (append_known (W.contents self.old.writer.writer) (drop self.old.writer.sent self.old.writer.text.items))
+            (append_known (W.contents self.new.writer.writer) (drop self.new.writer.sent self.new.writer.text.items)) }
+        ensures peer { W.peer self.new.writer.writer ≡ W.peer self.old.writer.writer }
+        // Its peer is listened to, or it is let go, only once all of its answer was sent; or it is lost, and that is told.
+        ensures whole { IsSentAt self.new.stage → self.new.writer.sent ≡ length self.new.writer.text.items }
+        ensures stage { MayFollow self.old.stage self.new.stage }
+        // After a refusal, which is closed gently, its peer is listened to first.
+        ensures gentle { self.old.closing ≡ Closing.Gently → self.old.stage ≡ StillSends → self.new.stage ≢ Done }
+    {
         let went = match self.stage {
             Stage::Sending => self.send(now),
             Stage::Lingering => self.drain(now),
@@ -152,6 +195,39 @@ impl<R: Read + OpenStream, W: Write + OpenStream> Leaving<R, W> {
         went
     }
 
+    /// Does what can be done at once.
+    pub fn begin(&mut self, now: Duration)
+        ensures answer { (self.new.writer.text.items ≡ self.old.writer.text.items) × (self.new.route ≡ self.old.route) }
+        ensures invisible { Keeps (append_known (W.contents self.old.writer.writer) (drop self.old.writer.sent self.old.writer.text.items))
+            (append_known (W.contents self.new.writer.writer) (drop self.new.writer.sent self.new.writer.text.items)) }
+        ensures peer { W.peer self.new.writer.writer ≡ W.peer self.old.writer.writer }
+    {
+        let _went = self.step(now) && self.step(now);
+    }
+
+    /// Does what can be done if it is due.
+    pub fn turn(&mut self, now: Duration) -> bool
+        ensures answer { (self.new.writer.text.items ≡ self.old.writer.text.items) × (self.new.route ≡ self.old.route) }
+        ensures invisible { Keeps (append_known (W.contents self.old.writer.writer) (drop self.old.writer.sent self.old.writer.text.items))
+            (append_known (W.contents self.new.writer.writer) (drop self.new.writer.sent self.new.writer.text.items)) }
+        ensures peer { W.peer self.new.writer.writer ≡ W.peer self.old.writer.writer }
+    {
+        self.is_due && self.step(now)
+    }
+
+    /// Nothing more is waited for, for this cause: what its peer hasn't got of its answer is lost. If it only listens it is let go.
+    pub fn give_up(&mut self, cause: Cause)
+        ensures same { (self.new.writer ≡ self.old.writer) × (self.new.route ≡ self.old.route) }
+        ensures stage { MayFollow self.old.stage self.new.stage }
+        ensures over { (self.new.stage ≡ Done) ⊎ ((cause : _) × (self.new.stage ≡ Lost cause)) }
+    {
+        match self.stage {
+            Stage::Sending => self.stage = Stage::Lost(cause),
+            Stage::Lingering => self.stage = Stage::Done,
+            Stage::Done | Stage::Lost(_) => {}
+        }
+    }
+
     /// Whether its answer is held, and its peer took nothing of it for a while.
     pub fn is_stuck(&self, now: Duration) -> bool
         ensures { result ≡ true → self.now.stage ≡ StillSends }
@@ -161,7 +237,8 @@ impl<R: Read + OpenStream, W: Write + OpenStream> Leaving<R, W> {
     }
 
     pub fn is_over(&self) -> bool
-        ensures { result ≡ false → (self.now.stage ≡ StillSends) ⊎ (self.now.stage ≡ Lingering) }
+        ensures holds { result ≡ false → (self.now.stage ≡ StillSends) ⊎ (self.now.stage ≡ Lingering) }
+        ensures over { result ≡ true → (self.now.stage ≡ Done) ⊎ ((cause : _) × (self.now.stage ≡ Lost cause)) }
     {
         matches!(self.stage, Stage::Done | Stage::Lost(_))
     }
@@ -174,7 +251,8 @@ impl<R: Read + OpenStream, W: Write + OpenStream> Leaving<R, W> {
 
     /// What is told of it, if its answer was lost.
     pub fn loss(&self) -> Option<Loss>
-        ensures { IfSome result (λ loss. (loss.route ≡ self.now.route) × (self.now.stage ≡ Lost loss.cause)) }
+        ensures told { IfSome result (λ loss. (loss.route ≡ self.now.route) × (self.now.stage ≡ Lost loss.cause)) }
+        ensures none { IfNone result ((cause : _) → self.now.stage ≢ Lost cause) }
     {
         match self.stage {
             Stage::Lost(cause) => Some(Loss {

@@ -13,7 +13,7 @@ mod slot;
 mod sockets;
 
 pub use desk::Desk;
-pub use gate::{Gate, NEWS, Taken};
+pub use gate::{Gate, Inward, NEWS, Outward, Taken};
 pub use gathered::{Coming, Filled, Gathered};
 pub use half::Half;
 pub use leaving::{Leaving, Stage};

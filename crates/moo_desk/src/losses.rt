@@ -1,7 +1,7 @@
 //! The connections whose answers were lost.
 
-ghost use Rattle.std.specs.Prelude.{◌≡◌, ◌+◌, ◌-◌, ◌^◌, ◌⊎◌, ◌∷◌, ◌++◌, [], min, length};
-ghost use Rattle.std.specs.Prelude.{IfOk, MatchOption};
+ghost use Rattle.std.specs.Prelude.{◌≡◌, [], IfOk};
+ghost use Rattle.moo_desk.specs.Told.{NotesLoss, TellsOf};
 
 use moo_arrivals::{Cause, Loss, Route};
 use std::alloc::{AllocError, Global};
@@ -17,7 +17,7 @@ pub struct Losses {
 impl Losses {
     /// None, with room for so many.
     pub fn new(alloc: Global, room: usize) -> Result<Losses, AllocError>
-        ensures { IfOk result (λ losses. (length losses.all.items ≡ 0) × (losses.more ≡ 0)) }
+        ensures { IfOk result (λ losses. (losses.all.items ≡ []) × (losses.more ≡ 0)) }
     {
         Ok(Losses {
             all: Vec::with_capacity(alloc, room)?,
@@ -27,8 +27,7 @@ impl Losses {
 
     /// One more was lost.
     pub fn add(&mut self, loss: Loss)
-        ensures { ((self.new.all.items ≡ self.old.all.items ++ loss ∷ []) × (self.new.more ≡ self.old.more))
-            ⊎ ((self.new.all.items ≡ self.old.all.items) × (self.new.more ≡ min (self.old.more + 1) (2 ^ 32 - 1))) }
+        ensures { NotesLoss self.old loss self.new }
     {
         if self.all.push(loss).is_err() {
             self.more = self.more.saturating_add(1);
@@ -37,8 +36,7 @@ impl Losses {
 
     /// Takes one of them, to be told of.
     pub fn take(&mut self) -> Option<Loss>
-        ensures { MatchOption result ((length self.old.all.items ≡ 0) × (self.old.more ≡ 0))
-            (λ _. length self.new.all.items + self.new.more + 1 ≡ length self.old.all.items + self.old.more) }
+        ensures { TellsOf self.old result self.new }
     {
         if let Some(loss) = self.all.pop() {
             return Some(loss);

@@ -1,8 +1,9 @@
 //! A writer that never waits: what it doesn't take yet is kept.
 
-ghost use Rattle.std.specs.Prelude.{◌≡◌, ◌≤◌, ◌-◌, Bool, length, drop, nat_eq};
+ghost use Rattle.std.specs.Prelude.{◌≡◌, ◌≤◌, ◌-◌, Bool, [], length, drop, nat_eq};
 ghost use Rattle.std.specs.Io.KnownBytes.{Keeps, append_known};
 
+use crate::gate::Outward;
 use std::alloc::Global;
 use std::io::{ErrorKind, Result, Write};
 
@@ -32,7 +33,7 @@ pub struct Outgoing<W> {
 impl<W> Outgoing<W> {
     /// Nothing is to be sent yet.
     pub fn new(alloc: Global, writer: W) -> Outgoing<W>
-        ensures { (result.writer ≡ writer) × (length result.text.items ≡ 0) × (result.sent ≡ 0) }
+        ensures { (result.writer ≡ writer) × (result.text.items ≡ []) × (result.sent ≡ 0) }
     {
         Outgoing {
             writer,
@@ -49,14 +50,16 @@ impl<W> Outgoing<W> {
     }
 }
 
-impl<W: Write> Outgoing<W> {
+impl<W: Outward> Outgoing<W> {
     /// Hands on what the writer takes now. Of what is written, now or later, nothing changes.
     pub fn send(&mut self) -> Sending
+        ensures text { self.new.text ≡ self.old.text }
+        ensures peer { W.peer self.new.writer ≡ W.peer self.old.writer }
         ensures invisible { Keeps (append_known (W.contents self.old.writer) (drop self.old.sent self.old.text.items))
             (append_known (W.contents self.new.writer) (drop self.new.sent self.new.text.items)) }
     {
         let end = self.sent + self.unsent().min(PIECE);
-        match self.writer.write(&self.text[self.sent..end]) {
+        match self.writer.put_out(&self.text[self.sent..end]) {
             Ok(0) => Sending::Broken,
             Ok(count) => {
                 self.sent += count;

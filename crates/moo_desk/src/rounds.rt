@@ -1,10 +1,12 @@
 //! What is done for all connections in a round.
 
-use crate::gate::Gate;
+ghost use Rattle.moo_desk.specs.Each.{Each};
+ghost use Rattle.moo_desk.specs.Later.{IsLater};
+
+use crate::gate::{Gate, Inward, Outward};
 use crate::leaving::Leaving;
 use crate::slot::Slot;
 use moo_http_request::Routes;
-use std::io::{Read, Write};
 use std::net::OpenStream;
 use std::time::Duration;
 
@@ -12,43 +14,45 @@ use std::time::Duration;
 pub const BUDGET: usize = 32 * 1024 * 1024;
 
 /// Steps each that is due, but only the oldest unfinished one once too much was gathered; whether anything changed.
-pub fn gather_all<R: Read, W>(slots: &mut [Slot<R, W>], routes: &Routes, now: Duration) -> bool {
+pub fn gather_all<R: Inward, W: Outward>(
+    slots: &mut [Slot<R, W>],
+    routes: &Routes,
+    now: Duration,
+) -> bool {
     let is_full = gathered(slots) >= BUDGET;
     let mut changed = false;
     let mut is_first = true;
     for slot in slots {
         let is_next = !slot.rests && (is_first || !is_full);
         is_first &= slot.rests;
-        if is_next && slot.is_due {
-            changed |= slot.step(routes, now);
-        }
+        changed |= slot.turn(is_next, routes, now);
     }
     changed
 }
 
 /// How many bytes were gathered.
-fn gathered<R, W>(slots: &[Slot<R, W>]) -> usize {
+fn gathered<R: Inward, W: Outward>(slots: &[Slot<R, W>]) -> usize {
     slots.iter().fold(0, |sum: usize, slot| {
         sum.saturating_add(slot.reader.bytes.len())
     })
 }
 
 /// Steps each that is due; whether anything went or came.
-pub fn step_all<R: Read + OpenStream, W: Write + OpenStream>(
+pub fn step_all<R: Inward + OpenStream, W: Outward + OpenStream>(
     leaving: &mut [Leaving<R, W>],
     now: Duration,
-) -> bool {
+) -> bool
+    ensures { Each (IsLater W.Write W.peer) leaving.old leaving.new }
+{
     let mut changed = false;
     for connection in leaving {
-        if connection.is_due {
-            changed |= connection.step(now);
-        }
+        changed |= connection.turn(now);
     }
     changed
 }
 
 /// How many bytes of answers are held, beside the largest.
-pub fn held<R: Read + OpenStream, W: Write + OpenStream>(leaving: &[Leaving<R, W>]) -> usize {
+pub fn held<R: Inward + OpenStream, W: Outward + OpenStream>(leaving: &[Leaving<R, W>]) -> usize {
     let mut sum: usize = 0;
     let mut largest = 0;
     for connection in leaving {
@@ -61,30 +65,38 @@ pub fn held<R: Read + OpenStream, W: Write + OpenStream>(leaving: &[Leaving<R, W
 /// Has a wait end when bytes come of any whose request isn't whole.
 pub fn watch_all<G: Gate>(gate: &mut G, slots: &mut [Slot<G::Reader, G::Writer>]) {
     for slot in slots {
-        if !slot.rests && !slot.is_watched {
-            slot.watch(gate);
-        }
+        slot.watch(gate);
     }
 }
 
-/// Has those be looked at that have this mark.
-pub fn mark_due<R, W>(slots: &mut [Slot<R, W>], leaving: &mut [Leaving<R, W>], mark: usize) {
+/// Has those requests be looked at that have this mark.
+pub fn wake_slots<R: Inward, W: Outward>(slots: &mut [Slot<R, W>], mark: usize) {
     for slot in slots {
-        if slot.mark == mark {
-            slot.wake();
-        }
-    }
-    for connection in leaving {
-        connection.is_due |= connection.mark == mark;
+        slot.wake_at(mark);
     }
 }
 
-/// Has each be looked at.
-pub fn mark_all<R, W>(slots: &mut [Slot<R, W>], leaving: &mut [Leaving<R, W>]) {
+/// Has those answers be looked at that have this mark.
+pub fn wake_leaving<R, W: Outward>(leaving: &mut [Leaving<R, W>], mark: usize)
+    ensures { Each (IsLater W.Write W.peer) leaving.old leaving.new }
+{
+    for connection in leaving {
+        connection.wake_at(mark);
+    }
+}
+
+/// Has each request be looked at.
+pub fn wake_all_slots<R: Inward, W: Outward>(slots: &mut [Slot<R, W>]) {
     for slot in slots {
         slot.wake();
     }
+}
+
+/// Has each answer be looked at.
+pub fn wake_all_leaving<R, W: Outward>(leaving: &mut [Leaving<R, W>])
+    ensures { Each (IsLater W.Write W.peer) leaving.old leaving.new }
+{
     for connection in leaving {
-        connection.is_due = true;
+        connection.wake();
     }
 }

@@ -1,18 +1,17 @@
 //! A connection while its request is gathered.
 
-ghost use Rattle.std.specs.Prelude.{◌≡◌, true, false, length, drop};
+ghost use Rattle.std.specs.Prelude.{◌≡◌, true, false, [], drop};
 ghost use Rattle.std.specs.Io.KnownBytes.{Keeps, prepend_known};
 ghost use Rattle.moo_desk.specs.declared.gathered.Coming.TheVariants.{Unread};
 ghost use Rattle.moo_http_request.specs.Whole.{IsWhole};
 ghost use Rattle.moo_desk.specs.Ripe.{IsKnownFrom, IsRipe};
 
-use crate::gate::Gate;
+use crate::gate::{Gate, Inward, Outward};
 use crate::gathered::{Coming, Filled, Gathered};
 use crate::outgoing::Outgoing;
 use moo_arrivals::Cause;
 use moo_http_request::{MAX_HEAD, Routes, Wanted, wants};
 use std::alloc::Global;
-use std::io::Read;
 use std::time::Duration;
 
 /// For how many seconds a peer may be silent.
@@ -23,7 +22,7 @@ const PATIENCE: u64 = 30;
 
 /// A connection while its request is gathered.
 #[derive(Drop)]
-pub struct Slot<R, W> {
+pub struct Slot<R: Inward, W: Outward> {
     pub reader: Gathered<R>,
     pub writer: Outgoing<W>,
     /// Neither of them waits.
@@ -43,6 +42,7 @@ pub struct Slot<R, W> {
     pub is_due: bool,
     /// A wait ends when bytes come.
     pub is_watched: bool,
+    ghost pair: { R.peer reader.reader ≡ W.peer writer.writer },
     ghost known: { ∥ IsKnownFrom reader.bytes.items total ∥₁ },
     ghost ripe: { ∥ (rests ≡ true → IsRipe is_limited reader.coming reader.bytes.items) ∥₁ },
 }
@@ -62,7 +62,7 @@ fn total_of(routes: &Routes, bytes: &[u8], known: Option<usize>) -> Option<usize
     }
 }
 
-impl<R, W> Slot<R, W> {
+impl<R: Inward, W: Outward> Slot<R, W> {
     pub fn new(
         alloc: Global,
         reader: R,
@@ -71,8 +71,9 @@ impl<R, W> Slot<R, W> {
         mark: usize,
         now: Duration,
     ) -> Slot<R, W>
-        ensures reader { (result.reader.reader ≡ reader) × (length result.reader.bytes.items ≡ 0) }
-        ensures writer { (result.writer.writer ≡ writer) × (result.writer.sent ≡ 0) × (length result.writer.text.items ≡ 0) }
+        requires { R.peer reader ≡ W.peer writer }
+        ensures reader { (result.reader.reader ≡ reader) × (result.reader.bytes.items ≡ []) }
+        ensures writer { (result.writer.writer ≡ writer) × (result.writer.sent ≡ 0) × (result.writer.text.items ≡ []) }
     {
         Slot {
             reader: Gathered::new(alloc, reader),
@@ -96,11 +97,20 @@ impl<R, W> Slot<R, W> {
         self.is_due = true;
     }
 
-    /// From now on a wait ends when bytes come, if it can be watched.
+    /// It is looked at if it has this mark.
+    pub fn wake_at(&mut self, mark: usize)
+        ensures { (self.new.reader ≡ self.old.reader) × (self.new.writer ≡ self.old.writer) }
+    {
+        self.is_due |= self.mark == mark;
+    }
+
+    /// From now on a wait ends when bytes come, if more are waited for and it can be watched.
     pub fn watch<G: Gate<Reader = R, Writer = W>>(&mut self, gate: &mut G)
         ensures { (self.new.reader ≡ self.old.reader) × (self.new.writer ≡ self.old.writer) }
     {
-        self.is_watched = gate.watch(&self.reader.reader, self.mark);
+        if !self.rests && !self.is_watched {
+            self.is_watched = gate.watch(&self.reader.reader, self.mark);
+        }
     }
 
     /// Nothing more is waited for, for this cause. What came of the request isn't judged, unless it is whole.
@@ -157,11 +167,12 @@ impl<R, W> Slot<R, W> {
     }
 }
 
-impl<R: Read, W> Slot<R, W> {
+impl<R: Inward, W: Outward> Slot<R, W> {
     /// Takes what is there of its request, without waiting; whether anything changed. Whoever reads sees no difference.
     pub fn step(&mut self, routes: &Routes, now: Duration) -> bool
         ensures invisible { Keeps (prepend_known (drop self.old.reader.at self.old.reader.bytes.items) (R.remaining self.old.reader.reader))
             (prepend_known (drop self.new.reader.at self.new.reader.bytes.items) (R.remaining self.new.reader.reader)) }
+        ensures peer { R.peer self.new.reader.reader ≡ R.peer self.old.reader.reader }
         ensures writer { self.new.writer ≡ self.old.writer }
     {
         if self.rests {
@@ -195,5 +206,15 @@ impl<R: Read, W> Slot<R, W> {
                 self.rests
             }
         }
+    }
+
+    /// Takes what is there of its request, if it may by now and is due.
+    pub fn turn(&mut self, may: bool, routes: &Routes, now: Duration) -> bool
+        ensures invisible { Keeps (prepend_known (drop self.old.reader.at self.old.reader.bytes.items) (R.remaining self.old.reader.reader))
+            (prepend_known (drop self.new.reader.at self.new.reader.bytes.items) (R.remaining self.new.reader.reader)) }
+        ensures peer { R.peer self.new.reader.reader ≡ R.peer self.old.reader.reader }
+        ensures writer { self.new.writer ≡ self.old.writer }
+    {
+        may && self.is_due && self.step(routes, now)
     }
 }

@@ -1,10 +1,13 @@
 //! The one place with sockets.
 
-ghost use Rattle.std.specs.Prelude.{⊤, IfSome};
+ghost use Rattle.std.specs.Prelude.{◌≡◌, ◌++◌, ◌∷◌, [], IfSome};
+ghost use Rattle.moo_desk.specs.declared.losses.Losses.{Losses as Noted};
 ghost use Rattle.moo_desk.specs.Ripe.{IsRipe};
+ghost use Rattle.moo_desk.specs.Told.{TellsOf};
+ghost use Rattle.moo_desk.specs.Deeds.{Keep, Begins};
 
 use crate::desk::Desk;
-use crate::gate::{Gate, NEWS, Taken};
+use crate::gate::{Gate, Inward, NEWS, Outward, Taken};
 use crate::gathered::Gathered;
 use crate::half::Half;
 use crate::outgoing::Outgoing;
@@ -13,7 +16,7 @@ use mio::{Events, Interest, Poll, Token};
 use moo_arrivals::{Arrivals, Closing, Connection, Loss, Route};
 use moo_http_request::Routes;
 use std::alloc::Global;
-use std::io::{Error, ErrorKind, Result};
+use std::io::{Error, ErrorKind, Result, Write};
 use std::net::{Ipv4Addr, TcpListener};
 use std::os::fd::AsRawFd;
 use std::time::Duration;
@@ -141,8 +144,15 @@ impl<'a> SocketDesk<'a> {
     }
 }
 
+// The desk's promises, of sockets.
 impl<'a> Arrivals for SocketDesk<'a> {
-    ghost hands_out = { λ _ handed _. IfSome handed (λ it. ∥ IsRipe it.is_limited it.reader.coming it.reader.bytes.items ∥₁) };
+    ghost hands_out = { λ _ handed _. IfSome handed (λ it. ∥ IsRipe it.is_limited it.reader.coming it.reader.bytes.items ∥₁
+        × (⟦<Half as Inward>⟧.peer it.reader.reader ≡ ⟦<Half as Outward>⟧.peer it.writer.writer)) };
+
+    ghost takes_back = { λ old given new. (it : _) × Begins given it
+        × Keep ⟦<Half as Write>⟧ ⟦<Half as Outward>⟧.peer (old.desk.leaving.items ++ it ∷ []) old.desk.losses new.desk.leaving.items new.desk.losses };
+
+    ghost loses = { λ _ told new. (noted : Noted) × TellsOf noted told new.desk.losses };
 
     type Reader = Gathered<Half>;
 
@@ -153,7 +163,8 @@ impl<'a> Arrivals for SocketDesk<'a> {
         routes: &Routes,
         left: u32,
     ) -> Option<Connection<Gathered<Half>, Outgoing<Half>>>
-        ensures ripe { IfSome result (λ it. ∥ IsRipe it.is_limited it.reader.coming it.reader.bytes.items ∥₁) }
+        ensures ripe { IfSome result (λ it. ∥ IsRipe it.is_limited it.reader.coming it.reader.bytes.items ∥₁
+            × (⟦<Half as Inward>⟧.peer it.reader.reader ≡ ⟦<Half as Outward>⟧.peer it.writer.writer)) }
     {
         self.desk.accept(routes, left)
     }
@@ -164,13 +175,18 @@ impl<'a> Arrivals for SocketDesk<'a> {
         closing: Closing,
         route: Route,
     )
-        ensures { ⊤ }
+        ensures back { (it : _) × Begins connection it
+            × Keep ⟦<Half as Write>⟧ ⟦<Half as Outward>⟧.peer (self.old.desk.leaving.items ++ it ∷ []) self.old.desk.losses self.new.desk.leaving.items self.new.desk.losses }
+
+        // It is held with this route, and closed so.
+        ensures asked { (it : _) × (it.route ≡ route) × (it.closing ≡ closing) × Begins connection it
+            × Keep ⟦<Half as Write>⟧ ⟦<Half as Outward>⟧.peer (self.old.desk.leaving.items ++ it ∷ []) self.old.desk.losses self.new.desk.leaving.items self.new.desk.losses }
     {
         self.desk.close(connection, closing, route)
     }
 
     fn settle(&mut self, is_last: bool) -> Option<Loss>
-        ensures { ⊤ }
+        ensures told { (noted : Noted) × TellsOf noted result self.new.desk.losses }
     {
         self.desk.settle(is_last)
     }

@@ -21,7 +21,7 @@ use sqlite_disk::Disk;
 
 /// What is found if the files of a World are opened that a crash left.
 ///
-/// `crashed` is the World, at a moment when its store was the one at hand. `World::run` and `apply_text` say what a crash leaves of it:
+/// `crashed` is the World, at a moment when its store was the one at hand. `World::run` and `apply_until` say what a crash leaves of it:
 /// which state (`CrashLeaves`), and which rows (`LeavesLed`). `image` is what the files hold after the crash: a database that the store
 /// may have left. `opened` is what `open_from` answers for such files: its clauses `opened`, `opens` and `refuses` give the premises of
 /// these (`moo_files/proofs/OpenedLemmas.antt`).

@@ -1,6 +1,6 @@
 //! Making a world in a file, a new one or one of given rows.
 
-ghost use Rattle.std.specs.Prelude.{◌≡◌, ◌<◌, ◌^◌, IfSome, IfOk, IfErr, false, true};
+ghost use Rattle.std.specs.Prelude.{◌≡◌, ◌<◌, ◌^◌, IfSome, IfOk, IfErr, false};
 ghost use Rattle.sqlite.specs.State.{HasCleanDisk};
 ghost use Rattle.sqlite.specs.Held.{state};
 ghost use Rattle.sqlite.specs.Files.{over_files};
@@ -10,8 +10,7 @@ ghost use Rattle.moo_rows.specs.Opening.{opening_maps};
 ghost use Rattle.moo_world.specs.Judge.{state_of};
 ghost use Rattle.moo_world.specs.Rows.{IsGood};
 ghost use Rattle.moo_store.specs.Loading.{Loads};
-ghost use Rattle.moo_store_rows.specs.Opening.{IsOfStore};
-ghost use Rattle.moo_store.specs.World.{store_of, StandsFor, Left};
+ghost use Rattle.moo_store.specs.World.{store_of, Left};
 ghost use Rattle.moo_files.specs.Causes.{HasCause, IsDenied, IsOpenable};
 ghost use Rattle.moo_files.specs.Making.{rows_made, Makes};
 ghost use Rattle.moo_files.specs.Remains.{IfNotOpened, IsCleanRemains};
@@ -21,7 +20,7 @@ use crate::paths::WorldFiles;
 use crate::remains::Remains;
 use moo_memory::Flat;
 use moo_store::{StoreFault, World, create_in, load_in};
-use sqlite::{Alter, Connection, FileStore, Start, Unknown};
+use sqlite::{Alter, Connection, FileStore, Start};
 use sqlite_disk::Disk;
 use std::alloc::Global;
 
@@ -106,7 +105,12 @@ pub(crate) fn make_from<T: Start, H: WorldFiles<T>>(
     }
 }
 
-/// As `create_at`, for any contents: `T` stands for what the files hold, and no code reads it.
+/// Makes a new world in a file that holds no table, or makes the file. A file that it makes, or that held no database, has pages of
+/// 1,024 bytes. `T` stands for what the files hold, and no code reads it.
+///
+/// Store with `ErrorCode::NameTaken`: it has a table, an index or a view already, and stays as it is. Store with any other code:
+/// the file can't be made or opened, isn't a database, is open elsewhere, or the disk failed. OutOfMemory: memory was refused. At
+/// each refusal what is left of the files is handed back.
 pub fn create_from<T: Start, H: WorldFiles<T>>(
     alloc: Global,
     host: &H,
@@ -124,29 +128,4 @@ pub fn create_from<T: Start, H: WorldFiles<T>>(
         IfErr result (λ e. IsCleanRemains e.1 → HasCause (IsDenied (H.denies host.now) path.now) e.0 e.1) }
 {
     make_from(alloc, host, path, start, None)
-}
-
-/// Makes a new world in a file that holds no table, or makes the file. A file that it makes, or that held no database, has pages of
-/// 1,024 bytes.
-///
-/// Store with `ErrorCode::NameTaken`: it has a table, an index or a view already, and stays as it is. Store with any other code:
-/// the file can't be made or opened, isn't a database, is open elsewhere, or the disk failed. OutOfMemory: memory was refused. At
-/// each refusal the file is closed.
-pub fn create_at<H: WorldFiles<Unknown>>(
-    alloc: Global,
-    host: &H,
-    path: &str,
-) -> Result<World<FileStore<H::Disk>>, StoreFault>
-    requires may { H.may_open host.now path.now }
-    ensures stands { IfOk result (λ world. StandsFor over_files true world (state_of opening_maps)) }
-    ensures rows { IfOk result (λ world. world.rows.maps ≡ opening_maps) }
-    ensures fault { IfErr result IsOfStore }
-{
-    match create_from(alloc, host, path, Unknown) {
-        Ok(world) => Ok(world),
-        Err((fault, remains)) => {
-            remains.shut();
-            Err(fault)
-        }
-    }
 }

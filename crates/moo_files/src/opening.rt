@@ -7,11 +7,10 @@ ghost use Rattle.sqlite.specs.Files.{over_files};
 ghost use Rattle.sqlite.specs.Tree.{Trees};
 ghost use Rattle.sqlite.specs.WalFiles.{image_at};
 ghost use Rattle.sqlite_std_file.specs.declared.pair.OpenError.{OpenError as Refusal};
-ghost use Rattle.moo_world.specs.Rows.{IsGood};
-ghost use Rattle.moo_world.specs.Judge.{State, state_of};
+ghost use Rattle.moo_world.specs.Judge.{State};
 ghost use Rattle.moo_store.specs.Opening.{Adopting};
 ghost use Rattle.moo_store_rows.specs.Opening.{not_ours};
-ghost use Rattle.moo_store.specs.World.{store_of, StandsFor};
+ghost use Rattle.moo_store.specs.World.{store_of};
 ghost use Rattle.moo_files.specs.Causes.{HasCause, HasCauseOfState, IsDenied, IsUnfit};
 ghost use Rattle.moo_files.specs.Contents.{HoldsTrees, HoldsState};
 ghost use Rattle.moo_files.specs.Opened.{Contents, Hold, IsOpenedOver, Opens, IsRefusedFrom, Refuses};
@@ -21,7 +20,7 @@ use crate::connecting::open_connection;
 use crate::paths::WorldFiles;
 use crate::remains::Remains;
 use moo_store::{StoreFault, World, adopt};
-use sqlite::{Connection, Error, ErrorCode, FileStore, Start, Unknown};
+use sqlite::{Connection, Error, ErrorCode, FileStore, Start};
 use sqlite_disk::Disk;
 use std::alloc::Global;
 use std::fs::Metadata;
@@ -59,7 +58,15 @@ pub fn adopt_files<D: Disk + Drop>(
     adopt(alloc, conn)
 }
 
-/// As `open_at`, for any contents: `T` stands for what the files hold, and no code reads it.
+/// Opens the world that a file holds. It never makes the file. One of an earlier version is migrated to the present one, in one
+/// transaction, once the whole world was read and found sound; nothing else is written. `T` stands for what the files hold, and no code
+/// reads it.
+///
+/// Store with `ErrorCode::CannotOpen`: there is no file of this name, it isn't a file, or it can't be opened. Store with
+/// `ErrorCode::DatabaseBusy`: another handle has it open. Store with `ErrorCode::NotADatabase`: it isn't a database, or has
+/// other tables than ours. Any other Store: the disk failed, or what it holds isn't a whole database. Damaged and NewerVersion: its
+/// tables show no world, and say where, or are those of a later version. OutOfMemory: memory was refused. At each refusal what is
+/// left of the files is handed back.
 pub fn open_from<T: Start, H: WorldFiles<T>>(
     alloc: Global,
     host: &H,
@@ -96,32 +103,5 @@ pub fn open_from<T: Start, H: WorldFiles<T>>(
     match adopt_files(alloc, conn) {
         Ok(world) => Ok(world),
         Err((fault, conn)) => Err((fault, Remains::Connection(conn))),
-    }
-}
-
-/// Opens the world that a file holds. It never makes the file. One of an earlier version is migrated to the present one, in one
-/// transaction, once the whole world was read and found sound; nothing else is written.
-///
-/// Store with `ErrorCode::CannotOpen`: there is no file of this name, it isn't a file, or it can't be opened. Store with
-/// `ErrorCode::DatabaseBusy`: another handle has it open. Store with `ErrorCode::NotADatabase`: it isn't a database, or has
-/// other tables than ours. Any other Store: the disk failed, or what it holds isn't a whole database. Damaged and NewerVersion: its
-/// tables show no world, and say where, or are those of a later version. OutOfMemory: memory was refused. At each refusal the
-/// file is closed; a log that an earlier run left is copied into it first.
-pub fn open_at<H: WorldFiles<Unknown>>(
-    alloc: Global,
-    host: &H,
-    path: &str,
-) -> Result<World<FileStore<H::Disk>>, StoreFault>
-    requires may { H.may_open host.now path.now }
-    // Whatever the file holds, the World works, its rows are good, and what is said of rows alone is said of them.
-    ensures rows { IfOk result (λ world. IsGood world.rows.maps × StandsFor over_files false world (state_of world.rows.maps)) }
-    ensures works { IfOk result (λ world. world.failed ≡ false) }
-{
-    match open_from(alloc, host, path, Unknown) {
-        Ok(world) => Ok(world),
-        Err((fault, remains)) => {
-            remains.shut();
-            Err(fault)
-        }
     }
 }

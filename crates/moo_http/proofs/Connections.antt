@@ -1,19 +1,7 @@
--- What came of a connection, and what the service says of all of them.
-use Rattle.moo_http.{proofs.Words.{◌≡◌, ◌≢◌, inl, inr, ℕ, ◌+◌, Bool, IsTrue, List, ◌++◌, length, take, Option, Some, None, refl, sym, subst, ◌∙◌, Result, Ok, Err, is_ok, OnOk, OnErr, IfErr, IsErrAnd, Appends, Keeps, HasCleanDisk, Ghosts, Stand, World, store_of, CrashLeaves, StandsAt, ServeFault, Read, ServiceFault, Connected, StandsAtEnd, WritesFront, SaysByResult, listening_line, served_line, Served, Traffic}, proofs.Serving.{appends_nothing, appends_both}}
+-- What the service says of its connections.
+use Rattle.moo_http.{proofs.Words.{◌≡◌, ◌≢◌, inl, inr, ℕ, ◌+◌, List, ◌++◌, length, take, Option, Some, None, refl, sym, subst, ◌∙◌, Result, Ok, Err, OnOk, OnErr, IfErr, IsErrAnd, Appends, Keeps, ServiceFault, WritesFront, SaysByResult, listening_line, served_line}, proofs.Serving.{appends_nothing, appends_both}}
 use Rattle.moo_http.specs.declared.service.ServiceFault.TheVariants as service
 use Rattle.std.proofs.Math.Seq.{take-append-add, take-length}
-
--- by whether it was answered
-pub connected : {S : Type 0} (g : Ghosts S) (known : Bool) (old : Stand) (was world : World S) (Failed : Type 0) (r : Result (Unit {0}) ServeFault) (answered : Bool) (bytes : Traffic) → answered ≡ is_ok r
-    → IfErr r (λ fault. fault ≡ Read → Failed) → Served g known r old was world bytes → Connected g known Failed answered old was world bytes
-connected g known old was world Failed (Ok done) answered bytes is cause served = subst (λ b. Connected g known Failed b old was world bytes) (sym is) served
-connected g known old was world Failed (Err fault) answered bytes is cause served = subst (λ b. Connected g known Failed b old was world bytes) (sym is) (fault, cause, served)
-
--- where a World stood, it stands
-pub stood : {S : Type 0} (g : Ghosts S) (known : Bool) (stand : Stand) (world : World S) (End : Stand → Type 0) → StandsAt g known world stand → (IsTrue known → HasCleanDisk (store_of g world) → CrashLeaves (store_of g world) stand) → End stand → StandsAtEnd g known world End
-stood g known stand world End at crash ends = record { end = stand; stands = at; crash = crash; ends = ends }
-
--- ---- what the service says
 
 -- known bytes that grew and then stayed
 pub appends_kept : (a b c : Option (List ℕ)) (bs : List ℕ) → Appends a b bs → Keeps b c → Appends a c bs

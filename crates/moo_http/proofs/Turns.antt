@@ -1,5 +1,5 @@
 -- The connections that a source hands out, served one after another.
-use Rattle.moo_http.{proofs.Words.{◌≡◌, inl, inr, ℕ, suc, ◌+◌, Bool, true, false, List, [], ◌∷◌, Option, Some, refl, sym, ap, subst, arith, ◌∙◌, ◌≢◌, Result, Ok, Err, is_ok, IfErr, ◌⊎◌, IsTrue, HasCleanDisk, Ghosts, Stand, World, IsMovedBy, store_of, CrashLeaves, StandsAt, Nothing, Request, ServeFault, Read, Write, OutOfMemory, ServiceFault, Moves, AfterConnections, StandsAtEnd, ConveysBy, Serves, StandsStill, Served, Yields, Exchanged, Visited, IsLeftUnread, Visit, AfterTurns, Attended, ServesFrom, attended_between, ServesOn, answered_in, failed_in, Happening, visit, settle, Loss, None, zero, TellsLoss, TellsLosses, Traffic, traffic_of, Ledger, IsMovedIn, and_then, no_batches, moved_then, written_none}, specs.Serves.{Gets, Moved}}
+use Rattle.moo_http.{proofs.Words.{◌≡◌, inl, inr, ℕ, suc, ◌+◌, Bool, true, false, List, [], ◌∷◌, Option, Some, refl, sym, ap, subst, arith, ◌∙◌, ◌≢◌, Result, Ok, Err, is_ok, IfErr, ◌⊎◌, IsTrue, HasCleanDisk, Ghosts, Stand, World, IsMovedBy, store_of, CrashLeaves, StandsAt, Nothing, Request, ServeFault, Read, Write, OutOfMemory, ServiceFault, StandsAtEnd, ConveysBy, Serves, StandsStill, Served, Yields, Exchanged, Visited, Visit, Attended, ServesFrom, attended_between, ServesOn, visit, settle, Loss, None, zero, TellsLoss, TellsLosses, Traffic, Ledger, IsMovedIn, and_then, no_batches, moved_then, written_none}, specs.Serves.{Gets, Moved}}
 use Rattle.std.specs.declared.io.Read as Reading
 use Rattle.std.specs.declared.io.Write as Writing
 use Rattle.moo_arrivals.specs.declared.arrivals.Arrivals as Arrivals
@@ -110,45 +110,7 @@ leads_as g was world First Way then first = record {
   clean = first.clean;
 }
 
--- ---- from the connections of a source to so many connections
-
-moved : (old new : Stand) (bytes : Traffic) (output : List ℕ) (ledger : Ledger) → Yields old new bytes output ledger → Moves old new
-moved old new bytes output ledger (Nothing, takes, gets) = inl gets.2
-moved old new bytes output ledger (Request is_head asks_why asked, takes, (o, why, wanted, answers, ran, wrote)) = inr (asked, o, answers)
-
-exchange_moves : (r : Result (Unit {0}) ServeFault) (old new : Stand) (bytes : Traffic) (ledger : Ledger) → Exchanged r old new bytes ledger → Moves old new
-exchange_moves (Ok done) old new bytes ledger (output, it, wrote) = moved old new bytes output ledger it
-exchange_moves (Err Write) old new bytes ledger (output, it, sent, wrote) = moved old new bytes output ledger it
-exchange_moves (Err Read) old new bytes ledger (same, none, unwritten) = inl same
-exchange_moves (Err OutOfMemory) old new bytes ledger (unwritten, inl (same, none)) = inl same
-exchange_moves (Err OutOfMemory) old new bytes ledger (unwritten, inr (output, it)) = moved old new bytes output ledger it
-
-visit_moves : (Unread : Type 0) (answered : Bool) (old new : Stand) (bytes : Traffic) (ledger : Ledger) → Visited Unread answered old new bytes ledger → Moves old new
-visit_moves Unread true old new bytes ledger it = exchange_moves (Ok tt) old new bytes ledger it
-visit_moves Unread false old new bytes ledger (fault, cause, it) = exchange_moves (Err fault) old new bytes ledger it
-
 module _ {A R W : Type 0} (source : Arrivals.Ghosts A R W) (reader : Reading.Ghosts R) (fails : R → R → Type 0) (writer : Writing.Ghosts W) where
-  turn_moves : (answered : Bool) (ledger : Ledger) (from : A) (old : Stand) (to : A) (new : Stand) → Visit source reader fails writer answered ledger from old to new → Moves old new
-  turn_moves answered ledger from old to new (inl (opened, closed, between, handed, seen, back, unlimited)) =
-      visit_moves (IsLeftUnread fails opened closed) answered old new (traffic_of reader writer opened closed) ledger seen
-  turn_moves answered ledger from old to new (inr (is, none, same, handed)) = inl same
-
-  after_turns : (turns : List Happening) (from : A) (old : Stand) (to : A) (new : Stand) → AfterTurns source reader fails writer turns from old to new → AfterConnections (answered_in turns + failed_in turns) old new
-  after_turns [] from old to new (same, stays) = stays
-  after_turns (visit true ledger ∷ earlier) from old to new (between, stand, before, turn) =
-      let one_more : suc (answered_in earlier + failed_in earlier) ≡ suc (answered_in earlier) + failed_in earlier = omega arith in
-      subst (λ n. AfterConnections n old new) one_more (stand, after_turns earlier from old between stand before, turn_moves true ledger between stand to new turn)
-  after_turns (visit false ledger ∷ earlier) from old to new (between, stand, before, turn) =
-      let one_more : suc (answered_in earlier + failed_in earlier) ≡ answered_in earlier + suc (failed_in earlier) = omega arith in
-      subst (λ n. AfterConnections n old new) one_more (stand, after_turns earlier from old between stand before, turn_moves false ledger between stand to new turn)
-  after_turns (settle told ∷ earlier) from old to new (between, stand, before, turn) =
-      subst (λ end. AfterConnections (answered_in earlier + failed_in earlier) old end) (sym turn.1) (after_turns earlier from old between stand before)
-
-  pub attended_moves : (answered failed count : ℕ) (ledger : Ledger) (from : A) (old : Stand) (to : A) (new : Stand) → answered + failed ≡ count → Attended source reader fails writer answered failed ledger from old to new → AfterConnections count old new
-  attended_moves answered failed count ledger from old to new sum (turns, answered_are, failed_are, ran, it) =
-      let all : answered_in turns + failed_in turns ≡ count = omega (arith, answered_are, failed_are, sum) in
-      subst (λ n. AfterConnections n old new) all (after_turns turns from old to new it)
-
   pub attended_none : (from : A) (old : Stand) → Attended source reader fails writer 0 0 no_batches from old from old
   attended_none from old = ([], refl, refl, refl, (refl, refl))
 

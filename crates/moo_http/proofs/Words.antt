@@ -20,12 +20,12 @@ pub use Rattle.moo_world.specs.declared.call.Batch.{Batch}
 pub use Rattle.sqlite.specs.State.{HasCleanDisk}
 pub use Rattle.sqlite.specs.Store.{Ghosts}
 pub use Rattle.moo_http.specs.Answers.{Comes, Consulted, IsMovedAs, MayAnswer, answer, failed_by, ledger_by, taken_by}
-pub use Rattle.moo_http.specs.Connections.{AfterConnections, Connected, ConveysBy, Moves, SaysByResult, ServesPort, StandsAtEnd, WritesFront}
+pub use Rattle.moo_http.specs.Connections.{ConveysBy, SaysByResult, StandsAtEnd, WritesFront}
 pub use Rattle.moo_http.specs.Lines.{listening_line, served_line}
 pub use Rattle.moo_http.specs.Ledger.{IsMovedIn, Ledger, and_then, no_batches}
 pub use Rattle.moo_http.specs.Traffic.{Traffic, traffic, traffic_of}
 pub use Rattle.moo_http.specs.Serves.{IsWhyOf, Served, Serves, StandsStill, Written}
-pub use Rattle.moo_http.specs.Turns.{AfterTurns, Attended, Exchanged, ServesFrom, ServesOn, Happening, IsLeftUnread, Visit, Visited, Yields, answered_in, attended_between, failed_in, settle, visit}
+pub use Rattle.moo_http.specs.Turns.{Attended, Exchanged, ServesFrom, ServesOn, IsLeftUnread, Visit, Visited, Yields, attended_between, settle, visit}
 pub use Rattle.moo_http.specs.Settling.{TellsLoss, TellsLosses}
 pub use Rattle.moo_http.specs.declared.fault.ServeFault.{ServeFault}
 pub use Rattle.moo_http.specs.declared.fault.ServeFault.TheVariants.{OutOfMemory, Read, Write}

@@ -51,6 +51,7 @@ fn run_batch<S: Alter + Drop>(
     ensures comes { IsAnswered S.Store world.old world.new (Asked.Calls Mode.Run batch.now) result }
     ensures moved { IsMovedAs S.Store world.old world.new (Asked.Calls Mode.Run batch.now) result }
 {
+    world.has_good_rows();
     came(world.run_one(batch, whys))
 }
 

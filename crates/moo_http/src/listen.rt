@@ -1,14 +1,12 @@
 //! Connections, served in turn.
 
-ghost use Rattle.std.specs.Prelude.{◌≡◌, ◌+◌, ◌^◌, ◌<◌, ℕ, Bool, false, IsTrue, List};
+ghost use Rattle.std.specs.Prelude.{◌≡◌, ◌+◌, ◌^◌, ◌<◌, ℕ, false, List};
 ghost use Rattle.moo_world.specs.declared.call.Batch.{Batch};
 ghost use Rattle.moo_store.specs.Untouched.{IsMovedBy};
 ghost use Rattle.sqlite.specs.State.{HasCleanDisk};
-ghost use Rattle.moo_store.specs.Stand.{Stand};
-ghost use Rattle.moo_store.specs.World.{store_of, StandsAt};
-ghost use Rattle.moo_http_request.specs.Given.{HasFailed};
+ghost use Rattle.moo_store.specs.World.{store_of};
 ghost use Rattle.moo_http.specs.Traffic.{traffic_of};
-ghost use Rattle.moo_http.specs.Connections.{Connected, ConveysBy};
+ghost use Rattle.moo_http.specs.Connections.{ConveysBy};
 ghost use Rattle.moo_http.specs.Turns.{Visited, IsLeftUnread, Visit, Attended};
 ghost use Rattle.moo_http.specs.Settling.{TellsLoss, TellsLosses};
 
@@ -36,17 +34,13 @@ pub fn serve_connection<S: Alter + Drop, R: Incoming, W: Write>(
     world: &mut World<S>,
     note: &mut Note,
 ) -> bool
-    // It is answered, and then all of its answer is written; or it met a fault of `serve_one`, and what was written of the answer is
-    // by the fault.
-    ensures served { IsTrue connection.old.is_limited → (known : Bool) (stand : Stand) → StandsAt S.Store known world.old stand →
-        Connected S.Store known (HasFailed R.fails connection.new.reader) result stand world.old world.new
-        (traffic_of R.Read W.Write connection.old connection.new) }
-    ensures unlimited { connection.old.is_limited ≡ false →
-        (result ≡ false) × (world.new ≡ world.old) × (connection.new ≡ connection.old) }
-    // The same, from where the World stood to where it stands. Just the batch that was asked moved it, if that was run.
+    // Wherever the World stood: it is answered, and then all of its answer is written; or it met a fault of `serve_one`, and what was
+    // written of the answer is by the fault. Just the batch that was asked moved the World, if that was run.
     ensures visited { ConveysBy S.Store world.old world.new (λ ledger stand end.
         Visited (IsLeftUnread R.fails connection.old connection.new) result stand end
         (traffic_of R.Read W.Write connection.old connection.new) ledger) }
+    ensures unlimited { connection.old.is_limited ≡ false →
+        (result ≡ false) × (world.new ≡ world.old) × (connection.new ≡ connection.old) }
     ensures moved { (batches lost : List Batch) × IsMovedBy S.Store world.old world.new batches lost }
     ensures clean { HasCleanDisk (store_of S.Store world.new) → HasCleanDisk (store_of S.Store world.old) }
 {

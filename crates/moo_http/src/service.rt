@@ -8,7 +8,7 @@ ghost use Rattle.moo_store.specs.World.{store_of};
 ghost use Rattle.moo_http.specs.declared.service.ServiceFault.TheVariants.{OutOfMemory};
 ghost use Rattle.std.specs.Io.KnownBytes.{Appends};
 ghost use Rattle.moo_http.specs.Lines.{listening_line, served_line};
-ghost use Rattle.moo_http.specs.Connections.{Conveys, ConveysBy, ServesPort, WritesFront};
+ghost use Rattle.moo_http.specs.Connections.{ConveysBy, WritesFront};
 ghost use Rattle.moo_http.specs.Turns.{ServesFrom, attended_between, ServesOn};
 
 use crate::listen::{Served, serve_on};
@@ -117,9 +117,6 @@ pub fn serve_from<S: Alter + Drop, A: Arrivals, C: Clock + Eprint, W: Write>(
     ensures serves { ConveysBy S.Store world.old world.new (λ ledger stand end.
         ServesFrom A.Arrivals A.Reader.Read A.Reader.fails A.Writer.Write result duty.port duty.count ledger
         arrivals.old stand arrivals.new end (W.contents output.old) (W.contents output.new)) }
-    // The same of the World alone, whatever the source tells.
-    ensures moves { Conveys S.Store world.old world.new (λ stand end.
-        ServesPort result duty.port duty.count stand end (W.contents output.old) (W.contents output.new)) }
     ensures fault { IfErr result (λ fault. fault ≢ ServiceFault.Port) }
     ensures clean { HasCleanDisk (store_of S.Store world.new) → HasCleanDisk (store_of S.Store world.old) }
     // It moved by accepted batches, one after another: each wrote only rows that differ, and kept all numbers.

@@ -1,5 +1,5 @@
 -- What the head of a request alone decides.
-use Rattle.std.specs.Prelude.{◌==◌, ◌&&◌, true, false, not, ℕ, List, length, map, Option, Some, None, option_and_then, codes, bytes_eq, nat_lt, nat_le, if◌then◌else◌, Bool}
+use Rattle.std.specs.Prelude.{◌==◌, ◌&&◌, ◌||◌, true, false, not, ℕ, List, length, map, Option, Some, None, option_and_then, codes, bytes_eq, nat_lt, nat_le, if◌then◌else◌, Bool}
 use Rattle.std.specs.List.{before_first, after_first, list_all}
 use Rattle.httparse.specs.Grammar.{RequestHead}
 use Rattle.httparse.specs.Spans.{name_and_value}
@@ -25,9 +25,13 @@ use Rattle.moo_http_request.specs.Routes.{endpoint_of}
 abbrev pub path_of : List ℕ → List ℕ
 path_of target = before_first (λ b. b == 63) target
 
--- what follows the first question mark of the target is why
+-- the queries that ask why: `why`, `why=` and `why=1`
+abbrev pub is_why_query : List ℕ → Bool
+is_why_query query = bytes_eq query (codes "why") || bytes_eq query (codes "why=") || bytes_eq query (codes "why=1")
+
+-- what follows the first question mark of the target asks why
 abbrev pub is_why : List ℕ → Bool
-is_why target = bytes_eq (after_first (λ b. b == 63) target) (codes "why")
+is_why target = is_why_query (after_first (λ b. b == 63) target)
 
 -- the method of a route
 abbrev pub method_of : Endpoint → Method

@@ -2,7 +2,7 @@
 
 ghost use Rattle.std.specs.Prelude.{◌≡◌, All, IsUtf8, length, map, bytes_eq};
 ghost use Rattle.httparse.specs.Spans.{IsHeaderWithin, header_bytes};
-ghost use Rattle.moo_http_request.specs.Plan.{path_of, is_why, method_of, method_text, length_of, body_plan, question_plan, endpoint_plan, routed_plan, known_plan, is_guarded, allowed_plan, plan_of};
+ghost use Rattle.moo_http_request.specs.Plan.{path_of, is_why_query, is_why, method_of, method_text, length_of, body_plan, question_plan, endpoint_plan, routed_plan, known_plan, is_guarded, allowed_plan, plan_of};
 ghost use Rattle.moo_http_request.specs.Planned.{IsBounded};
 
 use crate::asked::{Asked, Form, Method, Refusal};
@@ -28,13 +28,20 @@ fn path(target: &str) -> &str
     target.split_once('?').map_or(target, |(path, _)| path)
 }
 
-/// Whether what follows the first question mark of a target is `why`.
-fn is_why_query(target: &str) -> bool
+/// Whether a query asks why a request is refused.
+fn is_why_query(query: &str) -> bool
+    ensures { result ≡ is_why_query query.now }
+{
+    query == "why" || query == "why=" || query == "why=1"
+}
+
+/// Whether what follows the first question mark of a target asks why it is refused.
+fn has_why_query(target: &str) -> bool
     ensures { result ≡ is_why target.now }
 {
     target
         .split_once('?')
-        .is_some_and(|(_, query)| query == "why")
+        .is_some_and(|(_, query)| is_why_query(query))
 }
 
 /// Whether a target asks why it is refused, if it is.
@@ -42,7 +49,7 @@ pub(crate) fn asks_why(target: &[u8]) -> bool
     requires text { IsUtf8 target.now }
     ensures { result ≡ is_why target.now }
 {
-    str::from_utf8(target).is_ok_and(is_why_query)
+    str::from_utf8(target).is_ok_and(has_why_query)
 }
 
 /// The method of a route.

@@ -4,7 +4,7 @@ ghost use Rattle.std.specs.Prelude.{◌≡◌};
 ghost use Rattle.std.specs.FinMap as map;
 ghost use Rattle.std.specs.Iterator.{YieldsFirstBy, item_count};
 ghost use Rattle.moo_rows.specs.Links.{defined_left};
-ghost use Rattle.moo_rows.specs.Walk.{rows_left, objects_left, props_left, slots_left, verbs_left, petitions_left, slots_of_left, verbs_of_left};
+ghost use Rattle.moo_rows.specs.Walk.{rows_left, objects_left, props_left, petitions_left, slots_of_left, verbs_of_left};
 
 use crate::keyed::KeyedRow;
 use crate::row::{ObjRow, PetitionRow, PropId, PropRow, SlotRow, VerbId, VerbRow};
@@ -49,20 +49,6 @@ pub fn each_object<R: Rows>(rows: &R) -> Walk<'_, R, ObjRow>
 /// The properties with their rows, in the order of their keys. Takes no memory.
 pub fn each_prop<R: Rows>(rows: &R) -> Walk<'_, R, PropRow>
     ensures { props_left result.last (R.held result.rows.now).maps ≡ map.entries (R.held rows.now).maps.props }
-{
-    each_row(rows)
-}
-
-/// The slots with their rows, in the order of their keys. Takes no memory.
-pub fn each_slot<R: Rows>(rows: &R) -> Walk<'_, R, SlotRow>
-    ensures { slots_left result.last (R.held result.rows.now).maps ≡ map.entries (R.held rows.now).maps.slots }
-{
-    each_row(rows)
-}
-
-/// The verbs with their rows, in the order of their keys. Takes no memory.
-pub fn each_verb<R: Rows>(rows: &R) -> Walk<'_, R, VerbRow>
-    ensures { verbs_left result.last (R.held result.rows.now).maps ≡ map.entries (R.held rows.now).maps.verbs }
 {
     each_row(rows)
 }

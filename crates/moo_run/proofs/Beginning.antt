@@ -1,5 +1,5 @@
 -- The world that a task begins with.
-use Rattle.moo_run.{proofs.Words.{◌≡◌, ◌⊎◌, inl, inr, ℕ, List, Some, Bor, codes, refl, sym, ap, subst, ◌∙◌, ◌<◌, ◌^◌, true, false, ◌||◌, bytes_eq, true≢false, Maps, opening_maps, IsGood, State, state_of, Ghosts, Image, IsHeld, Stand, LeavesState, Task, Given, Run, Leads, makes_world, begins_anew, is_load, dump_word, is_input, reads_input, ReadsFile, IsDumpedAs, BeginsWith, BeginsNumbered, RunsFrom, FailsAtOnce, RefusesDump, FailsToBegin, RunsNew, Failure}, proofs.Connections.{unseen}, specs.Run.{RefusesTask, TellsLack}}
+use Rattle.moo_run.{proofs.Words.{◌≡◌, ◌⊎◌, inl, inr, ℕ, Bool, List, Some, Bor, codes, refl, sym, ap, subst, ◌∙◌, ◌<◌, ◌^◌, true, false, ◌||◌, bytes_eq, true≢false, Maps, opening_maps, IsGood, State, state_of, Ghosts, Image, IsHeld, Stand, LeavesState, Task, Given, Run, Leads, makes_world, begins_anew, is_load, dump_word, is_input, reads_input, ReadsFile, IsDumpedAs, BeginsWith, BeginsNumbered, RunsFrom, FailsAtOnce, RefusesDump, FailsToBegin, RunsNew, Failure}, proofs.Connections.{unseen}, specs.Run.{RefusesTask, TellsLack}}
 use Rattle.sqlite.specs.Tree.{Trees}
 use Rattle.moo_load.specs.RowsOf.{AreRowsOf}
 use Rattle.moo_files.{specs.Remains.{KeepsSuch, KeepsNothingBut}, specs.declared.remains.Remains.{Remains}, proofs.RemainsLemmas.{keeps_more, blank_more}}
@@ -36,6 +36,14 @@ load_makes action loads = absurd (true≢false (sym loads))
 
 pub load_begins : (task : Task) → is_load task.action ≡ true → begins_anew task ≡ true
 load_begins task loads = ap (λ makes. makes || bytes_eq task.file.now (codes ":memory:")) (load_makes task.action loads)
+
+-- and so does a task on `:memory:`
+or_true : (a b : Bool) → b ≡ true → (a || b) ≡ true
+or_true true b is = refl
+or_true false b is = is
+
+pub memory_begins : (task : Task) → bytes_eq task.file.now (codes ":memory:") ≡ true → begins_anew task ≡ true
+memory_begins task is = or_true (makes_world task.action) (bytes_eq task.file.now (codes ":memory:")) is
 
 -- what it reads besides its file is the word for its dump
 load_reads : (action : Action) (dump : List ℕ) → is_load action ≡ true → dump_word action ≡ dump → text_word action ≡ Some dump

@@ -1,8 +1,8 @@
 -- A task over a connection.
-use Rattle.moo_run.proofs.Words.{◌≡◌, ◌⊎◌, inl, inr, ℕ, List, [], Option, Result, Ok, Err, refl, sym, subst, subst₂, ap, ◌∙◌, Bool, true, false, IsTrue, MatchResult, ⊤, HasCleanDisk, Survives, Held, state, Task, Stand, Failure, Reports, store_failure, Given, Run, Leads, MayLead, Done, StopsTask, ShowsTables, EndsTask, RunsAction, RunsIn, RunsFrom, RunsUnseen, IsOpening, MayRefuse, LeadsFrom, LeavesAsBefore, LeavesNothingNew, only_reads, serves, Batch, State, LeavesLed, Maps, World, store_of, CrashLeaves, ShowsState}
+use Rattle.moo_run.proofs.Words.{◌≡◌, ◌⊎◌, inl, inr, ℕ, List, [], Option, Result, Ok, Err, refl, sym, subst, subst₂, ap, ◌∙◌, Bool, true, false, IsTrue, MatchResult, ⊤, HasCleanDisk, Held, state, Task, Stand, Failure, Reports, store_failure, Given, Run, Leads, MayLead, Done, StopsTask, ShowsTables, EndsTask, RunsAction, RunsIn, RunsFrom, RunsUnseen, IsOpening, MayRefuse, LeadsFrom, LeavesNothingNew, only_reads, serves, Batch, State, LeavesLed, Maps, World, store_of, CrashLeaves}
 use Rattle.sqlite.{specs.State.{State as Database}, specs.Store.{Ghosts}, specs.declared.error.Error.{Error}}
 use Rattle.moo_cli.{specs.declared.task.Action.{Action}, specs.declared.task.Action.TheVariants.{Init, Apply, Rehearse, Ask, Dump, Load, Check, Serve}}
-use Rattle.moo_store_rows.{specs.declared.fault.StoreFault.{StoreFault}, specs.Opening.{IsOfStore, Adopts}}
+use Rattle.moo_store_rows.{specs.declared.fault.StoreFault.{StoreFault}, specs.Opening.{IsOfStore}}
 use Rattle.moo_store_rows.specs.declared.fault.StoreFault.TheVariants as store_fault
 
 -- why a new world can't be made, and why the opening of a world fails
@@ -150,9 +150,6 @@ unseen task s run Clean Crash Led Shown it =
 pub unled : (task : Task) (s : State) (run : Run) (Clean : Type 0) (Crash : Stand → Type 0) (Led : Leads) (Shown : Type 0) → RunsFrom task s run Clean Crash Led Shown → RunsFrom task s run Clean Crash (λ _ _. ⊤) ⊤
 unled task s run Clean Crash Led Shown it =
     runs_when task s run Clean Clean Crash Crash Led (λ _ _. ⊤) Shown (λ clean. clean) (λ end clean crash. crash) (λ batches others clean led. tt) it
-
-pub as_before : (old new : Database) (s : State) → ShowsState old s → Survives old new (Adopts old) → HasCleanDisk new → LeavesAsBefore s old new
-as_before old new s shown it clean trees may = elim (it.crash clean trees may) [ inl before ↦ inl before | inr adopts ↦ inr (adopts.3 s shown) ]
 
 -- any fault of opening is a refusal
 each_refusal : (fault : StoreFault) → MayRefuse (store_failure fault)

@@ -3,17 +3,14 @@ use Rattle.moo_run.{proofs.Words.{LeadsFrom, ◌≡◌, true, refl, sym, subst, 
 use Rattle.sqlite_store.specs.declared.store.FileStore.{FileStore}
 use Rattle.moo_tables_rows.specs.Tables.{Tables}
 use Rattle.moo_cells.{specs.Shows.{ShowsRows}, proofs.CellsLemmas.{one_good}, proofs.GoodRows.{good_within}}
-use Rattle.moo_files.{specs.Contents.{HoldsTables, HoldsState}, specs.Opened.{Contents, Nothing, Database, Unfit, Hold, Opens}}
+use Rattle.moo_files.{specs.Contents.{HoldsTables}, specs.Opened.{Contents, Nothing, Database, Unfit, Hold, Opens}}
 use Rattle.sqlite.{specs.Tree.{Trees}, specs.State.{State as Content}}
 use Rattle.moo_store.specs.Untouched.{LeavesWritten}
 use Rattle.moo_store_rows.specs.Current.{RestsCurrent, unread_from}
 
--- files that hold rows hold their tables and their state
+-- files that hold rows hold their tables
 pub rows_tables : (image : Image) (rows : Maps) (it : HoldsRows image rows) → HoldsTables image it.1.such.tables
 rows_tables image rows it = record { trees = it.1.trees; holds = it.1.holds; such = it.1.such.leaves }
-
-pub rows_state : (image : Image) (rows : Maps) → HoldsRows image rows → HoldsState image (state_of rows)
-rows_state image rows it = record { trees = it.1.trees; holds = it.1.holds; such = record { rows = rows; good = it.0; state = refl; leaves = it.1.such } }
 
 -- they are the good rows that any of these tables show
 pub rows_are : (image : Image) (rows found : Maps) → HoldsRows image rows → ((tables : Tables) → HoldsTables image tables → ShowsRows tables found) → IsGood found → rows ≡ found

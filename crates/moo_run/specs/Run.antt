@@ -35,8 +35,7 @@ use Rattle.moo_store.specs.Text.{accepted, faulted}
 use Rattle.moo_store_rows.specs.Current.{unread_of}
 use Rattle.moo_store.specs.Led.{LeavesLed}
 use Rattle.moo_store.specs.Untouched.{LeavesWritten}
-use Rattle.moo_store_rows.specs.Opening.{Says, IsOfStore}
-use Rattle.moo_store_rows.specs.States.{LeavesState}
+use Rattle.moo_store_rows.specs.Opening.{IsOfStore}
 use Rattle.moo_store.specs.Kept.{World}
 use Rattle.moo_store.specs.World.{store_of, CrashLeaves}
 use Rattle.moo_cli.specs.declared.task.Task.{Task}
@@ -392,22 +391,12 @@ abbrev pub RunsNew : Task → Run → Type 0
 RunsNew task run =
     (run.given.ports.rests × FailsToBegin task run) ⊎ ((s : State) × BeginsWith task.action run.given s × RunsUnseen task s run)
 
--- a crash leaves nothing that it couldn't leave before, but tables that show this state
-abbrev pub LeavesAsBefore : State → Database → Database → Type 0
-LeavesAsBefore s old new = (trees : Trees) → new.may_leave trees → old.may_leave trees ⊎ LeavesState trees s
-
 module _ {S : Type 0} (g : Ghosts S) (task : Task) (run : Run) where
   -- A new world can't be made, and nothing is asked of the ports; or the task runs from the one that it begins with, and leaves this
   -- connection.
   abbrev pub RunsAnew : Held S → Type 0
   RunsAnew conn =
       (run.given.ports.rests × FailsToBegin task run) ⊎ ((s : State) × BeginsWith task.action run.given s × RunsOn g conn task s run)
-
-  -- It fails at once, nothing is asked of the ports, and a crash leaves what it left before; or the task runs from this state of the first
-  -- connection, and leaves the second.
-  abbrev pub RunsKept : State → Held S → Held S → Type 0
-  RunsKept s was conn =
-      (run.given.ports.rests × FailsAtOnce run × LeavesAsBefore s (state g was) (state g conn)) ⊎ RunsOn g conn task s run
 
 -- the status of a mistake in the words; asking for help or the version is 0
 abbrev pub mistake_status : ErrorKind → ℕ
@@ -426,12 +415,6 @@ EndsUsage words old new status =
 -- a file is refused, and nothing is asked of the ports; or the task runs from a well formed world
 abbrev pub RunsOpened : Task → Run → Type 0
 RunsOpened task run = (run.given.ports.rests × RefusesFile run) ⊎ ((rows : Maps) × IsGood rows × RunsUnseen task (state_of rows) run)
-
--- the task runs from the world that these tables show; or the line tells a fault of theirs, and nothing is asked of the ports
-abbrev pub RunsShown : Task → Tables → Run → Type 0
-RunsShown task tables run =
-    (run.given.ports.rests × (fault : StoreFault) × Says tables fault × Reports (store_failure fault) run.before run.after run.status)
-    ⊎ ((rows : Maps) × IsGood rows × ShowsRows tables rows × RunsUnseen task (state_of rows) run)
 
 -- The outcome of a task, whatever its file holds. If it begins with a new world, it runs from that, or it can't be made. Any
 -- other runs from the world that was found in its file, or the file is refused. (That it is the world which the file's tables

@@ -14,14 +14,21 @@ ghost use Rattle.moo_run.specs.Ends.{RunsFile, EndsWith};
 
 use crate::ends::Ends;
 use crate::loading::{dump_word, read_world};
-use crate::over::{begins_anew, run_in, run_over};
+use crate::over::{run_in, run_over};
 use crate::session::{Runs, Session, Streams};
-use moo_cli::Task;
+use moo_cli::{Action, Task};
 use moo_files::{Remains, WorldFiles, create_from, load_from, open_from};
 use moo_run_lines::Failure;
 use moo_store::{StoreFault, World};
 use sqlite::{Connection, Error, ErrorCode, FileStore, Start};
 use sqlite_disk::Disk;
+
+/// Whether a task begins with a new world: `init` and `load` do, and each task on `:memory:`.
+fn begins_anew(task: Task<'_>) -> bool
+    ensures { result ≡ begins_anew task.entry }
+{
+    matches!(task.action, Action::Init | Action::Load { .. }) || task.file == ":memory:"
+}
 
 /// `run_in` at the store in files, over any disk. What is known of that store weighs on each function that calls a generic one at it,
 /// so this call has a function of its own.
@@ -179,6 +186,7 @@ pub fn run_from<'s, S: Streams>(
 /// Does what a task says over a new world in memory.
 fn run_in_memory<'s, S: Streams>(session: &mut Session<'s, S>, task: Task<'_>)
     requires read { (path : List ℕ) → ReadsFile task path → S.Host.may_read session.old.host path }
+    requires anew { begins_anew task ≡ true }
     ensures runs { RunsTask task.entry (⟦<Session<'s, S> as Runs>⟧.run session.old session.new) }
     ensures input { reads_input task.entry ≡ false → session.new.input ≡ session.old.input }
 {

@@ -5,27 +5,17 @@ ghost use Rattle.sqlite.specs.State.{HasCleanDisk};
 ghost use Rattle.sqlite.specs.Held.{state};
 ghost use Rattle.moo_world.specs.Rows.{IsGood};
 ghost use Rattle.moo_world.specs.Judge.{State};
-ghost use Rattle.moo_tables_rows.specs.Tables.{Tables};
-ghost use Rattle.moo_tables_rows.specs.Inside.{Rests};
-ghost use Rattle.moo_store_rows.specs.States.{ShowsState};
 ghost use Rattle.moo_store.specs.World.{store_of, StandsFor};
-ghost use Rattle.moo_run.specs.Run.{begins_anew, is_load, dump_word, RunsIn, RunsAnew, RunsKept, RunsShown, RunsOpened};
+ghost use Rattle.moo_run.specs.Run.{is_load, dump_word, RunsIn, RunsAnew};
 ghost use Rattle.moo_run.specs.Run.{LeavesNothingNew, only_reads, reads_input, ReadsFile};
 
 use crate::commands::do_task;
 use crate::loading::{dump_word, read_world};
 use crate::session::{Runs, Session, Streams};
-use moo_cli::{Action, Task};
+use moo_cli::Task;
 use moo_run_lines::Failure;
-use moo_store::{World, adopt, create_in, load_in};
+use moo_store::{World, create_in, load_in};
 use sqlite::{Alter, Connection};
-
-/// Whether a task begins with a new world: `init` and `load` do, and each task on `:memory:`.
-pub(crate) fn begins_anew(task: Task<'_>) -> bool
-    ensures { result ≡ begins_anew task.entry }
-{
-    matches!(task.action, Action::Init | Action::Load { .. }) || task.file == ":memory:"
-}
 
 /// Does what a task says over a World, writes the line of a failure, and hands the connection back. The status is that of
 /// `run_words`.
@@ -112,35 +102,10 @@ fn run_loaded<'s, S: Streams, B: Alter + Drop>(
     }
 }
 
-/// Opens the world that the tables of a connection show, and does what a task says over it.
-fn run_opened<'s, S: Streams, B: Alter + Drop>(
-    session: &mut Session<'s, S>,
-    conn: Connection<B>,
-    task: Task<'_>,
-) -> Connection<B>
-    requires read { (path : List ℕ) → ReadsFile task path → S.Host.may_read session.old.host path }
-    requires outside { conn.in_transaction ≡ false }
-    ensures kept { (s : State) → ShowsState (state B.Store conn) s → HasCleanDisk (state B.Store result) →
-        RunsKept B.Store task.entry (⟦<Session<'s, S> as Runs>⟧.run session.old session.new) s conn result }
-    ensures only { (tables : Tables) → Rests (state B.Store conn) tables → HasCleanDisk (state B.Store result) →
-        RunsShown task.entry tables (⟦<Session<'s, S> as Runs>⟧.run session.old session.new) }
-    ensures opened { RunsOpened task.entry (⟦<Session<'s, S> as Runs>⟧.run session.old session.new) }
-    ensures input { reads_input task.entry ≡ false → session.new.input ≡ session.old.input }
-{
-    match adopt(session.alloc, conn) {
-        Ok(world) => run_in(session, world, task),
-        Err((fault, conn)) => {
-            session.fail(Failure::from(fault));
-            conn
-        }
-    }
-}
-
-/// Does what a task says over a connection to any store, writes the line of a failure, and hands the connection back. The status
-/// is that of `run_words`.
+/// Makes a new world in a connection to any store, which must have no tables, does what a task says over it, writes the line of a failure,
+/// and hands the connection back. The status is that of `run_words`.
 ///
-/// If the task begins with a new world, that is made in the connection, which must have no tables. Otherwise the world that its tables
-/// show is opened.
+/// The program calls it for a task on `:memory:`. The world is that of the dump that the task names, or else the opening world.
 pub fn run_over<'s, S: Streams, B: Alter + Drop>(
     session: &mut Session<'s, S>,
     conn: Connection<B>,
@@ -148,28 +113,11 @@ pub fn run_over<'s, S: Streams, B: Alter + Drop>(
 ) -> Connection<B>
     requires read { (path : List ℕ) → ReadsFile task path → S.Host.may_read session.old.host path }
     requires outside { conn.in_transaction ≡ false }
-    // A task that begins with a new world runs from that.
-    ensures anew { begins_anew task.entry ≡ true →
-        RunsAnew B.Store task.entry (⟦<Session<'s, S> as Runs>⟧.run session.old session.new) result }
-    // Any other runs from the state that the tables of the connection show, of any version, on a disk that returns what was written.
-    ensures kept { (s : State) → begins_anew task.entry ≡ false → ShowsState (state B.Store conn) s → HasCleanDisk (state B.Store result) →
-        RunsKept B.Store task.entry (⟦<Session<'s, S> as Runs>⟧.run session.old session.new) s conn result }
-    // If there are tables, it runs from the world that they show, or the line tells a fault of these tables.
-    ensures only { (tables : Tables) → begins_anew task.entry ≡ false → Rests (state B.Store conn) tables →
-        HasCleanDisk (state B.Store result) →
-        RunsShown task.entry tables (⟦<Session<'s, S> as Runs>⟧.run session.old session.new) }
-    // Whatever they show, it is refused, or the task runs from a well formed world.
-    ensures opened { begins_anew task.entry ≡ false → RunsOpened task.entry (⟦<Session<'s, S> as Runs>⟧.run session.old session.new) }
+    ensures runs { RunsAnew B.Store task.entry (⟦<Session<'s, S> as Runs>⟧.run session.old session.new) result }
     ensures input { reads_input task.entry ≡ false → session.new.input ≡ session.old.input }
 {
     match dump_word(task) {
         Some(dump) => run_loaded(session, conn, dump, task),
-        None => {
-            if begins_anew(task) {
-                run_anew(session, conn, task)
-            } else {
-                run_opened(session, conn, task)
-            }
-        }
+        None => run_anew(session, conn, task),
     }
 }

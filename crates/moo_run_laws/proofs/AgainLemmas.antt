@@ -1,6 +1,6 @@
 -- From what a crash left of a run to the next run.
-use Rattle.moo_run.{proofs.Words.{◌≡◌, ◌≢◌, ◌⊎◌, inl, inr, ℕ, zero, suc, Bool, true, false, List, length, codes, refl, sym, ap, subst, true≢false, false_from_ne_true, ◌||◌, bytes_eq, Ghosts, Image, HasCleanDisk, Held, file_state, Maps, Batch, IsGood, State, state_of, LeavesLed, LeavesRows, LeavesState, Task, Given, Run, makes_world, begins_anew, HoldsRows, RunsRows, RanFrom, RanOver, RefusedOver, EndsWith, RunsOver, IsClosedEnd}, proofs.Connections.{runs_when, unled}, specs.declared.ends.Ends.{Ends}}
-use Rattle.moo_run_laws.specs.Again.{Started, StartedRows, LeadTo, TakesUp, TakesRows, IsLeftAfter, IsFoundOf, CrashesTo, LeadsOn, ClosesOn, IsFoundIn, ClosesTo}
+use Rattle.moo_run.{proofs.Words.{◌≡◌, ◌≢◌, ◌⊎◌, inl, inr, ℕ, zero, suc, Bool, true, false, List, length, codes, refl, sym, ap, subst, true≢false, false_from_ne_true, ◌||◌, bytes_eq, Ghosts, Image, HasCleanDisk, Held, file_state, Maps, Batch, IsGood, State, state_of, LeavesLed, LeavesRows, Task, Run, makes_world, begins_anew, HoldsRows, RunsRows, RanFrom, RanOver, RefusedOver, EndsWith, RunsOver}, proofs.Connections.{unled}, specs.declared.ends.Ends.{Ends}}
+use Rattle.moo_run_laws.specs.Again.{Started, StartedRows, LeadTo, TakesUp, TakesRows, IsLeftAfter, IsFoundOf, IsFoundIn}
 use Rattle.moo_run.specs.declared.ends.Ends.TheVariants as variant
 use Rattle.sqlite_store.specs.declared.store.FileStore.{FileStore}
 use Rattle.sqlite.{specs.State.{State as Database}, specs.Schema.{Schema}, specs.Tree.{Trees}, specs.Held.{AreDatabases}, specs.Files.{IsCleanLeft}, specs.declared.file.Leftover.{Leftover}}
@@ -8,7 +8,7 @@ use Rattle.sqlite.specs.declared.file.Leftover.TheVariants as left
 use Rattle.moo_tables.proofs.SchemaLemmas.{one_schema}
 use Rattle.moo_tables_rows.{specs.declared.version.Version.{Version}, specs.declared.version.Version.TheVariants.{First, Second}, specs.Tables.{Tables, schema_of, no_schema}, specs.Inside.{Leaves}}
 use Rattle.moo_cells.{proofs.CellsLemmas.{one_good}, proofs.GoodRows.{good_within}}
-use Rattle.moo_files.{specs.Contents.{HoldsSuch, HoldsState, HasAnyTable, IsKept, IsLeftBy}, specs.Remains.{IsCleanRemains, KeepsSuch, StillHolds}, specs.Closing.{IsLeftOf, IsClosedFrom}, specs.declared.remains.Remains.{Remains}, specs.Stop.{AreNumbered}, proofs.AgainLemmas.{held_after}, proofs.RemainsLemmas.{keeps_more, keeps_closed}, proofs.StopLemmas.{left_by_store, such_by_bytes, state_is_database, states_are_databases}, specs.Opened.{Database as a_database}}
+use Rattle.moo_files.{specs.Contents.{HoldsSuch, HoldsState, HasAnyTable, IsKept, IsLeftBy}, specs.Remains.{IsCleanRemains, KeepsSuch, StillHolds}, specs.Closing.{IsLeftOf, IsClosedFrom}, specs.declared.remains.Remains.{Remains}, specs.Stop.{AreNumbered}, proofs.RemainsLemmas.{keeps_more}, proofs.StopLemmas.{left_by_store, such_by_bytes}, specs.Opened.{Database as a_database}}
 use Rattle.moo_files.specs.declared.remains.Remains.TheVariants as remains
 
 later_false : (a b : Bool) → (a || b) ≡ false → b ≡ false
@@ -23,12 +23,6 @@ same_untouched image next (inr same) = same
 -- a task that doesn't begin anew is on a file
 on_file : (task : Task) → begins_anew task ≡ false → bytes_eq task.file.now (codes ":memory:") ≡ false
 on_file task other = later_false (makes_world task.action) _ other
-
-pub started_map : (task : Task) (image : Image) (given : Given) (From Then : State → Type 0) → ((s : State) → From s → Then s) → Started task image given From → Started task image given Then
-started_map task image given From Then on it = ((λ other s holds. on s (it.0 other s holds)), (λ anew. let begun = it.1 anew in (begun.0, begun.1, on begun.0 begun.2)))
-
-pub started_rows_map : (task : Task) (image : Image) (given : Given) (From Then : Maps → Type 0) → ((rows : Maps) → From rows → Then rows) → StartedRows task image given From → StartedRows task image given Then
-started_rows_map task image given From Then on it = ((λ other rows holds. on rows (it.0 other rows holds)), (λ anew. let begun = it.1 anew in (begun.0, begun.1, on begun.0 begun.2)))
 
 module _ {D : Type 0} {g : Ghosts D} where
   -- what is found after a connection was closed is what a crash might have left before
@@ -63,27 +57,30 @@ kept_rows rows good old new shown (inr moved) =
     subst (LeavesRows new) (one_good shown.tables found.0 rows found.2 (good_within found.0 found.1) shown.shows good) found.3
 
 -- and so it is a database
-kept_is_database : (rows : Maps) → IsGood rows → (old : Trees) → LeavesRows old rows → AreDatabases (IsKept old)
+pub kept_is_database : (rows : Maps) → IsGood rows → (old : Trees) → LeavesRows old rows → AreDatabases (IsKept old)
 kept_is_database rows good old shown new kept =
     let it = kept_rows rows good old new shown kept in
     (schema_of it.tables.version, it.leaves.sound)
 
+-- files that hold a database that was kept, or migrated, hold the rows
+pub kept_held : (image next : Image) (rows : Maps) (holds : HoldsRows image rows) → HoldsSuch (IsKept holds.1.trees) next → HoldsRows next rows
+kept_held image next rows holds still = (holds.0, record { trees = still.trees; holds = still.holds; such = kept_rows rows holds.0 holds.1.trees still.trees holds.1.such still.such })
+
 -- what a crash left of a store holds rows that its batches lead to
-led_on : (store : Database) (rows : Maps) (next : Image) (Next : Maps → Type 0) → ((end : Maps) → HoldsRows next end → Next end) → (batches others : List Batch) → LeavesLed store rows batches others
-    → IsLeftBy store next → (end : Maps) × LeadTo rows end batches others × HoldsRows next end × Next end
+pub led_on : (store : Database) (rows : Maps) (next : Image) (Next : Maps → Type 0) → ((end : Maps) → HoldsRows next end → Next end) → (batches others : List Batch) → LeavesLed store rows batches others
+    → IsLeftBy store next → (end : Maps) × LeadTo rows end batches others × Next end
 led_on store rows next Next goes batches others led left =
     let it = led left.trees left.such in
-    let holds : HoldsRows next it.2 = (it.3, record { trees = left.trees; holds = left.holds; such = it.5 }) in
-    (it.2, (it.0, it.1, it.4), holds, goes it.2 holds)
+    (it.2, (it.0, it.1, it.4), goes it.2 (it.3, record { trees = left.trees; holds = left.holds; such = it.5 }))
 
 module _ {D : Type 0} {g : Ghosts D} where
   -- it started from the state that the file held, or from one that it may begin with
-  ran_from : (task : Task) (image : Image) (conn : Held (FileStore D g)) (run : Run) (After : State → Type 0)
+  pub ran_from : (task : Task) (image : Image) (conn : Held (FileStore D g)) (run : Run) (After : State → Type 0)
       → HasCleanDisk (file_state conn) → RanOver task image conn run → ((s : State) → RanFrom task s conn run → After s) → Started task image run.given After
   ran_from task image conn run After clean it after = ((λ other s holds. after s ((it.over other (a_database holds.trees) holds.holds clean).state s holds.such)), (λ anew. let begun = it.anew anew in (state_of begun.0, begun.1.world, after (state_of begun.0) (unled _ _ _ _ _ _ _ begun.2))))
 
   -- the same of rows
-  rows_from : (task : Task) (image : Image) (conn : Held (FileStore D g)) (run : Run) (After : Maps → Type 0)
+  pub rows_from : (task : Task) (image : Image) (conn : Held (FileStore D g)) (run : Run) (After : Maps → Type 0)
       → HasCleanDisk (file_state conn) → RanOver task image conn run → ((rows : Maps) → RunsRows task rows conn run → After rows) → StartedRows task image run.given After
   rows_from task image conn run After clean it after = ((λ other rows holds. after rows ((it.over other (a_database holds.1.trees) holds.1.holds clean).rows rows holds.0 holds.1.such)), (λ anew. let begun = it.anew anew in (begun.0, begun.1, after begun.0 begun.2)))
 
@@ -136,32 +133,17 @@ module _ {T D : Type 0} {g : Ghosts D} where
   was_numbered (remains.Connection conn) now (rest, is, copied, closes) clean = (closes (subst IsCleanRemains is clean)).2
   was_numbered was now is clean = tt
 
+  -- the disk was clean before the closing, if it is after it
+  pub early_clean : (was now : Remains T D g) → IsClosedFrom was now → IsCleanRemains now → IsCleanRemains was
+  early_clean (remains.Leftover rest) now is clean = subst IsCleanRemains is clean
+  early_clean (remains.Connection conn) now (rest, is, copied, closes) clean = (closes (subst IsCleanRemains is clean)).0
+  early_clean was now is clean = tt
+
   -- files whose words were refused keep their state
   pub refused_left : (words : List (List ℕ)) (image : Image) (rest : Remains T D g) (run : Run)
       → RunsOver words image (variant.Refused rest) run → (s : State) → HoldsState image s → IsCleanRemains rest → StillHolds image rest s
   refused_left words image rest run (inl (task, named, alone, runs, it)) s holds clean = (refused_file task image rest run it).left s holds clean
   refused_left words image rest run (inr (some, rests, usage, none)) s holds clean = absurd none
-
-  pub crashes_to : (words : List (List ℕ)) (image : Image) (ends : Ends T D g) (run : Run) (next : Image) (Next : State → Type 0)
-      → RunsOver words image ends run → ((t : State) → HoldsState next t → Next t) → CrashesTo words image ends run next Next
-  crashes_to words image (variant.Ran conn) run next Next (inl (task, named, alone, runs, it)) goes = λ clean. (
-    task,
-    named,
-    ran_from task image conn run _ clean (ran_file task image conn run it)
-        (λ s run. (
-          run,
-          λ left.
-              let lies = held_after (file_state conn) run.end next left.trees (run.crash clean) left.such left.holds in
-              (lies.0, lies.1, lies.2, goes lies.0 lies.2),
-        )),
-  )
-  crashes_to words image (variant.Ran conn) run next Next (inr (some, rests, usage, none)) goes = absurd none
-  crashes_to words image (variant.Refused rest) run next Next over goes = λ clean s holds left.
-      let still = still_such (λ trees. LeavesState trees s) image rest next (refused_left words image rest run over s holds clean) holds left in
-      (still, goes s still)
-  crashes_to words image (variant.NoFile start) run next Next over goes = λ clean s holds same.
-      let still = subst (λ it. HoldsState it s) (sym same) holds in
-      (still, goes s still)
 
   -- files whose words were refused keep their rows
   pub refused_rows : (words : List (List ℕ)) (image : Image) (rest : Remains T D g) (run : Run)
@@ -173,108 +155,3 @@ module _ {T D : Type 0} {g : Ghosts D} where
     | inr other ↦ ((refused_file task image rest run it).over other (a_database holds.1.trees) holds.1.holds clean).kept
   ]
   refused_rows words image rest run (inr (some, rests, usage, none)) rows holds clean = absurd none
-
-  -- what a crash left of files that kept their database holds the rows
-  pub still_rows : (image : Image) (rest : Remains T D g) (next : Image) (rows : Maps) (holds : HoldsRows image rows) → KeepsSuch (IsKept holds.1.trees) image rest → IsLeftAfter image rest next → HoldsRows next rows
-  still_rows image rest next rows holds keeps left =
-      let still = still_such (IsKept holds.1.trees) image rest next keeps (record { trees = holds.1.trees; holds = holds.1.holds; such = inl refl }) left in
-      (holds.0, record { trees = still.trees; holds = still.holds; such = kept_rows rows holds.0 holds.1.trees still.trees holds.1.such still.such })
-
-  -- and so does any that is found of them
-  pub rows_after : (image : Image) (rest : Remains T D g) (next : Image) (rows : Maps) (holds : HoldsRows image rows) → IsCleanRemains rest → AreNumbered rest → KeepsSuch (IsKept holds.1.trees) image rest → IsFoundOf image rest next
-      → HoldsRows next rows
-  rows_after image rest next rows holds clean numbered keeps found =
-      let sound = kept_is_database rows holds.0 holds.1.trees holds.1.such in
-      let still = such_after (IsKept holds.1.trees) image rest next sound clean numbered keeps (record { trees = holds.1.trees; holds = holds.1.holds; such = inl refl }) found in
-      (holds.0, record { trees = still.trees; holds = still.holds; such = kept_rows rows holds.0 holds.1.trees still.trees holds.1.such still.such })
-
-  pub leads_on : (words : List (List ℕ)) (image : Image) (ends : Ends T D g) (run : Run) (next : Image) (Next : Maps → Type 0)
-      → RunsOver words image ends run → ((rows : Maps) → HoldsRows next rows → Next rows) → LeadsOn words image ends run next Next
-  leads_on words image (variant.Ran conn) run next Next (inl (task, named, alone, runs, it)) goes = λ clean. (
-    task,
-    named,
-    rows_from task image conn run _ clean (ran_file task image conn run it)
-        (λ rows run. runs_when _ _ _ _ _ _ _ _ _ _ (λ clean. clean) (λ end clean crash. crash) (λ batches others clean led. led_on (file_state conn) rows next Next goes batches others led) run),
-  )
-  leads_on words image (variant.Ran conn) run next Next (inr (some, rests, usage, none)) goes = absurd none
-  leads_on words image (variant.Refused rest) run next Next over goes = λ clean rows holds left.
-      let still = still_rows image rest next rows holds (refused_rows words image rest run over rows holds clean) left in
-      (still, goes rows still)
-  leads_on words image (variant.NoFile start) run next Next over goes = λ clean rows holds same.
-      let still = subst (λ it. HoldsRows it rows) (sym same) holds in
-      (still, goes rows still)
-
-  -- what is closed leads on as it did
-  pub closes_by : (words : List (List ℕ)) (image : Image) (ends : Ends T D g) (closed : Remains T D g) (run : Run) (next : Image) (Next : State → Type 0)
-      → RunsOver words image ends run → IsClosedEnd ends closed → ((t : State) → HoldsState next t → Next t) → ClosesTo words image closed run next Next
-  closes_by words image (variant.Ran conn) closed run next Next over (rest, is, copied, closes) goes = (
-    variant.Ran conn,
-    over,
-    (rest, is, copied, closes),
-    λ clean.
-        let both = closes (subst IsCleanRemains is clean) in
-        let ran = crashes_to words image (variant.Ran conn) run next Next over goes both.0 in (
-          ran.0,
-          ran.1,
-          started_map ran.0 image run.given _ _ (λ s run. (
-            run.0,
-            λ found.
-                let sound = states_are_databases (file_state conn) run.0.end (run.0.crash both.0) in
-                run.1 (found_left T (file_state conn) rest next sound (subst IsCleanRemains is clean) both.1 (subst (λ it. IsFoundIn it next) is found)),
-          )) ran.2,
-        ),
-  )
-  closes_by words image (variant.Refused was) closed run next Next over from goes = (
-    variant.Refused was,
-    over,
-    from,
-    λ clean s holds found.
-        let kept = keeps_closed (λ trees. LeavesState trees s) image was closed from (refused_left words image was run over s holds) clean in
-        let still = such_after (λ trees. LeavesState trees s) image closed next (state_is_database s) clean (closed_numbered was closed from) kept holds found in
-        (still, goes s still),
-  )
-  closes_by words image (variant.NoFile start) closed run next Next over is goes = (
-    variant.NoFile start,
-    over,
-    is,
-    λ clean s holds found.
-        let still = subst (λ it. HoldsState it s) (sym (same_untouched image next (subst (λ it. IsFoundOf image it next) is found))) holds in
-        (still, goes s still),
-  )
-
-  pub closes_by_rows : (words : List (List ℕ)) (image : Image) (ends : Ends T D g) (closed : Remains T D g) (run : Run) (next : Image) (Next : Maps → Type 0)
-      → RunsOver words image ends run → IsClosedEnd ends closed → ((rows : Maps) → HoldsRows next rows → Next rows) → ClosesOn words image closed run next Next
-  closes_by_rows words image (variant.Ran conn) closed run next Next over (rest, is, copied, closes) goes = (
-    variant.Ran conn,
-    over,
-    (rest, is, copied, closes),
-    λ clean.
-        let both = closes (subst IsCleanRemains is clean) in
-        let ran = leads_on words image (variant.Ran conn) run next Next over goes both.0 in (
-          ran.0,
-          ran.1,
-          started_rows_map ran.0 image run.given _ _
-              (λ rows run. runs_when _ _ _ _ _ _ _ _ _ _ (λ clean. clean) (λ end clean crash. crash)
-              (λ batches others sure led found.
-              let sound = states_are_databases (file_state conn) run.end (run.crash both.0) in
-              led (found_left T (file_state conn) rest next sound (subst IsCleanRemains is clean) both.1 (subst (λ it. IsFoundIn it next) is found))) run)
-              ran.2,
-        ),
-  )
-  closes_by_rows words image (variant.Refused was) closed run next Next over from goes = (
-    variant.Refused was,
-    over,
-    from,
-    λ clean rows holds found.
-        let kept = keeps_closed (IsKept holds.1.trees) image was closed from (refused_rows words image was run over rows holds) clean in
-        let still = rows_after image closed next rows holds clean (closed_numbered was closed from) kept found in
-        (still, goes rows still),
-  )
-  closes_by_rows words image (variant.NoFile start) closed run next Next over is goes = (
-    variant.NoFile start,
-    over,
-    is,
-    λ clean rows holds found.
-        let still = subst (λ it. HoldsRows it rows) (sym (same_untouched image next (subst (λ it. IsFoundOf image it next) is found))) holds in
-        (still, goes rows still),
-  )

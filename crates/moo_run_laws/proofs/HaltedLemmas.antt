@@ -3,12 +3,12 @@ use Rattle.std.proofs.Common.{◌≡◌, ◌⊎◌, inl, inr, Bool, true, false,
 use Rattle.sqlite_disk.specs.declared.Disk.{Ghosts}
 use Rattle.sqlite_store.specs.declared.store.FileStore.{FileStore}
 use Rattle.sqlite_wal.specs.Recovery.{Image}
-use Rattle.sqlite.{specs.Held.{Held}, specs.declared.file.Leftover.{Leftover}}
+use Rattle.sqlite.{specs.Held.{Held}, specs.Files.{file_state}, specs.declared.file.Leftover.{Leftover}}
 use Rattle.sqlite.specs.declared.file.Leftover.TheVariants as left
-use Rattle.moo_files.{specs.Closing.{IsClosedAs, IsClosedFrom}, specs.Remains.{IsCleanRemains}, specs.Stop.{KeepsTreesNumbered, DiskLeaves}, specs.declared.remains.Remains.{Remains}}
+use Rattle.moo_files.{specs.Contents.{IsLeftBy}, specs.Closing.{IsClosedAs, IsClosedFrom}, specs.Remains.{IsCleanRemains}, specs.Stop.{KeepsTreesNumbered, DiskLeaves}, specs.declared.remains.Remains.{Remains}}
 use Rattle.moo_files.specs.declared.remains.Remains.TheVariants as remains
 use Rattle.moo_run.{specs.Ends.{IsClosedEnd}, specs.declared.ends.Ends.{Ends}}
-use Rattle.moo_run_laws.{specs.Again.{IfRan, IsFoundIn, IsFoundOf}, specs.FileRuns.{FileRun, IsFileRun, Follows, GoesTo, GoesToRows, ServesTo, GoesOnFrom, GoesOnFromRows}, specs.Halted.{ClosedLeaves, EndLeaves}}
+use Rattle.moo_run_laws.{specs.Again.{IfRan, IsFoundIn, IsFoundOf}, specs.FileRuns.{FileRun}, specs.Twice.{RunsTwice}, specs.Halted.{ClosedLeaves, EndLeaves, HaltsBefore}}
 use Rattle.moo_run.specs.declared.session.Runs as Runs
 use Rattle.moo_run.specs.declared.ends.Ends.TheVariants as variant
 
@@ -32,18 +32,25 @@ module _ {T D : Type 0} {g : Ghosts D} where
 
   -- what the disk leaves at the end of a run may be found after it
   pub end_found : (image : Image) (ends : Ends T D g) (closed : Remains T D g) (next : Image) → IsClosedEnd ends closed → IsCleanRemains closed → EndLeaves image ends closed next
-      → IfRan ends (λ conn. DiskLeaves conn next ⊎ IsFoundIn closed next) (λ rest. IsFoundOf image rest next ⊎ IsFoundOf image closed next)
-  end_found image (variant.Ran conn) closed next is clean bytes = inr (closed_found image conn closed next is clean bytes)
+      → IfRan ends (λ conn. IsLeftBy (file_state conn) next ⊎ (DiskLeaves conn next ⊎ IsFoundIn closed next)) (λ rest. IsFoundOf image rest next ⊎ IsFoundOf image closed next)
+  end_found image (variant.Ran conn) closed next is clean bytes = inr (inr (closed_found image conn closed next is clean bytes))
   end_found image ends closed next is clean bytes = inr (inl bytes)
 
-module _ {S T D N U E : Type 0} {g : Runs.Ghosts S T D} {disk : Ghosts D} {h : Runs.Ghosts N U E} {other : Ghosts E} where
-  -- what the law of the program says of a run that came to a stop and of the next one
-  pub goes_on : ((first : FileRun g disk) (next : FileRun h other) → Follows first next → GoesTo first (GoesOnFrom next))
-      → ((first : FileRun g disk) (next : FileRun h other) → Follows first next → GoesToRows first (GoesOnFromRows next))
-      → ((first : FileRun g disk) (next : FileRun h other) → Follows first next → ServesTo first (GoesOnFrom next))
-      → (first : FileRun g disk) (next : FileRun h other) → IsFileRun first → IsFileRun next → IsCleanRemains first.closed → EndLeaves first.image first.ends first.closed next.image
-      → GoesTo first (GoesOnFrom next) × GoesToRows first (GoesOnFromRows next) × ServesTo first (GoesOnFrom next)
-  goes_on state rows served first next ran then clean bytes =
-      let found = end_found first.image first.ends first.closed next.image ran.1 clean bytes in
-      let follows : Follows first next = (ran, then, clean, found) in
-      (state first next follows, rows first next follows, served first next follows)
+module _ {S T D N U E : Type 0} (g : Runs.Ghosts S T D) {disk : Ghosts D} (h : Runs.Ghosts N U E) {other : Ghosts E} where
+  -- two runs of which the first comes to a stop
+  pub halts_before : (Began : S → Type 0) (run_by : S → Ends T D disk → FileRun g disk) (next_by : Ends U E other → FileRun h other)
+      → (began : S) → Began began → RunsTwice g h (run_by began) next_by → HaltsBefore g h Began run_by next_by
+  halts_before Began run_by next_by began is (ends, next_ends, (closed, then, goes)) = (
+    began,
+    is,
+    ends,
+    next_ends,
+    (
+      closed,
+      then,
+      λ clean bytes.
+          let first = run_by began ends in
+          let next = next_by next_ends in
+          goes clean (end_found first.image first.ends first.closed next.image closed.1 clean bytes),
+    ),
+  )

@@ -1,11 +1,12 @@
 -- From a run over a file to the run over what is found after it.
-use Rattle.moo_run.{proofs.Words.{◌≡◌, ◌⊎◌, inl, inr, ℕ, false, List, codes, sym, subst, ⊤, false_from_ne_true, ◌||◌, bytes_eq, Ghosts, Image, HasCleanDisk, Held, file_state, Maps, State, state_of, Stand, CrashLeaves, LeavesState, Leads, Task, Run, makes_world, begins_anew, Done, StopsTask, HoldsRows, RanFrom, RunsFrom, RunsOver, IsClosedEnd, Failure}, proofs.Connections.{runs_when}, specs.declared.ends.Ends.{Ends}}
-use Rattle.moo_run_laws.{specs.Again.{Started, StartedRows, LeadTo, IfRan, IsFoundOf, IsFoundIn}, specs.FileRuns.{ServedTo}, proofs.AgainLemmas.{started_map, started_rows_map, found_left, ran_file, refused_left, refused_rows, such_after, rows_after, closed_numbered, was_numbered, same_untouched, crashes_to, leads_on}, proofs.Stopped.{left_at_end, early_clean}}
+use Rattle.moo_run.{proofs.Words.{◌≡◌, ◌⊎◌, inl, inr, ℕ, false, List, codes, refl, sym, subst, ⊤, false_from_ne_true, ◌||◌, bytes_eq, Ghosts, Image, HasCleanDisk, Held, file_state, Maps, State, state_of, Stand, CrashLeaves, LeavesState, Leads, Task, Run, makes_world, begins_anew, Done, StopsTask, HoldsRows, RanFrom, RunsFrom, RunsOver, IsClosedEnd, Failure}, proofs.Connections.{runs_when}, specs.declared.ends.Ends.{Ends}}
+use Rattle.moo_run_laws.{specs.Again.{Started, StartedRows, LeadTo, IfRan, IsLeftAfter, IsFoundOf, IsFoundIn}, specs.FileRuns.{ServedTo}, proofs.AgainLemmas.{found_left, led_on, ran_from, rows_from, ran_file, refused_left, refused_rows, still_such, such_after, kept_held, kept_is_database, closed_numbered, was_numbered, early_clean, same_untouched}}
 use Rattle.moo_run.specs.declared.ends.Ends.TheVariants as variant
 use Rattle.sqlite_store.specs.declared.store.FileStore.{FileStore}
+use Rattle.sqlite.{specs.Tree.{Trees}, specs.Held.{AreDatabases}}
 use Rattle.moo_store.specs.Stand.{MayLeave}
 use Rattle.moo_cli.{specs.Tasks.{NamesTask}, specs.declared.task.Action.TheVariants.{Serve}, specs.declared.task.Service.{Service}}
-use Rattle.moo_files.{specs.Contents.{HoldsState, IsKept, IsLeftBy}, specs.Remains.{IsCleanRemains}, specs.Stop.{DiskLeaves}, specs.Closing.{IsClosedFrom}, specs.Opened.{Database as a_database}, specs.declared.remains.Remains.{Remains}, proofs.AgainLemmas.{held_after}, proofs.RemainsLemmas.{keeps_closed}, proofs.StopLemmas.{state_is_database, states_are_databases}}
+use Rattle.moo_files.{specs.Contents.{HoldsSuch, HoldsState, IsKept, IsLeftBy}, specs.Remains.{IsCleanRemains, KeepsSuch}, specs.Stop.{DiskLeaves}, specs.Opened.{Database as a_database}, specs.declared.remains.Remains.{Remains}, proofs.AgainLemmas.{held_after}, proofs.RemainsLemmas.{keeps_closed}, proofs.StopLemmas.{left_by_disk, state_is_database, states_are_databases}}
 use Rattle.moo_files.specs.declared.remains.Remains.TheVariants as remains
 
 -- ---- a service
@@ -37,88 +38,102 @@ serves_found task service is other = subst (λ action. (makes_world action || by
 -- ---- the next image
 
 module _ {T D : Type 0} {g : Ghosts D} where
-  -- what may be found after a run
-  abbrev pub FoundAfter : Image → Ends T D g → Remains T D g → Image → Type 0
-  FoundAfter image ends closed next = IfRan ends (λ conn. DiskLeaves conn next ⊎ IsFoundIn closed next) (λ rest. IsFoundOf image rest next ⊎ IsFoundOf image closed next)
+  -- what may be found after a run, on a disk that returned what was written
+  abbrev pub Found : Image → Ends T D g → Remains T D g → Image → Type 0
+  Found image ends closed next =
+      IfRan ends (λ conn. HasCleanDisk (file_state conn) × IsLeftBy (file_state conn) next) (λ rest. IsCleanRemains rest × IsLeftAfter image rest next)
+      ⊎ (IsClosedEnd ends closed × IsCleanRemains closed
+      × IfRan ends (λ conn. IsLeftBy (file_state conn) next ⊎ (DiskLeaves conn next ⊎ IsFoundIn closed next)) (λ rest. IsFoundOf image rest next ⊎ IsFoundOf image closed next))
 
-  -- if a task ran over the file, it is a database that the connection may leave
-  left_of : (conn : Held (FileStore D g)) (closed : Remains T D g) (end : Stand) (next : Image) → IsClosedFrom (remains.Connection conn) closed → IsCleanRemains closed → CrashLeaves (file_state conn) end
-      → DiskLeaves conn next ⊎ IsFoundIn closed next → IsLeftBy (file_state conn) next
-  left_of conn closed end next (rest, is, copied, closes) clean leaves (inl lies) =
+  -- if a task ran over the file, its disk was clean
+  found_clean : (image : Image) (conn : Held (FileStore D g)) (closed : Remains T D g) (next : Image) → Found image (variant.Ran conn) closed next → HasCleanDisk (file_state conn)
+  found_clean image conn closed next (inl crash) = crash.0
+  found_clean image conn closed next (inr (from, clean, found)) = early_clean (remains.Connection conn) closed from clean
+
+  -- and it is a database that the connection may leave
+  left_of : (image : Image) (conn : Held (FileStore D g)) (closed : Remains T D g) (end : Stand) (next : Image) → CrashLeaves (file_state conn) end → Found image (variant.Ran conn) closed next → IsLeftBy (file_state conn) next
+  left_of image conn closed end next leaves (inl crash) = crash.1
+  left_of image conn closed end next leaves (inr (from, clean, inl left)) = left
+  left_of image conn closed end next leaves (inr ((rest, is, copied, closes), clean, inr (inl lies))) =
       let both = closes (subst IsCleanRemains is clean) in
-      left_at_end conn end next both.0 both.2 leaves lies
-  left_of conn closed end next (rest, is, copied, closes) clean leaves (inr found) =
+      left_by_disk conn next both.0 both.2 (states_are_databases (file_state conn) end leaves) lies
+  left_of image conn closed end next leaves (inr ((rest, is, copied, closes), clean, inr (inr found))) =
       let both = closes (subst IsCleanRemains is clean) in
       found_left T (file_state conn) rest next (states_are_databases (file_state conn) end leaves) (subst IsCleanRemains is clean) both.1 (subst (λ it. IsFoundIn it next) is found)
 
-  clean_before : (conn : Held (FileStore D g)) (closed : Remains T D g) → IsClosedFrom (remains.Connection conn) closed → IsCleanRemains closed → HasCleanDisk (file_state conn)
-  clean_before conn closed from clean = early_clean (remains.Connection conn) closed from clean
+  -- if the words were refused and the files kept such a database, it holds such a one
+  still_found : (P : Trees → Type 0) (image : Image) (was closed : Remains T D g) (next : Image) → AreDatabases P → (IsCleanRemains was → KeepsSuch P image was) → HoldsSuch P image → Found image (variant.Refused was) closed next
+      → HoldsSuch P next
+  still_found P image was closed next sound keeps holds (inl (clean, left)) = still_such P image was next (keeps clean) holds left
+  still_found P image was closed next sound keeps holds (inr (from, clean, inl found)) =
+      let early = early_clean was closed from clean in
+      such_after P image was next sound early (was_numbered was closed from clean) (keeps early) holds found
+  still_found P image was closed next sound keeps holds (inr (from, clean, inr found)) =
+      such_after P image closed next sound clean (closed_numbered was closed from) (keeps_closed P image was closed from keeps clean) holds found
+
+  -- if no file was opened, it is as it was
+  same_found : (image : Image) (start : T) (closed : Remains T D g) (next : Image) → Found image (variant.NoFile start) closed next → next ≡ image
+  same_found image start closed next (inl crash) = crash.1
+  same_found image start closed next (inr (is, clean, inl found)) = same_untouched image next found
+  same_found image start closed next (inr (is, clean, inr found)) = same_untouched image next (subst (λ it. IsFoundOf image it next) is found)
 
   -- ---- the next run
 
   pub goes_by : (words : List (List ℕ)) (image : Image) (ends : Ends T D g) (closed : Remains T D g) (run : Run) (next : Image) (Then : State → Type 0)
-      → RunsOver words image ends run → IsClosedEnd ends closed → IsCleanRemains closed → FoundAfter image ends closed next → ((t : State) → HoldsState next t → Then t)
+      → RunsOver words image ends run → Found image ends closed next → ((t : State) → HoldsState next t → Then t)
       → IfRan ends (λ conn. (task : Task) × NamesTask words task × Started task image run.given (λ s. (ran : RanFrom task s conn run) × (t : State) × MayLeave ran.end t × Then t))
       (λ rest. (s : State) → HoldsState image s → Then s)
-  goes_by words image (variant.Ran conn) closed run next Then over from clean found goes =
-      let early = clean_before conn closed from clean in
-      let ran = crashes_to words image (variant.Ran conn) run next Then over goes early in (
-        ran.0,
-        ran.1,
-        started_map ran.0 image run.given _ _ (λ s it. let lies = it.1 (left_of conn closed it.0.end next from clean (it.0.crash early) found) in (it.0, lies.0, lies.1, lies.3)) ran.2,
+  goes_by words image (variant.Ran conn) closed run next Then (inl (task, named, alone, runs, it)) found goes =
+      let early = found_clean image conn closed next found in (
+        task,
+        named,
+        ran_from task image conn run _ early (ran_file task image conn run it)
+            (λ s ran.
+            let left = left_of image conn closed ran.end next (ran.crash early) found in
+            let lies = held_after (file_state conn) ran.end next left.trees (ran.crash early) left.such left.holds in
+            (ran, lies.0, lies.1, goes lies.0 lies.2)),
       )
-  goes_by words image (variant.Refused was) closed run next Then over from clean (inl found) goes = λ s holds.
-      let early = early_clean was closed from clean in
-      let kept = refused_left words image was run over s holds early in
-      goes s (such_after (λ trees. LeavesState trees s) image was next (state_is_database s) early (was_numbered was closed from clean) kept holds found)
-  goes_by words image (variant.Refused was) closed run next Then over from clean (inr found) goes = λ s holds.
-      let kept = keeps_closed (λ trees. LeavesState trees s) image was closed from (refused_left words image was run over s holds) clean in
-      goes s (such_after (λ trees. LeavesState trees s) image closed next (state_is_database s) clean (closed_numbered was closed from) kept holds found)
-  goes_by words image (variant.NoFile start) closed run next Then over is clean (inl found) goes = λ s holds. goes s (subst (λ it. HoldsState it s) (sym (same_untouched image next found)) holds)
-  goes_by words image (variant.NoFile start) closed run next Then over is clean (inr found) goes = λ s holds.
-      goes s (subst (λ it. HoldsState it s) (sym (same_untouched image next (subst (λ it. IsFoundOf image it next) is found))) holds)
+  goes_by words image (variant.Ran conn) closed run next Then (inr (some, rests, usage, none)) found goes = absurd none
+  goes_by words image (variant.Refused was) closed run next Then over found goes = λ s holds.
+      goes s (still_found (λ trees. LeavesState trees s) image was closed next (state_is_database s) (refused_left words image was run over s holds) holds found)
+  goes_by words image (variant.NoFile start) closed run next Then over found goes = λ s holds. goes s (subst (λ it. HoldsState it s) (sym (same_found image start closed next found)) holds)
 
   pub goes_by_rows : (words : List (List ℕ)) (image : Image) (ends : Ends T D g) (closed : Remains T D g) (run : Run) (next : Image) (Then : Maps → Type 0)
-      → RunsOver words image ends run → IsClosedEnd ends closed → IsCleanRemains closed → FoundAfter image ends closed next → ((rows : Maps) → HoldsRows next rows → Then rows)
+      → RunsOver words image ends run → Found image ends closed next → ((rows : Maps) → HoldsRows next rows → Then rows)
       → IfRan ends (λ conn. (task : Task) × NamesTask words task × StartedRows task image run.given (λ rows.
       RunsFrom task (state_of rows) run (HasCleanDisk (file_state conn)) (CrashLeaves (file_state conn)) (λ batches others. (end : Maps) × LeadTo rows end batches others × Then end) ⊤))
       (λ rest. (rows : Maps) → HoldsRows image rows → Then rows)
-  goes_by_rows words image (variant.Ran conn) closed run next Then over from clean found goes =
-      let early = clean_before conn closed from clean in
-      let ran = leads_on words image (variant.Ran conn) run next Then over goes early in (
-        ran.0,
-        ran.1,
-        started_rows_map ran.0 image run.given _ _
-            (λ rows it. runs_when _ _ _ _ _ _ _ _ _ _ (λ sure. sure) (λ end sure crash. crash)
-            (λ batches others sure led. let lies = led (left_of conn closed it.end next from clean (it.crash early) found) in (lies.0, lies.1, lies.3)) it)
-            ran.2,
+  goes_by_rows words image (variant.Ran conn) closed run next Then (inl (task, named, alone, runs, it)) found goes =
+      let early = found_clean image conn closed next found in (
+        task,
+        named,
+        rows_from task image conn run _ early (ran_file task image conn run it)
+            (λ rows ran. runs_when _ _ _ _ _ _ _ _ _ _ (λ clean. clean) (λ end clean crash. crash)
+            (λ batches others clean led. led_on (file_state conn) rows next Then goes batches others led (left_of image conn closed ran.end next (ran.crash early) found)) ran),
       )
-  goes_by_rows words image (variant.Refused was) closed run next Then over from clean (inl found) goes = λ rows holds.
-      let early = early_clean was closed from clean in
-      goes rows (rows_after image was next rows holds early (was_numbered was closed from clean) (refused_rows words image was run over rows holds early) found)
-  goes_by_rows words image (variant.Refused was) closed run next Then over from clean (inr found) goes = λ rows holds.
-      let kept = keeps_closed (IsKept holds.1.trees) image was closed from (refused_rows words image was run over rows holds) clean in
-      goes rows (rows_after image closed next rows holds clean (closed_numbered was closed from) kept found)
-  goes_by_rows words image (variant.NoFile start) closed run next Then over is clean (inl found) goes = λ rows holds. goes rows (subst (λ it. HoldsRows it rows) (sym (same_untouched image next found)) holds)
-  goes_by_rows words image (variant.NoFile start) closed run next Then over is clean (inr found) goes = λ rows holds.
-      goes rows (subst (λ it. HoldsRows it rows) (sym (same_untouched image next (subst (λ it. IsFoundOf image it next) is found))) holds)
+  goes_by_rows words image (variant.Ran conn) closed run next Then (inr (some, rests, usage, none)) found goes = absurd none
+  goes_by_rows words image (variant.Refused was) closed run next Then over found goes = λ rows holds.
+      goes rows
+      (kept_held image next rows holds
+      (still_found (IsKept holds.1.trees) image was closed next (kept_is_database rows holds.0 holds.1.trees holds.1.such) (refused_rows words image was run over rows holds) (record { trees = holds.1.trees; holds = holds.1.holds; such = inl refl }) found))
+  goes_by_rows words image (variant.NoFile start) closed run next Then over found goes = λ rows holds. goes rows (subst (λ it. HoldsRows it rows) (sym (same_found image start closed next found)) holds)
 
   pub goes_by_service : (words : List (List ℕ)) (image : Image) (ends : Ends T D g) (closed : Remains T D g) (run : Run) (next : Image) (Then : State → Type 0)
-      → RunsOver words image ends run → IsClosedEnd ends closed → IsCleanRemains closed → FoundAfter image ends closed next → ((t : State) → HoldsState next t → Then t)
+      → RunsOver words image ends run → Found image ends closed next → ((t : State) → HoldsState next t → Then t)
       → IfRan ends (λ conn. (task : Task) × NamesTask words task × ((service : Service) → task.action ≡ Serve service → (s : State) → HoldsState image s
       → (end : Stand) × ServedTo run.given.ports service.port s end × (t : State) × MayLeave end t × Then t))
       (λ rest. (s : State) → HoldsState image s → Then s)
-  goes_by_service words image (variant.Ran conn) closed run next Then (inl (task, named, alone, runs, it)) from clean found goes = (
+  goes_by_service words image (variant.Ran conn) closed run next Then (inl (task, named, alone, runs, it)) found goes = (
     task,
     named,
     λ service is s holds.
-        let early = clean_before conn closed from clean in
+        let early = found_clean image conn closed next found in
         let other = serves_found task service is (false_from_ne_true _ it.memory) in
         let ran = ((ran_file task image conn run it).over other (a_database holds.trees) holds.holds early).state s holds.such in
-        let left = left_of conn closed ran.end next from clean (ran.crash early) found in
+        let left = left_of image conn closed ran.end next (ran.crash early) found in
         let lies = held_after (file_state conn) ran.end next left.trees (ran.crash early) left.such left.holds in
         (ran.end, serves_to task service s run _ _ _ _ is ran, lies.0, lies.1, goes lies.0 lies.2),
   )
-  goes_by_service words image (variant.Ran conn) closed run next Then (inr (some, rests, usage, none)) from clean found goes = absurd none
-  goes_by_service words image (variant.Refused was) closed run next Then over from clean found goes = goes_by words image (variant.Refused was) closed run next Then over from clean found goes
-  goes_by_service words image (variant.NoFile start) closed run next Then over is clean found goes = goes_by words image (variant.NoFile start) closed run next Then over is clean found goes
+  goes_by_service words image (variant.Ran conn) closed run next Then (inr (some, rests, usage, none)) found goes = absurd none
+  goes_by_service words image (variant.Refused was) closed run next Then over found goes = goes_by words image (variant.Refused was) closed run next Then over found goes
+  goes_by_service words image (variant.NoFile start) closed run next Then over found goes = goes_by words image (variant.NoFile start) closed run next Then over found goes

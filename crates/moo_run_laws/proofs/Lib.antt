@@ -1,5 +1,5 @@
 mod AgainLemmas
-mod Stopped
 mod LawLemmas
+mod TwiceLemmas
 pub mod Desks
 mod HaltedLemmas

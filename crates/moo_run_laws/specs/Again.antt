@@ -1,4 +1,4 @@
--- What words do to a file, and the next words to what a crash left of it.
+-- The start of a run over a file, what may be found of the file after the run, and how the next run takes that up.
 use Rattle.std.specs.Prelude.{◌≡◌, ◌<◌, ◌⊎◌, ℕ, ◌≤◌, true, false, List, ◌++◌, take, length, ⊤}
 use Rattle.sqlite_disk.specs.declared.Disk.{Ghosts}
 use Rattle.sqlite_store.specs.declared.store.FileStore.{FileStore}
@@ -12,20 +12,18 @@ use Rattle.sqlite.specs.Files.{file_state, image_of}
 use Rattle.sqlite.specs.declared.file.Leftover.TheVariants as left
 use Rattle.moo_rows.specs.Maps.{Maps}
 use Rattle.moo_world.specs.declared.call.Batch.{Batch}
-use Rattle.moo_world.specs.Judge.{State, state_of}
-use Rattle.moo_store.specs.Stand.{MayLeave}
+use Rattle.moo_world.specs.Judge.{State}
 use Rattle.moo_store.specs.Led.{BatchesLead}
-use Rattle.moo_store.specs.World.{CrashLeaves}
 use Rattle.moo_files.specs.Contents.{HoldsSuch, HoldsState, HasNoSums, IsLeftBy}
 use Rattle.moo_files.specs.Remains.{IsCleanRemains}
-use Rattle.moo_files.specs.Stop.{DiskLeaves, LeftStoreLeaves, BytesLeave}
+use Rattle.moo_files.specs.Stop.{LeftStoreLeaves, BytesLeave}
 use Rattle.moo_files.specs.declared.remains.Remains.{Remains}
 use Rattle.moo_files.specs.declared.remains.Remains.TheVariants as remains
 use Rattle.moo_cli.specs.declared.task.Task.{Task}
 use Rattle.moo_cli.specs.Tasks.{NamesTask}
 use Rattle.moo_run.specs.Given.{Given, Run}
-use Rattle.moo_run.specs.Run.{begins_anew, BeginsWith, BeginsFrom, RunsFrom, EndsUsage}
-use Rattle.moo_run.specs.Ends.{MatchFile, HasNoFile, HoldsRows, RunsRows, RanFrom, RunsOver, FailsFor, IsClosedEnd}
+use Rattle.moo_run.specs.Run.{begins_anew, BeginsWith, BeginsFrom, EndsUsage}
+use Rattle.moo_run.specs.Ends.{MatchFile, HasNoFile, HoldsRows, RunsRows, RanFrom, FailsFor}
 use Rattle.moo_run.specs.declared.ends.Ends.{Ends}
 use Rattle.moo_run.specs.declared.ends.Ends.TheVariants as variant
 
@@ -85,63 +83,9 @@ module _ {T D : Type 0} {g : Ghosts D} where
   abbrev pub IsFoundOf : Image → Remains T D g → Image → Type 0
   IsFoundOf image rest next = BytesLeave image rest next ⊎ IsLeftAfter image rest next
 
-  -- The words were run beside the file that held this image. If the disk is clean and the next image is what a crash left, that holds a
-  -- state of which `Next` is true: if a task ran over it, from a state to an end, one that this end may leave; if none did, the state that
-  -- the file held.
-  abbrev pub CrashesTo : List (List ℕ) → Image → Ends T D g → Run → Image → (State → Type 0) → Type 0
-  CrashesTo words image ends run next Next = IfRan ends
-      (λ conn. HasCleanDisk (file_state conn) → (task : Task) × NamesTask words task × Started task image run.given (λ s.
-      (ran : RanFrom task s conn run) × (IsLeftBy (file_state conn) next → (t : State) × MayLeave ran.end t × HoldsState next t × Next t)))
-      (λ remains. IsCleanRemains remains → (s : State) → HoldsState image s → IsLeftAfter image remains next → HoldsState next s × Next s)
-
-  -- As `CrashesTo`, of rows. What a crash left holds rows of which `Next` is true: if a task ran over the file, rows to which its batches
-  -- lead from those that it started from, or these and one in which the store failed. What stays keeps its number, and none is given again.
-  -- If no task ran, they are the rows that the file held.
-  abbrev pub LeadsOn : List (List ℕ) → Image → Ends T D g → Run → Image → (Maps → Type 0) → Type 0
-  LeadsOn words image ends run next Next = IfRan ends
-      (λ conn. HasCleanDisk (file_state conn) → (task : Task) × NamesTask words task × StartedRows task image run.given (λ rows.
-      RunsFrom task (state_of rows) run (HasCleanDisk (file_state conn)) (CrashLeaves (file_state conn))
-      (λ batches others. IsLeftBy (file_state conn) next →
-      (end : Maps) × LeadTo rows end batches others × HoldsRows next end × Next end) ⊤))
-      (λ remains. IsCleanRemains remains → (rows : Maps) → HoldsRows image rows → IsLeftAfter image remains next →
-      HoldsRows next rows × Next rows)
-
   -- The image is what the files hold once their connection is closed, or any bytes that the disk leaves of them then. If closing failed, it
   -- is any bytes that the disk leaves of the store that came back, as long as the trees of that are numbered.
   abbrev pub IsFoundIn : Remains T D g → Image → Type 0
   IsFoundIn (remains.Leftover (left.Files now)) next = (next ≡ image_of g now) ⊎ outcomes g now.log now.db next
   IsFoundIn (remains.Leftover (left.Store now)) next = LeftStoreLeaves now next
   IsFoundIn closed next = ⊥
-
-  -- the same, if the file was closed before the next run, with a crash or without one
-  abbrev pub ClosesTo : List (List ℕ) → Image → Remains T D g → Run → Image → (State → Type 0) → Type 0
-  ClosesTo words image closed run next Next = (ends : Ends T D g) × RunsOver words image ends run × IsClosedEnd ends closed × IfRan ends
-      (λ conn. IsCleanRemains closed → (task : Task) × NamesTask words task × Started task image run.given (λ s.
-      (ran : RanFrom task s conn run) × (IsFoundIn closed next → (t : State) × MayLeave ran.end t × HoldsState next t × Next t)))
-      (λ remains. IsCleanRemains closed → (s : State) → HoldsState image s → IsFoundOf image closed next → HoldsState next s × Next s)
-
-  -- As `LeadsOn`, if the file was closed before the next run.
-  abbrev pub ClosesOn : List (List ℕ) → Image → Remains T D g → Run → Image → (Maps → Type 0) → Type 0
-  ClosesOn words image closed run next Next = (ends : Ends T D g) × RunsOver words image ends run × IsClosedEnd ends closed × IfRan ends
-      (λ conn. IsCleanRemains closed → (task : Task) × NamesTask words task × StartedRows task image run.given (λ rows.
-      RunsFrom task (state_of rows) run (HasCleanDisk (file_state conn)) (CrashLeaves (file_state conn))
-      (λ batches others. IsFoundIn closed next → (end : Maps) × LeadTo rows end batches others × HoldsRows next end × Next end) ⊤))
-      (λ remains. IsCleanRemains closed → (rows : Maps) → HoldsRows image rows → IsFoundOf image closed next →
-      HoldsRows next rows × Next rows)
-
-  -- As `CrashesTo`, from the bytes on the disk: the process stopped before the file was closed, be it one that a task ran over or one that
-  -- was refused, and the next image is any that the disk may then leave of the bytes of the two files.
-  abbrev pub StopsTo : List (List ℕ) → Image → Remains T D g → Run → Image → (State → Type 0) → Type 0
-  StopsTo words image closed run next Next = (ends : Ends T D g) × RunsOver words image ends run × IsClosedEnd ends closed × IfRan ends
-      (λ conn. IsCleanRemains closed → (task : Task) × NamesTask words task × Started task image run.given (λ s.
-      (ran : RanFrom task s conn run) × (DiskLeaves conn next → (t : State) × MayLeave ran.end t × HoldsState next t × Next t)))
-      (λ remains. IsCleanRemains closed → (s : State) → HoldsState image s → IsFoundOf image remains next → HoldsState next s × Next s)
-
-  -- As `LeadsOn`, from the bytes on the disk.
-  abbrev pub StopsOn : List (List ℕ) → Image → Remains T D g → Run → Image → (Maps → Type 0) → Type 0
-  StopsOn words image closed run next Next = (ends : Ends T D g) × RunsOver words image ends run × IsClosedEnd ends closed × IfRan ends
-      (λ conn. IsCleanRemains closed → (task : Task) × NamesTask words task × StartedRows task image run.given (λ rows.
-      RunsFrom task (state_of rows) run (HasCleanDisk (file_state conn)) (CrashLeaves (file_state conn))
-      (λ batches others. DiskLeaves conn next → (end : Maps) × LeadTo rows end batches others × HoldsRows next end × Next end) ⊤))
-      (λ remains. IsCleanRemains closed → (rows : Maps) → HoldsRows image rows → IsFoundOf image remains next →
-      HoldsRows next rows × Next rows)

@@ -8,7 +8,7 @@ use Rattle.moo_rows.specs.Maps.{Maps}
 use Rattle.moo_world.specs.Judge.{State, state_of}
 use Rattle.moo_store.specs.Stand.{Stand, Works, MayLeave}
 use Rattle.moo_store.specs.World.{CrashLeaves}
-use Rattle.moo_files.specs.Contents.{HoldsState}
+use Rattle.moo_files.specs.Contents.{HoldsState, IsLeftBy}
 use Rattle.moo_files.specs.Remains.{IsCleanRemains}
 use Rattle.moo_files.specs.Stop.{DiskLeaves}
 use Rattle.moo_files.specs.declared.remains.Remains.{Remains}
@@ -21,7 +21,7 @@ use Rattle.moo_http.specs.Turns.{Attendance}
 use Rattle.moo_run.specs.Given.{Run}
 use Rattle.moo_run.specs.Run.{RunsFrom}
 use Rattle.moo_run.specs.Ends.{HoldsRows, RanFrom, RunsOver, IsClosedEnd}
-use Rattle.moo_run_laws.specs.Again.{Started, StartedRows, LeadTo, IfRan, TakesUp, TakesRows, IsFoundOf, IsFoundIn}
+use Rattle.moo_run_laws.specs.Again.{Started, StartedRows, LeadTo, IfRan, TakesUp, TakesRows, IsLeftAfter, IsFoundOf, IsFoundIn}
 use Rattle.moo_run.specs.declared.ends.Ends.{Ends}
 use Rattle.moo_run.specs.declared.session.Runs as Runs
 
@@ -47,17 +47,28 @@ module _ {S T D : Type 0} {g : Runs.Ghosts S T D} {disk : Ghosts D} where
   abbrev pub run_of : FileRun g disk → Run
   run_of r = g.run r.began r.ended
 
-  -- The words ran over files that held that image, and then the file was closed.
+  -- the words ran over files that held that image
   abbrev pub IsFileRun : FileRun g disk → Type 0
-  IsFileRun r = RunsOver r.words r.image r.ends (run_of r) × IsClosedEnd r.ends r.closed
+  IsFileRun r = RunsOver r.words r.image r.ends (run_of r)
 
-  -- What may be found after it: any bytes that the disk leaves if the run is stopped before the file is closed; or what the closed file
-  -- holds, or any bytes that the disk leaves of it. If no task ran over the file: any bytes that the disk leaves of it, or what a crash
-  -- leaves, before it is closed or after that.
+  -- What may be found after it: what a crash leaves, or any bytes that the disk leaves, if the run is stopped before the file is closed; or
+  -- what the closed file holds, or any bytes that the disk leaves of it. If no task ran over the file: any bytes that the disk leaves of it,
+  -- or what a crash leaves, before it is closed or after that.
   abbrev pub IsFoundAfter : FileRun g disk → Image → Type 0
   IsFoundAfter r next = IfRan r.ends
-      (λ conn. DiskLeaves conn next ⊎ IsFoundIn r.closed next)
+      (λ conn. IsLeftBy (file_state conn) next ⊎ (DiskLeaves conn next ⊎ IsFoundIn r.closed next))
       (λ rest. IsFoundOf r.image rest next ⊎ IsFoundOf r.image r.closed next)
+
+  -- what a crash leaves before the file is closed, if the disk returned until then what was written
+  abbrev pub IsLeftByCrash : FileRun g disk → Image → Type 0
+  IsLeftByCrash r next = IfRan r.ends
+      (λ conn. HasCleanDisk (file_state conn) × IsLeftBy (file_state conn) next)
+      (λ rest. IsCleanRemains rest × IsLeftAfter r.image rest next)
+
+  -- What may be found of it on a disk that returned what was written: until a crash, what that leaves; until the file was closed, whatever
+  -- may be found after the run.
+  abbrev pub IsFoundOnCleanDisk : FileRun g disk → Image → Type 0
+  IsFoundOnCleanDisk r next = IsLeftByCrash r next ⊎ (IsClosedEnd r.ends r.closed × IsCleanRemains r.closed × IsFoundAfter r next)
 
   -- It leads its file to a state of which this is true. If a task ran over the file, from the state that the file held or from a new world
   -- to an end: to one that this end may leave. If none did: to the state that the file held.
@@ -94,6 +105,13 @@ module _ {S T D : Type 0} {g : Runs.Ghosts S T D} {disk : Ghosts D} where
   GoesOnFromRows r rows = HoldsRows r.image rows × TakesRows r.words rows r.ends (run_of r)
 
 module _ {S T D N U E : Type 0} {g : Runs.Ghosts S T D} {disk : Ghosts D} {h : Runs.Ghosts N U E} {other : Ghosts E} where
-  -- Two runs of the program, the second over what is found after the first. The disk of the first returned what was written.
+  -- two runs of the program, the second over what is found after the first
   abbrev pub Follows : FileRun g disk → FileRun h other → Type 0
-  Follows first next = IsFileRun first × IsFileRun next × IsCleanRemains first.closed × IsFoundAfter first next.image
+  Follows first next = IsFileRun first × IsFileRun next × IsFoundOnCleanDisk first next.image
+
+  -- The first run leads its file to a state from which the next one goes on, and to such rows; and if it serves, to a state to which the
+  -- connections led.
+  pub record HandsOver (first : FileRun g disk) (next : FileRun h other) : Type 0 where
+    pub state : GoesTo first (GoesOnFrom next)
+    pub numbers : GoesToRows first (GoesOnFromRows next)
+    pub served : ServesTo first (GoesOnFrom next)

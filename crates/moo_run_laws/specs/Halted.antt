@@ -1,5 +1,5 @@
 -- The law of a run that comes to a stop at any call.
-use Rattle.std.specs.Prelude.{◌≡◌, ◌⊎◌, IsTrue, false, ℕ, List}
+use Rattle.std.specs.Prelude.{◌≡◌, ◌⊎◌, IsTrue, false}
 use Rattle.sqlite_disk.specs.declared.Disk.{Ghosts}
 use Rattle.sqlite_store.specs.declared.store.FileStore.{FileStore}
 use Rattle.sqlite_store.specs.FileStore.{view, recovers}
@@ -12,7 +12,8 @@ use Rattle.moo_files.specs.Stop.{StoreLeaves, BytesLeave}
 use Rattle.moo_files.specs.declared.remains.Remains.{Remains}
 use Rattle.moo_files.specs.declared.remains.Remains.TheVariants as remains
 use Rattle.moo_run_laws.specs.Again.{IfRan}
-use Rattle.moo_run_laws.specs.FileRuns.{FileRun, IsFileRun, GoesTo, GoesToRows, ServesTo, GoesOnFrom, GoesOnFromRows}
+use Rattle.moo_run_laws.specs.FileRuns.{FileRun, HandsOver}
+use Rattle.moo_run_laws.specs.Twice.{EndsClosed}
 use Rattle.moo_run.specs.declared.ends.Ends.{Ends}
 use Rattle.moo_run.specs.declared.session.Runs as Runs
 
@@ -33,13 +34,11 @@ module _ {T D : Type 0} {g : Ghosts D} where
   abbrev pub EndLeaves : Image → Ends T D g → Remains T D g → Image → Type 0
   EndLeaves image ends closed next = IfRan ends (λ conn. ClosedLeaves image conn closed next) (λ rest. BytesLeave image closed next)
 
-module _ {S T D N U E : Type 0} (g : Runs.Ghosts S T D) {disk : Ghosts D} {h : Runs.Ghosts N U E} {other : Ghosts E} where
-  -- The words ran over files that held this image, from such a session to this one, and came to a stop. The disk returned what was written,
-  -- and the next run is over any bytes of the two files that it then leaves. That goes on from a state to which the first run leads, and
-  -- from such rows.
-  abbrev pub HaltsBefore : List (List ℕ) → Image → (S → Type 0) → S → Remains T D disk → FileRun h other → Type 0
-  HaltsBefore words image Began ended closed next = (began : S) × Began began × (ends : Ends T D disk)
-      × (let first : FileRun g disk =
-      record { words = words; image = image; began = began; ended = ended; ends = ends; closed = closed } in
-      IsFileRun first × (IsCleanRemains closed → EndLeaves image ends closed next.image →
-      GoesTo first (GoesOnFrom next) × GoesToRows first (GoesOnFromRows next) × ServesTo first (GoesOnFrom next)))
+module _ {S T D N U E : Type 0} (g : Runs.Ghosts S T D) {disk : Ghosts D} (h : Runs.Ghosts N U E) {other : Ghosts E} where
+  -- A run from such a session came to a stop, and then the next one ran; each ended so, and its file was closed. If the disk of the first
+  -- returned what was written, and the files of the second held any bytes of the two files that it then leaves, the first hands them over.
+  abbrev pub HaltsBefore : (S → Type 0) → (S → Ends T D disk → FileRun g disk) → (Ends U E other → FileRun h other) → Type 0
+  HaltsBefore Began run_by next_by = (began : S) × Began began × (ends : Ends T D disk) × (next_ends : Ends U E other)
+      × (let first = run_by began ends in let next = next_by next_ends in
+      EndsClosed first × EndsClosed next
+      × (IsCleanRemains first.closed → EndLeaves first.image first.ends first.closed next.image → HandsOver first next))

@@ -1,23 +1,109 @@
 //! The law of the program: words over a file, and words over what is found of it then.
 
-ghost use Rattle.moo_run_laws.specs.FileRuns.{FileRun, Follows, GoesTo, GoesToRows, ServesTo, GoesOnFrom, GoesOnFromRows};
+ghost use Rattle.std.specs.Prelude.{ℕ, List, map};
+ghost use Rattle.sqlite.specs.WalFiles.{image_at};
+ghost use Rattle.moo_cli.specs.declared.task.Task.{Task};
+ghost use Rattle.moo_cli.specs.Tasks.{NamesTask};
+ghost use Rattle.moo_run.specs.Run.{ReadsFile};
+ghost use Rattle.moo_run_laws.specs.Twice.{RunsTwice, StopsAndRuns};
 
-use moo_run::Runs;
+use crate::law::runs_lead_on;
+use moo_files::{Remains, WorldFiles};
+use moo_run::{Ends, Runs, Session, Streams, run_to_end, run_words};
 
-/// The program runs over a file, on a disk that is honest, and is stopped before the file is closed, or closes it. It runs again over what
-/// is then found: it goes on from a state that the first run may leave.
+/// Runs words as the program does, by `run_to_end`, and then other words.
 ///
-/// A run is what the clause `closed` of `run_to_end` says of it, which is the program's own call: any words, with any input, over any host.
-/// Its disk may fail from any call on. What is found is any bytes that the disk leaves, if a task ran over the file and it wasn't closed;
-/// otherwise what a crash leaves of the database.
-pub fn run_and_run_again<S: Runs, N: Runs>()
-    // The state is the one after the acknowledged batches, or that with the one batch in hand; or the one that the file held.
-    ensures reopened { (first : FileRun S.Runs S.Disk.Disk) (next : FileRun N.Runs N.Disk.Disk) → Follows first next →
-        GoesTo first (GoesOnFrom next) }
-    // What stays keeps its number, and no number is given again.
-    ensures numbers { (first : FileRun S.Runs S.Disk.Disk) (next : FileRun N.Runs N.Disk.Disk) → Follows first next →
-        GoesToRows first (GoesOnFromRows next) }
-    // After a service it is the one to which the connections led, those too whose answer couldn't be sent; or that with the batch in hand.
-    ensures served { (first : FileRun S.Runs S.Disk.Disk) (next : FileRun N.Runs N.Disk.Disk) → Follows first next →
-        ServesTo first (GoesOnFrom next) }
-{}
+/// The program runs over a file, on a disk that is honest, and is stopped before the file is closed, or closes it. It runs again over what
+/// is then found: it goes on from a state that the first run may leave. Any words, with any input, over any host; the disk may fail from any
+/// call on. What is found is what a crash leaves of the database, or any bytes that the disk leaves, before the file is closed or after that.
+pub fn run_and_run_again<'s, 'n, S: Streams, N: Streams>(
+    session: &mut Session<'s, S>,
+    words: &[&str],
+    start: S::File,
+    next: &mut Session<'n, N>,
+    next_words: &[&str],
+    next_start: N::File,
+) -> (
+    Remains<S::File, <S::Host as WorldFiles<S::File>>::Disk>,
+    Remains<N::File, <N::Host as WorldFiles<N::File>>::Disk>,
+)
+    requires may { (task : Task) → NamesTask (map (λ word. word.now) words.now) task →
+        S.Host.may_open session.old.host task.file.now }
+    requires read { (task : Task) (path : List ℕ) → NamesTask (map (λ word. word.now) words.now) task → ReadsFile task path →
+        S.Host.may_read session.old.host path }
+    requires next_may { (task : Task) → NamesTask (map (λ word. word.now) next_words.now) task →
+        N.Host.may_open next.old.host task.file.now }
+    requires next_read { (task : Task) (path : List ℕ) → NamesTask (map (λ word. word.now) next_words.now) task →
+        ReadsFile task path → N.Host.may_read next.old.host path }
+    // The state is the one after the acknowledged batches, or that with the one batch in hand; or the one that the file held. What stays
+    // keeps its number, and no number is given again. After a service it is the state to which the connections led, those too whose answer
+    // couldn't be sent; or that with the batch in hand.
+    ensures again { RunsTwice ⟦<Session<'s, S> as Runs>⟧ ⟦<Session<'n, N> as Runs>⟧
+        (λ ends. record {
+          words = map (λ word. word.now) words.now;
+          image = image_at S.File.Start;
+          began = session.old;
+          ended = session.new;
+          ends = ends;
+          closed = result.0;
+        })
+        (λ ends. record {
+          words = map (λ word. word.now) next_words.now;
+          image = image_at N.File.Start;
+          began = next.old;
+          ended = next.new;
+          ends = ends;
+          closed = result.1;
+        }) }
+{
+    runs_lead_on::<Session<'s, S>, Session<'n, N>>();
+    let left = run_to_end(session, words, start);
+    let next_left = run_to_end(next, next_words, next_start);
+    (left, next_left)
+}
+
+/// As `run_and_run_again`, if the process stops once the first words are done, before their file is closed. For what a crash leaves, the
+/// disk has to be honest until the crash; for the bytes that it leaves, as long as it takes to close the file.
+pub fn stop_and_run_again<'s, 'n, S: Streams, N: Streams>(
+    session: &mut Session<'s, S>,
+    words: &[&str],
+    start: S::File,
+    next: &mut Session<'n, N>,
+    next_words: &[&str],
+    next_start: N::File,
+) -> (
+    Ends<S::File, <S::Host as WorldFiles<S::File>>::Disk>,
+    Remains<N::File, <N::Host as WorldFiles<N::File>>::Disk>,
+)
+    requires may { (task : Task) → NamesTask (map (λ word. word.now) words.now) task →
+        S.Host.may_open session.old.host task.file.now }
+    requires read { (task : Task) (path : List ℕ) → NamesTask (map (λ word. word.now) words.now) task → ReadsFile task path →
+        S.Host.may_read session.old.host path }
+    requires next_may { (task : Task) → NamesTask (map (λ word. word.now) next_words.now) task →
+        N.Host.may_open next.old.host task.file.now }
+    requires next_read { (task : Task) (path : List ℕ) → NamesTask (map (λ word. word.now) next_words.now) task →
+        ReadsFile task path → N.Host.may_read next.old.host path }
+    // Whatever bytes the disk leaves of the two files, or a crash leaves of the database.
+    ensures again { StopsAndRuns ⟦<Session<'s, S> as Runs>⟧ ⟦<Session<'n, N> as Runs>⟧
+        (λ closed. record {
+          words = map (λ word. word.now) words.now;
+          image = image_at S.File.Start;
+          began = session.old;
+          ended = session.new;
+          ends = result.0;
+          closed = closed;
+        })
+        (λ ends. record {
+          words = map (λ word. word.now) next_words.now;
+          image = image_at N.File.Start;
+          began = next.old;
+          ended = next.new;
+          ends = ends;
+          closed = result.1;
+        }) }
+{
+    runs_lead_on::<Session<'s, S>, Session<'n, N>>();
+    let ends = run_words(session, words, start);
+    let next_left = run_to_end(next, next_words, next_start);
+    (ends, next_left)
+}

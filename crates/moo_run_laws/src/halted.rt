@@ -5,14 +5,13 @@ ghost use Rattle.sqlite.specs.WalFiles.{image_at};
 ghost use Rattle.moo_cli.specs.declared.task.Task.{Task};
 ghost use Rattle.moo_cli.specs.Tasks.{NamesTask};
 ghost use Rattle.moo_run.specs.Run.{ReadsFile};
-ghost use Rattle.moo_run_laws.specs.FileRuns.{FileRun, IsFileRun};
 ghost use Rattle.moo_run_laws.specs.Halted.{HaltsBefore};
 
 use crate::again::run_and_run_again;
 use crate::host::Halt;
 use crate::streams::{HaltingStreams, halting};
 use moo_files::{Remains, WorldFiles};
-use moo_run::{Runs, Session, Streams, run_to_end};
+use moo_run::{Runs, Session, Streams};
 use sqlite_disk::Fuse;
 
 /// Runs words as the program does, by `run_to_end`, until the run comes to a stop. Then other words run over what the disk leaves.
@@ -20,26 +19,48 @@ use sqlite_disk::Fuse;
 /// A process that is stopped has made so many calls of its log and of its database file, written so many bytes of its output, and taken
 /// so many connections. This run with these numbers does the same, and is then refused everything. So the disk leaves the same bytes of the
 /// two files, and the output has the same acknowledgements. A write or a cut in progress counts as made, and a sync as not made.
-pub fn run_halted<'s, S: Streams, N: Runs>(
+pub fn run_halted<'s, 'n, S: Streams, N: Streams>(
     session: Session<'s, S>,
     halt: Halt,
     words: &[&str],
     start: S::File,
+    next: &mut Session<'n, N>,
+    next_words: &[&str],
+    next_start: N::File,
 ) -> (
     Session<'s, HaltingStreams<S>>,
     Remains<S::File, Fuse<<S::Host as WorldFiles<S::File>>::Disk>>,
+    Remains<N::File, <N::Host as WorldFiles<N::File>>::Disk>,
 )
     requires may { (task : Task) → NamesTask (map (λ word. word.now) words.now) task → S.Host.may_open session.host task.file.now }
     requires read { (task : Task) (path : List ℕ) → NamesTask (map (λ word. word.now) words.now) task → ReadsFile task path →
         S.Host.may_read session.host path }
+    requires next_may { (task : Task) → NamesTask (map (λ word. word.now) next_words.now) task →
+        N.Host.may_open next.old.host task.file.now }
+    requires next_read { (task : Task) (path : List ℕ) → NamesTask (map (λ word. word.now) next_words.now) task →
+        ReadsFile task path → N.Host.may_read next.old.host path }
     // Whatever bytes the disk then leaves, the next run starts from a state after the acknowledged batches, or after one more.
-    ensures halted { (next : FileRun N.Runs N.Disk.Disk) → IsFileRun next →
-        HaltsBefore ⟦<Session<'s, HaltingStreams<S>> as Runs>⟧ (map (λ word. word.now) words.now) (image_at S.File.Start)
+    ensures halted { HaltsBefore ⟦<Session<'s, HaltingStreams<S>> as Runs>⟧ ⟦<Session<'n, N> as Runs>⟧
         (λ began. (began.host ≡ record { inner = session.entry.host; halt = halt }) × (began.input ≡ session.entry.input)
-        × (began.output ≡ record { inner = session.entry.output; bytes_left = halt.bytes })) result.0 result.1 next }
+        × (began.output ≡ record { inner = session.entry.output; bytes_left = halt.bytes }))
+        (λ began ends. record {
+          words = map (λ word. word.now) words.now;
+          image = image_at S.File.Start;
+          began = began;
+          ended = result.0;
+          ends = ends;
+          closed = result.1;
+        })
+        (λ ends. record {
+          words = map (λ word. word.now) next_words.now;
+          image = image_at N.File.Start;
+          began = next.old;
+          ended = next.new;
+          ends = ends;
+          closed = result.2;
+        }) }
 {
-    run_and_run_again::<Session<'s, HaltingStreams<S>>, N>();
     let mut session: Session<'_, HaltingStreams<S>> = halting(session, halt);
-    let left = run_to_end(&mut session, words, start);
-    (session, left)
+    let left = run_and_run_again(&mut session, words, start, next, next_words, next_start);
+    (session, left.0, left.1)
 }

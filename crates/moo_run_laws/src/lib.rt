@@ -8,15 +8,15 @@ mod connections;
 mod desk;
 mod halted;
 mod host;
+mod law;
 mod output;
-mod stops;
 mod streams;
 
-pub use again::run_and_run_again;
+pub use again::{run_and_run_again, stop_and_run_again};
 pub use connections::HaltingConnections;
 pub use desk::exchanges_pass_the_desk;
 pub use halted::run_halted;
 pub use host::{Halt, HaltingHost, halting_files};
+pub use law::runs_lead_on;
 pub use output::HaltingOutput;
-pub use stops::{run_close_run, run_crash_run, run_stop_run};
 pub use streams::{HaltingStreams, halting};

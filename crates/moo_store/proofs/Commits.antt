@@ -1,105 +1,96 @@
--- What an accepted batch leaves of its World, whatever the commit answered.
-use Rattle.moo_store.{proofs.Words.{◌≡◌, inl, inr, Bool, true, false, List, [], ◌∷◌, ◌++◌, Result, Ok, Err, IfErr, ⊤, refl, sym, ap, subst, ◌∙◌, arith, Ghosts, HasCleanDisk, IsGood, Head, State, state_of, Batch, judge, left_by, Accepted, Maps, AreChanges, Value, Reply, reply_of, acknowledged, World, store_of, ShowsItsRows, IsAt, StandsAt, StandsBehind, Stand, Works, Failed, StoreFailed, VerdictLeaves, ReachesStore, RunsBatch, BatchesLead, Writes, WritesOne, MatchStore, IsStopped, StoreFault, Store, answer_to, taken_of}, specs.Committing.{Commits}, proofs.Crashes.{rows_at_rest, states_left}, proofs.Verdicts.{works_stand}}
-use Rattle.moo_store_rows.proofs.Committed.{IsSettled}
+-- What committing an accepted batch makes of its World.
+use Rattle.moo_store.{proofs.Words.{◌≡◌, ◌∙◌, inl, inr, Bool, true, false, Some, List, Result, Ok, Err, IfOk, MatchResult, refl, sym, ap, subst, Ghosts, HasCleanDisk, IsGood, Head, state_of, Batch, judge, left_by, Accepted, Maps, AreChanges, Value, Reply, reply_of, World, store_of, StoreFault, Store, answer_to, Prints, says_accepted}, specs.Committing.{CommitsTo}, specs.Moves.{Stands, MovesBy, VerdictLeads, StopsStore, RunsAt, FailsRun}, proofs.Moving.{moves_as, moves_from, works_at, stands_alone}}
+use Rattle.moo_store_rows.{specs.Moment.{Moment, state_of_moment, rows_alone, KeepsCellsAt, LeadsBy}, specs.Place.{Place, Works, Failed, Between, IsAtPlace}, specs.Committing.{CommitsCells}}
+use Rattle.std.specs.Prelude.{IsSome}
 use Rattle.sqlite.specs.declared.error.Error.{Error}
 use Rattle.moo_memory.specs.declared.changes.Changes.{Changes}
-use Rattle.moo_tables_rows.proofs.InsideLemmas.{left_by as tables_left}
+use Rattle.moo_tables_rows.{specs.declared.cells.CellChanges.{CellChanges}, specs.Cause.{StopsChange}}
 use Rattle.moo_text.specs.declared.reply.Answer.TheVariants as answer
 use Rattle.moo_text.specs.declared.reply.Reply.TheVariants as reply
 use Rattle.moo_world.specs.Between.{BatchLeads}
 
-module _ {S : Type 0} (g : Ghosts S) (old new : World S) (batch : Batch) (answers : List Value) (changes : Changes) (next : Maps) (works : old.failed ≡ false) (sound : IsGood old.rows.maps) (exact : AreChanges old.rows.maps next changes) (good : IsGood next)
-    (judged : judge (state_of old.rows.maps) batch ≡ Accepted answers (state_of next)) (leads : BatchLeads batch old.rows.maps next) where
-  stands_on : (known : Bool) (s : State) (reply : Reply) (b : Bool) → new.failed ≡ b → judge s batch ≡ Accepted answers (state_of next) → reply ≡ reply_of (judge s batch) → IsAt g known new (state_of next) → (end : Stand) × StandsAt g known new end × RunsBatch (Works s) batch (answer.Replied reply) end
-  stands_on known s r false on it is at = (Works (state_of next), record { works = on; is_at = at }, inr (is, subst (λ v. VerdictLeaves s v (Works (state_of next))) (sym it) (inl refl)))
-  stands_on known s r true on it is at = (Failed (state_of next), (on, at), inr (is, subst (λ v. VerdictLeaves s v (Failed (state_of next))) (sym it) (inr refl)))
+-- ---- what `commit` says
 
-  stands_by : (r : Result Reply StoreFault) → Commits g old new answers changes r → (known : Bool) (s : State) → IsAt g known old s → judge s batch ≡ Accepted answers (state_of next) → (end : Stand) × StandsAt g known new end × RunsBatch (Works s) batch (answer_to r) end
-  stands_by (Ok r) did known s here it = stands_on known s r new.failed refl it (did.reply ∙ ap (λ (h : Head). reply.Accepted h.seq answers) exact.head ∙ sym (ap reply_of it)) (did.is_at known next (λ sure. here.shown sure works) exact good)
-  stands_by (Err fault) did known s here it = subst (λ f. (end : Stand) × StandsAt g known new end × RunsBatch (Works s) batch (answer_to (Err f)) end) (sym did.fault.1) (
-    StoreFailed s batch,
-    (
-      did.failed,
-      λ sure clean trees left. elim (states_left trees old.rows.maps next s (state_of next) sound good (here.rows works) refl (did.crash next (here.shown sure works) exact clean trees left)) [
-        | inl was ↦ (s, inl refl, was)
-        | inr on ↦ (state_of next, inr (sym (ap (left_by s) it)), on)
-      ],
-    ),
-    (subst ReachesStore (sym it) tt, refl),
-  )
+good_next : (rows : Maps) (next : Moment) → next.rows ≡ rows → IsGood rows → (m : Moment) → m ≡ next → IsGood m.rows
+good_next rows next is good m same = subst (λ (x : Moment). IsGood x.rows) (sym same) (subst IsGood (sym is) good)
 
-  pub accepted_stands : (r : Result Reply StoreFault) → Commits g old new answers changes r → StandsBehind g old batch (answer_to r) new
-  accepted_stands r did = works_stand g old new batch r works (λ known s here. stands_by r did known s here (subst (λ t. judge t batch ≡ Accepted answers (state_of next)) (here.rows works) judged))
+module _ {S : Type 0} (g : Ghosts S) (old new : World S) (answers : List Value) (changes : Changes) (cells : CellChanges) (works : old.failed ≡ false) (printed : Prints (Some old.rows.maps.head.next_petition) old.rows.maps cells changes)
+    (rows : Maps) (exact : AreChanges old.rows.maps rows changes) where
+  -- what the changes come to from a moment
+  abbrev Goes : Result (Unit {0}) Error → Moment → Type 0
+  Goes r m = (next : Moment) × (next.rows ≡ rows) × KeepsCellsAt m.rows next.rows m.cells next.cells × MatchResult r (λ done. IsAtPlace (store_of g new) (Works next))
+      (λ error. IsAtPlace (store_of g new) (Between m next) × (HasCleanDisk (store_of g new) → IsSome m.cells → StopsChange (store_of g old) (store_of g new) error))
 
-  -- it writes its changes, or the store failed and nothing is written
-  pub accepted_writes : (r : Result Reply StoreFault) → IsSettled (store_of g new) → (HasCleanDisk (store_of g new) → HasCleanDisk (store_of g old)) → Commits g old new answers changes r → WritesOne g old new batch r
-  accepted_writes (Ok r) settled clean did = record {
-    clean = clean;
-    written = λ c known tables over.
-        let it = did.cells next tables exact c over.rests (over.current works) (over.shows works) in
+  went : (r : Result (Unit {0}) Error) → CommitsCells cells (store_of g old) (store_of g new) r → (m : Moment) → Stands g old (Works m) → Goes r m
+  went r did m at =
+      let same = at.rows works in
+      did.goes m changes rows (subst (λ (x : Maps). Prints (Some x.head.next_petition) x cells changes) same printed) (subst (λ (x : Maps). AreChanges x rows changes) same exact) (record { rests = at.rests; crash = at.crash })
+
+  -- they were committed, and the rows are those that they give unless memory ran out
+  pub moves_on : (done : Unit {0}) → IsGood rows → CommitsCells cells (store_of g old) (store_of g new) (Ok done) → (new.failed ≡ false → new.rows.maps ≡ rows) → MovesBy g old new (λ from to. CommitsTo answers changes rows from (Ok (reply.Accepted changes.head.seq answers)) to)
+  moves_on done good did applied = moves_from g old new _ works did.clean (λ m at. (let it = went (Ok done) did m at in by m it.0 it.1 it.2 it.3 new.failed refl))
+    where
+      by : (m next : Moment) → next.rows ≡ rows → KeepsCellsAt m.rows next.rows m.cells next.cells → IsAtPlace (store_of g new) (Works next) → (failed : Bool) → new.failed ≡ failed
+          → (to : Place) × Stands g new to × CommitsTo answers changes rows (Works m) (Ok (reply.Accepted changes.head.seq answers)) to
+      by m next is kept here false on = (
+        Works next,
+        record { failed = on; good = good_next rows next is good; rows = λ e. applied e ∙ sym is; rests = here.rests; crash = here.crash },
+        (next, is, kept, (refl, inl refl)),
+      )
+      by m next is kept here true on = (
+        Failed next,
+        record { failed = on; good = good_next rows next is good; rows = λ e. (let no : true ≡ false = sym on ∙ e in absurd cc); rests = here.rests; crash = here.crash },
+        (next, is, kept, (refl, inr refl)),
+      )
+
+  -- the store failed
+  pub moves_off : (error : Error) → IsGood rows → CommitsCells {A = Unit {0}} cells (store_of g old) (store_of g new) (Err error) → new.failed ≡ true → MovesBy g old new (λ from to. CommitsTo answers changes rows from (Err (Store error)) to)
+  moves_off error good did failed = moves_from g old new _ works did.clean (λ m at.
+      let it = went (Err error) did m at in (
+        Between m it.0,
         record {
-          end = next;
-          after = it.0;
-          rests = it.1;
-          current = λ _. it.2.version ∙ over.current works;
-          writes = subst (λ x. Writes old.rows.maps tables (acknowledged (batch ∷ []) (x ∷ [])) next it.0) (sym did.reply) (next, it.0, good, leads, sym (ap (left_by (state_of old.rows.maps)) judged), it.2, (refl, refl));
-          rows = did.rows next exact;
-          unread = (did.spared c tables over.rests (over.current works)).kept it.1.is_open;
-        };
-    led = λ c shown on trees lies.
-        let was = shown (clean c) in
-        let it = did.cells next was.tables exact c was.rests was.current was.shows in (
-          0,
-          omega arith,
-          next,
-          good,
-          subst (λ x. BatchesLead (acknowledged (batch ∷ []) (x ∷ []) ++ []) old.rows.maps next) (sym did.reply) (next, good, leads, sym (ap (left_by (state_of old.rows.maps)) judged), refl),
-          rows_at_rest (store_of g new) next settled (record { tables = it.0; rests = it.1; current = it.2.version ∙ was.current; shows = it.2.shows }) trees lies,
-        );
-    left = λ c tables over trees lies.
-        let it = did.cells next tables exact c over.rests (over.current works) (over.shows works) in (
-          0,
-          omega arith,
-          next,
-          it.0,
-          subst (λ x. Writes old.rows.maps tables (acknowledged (batch ∷ []) (x ∷ []) ++ []) next it.0) (sym did.reply) (next, it.0, good, leads, sym (ap (left_by (state_of old.rows.maps)) judged), it.2, (refl, refl)),
-          tables_left (store_of g new) it.0 trees it.1 (settled trees it.1.is_open lies),
-          (did.spared c tables over.rests (over.current works)).crash trees lies,
-        );
+          failed = failed;
+          good = λ t left. elim left [ inl was ↦ at.good t was | inr on ↦ good_next rows it.0 it.1 good t on ];
+          rows = λ e. (let no : true ≡ false = sym failed ∙ e in absurd cc);
+          rests = it.3.0.rests;
+          crash = it.3.0.crash;
+        },
+        (it.0, it.1, it.2, refl),
+      ))
+
+  pub fails_by : (error : Error) → CommitsCells {A = Unit {0}} cells (store_of g old) (store_of g new) (Err error) → FailsRun g old new (Store error)
+  fails_by error did = inr (error, refl, λ m at some clean. (went (Err error) did m at).3.1 clean some)
+
+-- ---- what `run_one` says of it
+
+module _ {S : Type 0} (g : Ghosts S) (old new : World S) (batch : Batch) (answers : List Value) (changes : Changes) (rows : Maps) (works : old.failed ≡ false) (exact : AreChanges old.rows.maps rows changes) (good : IsGood rows)
+    (judged : judge (state_of old.rows.maps) batch ≡ Accepted answers (state_of rows)) (leads : BatchLeads batch old.rows.maps rows) where
+  -- the batch leads from a moment of the World's rows to the next
+  led : (m next : Moment) → old.rows.maps ≡ m.rows → next.rows ≡ rows → KeepsCellsAt m.rows next.rows m.cells next.cells → LeadsBy m batch next
+  led m next same is kept = record {
+    good = subst IsGood (sym is) good;
+    rows = subst (λ x. BatchLeads batch x next.rows) same (subst (BatchLeads batch old.rows.maps) (sym is) leads);
+    state = subst (λ x. state_of next.rows ≡ left_by (state_of x) (judge (state_of x) batch)) same (ap state_of is ∙ sym (ap (left_by (state_of old.rows.maps)) judged));
+    kept = kept;
   }
-  accepted_writes (Err f) settled clean did = subst (λ f. WritesOne g old new batch (Err f)) (sym did.fault.1) (record {
-    clean = clean;
-    written = λ c opened tables over. record {
-      end = old.rows.maps;
-      after = tables;
-      rests = did.undone c opened tables over.rests (over.current works);
-      current = λ on. let no : true ≡ false = sym did.failed ∙ on in absurd cc;
-      writes = (refl, refl);
-      rows = λ on. let no : true ≡ false = sym did.failed ∙ on in absurd cc;
-      unread = (did.spared c tables over.rests (over.current works)).kept opened;
-    };
-    led = λ c shown on trees lies. elim (did.crash next shown exact c trees lies) [
-      | inl was ↦ (0, omega arith, old.rows.maps, sound, refl, was)
-      | inr late ↦ (1, omega arith, next, good, (next, good, leads, sym (ap (left_by (state_of old.rows.maps)) judged), refl), late)
-    ];
-    left = λ c tables over trees lies.
-        let unread = (did.spared c tables over.rests (over.current works)).crash trees lies in
-        elim (did.left next tables exact c over.rests (over.current works) (over.shows works) trees lies) [
-          | inl was ↦ (0, omega arith, old.rows.maps, tables, (refl, refl), was, unread)
-          | inr (after, late, kept) ↦ (1, omega arith, next, after, (next, after, good, leads, sym (ap (left_by (state_of old.rows.maps)) judged), kept, (refl, refl)), late, unread)
-        ];
-  })
 
-module _ {S : Type 0} (g : Ghosts S) (old new : World S) (batch : Batch) (answers : List Value) (changes : Changes) where
-  -- it is acknowledged, unless the store failed
-  pub accepted_is_taken : (r : Result Reply StoreFault) → Commits g old new answers changes r → taken_of batch r ≡ [] → MatchStore r (new ≡ old) ⊤
-  accepted_is_taken (Ok r) did none = let no : batch ∷ [] ≡ [] = subst (λ x. acknowledged (batch ∷ []) (x ∷ []) ≡ []) did.reply none in absurd cc
-  accepted_is_taken (Err f) did none = subst (λ f. let r : Result Reply StoreFault = Err f in MatchStore r (new ≡ old) ⊤) (sym did.fault.1) tt
+  judged_at : (m : Moment) → old.rows.maps ≡ m.rows → judge (state_of_moment m) batch ≡ Accepted answers (state_of rows)
+  judged_at m same = subst (λ x. judge (state_of x) batch ≡ Accepted answers (state_of rows)) same judged
 
-  pub accepted_fails : (r : Result Reply StoreFault) → Commits g old new answers changes r → IfErr r (λ fault. ((error : Error) × (fault ≡ Store error)) × (new.failed ≡ true))
-  accepted_fails (Ok r) did = tt
-  accepted_fails (Err f) did = (did.fault, did.failed)
+  runs_by : (r : Result Reply StoreFault) (m : Moment) (to : Place) → old.rows.maps ≡ m.rows → CommitsTo answers changes rows (Works m) r to → RunsAt (Works m) batch (answer_to r) to
+  runs_by (Ok given) m to same it =
+      let here = judged_at m same in
+      inr (it.3.0 ∙ ap (λ (h : Head). reply.Accepted h.seq answers) exact.head ∙ sym (ap reply_of here), subst (λ v. VerdictLeads m batch v to) (sym here) (it.0, led m it.0 same it.1 it.2, it.3.1))
+  runs_by (Err (Store error)) m to same it = subst (λ v. StopsStore m batch v to) (sym (judged_at m same)) (it.0, led m it.0 same it.1 it.2, it.3)
+  runs_by (Err fault) m to same it = absurd it.3
 
-  pub accepted_cause : (r : Result Reply StoreFault) → Commits g old new answers changes r → HasCleanDisk (store_of g new) → ShowsItsRows g old → IfErr r (IsStopped (store_of g old) (store_of g new))
-  accepted_cause (Ok r) did clean shown = tt
-  accepted_cause (Err f) did clean shown = did.cause clean shown
+  pub accepted_moves : (r : Result Reply StoreFault) → MovesBy g old new (λ from to. CommitsTo answers changes rows from r to) → MovesBy g old new (λ from to. RunsAt from batch (answer_to r) to)
+  accepted_moves r moves = moves_as g old new _ _ moves (λ from to at here it. works_at g old (λ from. Stands g old from → CommitsTo answers changes rows from r to → RunsAt from batch (answer_to r) to) works (λ m at stands it. runs_by r m to (at.rows works) it) from at at it)
+
+-- a batch that is committed is acknowledged
+pub accepted_still : {S : Type 0} (g : Ghosts S) (old new : World S) (answers : List Value) (changes : Changes) (rows : Maps) (r : Result Reply StoreFault) → old.failed ≡ false → IsGood old.rows.maps → MovesBy g old new (λ from to. CommitsTo answers changes rows from r to)
+    → IfOk r (λ given. says_accepted (answer.Replied given) ≡ false → new ≡ old)
+accepted_still g old new answers changes rows (Err fault) works good moves = tt
+accepted_still g old new answers changes rows (Ok given) works good moves =
+    let it = moves.goes (Works (rows_alone old.rows.maps)) (stands_alone g old works good) in
+    λ unaccepted. (let no : true ≡ false = sym (ap (λ (x : Reply). says_accepted (answer.Replied x)) it.2.3.0) ∙ unaccepted in absurd cc)

@@ -1,5 +1,5 @@
 -- What a crash leaves of a connection, at rest and in a call.
-use Rattle.moo_store.proofs.Words.{◌≡◌, ◌⊎◌, inl, inr, Bool, IsTrue, refl, sym, ap, ◌∙◌, Trees, Ghosts, Maps, Tables, Rests, ShowsRows, LeavesEither, unread_of, IsGood, State, state_of, KeepsRows, LeavesRows, KeepsState, LeavesState, World, Stand, Works, Failed, StoreFailed, store_of, Left, CrashLeaves, StandsAt}
+use Rattle.moo_store.proofs.Words.{◌≡◌, Bool, IsTrue, refl, sym, ap, ◌∙◌, Trees, Ghosts, Maps, Tables, Rests, unread_of, IsGood, State, state_of, KeepsRows, LeavesRows, KeepsState, LeavesState, World, Stand, Works, Failed, StoreFailed, store_of, Left, CrashLeaves, StandsAt}
 use Rattle.moo_store_rows.proofs.Committed.{IsSettled}
 use Rattle.sqlite.{specs.State.{State as Database, HasCleanDisk}, specs.Effect.{Database as Content}}
 use Rattle.moo_tables_rows.proofs.InsideLemmas.{left_by}
@@ -23,18 +23,8 @@ left_at_rest store s settled it trees left = record {
 pub keeps_state : (store : Database) (rows : Maps) (s : State) → IsGood rows → state_of rows ≡ s → KeepsRows store rows → KeepsState store s
 keeps_state store rows s good is it = record { rows = rows; good = good; state = is; keeps = it }
 
-leaves_state : (trees : Trees) (rows : Maps) (s : State) → IsGood rows → state_of rows ≡ s → LeavesRows trees rows → LeavesState trees s
+pub leaves_state : (trees : Trees) (rows : Maps) (s : State) → IsGood rows → state_of rows ≡ s → LeavesRows trees rows → LeavesState trees s
 leaves_state trees rows s good is it = record { rows = rows; good = good; state = is; leaves = it }
-
--- a crash at a write leaves the rows before it, or the next ones
-pub rows_either : (rows next : Maps) (tables : Tables) (trees : Trees) → ShowsRows tables rows → LeavesEither rows next tables trees → LeavesRows trees rows ⊎ LeavesRows trees next
-rows_either rows next tables trees shown (inl was) = inl (record { tables = tables; leaves = was; shows = shown })
-rows_either rows next tables trees shown (inr (after, leaves, kept)) = inr (record { tables = after; leaves = leaves; shows = kept.shows })
-
--- so it leaves the state before it, or the next one
-pub states_left : (trees : Trees) (rows next : Maps) (s t : State) → IsGood rows → IsGood next → state_of rows ≡ s → state_of next ≡ t → LeavesRows trees rows ⊎ LeavesRows trees next → LeavesState trees s ⊎ LeavesState trees t
-states_left trees rows next s t good good_next is is_next (inl was) = inl (leaves_state trees rows s good is was)
-states_left trees rows next s t good good_next is is_next (inr on) = inr (leaves_state trees next t good_next is_next on)
 
 -- what a crash leaves of a store at rest has the table that isn't read as it is
 pub unread_at_rest : (store : Database) (tables : Tables) (trees : Trees) → IsSettled store → Rests store tables → store.may_leave trees → unread_of trees ≡ unread_of store.now.trees

@@ -1,6 +1,8 @@
 pub mod Words
 pub mod Crashes
 pub mod Running
+pub mod Moving
+pub mod Leading
 pub mod Verdicts
 pub mod Following
 pub mod Standing
@@ -19,4 +21,5 @@ pub mod AdoptedLemmas
 pub mod HeadlineLemmas
 pub mod CheckLemmas
 pub mod Commits
+pub mod Adapters
 pub mod Alone

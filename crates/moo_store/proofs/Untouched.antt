@@ -109,7 +109,7 @@ nothing_written g old batch r settled good none = record {
 -- ---- the rows that a crash leaves
 
 -- the tables that show a World's rows
-shown_over : {S : Type 0} (g : Ghosts S) (old : World S) (it : KeepsRows (store_of g old) old.rows.maps) → StandsOver g old it.tables
+pub shown_over : {S : Type 0} (g : Ghosts S) (old : World S) (it : KeepsRows (store_of g old) old.rows.maps) → StandsOver g old it.tables
 shown_over g old it = record { rests = it.rests; current = λ _. it.current; shows = λ _. it.shows }
 
 -- what was written at rest

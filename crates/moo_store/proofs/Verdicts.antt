@@ -1,29 +1,44 @@
--- Where a World stands behind one batch.
-use Rattle.moo_store.proofs.Words.{◌≡◌, inr, Bool, true, false, Result, Ok, refl, sym, ap, subst, ◌∙◌, Ghosts, Batch, State, Verdict, judge, state_of, Reply, reply_of, World, Stand, Works, Failed, StoreFailed, VerdictLeaves, RunsBatch, StandsBehind, answer_to, IsAt, StandsAt, StoreFault, Closed}
+-- Where a World stands after a batch that wasn't committed.
+use Rattle.moo_store.{proofs.Words.{◌≡◌, ◌∙◌, ◌⊎◌, inl, inr, Bool, true, false, [], ◌∷◌, refl, sym, ap, subst, Ghosts, Batch, State, Verdict, Accepted, judge, state_of, Reply, IsRun, reply_of, acknowledged, World, Works, VerdictLeaves, RunsBatch}, specs.Moves.{Stands, MovesBy, RunsAt, VerdictLeads}, proofs.Moving.{moves_from}}
+use Rattle.moo_store_rows.{specs.Moment.{Moment, state_of_moment}, specs.Place.{Place}}
+use Rattle.moo_store_rows.specs.Place as place
 use Rattle.moo_text.specs.declared.reply.Answer.TheVariants as answer
 use Rattle.moo_text.specs.declared.reply.Reply.TheVariants as reply
 
 pub not_both : {X : Type 0} (b : Bool) → b ≡ false → b ≡ true → X
 not_both b p q = let no : true ≡ false = sym q ∙ p in absurd cc
 
--- a World that has failed stays where it is
-pub closed_stands : {S : Type 0} (g : Ghosts S) (world : World S) (batch : Batch) → world.failed ≡ true → StandsBehind g world batch answer.Closed world
-closed_stands g world batch failed known (Works s) at = not_both world.failed at.works failed
-closed_stands g world batch failed known (Failed s) at = (Failed s, at, (refl, refl))
-closed_stands g world batch failed known (StoreFailed s hand) at = (StoreFailed s hand, at, (refl, refl))
-
--- a World that works stands where its states say
-pub works_stand : {S : Type 0} (g : Ghosts S) (old new : World S) (batch : Batch) (r : Result Reply StoreFault) → old.failed ≡ false
-    → ((known : Bool) (s : State) → IsAt g known old s → (next : Stand) × StandsAt g known new next × RunsBatch (Works s) batch (answer_to r) next) → StandsBehind g old batch (answer_to r) new
-works_stand g old new batch r works it known (Works s) at = it known s at.is_at
-works_stand g old new batch r works it known other at = not_both old.failed works at.0
-
 -- a verdict that isn't Accepted keeps the state
 pub refused_stays : (s : State) (batch : Batch) (v : Verdict) → judge s batch ≡ v → VerdictLeaves s v (Works s) → RunsBatch (Works s) batch (answer.Replied (reply_of v)) (Works s)
 refused_stays s batch v judged leaves = inr (ap reply_of (sym judged), subst (λ x. VerdictLeaves s x (Works s)) (sym judged) leaves)
 
--- so does a World with such a reply
-pub still_stands : {S : Type 0} (g : Ghosts S) (world : World S) (batch : Batch) (reply : Reply) → world.failed ≡ false
-    → RunsBatch (Works (state_of world.rows.maps)) batch (answer.Replied reply) (Works (state_of world.rows.maps)) → StandsBehind g world batch (answer.Replied reply) world
-still_stands g world batch reply works run =
-    works_stand g world world batch (Ok reply) works (λ known s at. (Works s, record { works = works; is_at = at }, subst (λ t. RunsBatch (Works t) batch (answer.Replied reply) (Works t)) (at.rows works) run))
+-- a World that has failed is closed
+pub closed_moves : {S : Type 0} (g : Ghosts S) (world : World S) (batch : Batch) → world.failed ≡ true → MovesBy g world world (λ from to. RunsAt from batch answer.Closed to)
+closed_moves g world batch failed = record { clean = λ c. c; closed = λ shut. refl; goes = by }
+  where
+    by : (from : Place) → Stands g world from → (to : Place) × Stands g world to × RunsAt from batch answer.Closed to
+    by (place.Works m) at = not_both world.failed at.failed failed
+    by (place.Failed m) at = (place.Failed m, at, (refl, refl))
+    by (place.Between m next) at = (place.Between m next, at, (refl, refl))
+
+-- a reply that isn't Accepted
+abbrev IsPlainReply : State → Batch → Reply → Type 0
+IsPlainReply s batch given = ((given ≡ reply.NoMemory) × IsRun s batch) ⊎ (given ≡ reply_of (judge s batch))
+
+verdict_stays : (m : Moment) (batch : Batch) (v : Verdict) → acknowledged (batch ∷ []) (reply_of v ∷ []) ≡ [] → VerdictLeads m batch v (place.Works m)
+verdict_stays m batch (Accepted answers next) none = let no : batch ∷ [] ≡ [] = none in absurd cc
+verdict_stays m batch v none = refl
+
+-- such a reply keeps a World where it stands
+pub still_moves : {S : Type 0} (g : Ghosts S) (world : World S) (batch : Batch) (given : Reply) → world.failed ≡ false → IsPlainReply (state_of world.rows.maps) batch given → acknowledged (batch ∷ []) (given ∷ []) ≡ []
+    → MovesBy g world world (λ from to. RunsAt from batch (answer.Replied given) to)
+still_moves g world batch given works plain none = moves_from g world world _ works (λ c. c) (λ m at. (place.Works m, at, by m (subst (λ x. IsPlainReply (state_of x) batch given) (at.rows works) plain)))
+  where
+    by : (m : Moment) → IsPlainReply (state_of_moment m) batch given → RunsAt (place.Works m) batch (answer.Replied given) (place.Works m)
+    by m (inl none) = inl (none.0, refl, none.1)
+    by m (inr is) = inr (is, verdict_stays m batch (judge (state_of_moment m) batch) (subst (λ x. acknowledged (batch ∷ []) (x ∷ []) ≡ []) is none))
+
+-- what a reply without a commit says of a state
+pub plain_reply : (s : State) (batch : Batch) (given : Reply) → RunsBatch (Works s) batch (answer.Replied given) (Works s) → IsPlainReply s batch given
+plain_reply s batch given (inl none) = inl (none.0, none.2)
+plain_reply s batch given (inr ran) = inr ran.0

@@ -19,7 +19,6 @@ pub use Rattle.moo_store.specs.Stopping.{AppliesFirst, AreAccepted, CompletesUnt
 pub use Rattle.moo_store.specs.Text.{Applies, KeepsLed, KeepsLeft, KeepsRest, RunsAll, RunsAndAnswers, StandsBehind, StopsRun, accepted, accepted_at, answer_to, answers_asked, batches_of, faulted, faulted_at, is_plain, replies}
 pub use Rattle.moo_store.specs.Turns.{Completes, GivesFrontOrAll, Halts, Turn, Turns, answers_text, is_batch, is_lost_answer}
 pub use Rattle.moo_store.specs.Untouched.{HasWritten, IsKnown, IsMovedBy, LeavesWritten, StandsOver, Writes, WritesOne, lost_of, taken_of}
-pub use Rattle.moo_store_rows.specs.Untouched.{LeavesEither}
 pub use Rattle.moo_store_rows.specs.Current.{unread_of}
 pub use Rattle.moo_store.specs.World.{CrashLeaves, IsAt, Left, LeftOrNext, MatchStore, ShowsItsRows, StandsAt, StandsFor, store_of}
 pub use Rattle.moo_store_rows.specs.declared.fault.StoreFault.{StoreFault}

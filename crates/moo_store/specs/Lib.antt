@@ -2,6 +2,7 @@ pub mod Kept
 pub mod Answered
 pub mod Stand
 pub mod World
+pub mod Moves
 pub mod Turns
 pub mod Led
 pub mod Untouched

@@ -15,7 +15,7 @@ use Rattle.moo_text.specs.declared.reply.Reply.{Reply}
 use Rattle.moo_store.specs.Answered.{state_behind, acknowledged}
 use Rattle.moo_cells.specs.Shows.{ShowsRows}
 use Rattle.moo_store_rows.specs.Current.{unread_of}
-use Rattle.moo_store_rows.specs.Untouched.{KeepsCells, LeavesEither}
+use Rattle.moo_store_rows.specs.Untouched.{KeepsCells}
 use Rattle.moo_store.specs.World.{store_of, ShowsItsRows, MatchStore}
 use Rattle.moo_store.specs.Led.{LeavesLed}
 use Rattle.moo_store.specs.Kept.{World}

@@ -1,6 +1,6 @@
 //! What holds of runs as wholes.
 
-ghost use Rattle.std.specs.Prelude.{◌≡◌, ◌++◌, true, List};
+ghost use Rattle.std.specs.Prelude.{◌≡◌, ◌++◌, false, true, List};
 ghost use Rattle.std.specs.List.{AllByRecursion};
 ghost use Rattle.moo_world.specs.declared.call.Batch.{Batch};
 ghost use Rattle.moo_text.specs.declared.next.Next.{Next};
@@ -19,6 +19,13 @@ ghost use Rattle.moo_store.specs.Text.{accepted, is_plain, replies, answers_aske
 ghost use Rattle.moo_store.specs.Turns.{Turns};
 ghost use Rattle.moo_store.specs.Stopping.{AreAccepted, EndAtFirst, up_to_first};
 ghost use Rattle.moo_store.specs.Rehearsed.{RehearsesBatch};
+ghost use Rattle.moo_world.specs.Rows.{IsGood};
+ghost use Rattle.moo_store_rows.specs.Moment.{Moment, state_of_moment, LeadsByEach};
+ghost use Rattle.moo_store_rows.specs.Place.{Place, moment_of};
+ghost use Rattle.moo_store.specs.Kept.{World};
+ghost use Rattle.moo_store.specs.Moves.{Stands, RunsAt};
+
+use sqlite::Alter;
 
 /// The state after a run is that after its acknowledged batches.
 pub fn acknowledged_batches_decide()
@@ -89,4 +96,35 @@ pub fn rehearsals_tell_runs()
         Turns RunsBatch old items answers new →
         AllByRecursion (λ answer. is_plain answer ≡ true) rehearsed → AllByRecursion (λ answer. is_plain answer ≡ true) answers →
         rehearsed ≡ answers }
+{}
+
+/// Batches that lead on from where others led join to one list.
+pub fn leads_join()
+    ensures { (m mid end : Moment) (first second : List Batch) → LeadsByEach m first mid → LeadsByEach mid second end →
+        LeadsByEach m (first ++ second) end }
+{}
+
+/// The acknowledged batches of a text lead from the moment where it began to the one where it ended.
+pub fn turns_lead()
+    ensures { (from to : Place) (items : List Next) (answers : List Answer) → Turns RunsAt from items answers to →
+        LeadsByEach (moment_of from) (accepted items answers) (moment_of to) }
+{}
+
+/// The state to which batches lead is that after them.
+pub fn leads_decide()
+    ensures { (m end : Moment) (batches : List Batch) → LeadsByEach m batches end →
+        state_of_moment end ≡ after (state_of_moment m) batches }
+{}
+
+/// In the rows to which batches lead, every property, verb and petition that is kept has its number, and no other one has a number that
+/// was given before.
+pub fn leads_keep_numbers()
+    ensures numbers { (m end : Moment) (batches : List Batch) → LeadsByEach m batches end → NumbersStay m.rows end.rows }
+    ensures petitions { (m end : Moment) (batches : List Batch) → LeadsByEach m batches end →
+        PetitionsStay (state_of m.rows) (state_of end.rows) }
+{}
+
+/// Every World is at some place: what is said of one at whatever place it is, is said of each.
+pub fn every_world_stands<S: Alter>()
+    ensures { (world : World S) → (world.failed ≡ false → IsGood world.rows.maps) → (place : Place) × Stands S.Store world place }
 {}

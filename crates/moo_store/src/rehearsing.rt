@@ -113,7 +113,7 @@ impl Answering for Rehearsal {
 
 /// Answers each batch of a text as running it would, each judged on what the batches before it would have left, and commits nothing. If it
 /// is to stop, it ends after the first answer that isn't `accepted`. What is written before the next batch is read, and the faults, are
-/// those of `apply_text`.
+/// those of `apply_until`.
 ///
 /// The World has failed then: its rows were used up. What is in its store is as it was.
 pub fn rehearse_text<R: Read + Drop, W: Write, S: Alter + Drop, N: Notes + Witness>(

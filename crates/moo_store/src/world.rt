@@ -1,7 +1,6 @@
 //! A World: the rows in memory, over the tables of a store.
 
 use crate::judged::judged;
-use crate::quiet::NoNotes;
 use moo_batch::Witness;
 use moo_memory::{Changes, Flat, apply_changes};
 use moo_rows::Rows;
@@ -40,8 +39,8 @@ impl<S: Alter> Model for World<S> {
 }
 
 impl<S: Alter + Drop> World<S> {
-    ghost use Rattle.std.specs.Prelude.{◌≡◌, ◌⊎◌, ◌<◌, ◌^◌, Bool, false, true, IsTrue, [], length, Some, IfOk, IfErr};
-    ghost use Rattle.std.specs.Prelude.{IfSome, IfNone, IsErrOf, IsOkAnd, ⊤, Ok};
+    ghost use Rattle.std.specs.Prelude.{◌≡◌, ◌⊎◌, ◌<◌, ◌^◌, Bool, false, true, IsTrue, length, Some, IfOk, IfErr};
+    ghost use Rattle.std.specs.Prelude.{IfSome, IfNone, IsErrOf, IsOkAnd, Ok};
     ghost use Rattle.sqlite.specs.State.{HasCleanDisk};
     ghost use Rattle.sqlite.specs.Held.{state};
     ghost use Rattle.moo_rows.specs.Maps.{Maps};
@@ -50,26 +49,25 @@ impl<S: Alter + Drop> World<S> {
     ghost use Rattle.moo_world.specs.ObjectLists.{objects_of};
     ghost use Rattle.moo_memory.specs.Changes.{AreChanges};
     ghost use Rattle.moo_store_rows.specs.Printed.{Prints};
-    ghost use Rattle.moo_store.specs.Committing.{Commits};
+    ghost use Rattle.moo_store.specs.Committing.{CommitsTo};
+    ghost use Rattle.moo_store.specs.Moves.{Stands, MovesBy, RunsAt, FailsRun};
+    ghost use Rattle.moo_store_rows.specs.Moment.{Moment, HasAtRest};
+    ghost use Rattle.moo_store_rows.specs.Place as place;
     ghost use Rattle.moo_store.specs.Answered.{answer_of, IsRun};
-    ghost use Rattle.moo_store.specs.Runs.{RunsBatches};
-    ghost use Rattle.moo_store.specs.Untouched.{WritesOne, taken_of};
-    ghost use Rattle.moo_store_rows.specs.Stopped.{KeepsFaults, IsStopped};
+    ghost use Rattle.moo_store_rows.specs.Stopped.{KeepsFaults};
     ghost use Rattle.moo_store.specs.Stand.{Stand};
-    ghost use Rattle.moo_store.specs.Text.{answer_to, StandsBehind};
-    ghost use Rattle.moo_store.specs.World.{store_of, ShowsItsRows, StandsFor, StandsAt, CrashLeaves, MatchStore, IsOfRun};
-    ghost use Rattle.moo_store_rows.specs.declared.fault.StoreFault.TheVariants.{Store, OutOfMemory, Closed};
+    ghost use Rattle.moo_store.specs.Stopping.{says_accepted};
+    ghost use Rattle.moo_store.specs.Text.{answer_to};
+    ghost use Rattle.moo_store.specs.World.{store_of, StandsFor, StandsAt, CrashLeaves};
+    ghost use Rattle.moo_text.specs.declared.reply.Answer.TheVariants as answer;
 
-    /// The World of good rows, over a connection in no transaction. It stands for them if the tables of the connection
-    /// show them. `check` tests that: nothing is read or written here. `create_in`, `load_in` and `adopt` make Worlds whose tables do.
+    /// The World of good rows, over a connection in no transaction. It stands at a moment of these rows that the connection has at rest. `check` tests that: nothing is read or written here. `create_in`, `load_in` and `adopt` make Worlds whose tables do.
     pub fn over(alloc: Global, connection: Connection<S>, rows: Flat) -> World<S>
         requires outside { connection.in_transaction ≡ false }
         requires good { IsGood rows.maps }
-        ensures connection { result.connection ≡ connection }
-        ensures rows { result.rows.maps ≡ rows.maps }
-        ensures works { result.failed ≡ false }
-        ensures stands { (known : Bool) → (IsTrue known → ShowsItsRows S.Store result) →
-            StandsFor S.Store known result (state_of rows.maps) }
+        ensures is { result ≡ record { connection = connection; rows = rows; failed = false } }
+        ensures stands { (m : Moment) → m.rows ≡ rows.maps → (HasCleanDisk (state S.Store connection) → HasAtRest (state S.Store connection) m) →
+            Stands S.Store result (place.Works m) }
     {
         World {
             alloc,
@@ -90,8 +88,9 @@ impl<S: Alter + Drop> World<S> {
         requires printed { Prints (Some self.old.rows.maps.head.next_petition) self.old.rows.maps cells.now changes }
         requires limit { cells.now.head.seq < 2 ^ 63 }
         requires changes { (next : Maps) × AreChanges self.old.rows.maps next changes × IsGood next }
-        ensures commits { Commits S.Store self.old self.new answers changes result }
-        ensures clean { HasCleanDisk (store_of S.Store self.new) → HasCleanDisk (store_of S.Store self.old) }
+        ensures moves { (rows : Maps) → AreChanges self.old.rows.maps rows changes → IsGood rows →
+            MovesBy S.Store self.old self.new (λ from to. CommitsTo answers changes rows from result to) }
+        ensures fault { IfErr result (FailsRun S.Store self.old self.new) }
         ensures kept { KeepsFaults (store_of S.Store self.old) (store_of S.Store self.new) }
     {
         if let Err(error) = commit_cells(&mut self.connection, cells) {
@@ -112,15 +111,12 @@ impl<S: Alter + Drop> World<S> {
         batch: &Batch,
         witness: &mut N,
     ) -> Result<Reply, StoreFault>
-        ensures stands { StandsBehind S.Store self.old batch.now (answer_to result) self.new }
-        ensures cells { WritesOne S.Store self.old self.new batch.now result }
-        ensures same { taken_of batch.now result ≡ [] → MatchStore result (self.new ≡ self.old) ⊤ }
-        ensures closed { IsTrue self.old.failed → IsErrOf result StoreFault.Closed × (self.new ≡ self.old) }
-        ensures fails { self.old.failed ≡ false → IfErr result (λ fault. ((error : _) × (fault ≡ Store error)) × (self.new.failed ≡ true)) }
-        ensures fault { IfErr result IsOfRun }
+        // A reply is that of the moment where the World stood, and only an accepted batch leads on from it. If the store failed, it stands
+        // between two moments.
+        ensures moves { MovesBy S.Store self.old self.new (λ from to. RunsAt from batch.now (answer_to result) to) }
+        ensures still { IfOk result (λ reply. says_accepted (answer.Replied reply) ≡ false → self.new ≡ self.old) }
+        ensures fault { IfErr result (FailsRun S.Store self.old self.new) }
         ensures kept { KeepsFaults (store_of S.Store self.old) (store_of S.Store self.new) }
-        ensures cause { HasCleanDisk (store_of S.Store self.new) → (self.old.failed ≡ false → ShowsItsRows S.Store self.old) →
-            IfErr result (IsStopped (store_of S.Store self.old) (store_of S.Store self.new)) }
     {
         if self.failed {
             return Err(StoreFault::Closed);
@@ -132,31 +128,6 @@ impl<S: Alter + Drop> World<S> {
             },
             Err(reply) => Ok(reply),
         }
-    }
-
-    /// Runs batches in order, and commits each that is accepted before the next one is judged.
-    ///
-    /// One reply for each batch is added after the replies that are there, each after its commit. The faults: OutOfMemory if there
-    /// is no room for the replies, before anything is done; Store if the store failed, and then the batch in hand and those after
-    /// it have no reply; Closed if the World had failed.
-    pub fn run(&mut self, batches: &[Batch], replies: &mut Vec<Reply>) -> Result<(), StoreFault>
-        // Wherever the World stood, each batch that has a reply had its turn, and the replies are those of its state. The acknowledged
-        // batches are in the tables, and a crash leaves them, or these and the batch in hand, in which the store failed.
-        ensures runs { RunsBatches S.Store self.old self.new batches.now replies.old.items replies.new.items result }
-    {
-        if self.failed {
-            return Err(StoreFault::Closed);
-        }
-        if replies.reserve(batches.len()).is_err() {
-            return Err(StoreFault::OutOfMemory);
-        }
-        for batch in batches {
-            match self.run_one(batch, &mut NoNotes) {
-                Ok(reply) => replies.push(reply).unwrap(),
-                Err(fault) => return Err(fault),
-            }
-        }
-        Ok(())
     }
 
     /// What a batch would come to at present, with the present number. Nothing changes. If it would be refused, the witness sees why. The
@@ -178,14 +149,6 @@ impl<S: Alter + Drop> World<S> {
             }),
             Err(reply) => Ok(reply),
         }
-    }
-
-    /// A World that works and whose tables show its rows stands for their world. The call does nothing; its contract is what it is for.
-    pub fn stands(&self)
-        ensures { (known : Bool) → self.now.failed ≡ false → (IsTrue known → ShowsItsRows S.Store self.now) →
-            StandsFor S.Store known self.now (state_of self.now.rows.maps) }
-    {
-        let _failed = self.failed;
     }
 
     /// The rows, unless the World has failed.

@@ -7,6 +7,7 @@ pub mod Laid
 pub mod Exactly
 pub mod AllRows
 pub mod Shown
+pub mod Moments
 pub mod Committed
 pub mod OpenLemmas
 pub mod CompareLemmas

@@ -15,7 +15,7 @@ pub use Rattle.moo_rows.specs.declared.row.SlotRow.{SlotRow}
 pub use Rattle.moo_store_rows.specs.Opening.{Adopts, IsOfStore, Says, TakesOver}
 pub use Rattle.moo_store_rows.specs.Printed.{PrintEach, Prints, PrintsObject, PrintsOver, PrintsPetition, PrintsProp, PrintsSlot, PrintsVerb, all_changes, all_of, as_changes, new_number}
 pub use Rattle.moo_store_rows.specs.States.{KeepsRows, LeavesState}
-pub use Rattle.moo_store_rows.specs.Untouched.{IfBoth, KeepsCells, LeavesEither}
+pub use Rattle.moo_store_rows.specs.Untouched.{IfBoth, KeepsCells}
 pub use Rattle.moo_store_rows.specs.Current.{unread_from}
 pub use Rattle.moo_store_rows.specs.declared.fault.StoreFault.{StoreFault}
 pub use Rattle.moo_store_rows.specs.declared.fault.StoreFault.TheVariants.{OutOfMemory, Store}

@@ -2,7 +2,10 @@ pub mod Printed
 pub mod States
 pub mod Current
 pub mod Untouched
+pub mod Moment
+pub mod Place
 pub mod Stopped
+pub mod Committing
 pub mod Opening
 pub mod Reading
 pub mod Checked

@@ -1,8 +1,7 @@
 -- Rows that stay as they are, and columns that stay, keep their cells, byte for byte, whatever spelling of a value these hold.
-use Rattle.std.specs.Prelude.{◌≡◌, ◌⊎◌, ℤ, pos, Option, Some, ⊤}
+use Rattle.std.specs.Prelude.{◌≡◌, ℤ, pos, Option, Some, ⊤}
 use Rattle.std.specs.FinMap.{get}
 use Rattle.sqlite.specs.Order.{Row}
-use Rattle.sqlite.specs.Tree.{Trees}
 use Rattle.moo_value.specs.declared.value.ObjNo.{ObjNo}
 use Rattle.moo_rows.specs.declared.row.PropId.{PropId}
 use Rattle.moo_rows.specs.declared.row.VerbId.{VerbId}
@@ -15,7 +14,6 @@ use Rattle.moo_tables_rows.specs.Prop.{PropColumns}
 use Rattle.moo_tables_rows.specs.Slot.{SlotColumns}
 use Rattle.moo_tables_rows.specs.Verb.{VerbColumns}
 use Rattle.moo_tables_rows.specs.Petition.{PetitionColumns}
-use Rattle.moo_tables_rows.specs.Inside.{Leaves}
 use Rattle.moo_cells.specs.Shows.{ShowsRows}
 
 -- this holds from a row to a row, each with its cells; if one of them isn't there, nothing is said
@@ -46,7 +44,3 @@ pub record KeepsCells (rows next : Maps) (old new : Tables) : Type 0 where
       IfBoth VerbColumns (get rows.verbs key) (get next.verbs key) (old.verb (key.0.0, pos key.1.0)) (new.verb (key.0.0, pos key.1.0))
   pub petition_columns : (id : PetitionId) →
       IfBoth PetitionColumns (get rows.petitions id) (get next.petitions id) (old.petition (pos id.0)) (new.petition (pos id.0))
-
--- What a crash may leave of tables that a batch writes: these, or those that it makes of them, with the cells kept of all that stays.
-abbrev pub LeavesEither : Maps → Maps → Tables → Trees → Type 0
-LeavesEither rows next tables trees = Leaves trees tables ⊎ ((after : Tables) × Leaves trees after × KeepsCells rows next tables after)

@@ -1,13 +1,9 @@
 //! Reading a call.
 
-ghost use Rattle.std.specs.Prelude.{◌≡◌, length, IfOk, IfErr};
+ghost use Rattle.std.specs.Prelude.{◌≡◌, length, IfOk};
 ghost use Rattle.std.specs.Option.{option_map};
-ghost use Rattle.moo_world.specs.declared.call.Call.{Call as ACall};
-ghost use Rattle.moo_text.specs.Grammar.{SpellsCall};
 ghost use Rattle.moo_text.specs.LineReading.{after_mark as behind_mark, arguments_of as arguments_in, values_at, call_name, call_of};
-ghost use Rattle.moo_text.specs.declared.fault.CallFault.TheVariants.{Malformed};
 
-use crate::fault::CallFault;
 use crate::line::{is_all_blank, is_short, skip_blanks, split_word};
 use crate::literal::read_front;
 use moo_world::{Args, Call, CallName};
@@ -76,19 +72,4 @@ pub fn call_in(alloc: Global, line: &[u8]) -> Result<Option<Call>, AllocError>
         return Ok(None);
     };
     Ok(arguments_of(alloc, rest)?.map(|args| Call { name, args }))
-}
-
-/// The call that a line of at most 262,144 bytes spells, `name(value, ...)`: the name in any case, spaces and tabs between the tokens.
-/// Malformed for any other line; OutOfMemory if memory runs out.
-pub fn read_call(alloc: Global, line: &[u8]) -> Result<Call, CallFault>
-    // What is read is spelled so.
-    ensures ok { IfOk result (λ call. SpellsCall call line.now) }
-    // Malformed is the line that spells no call.
-    ensures err { IfErr result (λ fault. fault ≡ Malformed → (call : ACall) → ¬ (SpellsCall call line.now)) }
-{
-    match call_in(alloc, line) {
-        Ok(Some(call)) => Ok(call),
-        Ok(None) => Err(CallFault::Malformed),
-        Err(_) => Err(CallFault::OutOfMemory),
-    }
 }

@@ -5,15 +5,6 @@ ghost use Rattle.moo_text.specs.declared.fault.TextFault.TheVariants.{OutOfMemor
 
 use std::alloc::{AllocError, AllocFailed};
 
-/// Why a line is read as no call.
-#[derive(Clone, Copy)]
-pub enum CallFault {
-    /// The line spells no call.
-    Malformed,
-    /// Memory ran out.
-    OutOfMemory,
-}
-
 /// The writer failed, or took no bytes.
 #[derive(Clone, Copy)]
 pub struct WriteFault;

@@ -97,7 +97,7 @@ fn put_accepted(
     out.extend_from_slice(b"end\n")
 }
 
-fn put_reply(alloc: Global, reply: &Reply, out: &mut Vec<u8>) -> Result<(), AllocError>
+pub(crate) fn put_reply(alloc: Global, reply: &Reply, out: &mut Vec<u8>) -> Result<(), AllocError>
     ensures ok { OnOk result (out.new.items ≡ out.old.items ++ reply_text reply.now) }
     ensures kept { StartsWith out.new.items out.old.items }
 {
@@ -121,19 +121,6 @@ fn put_answer(alloc: Global, answer: &Answer, out: &mut Vec<u8>) -> Result<(), A
         Answer::Fault => out.extend_from_slice(b"fault\n"),
         Answer::Closed => out.extend_from_slice(b"closed\n"),
     }
-}
-
-/// Appends the lines of a reply. The only error is a lack of memory, and it leaves the bytes as they were.
-pub fn print_reply(alloc: Global, reply: &Reply, out: &mut Vec<u8>) -> Result<(), AllocError>
-    ensures ok { OnOk result (out.new.items ≡ out.old.items ++ reply_text reply.now) }
-    ensures err { OnErr result (out.new.items ≡ out.old.items) }
-{
-    let start = out.len();
-    let result = put_reply(alloc, reply, out);
-    if result.is_err() {
-        out.truncate(start);
-    }
-    result
 }
 
 /// Appends the lines that answer a batch of a text. The only error is a lack of memory, and it leaves the bytes as they were.

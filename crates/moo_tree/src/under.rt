@@ -5,7 +5,7 @@ ghost use Rattle.std.specs.FinMap.{get, insert};
 ghost use Rattle.moo_rows.specs.declared.row.ObjRow.{ObjRow};
 ghost use Rattle.moo_rows.specs.Maps.{object_cmp};
 ghost use Rattle.moo_rows.specs.Ordered.{contents};
-ghost use Rattle.moo_world.specs.ObjectLists.{children_of, subtree_of};
+ghost use Rattle.moo_world.specs.ObjectLists.{children_of};
 ghost use Rattle.moo_world.specs.Rows.{world_of};
 ghost use Rattle.moo_world.specs.World.{IsTree, is_object};
 ghost use Rattle.moo_tree.specs.Under.{IsFound, owners_under};
@@ -40,7 +40,7 @@ fn visit<R: Rows>(
 
 /// x and its descendants, each with its owner; nothing if x isn't an object. It goes down level by level, so that what is
 /// done is as much as is found, and not as the world holds.
-fn find_under<R: Rows>(
+pub(crate) fn find_under<R: Rows>(
     alloc: Global,
     rows: &R,
     x: ObjNo,
@@ -62,16 +62,6 @@ fn find_under<R: Rows>(
         level = below;
     }
     Ok(found)
-}
-
-/// x and its descendants, ascending; nothing if x isn't an object. An `Err` is a lack of memory.
-///
-/// Only what is under x is looked at: m log n steps for m objects there among n of the world, however deep they stand.
-pub fn subtree<R: Rows>(alloc: Global, rows: &R, x: ObjNo) -> Result<Vec<ObjNo>, AllocError>
-    requires { IsTree (world_of (R.held rows.now).maps) }
-    ensures { IfOk result (λ v. v.items ≡ subtree_of (world_of (R.held rows.now).maps) x) }
-{
-    find_under(alloc, rows, x)?.into_keys().collect(alloc)
 }
 
 /// The objects under x with their owners, ascending; nothing if x isn't an object. It costs what `subtree` does. An `Err`

@@ -9,6 +9,7 @@ pub mod laws;
 mod matching;
 mod prep;
 mod reading;
+mod surface;
 
 pub use cells::{read_place_cell, read_prep_cell};
 pub use directory::{add, delete, list, set_args, set_info};
@@ -16,4 +17,5 @@ pub use fault::VerbFault;
 pub use find::{find_verb, found_verb, verb};
 pub use matching::{matches, one_matches};
 pub use prep::{print_object_spec, print_prep};
-pub use reading::{bits_letters, check_names, read_args, read_bits, read_prep};
+pub use reading::{bits_letters, check_names, read_args, read_prep};
+pub use surface::read_bits;

@@ -33,16 +33,6 @@ pub fn check_names(names: &MooStr) -> Result<(), VerbFault>
     }
 }
 
-/// The rights that a text of the letters `r`, `w`, `x` and `d` gives, in any order and case, with repeats.
-/// Another byte in it is BadBits.
-///
-/// LambdaMOO Programmer's Manual, 'Verbs on Objects' in the chapter on the database.
-pub fn read_bits(text: &MooStr) -> Result<VerbBits, VerbFault>
-    ensures { result ≡ ok_or (verb_bits_of text.now) VerbFault.BadBits }
-{
-    VerbBits::read(text).ok_or(VerbFault::BadBits)
-}
-
 /// The letters of the rights, in the order `rwxd`.
 ///
 /// LambdaMOO Programmer's Manual, 'Operations on Verbs': `verb_info`.

@@ -1,16 +1,28 @@
-use Rattle.moo_http.proofs.Consulting.{ran_one, moved_one}
+use Rattle.moo_http.{proofs.Words.{World}, proofs.Consulting.{ran_one, moved_one}}
 use Rattle.moo_http.proofs.consult.run_batch.Goals as goal
-use Rattle.moo_store.proofs.Running.{fails_of}
+use Rattle.moo_store.proofs.Adapters.{fails_at_store, stands_behind, writes_one}
 
 pub returns-clause-clean : goal.returns-clause-clean
-returns-clause-clean g c = c.run_one.ensures.cells.clean
+returns-clause-clean g c = c.run_one.ensures.moves.clean
 
 pub returns-clause-comes : goal.returns-clause-comes
 returns-clause-comes g c known stand at =
-    ran_one g.S.Store known c.args.world.now c.run_one.new.self stand c.args.batch.now c.run_one.result c.came.result c.came.ensures
-    (fails_of g.S.Store c.args.world.now c.run_one.new.self c.run_one.result c.run_one.ensures.closed c.run_one.ensures.fails) c.run_one.ensures.stands at
+    let was = c.args.world.now in
+    let new = c.run_one.new.self in
+    let batch = c.args.batch.now in
+    let settled = λ (w : World _). g.met.S.Store.settled w.connection.store in
+    let good = c.has_good_rows.ensures in
+    let moves = c.run_one.ensures.moves in
+    ran_one g.S.Store known was new stand batch c.run_one.result c.came.result c.came.ensures
+    (fails_at_store g.S.Store settled was new batch c.run_one.result good moves c.run_one.ensures.fault) (stands_behind g.S.Store settled was new batch c.run_one.result good moves) at
 
 pub returns-clause-moved : goal.returns-clause-moved
 returns-clause-moved g c =
-    moved_one g.S.Store c.args.world.now c.run_one.new.self c.args.batch.now c.run_one.result c.came.result c.came.ensures (g.met.S.Store.settled c.args.world.now.connection.store)
-    (fails_of g.S.Store c.args.world.now c.run_one.new.self c.run_one.result c.run_one.ensures.closed c.run_one.ensures.fails) c.run_one.ensures.cells
+    let was = c.args.world.now in
+    let new = c.run_one.new.self in
+    let batch = c.args.batch.now in
+    let settled = λ (w : World _). g.met.S.Store.settled w.connection.store in
+    let good = c.has_good_rows.ensures in
+    let moves = c.run_one.ensures.moves in
+    let fails = fails_at_store g.S.Store settled was new batch c.run_one.result good moves c.run_one.ensures.fault in
+    moved_one g.S.Store was new batch c.run_one.result c.came.result c.came.ensures (settled was) fails (writes_one g.S.Store settled was new batch c.run_one.result good moves fails)

@@ -1,10 +1,5 @@
-use Rattle.moo_http.{proofs.Words.{◌≡◌, ◌⊎◌, inr, [], false, refl, rules, HasFailed, Traffic, traffic, traffic_of, IsLeftUnread, Visited, written_none}, proofs.Connections.{connected}, proofs.Turns.{stays, is_unread, visited, unvisited}}
+use Rattle.moo_http.{proofs.Words.{◌≡◌, ◌⊎◌, inr, [], false, refl, rules, HasFailed, Traffic, traffic, traffic_of, IsLeftUnread, Visited, written_none}, proofs.Turns.{stays, is_unread, visited, unvisited}}
 use Rattle.moo_http.proofs.listen.serve_connection.Goals as goal
-
-pub returns-clause-served : goal.returns-clause-served
-returns-clause-served g c limited known stand at =
-    connected g.S.Store known stand c.args.world.now c.serve_one-served.new.world (HasFailed g.R.Incoming.fails c.serve_one-served.new.reader) c.serve_one-served.result c.ends.result
-    (traffic g.R.Read g.W.Write c.args.connection.now.reader c.serve_one-served.new.reader c.args.connection.now.writer c.serve_one-served.new.writer) c.ends.ensures c.serve_one-served.ensures.cause (c.serve_one-served.ensures.served known stand at)
 
 pub returns-clause-visited : goal.returns-clause-visited
 returns-clause-visited g c known stand at =

@@ -1,4 +1,4 @@
-use Rattle.moo_http.{proofs.Words.{◌≡◌, [], refl, AfterConnections, ServesPort, Attended, ServesFrom, no_batches, listening_line, written_none}, specs.declared.service.ServiceFault.TheVariants.{OutOfMemory}, proofs.Connections.{stood, no_front, fails_early, says_all}, proofs.Turns.{attended_moves, stays}}
+use Rattle.moo_http.{proofs.Words.{◌≡◌, [], refl, Attended, ServesFrom, no_batches, listening_line, written_none}, specs.declared.service.ServiceFault.TheVariants.{OutOfMemory}, proofs.Connections.{no_front, fails_early, says_all}, proofs.Turns.{stays}}
 use Rattle.moo_http.proofs.service.serve_from.Goals as goal
 
 -- memory for the routes is refused
@@ -12,13 +12,6 @@ returns-in_err-routes-clause-serves g c known stand at =
     (fails_early (λ answered failed. Attended g.A.Arrivals g.A.Reader.Read g.A.Reader.Incoming.fails g.A.Writer.Write answered failed no_batches from stand from stand) ((from ≡ from) × (stand ≡ stand) × (no_batches ≡ no_batches)) c.args.duty.port c.args.duty.count
     c.from_residual.result OutOfMemory output output (refl, refl, refl) c.from_residual.ensures.1 (λ e. cc) (no_front (listening_line c.args.duty.port) output))
 
-pub returns-in_err-routes-clause-moves : goal.returns-in_err-routes-clause-moves
-returns-in_err-routes-clause-moves g c known stand at =
-    let output = g.W.Write.contents c.args.output.now in
-    stood g.S.Store known stand c.args.world.now (λ end. ServesPort c.from_residual.result c.args.duty.port c.args.duty.count stand end output output) at (c.leaves.ensures known stand at)
-    (fails_early (λ answered failed. AfterConnections c.args.duty.count stand stand) (stand ≡ stand) c.args.duty.port c.args.duty.count
-    c.from_residual.result OutOfMemory output output refl c.from_residual.ensures.1 (λ e. cc) (no_front (listening_line c.args.duty.port) output))
-
 -- the first line can't be written
 pub returns-in_err-say_listening-clause-serves : goal.returns-in_err-say_listening-clause-serves
 returns-in_err-say_listening-clause-serves g c known stand at =
@@ -31,15 +24,6 @@ returns-in_err-say_listening-clause-serves g c known stand at =
     (g.met.S.Store.settled c.args.world.now.connection.store) at (c.leaves.ensures known stand at)
     (fails_early (λ answered failed. Attended g.A.Arrivals g.A.Reader.Read g.A.Reader.Incoming.fails g.A.Writer.Write answered failed no_batches from stand from stand) ((from ≡ from) × (stand ≡ stand) × (no_batches ≡ no_batches)) c.args.duty.port c.args.duty.count
     result c.in_err-say_listening.field-0.0 before after (refl, refl, refl) c.from_residual-in_err-say_listening.ensures.1 c.in_err-say_listening.ensures.fault c.in_err-say_listening.ensures.err)
-
-pub returns-in_err-say_listening-clause-moves : goal.returns-in_err-say_listening-clause-moves
-returns-in_err-say_listening-clause-moves g c known stand at =
-    let before = g.W.Write.contents c.args.output.now in
-    let after = g.W.Write.contents c.say_listening.new.output in
-    let result = c.from_residual-in_err-say_listening.result in
-    stood g.S.Store known stand c.args.world.now (λ end. ServesPort result c.args.duty.port c.args.duty.count stand end before after) at (c.leaves.ensures known stand at)
-    (fails_early (λ answered failed. AfterConnections c.args.duty.count stand stand) (stand ≡ stand) c.args.duty.port c.args.duty.count
-    result c.in_err-say_listening.field-0.0 before after refl c.from_residual-in_err-say_listening.ensures.1 c.in_err-say_listening.ensures.fault c.in_err-say_listening.ensures.err)
 
 pub returns-clause-serves : goal.returns-clause-serves
 returns-clause-serves g c known stand at =
@@ -59,20 +43,6 @@ returns-clause-serves g c known stand at =
             c.args.duty.port c.args.duty.count c.say_served.result served.result.answered served.result.failed (g.W.Write.contents c.args.output.now) (g.W.Write.contents c.say_listening.new.output) (g.W.Write.contents c.say_served.new.output)
             served.ensures.count reached.ends.2 c.in_ok-say_listening.ensures.ok c.say_served.ensures.ok c.say_served.ensures.err c.say_served.ensures.fault,
       );
-    }
-
-pub returns-clause-moves : goal.returns-clause-moves
-returns-clause-moves g c known stand at =
-    let served = c.serve_on-served in
-    let reached = served.ensures.serves known stand at in
-    let moved = attended_moves g.A.Arrivals g.A.Reader.Read g.A.Reader.Incoming.fails g.A.Writer.Write served.result.answered served.result.failed c.args.duty.count reached.ends.0 c.args.arrivals.now stand served.new.arrivals reached.end served.ensures.count reached.ends.2 in
-    record {
-      end = reached.end;
-      stands = reached.stands;
-      crash = reached.crash;
-      ends = says_all (λ answered failed. AfterConnections c.args.duty.count stand reached.end) (reached.end ≡ stand)
-          c.args.duty.port c.args.duty.count c.say_served.result served.result.answered served.result.failed (g.W.Write.contents c.args.output.now) (g.W.Write.contents c.say_listening.new.output) (g.W.Write.contents c.say_served.new.output)
-          served.ensures.count moved c.in_ok-say_listening.ensures.ok c.say_served.ensures.ok c.say_served.ensures.err c.say_served.ensures.fault;
     }
 
 pub returns-in_err-routes-clause-moved : goal.returns-in_err-routes-clause-moved

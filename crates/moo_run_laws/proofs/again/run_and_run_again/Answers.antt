@@ -1,12 +1,28 @@
-use Rattle.moo_run_laws.{specs.FileRuns.{run_of, GoesOnFrom, GoesOnFromRows}, proofs.AgainLemmas.{takes_up, takes_rows}, proofs.LawLemmas.{goes_by, goes_by_rows, goes_by_service}}
+use Rattle.std.proofs.Common.{map}
+use Rattle.sqlite.specs.WalFiles.{image_at}
+use Rattle.moo_run_laws.proofs.TwiceLemmas.{runs_twice}
 use Rattle.moo_run_laws.proofs.again.run_and_run_again.Goals as goal
 
 pub returns : goal.returns
 returns g c = record {
-  reopened = λ first next (over, then, clean, found).
-      goes_by first.words first.image first.ends first.closed (run_of first) next.image (GoesOnFrom next) over.0 over.1 clean found (λ t holds. (holds, takes_up next.words next.image next.ends (run_of next) then.0 t holds));
-  numbers = λ first next (over, then, clean, found).
-      goes_by_rows first.words first.image first.ends first.closed (run_of first) next.image (GoesOnFromRows next) over.0 over.1 clean found (λ rows holds. (holds, takes_rows next.words next.image next.ends (run_of next) then.0 rows holds));
-  served = λ first next (over, then, clean, found).
-      goes_by_service first.words first.image first.ends first.closed (run_of first) next.image (GoesOnFrom next) over.0 over.1 clean found (λ t holds. (holds, takes_up next.words next.image next.ends (run_of next) then.0 t holds));
+  again =
+      let ran = c.run_to_end-left.ensures.closed in
+      let then = c.run_to_end-next_left.ensures.closed in
+      runs_twice _ _ c.runs_lead_on.ensures.follows
+      (λ ends. record {
+        words = map (λ word. word.now) c.args.words.now;
+        image = image_at g.S.File.Start;
+        began = c.args.session.now;
+        ended = c.run_to_end-left.new.session;
+        ends = ends;
+        closed = c.run_to_end-left.result;
+      })
+      (λ ends. record {
+        words = map (λ word. word.now) c.args.next_words.now;
+        image = image_at g.N.File.Start;
+        began = c.args.next.now;
+        ended = c.run_to_end-next_left.new.session;
+        ends = ends;
+        closed = c.run_to_end-next_left.result;
+      }) (ran.0, (ran.1, ran.2)) (then.0, (then.1, then.2));
 }

@@ -1,4 +1,4 @@
-use Rattle.moo_store.proofs.Words.{IsTrue, true, inl, inr, rules, refl, sym, subst, HasCleanDisk, Survives, state, state_of, KeepsRows, LeavesState, ShowsItsRows}
+use Rattle.moo_store.{proofs.Words.{IsTrue, true, inl, inr, rules, refl, sym, ap, subst, HasCleanDisk, Survives, state, state_of, KeepsRows, LeavesState, World, ShowsItsRows}, proofs.Adapters.{stands_for_rows}}
 use Rattle.moo_store_rows.proofs.Opened.{has_no_tables, keeps_all, survives_all}
 use Rattle.moo_store.proofs.loading.load_in.Goals as goal
 
@@ -13,15 +13,18 @@ returns-in-Ok-create_tables g c =
     let none = has_no_tables (state g.S.Store c.args.conn).now (c.is_new.ensures.0 new) in
     let keeps : HasCleanDisk (state g.S.Store conn) → KeepsRows (state g.S.Store conn) rows = λ clean.
     keeps_all (state g.S.Store conn) c.in-Ok.cells rows c.in-Ok.ensures (c.in-Ok-create_tables.ensures.made.made clean none) in
+    let is = c.over.ensures.is in
+    let connection = ap (λ (w : World _). w.connection) is in
+    let same = ap (λ (w : World _). w.rows.maps) is in
     let shown : ShowsItsRows g.S.Store c.over.result = λ clean.
-    subst (KeepsRows (state g.S.Store c.over.result.connection)) (sym c.over.ensures.rows)
-    (subst (λ conn. HasCleanDisk (state g.S.Store conn) → KeepsRows (state g.S.Store conn) rows) (sym c.over.ensures.connection) keeps clean) in
+    subst (KeepsRows (state g.S.Store c.over.result.connection)) (sym same)
+    (subst (λ conn. HasCleanDisk (state g.S.Store conn) → KeepsRows (state g.S.Store conn) rows) (sym connection) keeps clean) in
     record {
       loads = record {
         empty = λ taken. taken (c.is_new.ensures.0 new);
-        stands = c.over.ensures.stands true (λ _. shown);
-        same = c.over.ensures.rows;
-        crash = subst (λ conn. Survives (state g.S.Store c.args.conn) (state g.S.Store conn) (λ trees. LeavesState trees (state_of rows))) (sym c.over.ensures.connection)
+        stands = stands_for_rows g.S.Store true c.over.result rows (ap (λ (w : World _). w.failed) is) same c.requires.good (λ _. shown);
+        same = same;
+        crash = subst (λ conn. Survives (state g.S.Store c.args.conn) (state g.S.Store conn) (λ trees. LeavesState trees (state_of rows))) (sym connection)
             (survives_all (state g.S.Store c.args.conn) (state g.S.Store conn) c.in-Ok.cells rows c.in-Ok.ensures c.requires.good (c.in-Ok-create_tables.ensures.made.crash (λ clean. none)));
       };
     }

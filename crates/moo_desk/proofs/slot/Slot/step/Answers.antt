@@ -12,12 +12,14 @@ total_of-self-requires g c =
 
 pub invariant_of-self-in-Grew : goal.invariant_of-self-in-Grew
 invariant_of-self-in-Grew g c = record {
+  pair = c.fill.ensures.peer ∙ c.args.self.now.pair;
   known = subst (λ bytes. ∥ IsKnownFrom bytes c.total_of-self.result ∥₁) c.deref.ensures.value c.total_of-self.ensures;
   ripe = not_ripe c.args.self.now.rests c.if-self.false;
 }
 
 pub invariant_of-self-in-Grew-2 : goal.invariant_of-self-in-Grew-2
 invariant_of-self-in-Grew-2 g c = record {
+  pair = c.fill.ensures.peer ∙ c.args.self.now.pair;
   known = subst (λ bytes. ∥ IsKnownFrom bytes c.total_of-self.result ∥₁) c.deref.ensures.value c.total_of-self.ensures;
   ripe = ripe_if c.is_whole-self.result (λ is. ∥∥₁_map (c.is_whole-self.ensures is) (λ whole. inl whole));
 }
@@ -26,6 +28,7 @@ pub invariant_of-self-in-Ended : goal.invariant_of-self-in-Ended
 invariant_of-self-in-Ended g c =
     let grew = c.fill.ensures.grows in
     record {
+      pair = c.fill.ensures.peer ∙ c.args.self.now.pair;
       known = known_grown c.args.self.now.reader.bytes.items grew.0 c.fill.new.self.bytes.items c.args.self.now.total grew.1 c.args.self.now.known;
       ripe = not_ripe c.args.self.now.rests c.if-self.false;
     }
@@ -34,6 +37,7 @@ pub invariant_of-self-in-Failed-1 : goal.invariant_of-self-in-Failed-1
 invariant_of-self-in-Failed-1 g c =
     let grew = c.fill.ensures.grows in
     record {
+      pair = c.fill.ensures.peer ∙ c.args.self.now.pair;
       known = known_grown c.args.self.now.reader.bytes.items grew.0 c.fill.new.self.bytes.items c.args.self.now.total grew.1 c.args.self.now.known;
       ripe = not_ripe c.args.self.now.rests c.if-self.false;
     }
@@ -42,6 +46,7 @@ pub invariant_of-self-in-Waits : goal.invariant_of-self-in-Waits
 invariant_of-self-in-Waits g c =
     let grew = c.fill.ensures.grows in
     record {
+      pair = c.fill.ensures.peer ∙ c.args.self.now.pair;
       known = known_grown c.args.self.now.reader.bytes.items grew.0 c.fill.new.self.bytes.items c.args.self.now.total grew.1 c.args.self.now.known;
       ripe = not_ripe c.args.self.now.rests c.if-self.false;
     }

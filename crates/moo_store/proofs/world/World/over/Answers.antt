@@ -1,8 +1,12 @@
-use Rattle.moo_store.{proofs.Words.{refl, state, state_of}, proofs.Crashes.{keeps_state}}
+use Rattle.moo_store.proofs.Words.{refl, sym, subst, state, IsGood}
+use Rattle.moo_store_rows.{specs.Moment.{Moment}, proofs.Moments.{moment_left}}
 use Rattle.moo_store.proofs.world.World.over.Goals as goal
 
 pub returns-clause-stands : goal.returns-clause-stands
-returns-clause-stands g c known shown = record {
-  works = refl;
-  is_at = record { tables = λ sure clean. keeps_state (state g.S.Store c.args.connection) c.args.rows.maps (state_of c.args.rows.maps) c.requires.good refl (shown sure clean); rows = λ e. refl; shown = λ sure e. shown sure };
+returns-clause-stands g c m is rests = record {
+  failed = refl;
+  good = λ t same. subst (λ (x : Moment). IsGood x.rows) (sym same) (subst IsGood (sym is) c.requires.good);
+  rows = λ _. sym is;
+  rests = λ clean opened. rests clean;
+  crash = λ clean some trees lies. (m, refl, moment_left (state g.S.Store c.args.connection) m (g.met.S.Store.settled c.args.connection.store) (rests clean) some trees lies);
 }

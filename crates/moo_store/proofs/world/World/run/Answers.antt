@@ -1,5 +1,5 @@
 use Rattle.std.proofs.lemmas.Bool.{true≢false}
-use Rattle.moo_store.{proofs.Words.{StoreFault, Result, MatchStore, IsAt, HasCleanDisk, Left, LeftOrNext, State, after, drop, length, IsTrue, ◌≡◌, ◌+◌, inl, inr, vec_len, refl, sym, ◌∙◌, subst, arith, true, false, Ok, Err, ⊤, OutOfMemory, Closed, acknowledged, added, LeavesLed, store_of, World, IsGood}, proofs.Crashes.{left_at_rest}, proofs.Running.{when_ok, starts, goes_on, answers, is_at_end, stops, by_fault, fails_of, runs_one, runs_through, runs_stopped, next_in_hand, fewer, stood, all_answered, has_failed, no_memory, same_fault, never_failed}, proofs.Untouched.{is_over, wrote_at_start, wrote_on, wrote_stopped, same_stopped, led_over, led_stopped}, proofs.Stopped.{faults_same, faults_then, stopped_since, was_open}}
+use Rattle.moo_store.{proofs.Words.{StoreFault, Result, MatchStore, IsAt, HasCleanDisk, Left, LeftOrNext, State, after, drop, length, IsTrue, ◌≡◌, ◌+◌, inl, inr, vec_len, refl, sym, ◌∙◌, subst, arith, true, false, Ok, Err, ⊤, OutOfMemory, Closed, acknowledged, added, LeavesLed, store_of, World, IsGood}, proofs.Crashes.{left_at_rest}, proofs.Running.{when_ok, starts, goes_on, answers, is_at_end, stops, by_fault, runs_one, runs_through, runs_stopped, next_in_hand, fewer, stood, all_answered, has_failed, no_memory, same_fault, never_failed}, proofs.Untouched.{is_over, wrote_at_start, wrote_on, wrote_stopped, same_stopped, led_over, led_stopped}, proofs.Adapters.{fails_at_store, stands_behind, writes_one, takes_none, stays_good, stays_closed, stopped_by, is_of_run}, proofs.Stopped.{faults_same, faults_then, stopped_since, was_open}}
 use Rattle.moo_store.proofs.world.World.run.Goals as goal
 
 -- before the first batch
@@ -68,19 +68,34 @@ pub loop-batch-init : goal.loop-batch-init
 loop-batch-init g c = record {
   progress = starts g.S.Store c.args.self.now c.args.batches.now c.args.replies.now.items c.reserve.new.self.items c.reserve.ensures.items;
   cells = wrote_at_start g.S.Store c.args.self.now c.args.batches.now c.args.replies.now.items c.reserve.new.self.items c.reserve.ensures.items;
+  good = subst (λ (w : World _). w.failed ≡ false → IsGood w.rows.maps) c.self.view_is c.self.invariant.1;
   kept = faults_same (store_of g.S.Store c.args.self.now);
   room = let enough = when_ok c.reserve.result c.if-is_err.ensures.value c.reserve.ensures.ok in omega (arith, enough, c.reserve.ensures.len);
 }
 
 pub loop-batch-preserved : goal.loop-batch-preserved
-loop-batch-preserved g c = record {
-  progress = goes_on g.S.Store c.args.self.now c.loop-batch.self c.run_one.new.self c.args.batches.now c.loop-batch.batch-index c.args.replies.now.items c.loop-batch.replies.items c.push.new.self.items c.batch-item.result c.in-Ok.reply
-      c.loop-batch-test.true c.batch-item.is c.loop-batch.invariant.progress (rw c.unwrap.ensures at c.push.ensures.items) (runs_one g.S.Store c.loop-batch.self c.run_one.new.self c.batch-item.result (Ok c.in-Ok.reply) (fails_of g.S.Store c.loop-batch.self c.run_one.new.self (Ok c.in-Ok.reply) c.in-Ok.ensures.closed c.in-Ok.ensures.fails) c.in-Ok.ensures.stands) c.in-Ok.ensures.stands;
-  cells = wrote_on g.S.Store c.args.self.now c.loop-batch.self c.run_one.new.self c.args.batches.now c.loop-batch.batch-index c.args.replies.now.items c.loop-batch.replies.items c.push.new.self.items c.batch-item.result c.in-Ok.reply
-      c.loop-batch-test.true c.batch-item.is c.loop-batch.invariant.progress (rw c.unwrap.ensures at c.push.ensures.items) c.loop-batch.invariant.cells (fails_of g.S.Store c.loop-batch.self c.run_one.new.self (Ok c.in-Ok.reply) c.in-Ok.ensures.closed c.in-Ok.ensures.fails) c.in-Ok.ensures.cells c.in-Ok.ensures.same;
-  kept = faults_then (store_of g.S.Store c.args.self.now) (store_of g.S.Store c.loop-batch.self) (store_of g.S.Store c.run_one.new.self) c.loop-batch.invariant.kept c.in-Ok.ensures.kept;
-  room = let longer : vec_len c.push.new.self ≡ vec_len c.loop-batch.replies + 1 = rw c.unwrap.ensures at c.push.ensures.len in omega (arith, longer, c.loop-batch.invariant.room, c.push.ensures.capacity, c.loop-batch-test.true);
-}
+loop-batch-preserved g c =
+    let old = c.args.self.now in
+    let mid = c.loop-batch.self in
+    let new = c.run_one.new.self in
+    let batch = c.batch-item.result in
+    let reply = c.in-Ok.reply in
+    let settled = λ (w : World _). g.met.S.Store.settled w.connection.store in
+    let good = c.loop-batch.invariant.good in
+    let moves = c.in-Ok.ensures.moves in
+    let fails = fails_at_store g.S.Store settled mid new batch (Ok reply) good moves tt in
+    let stands = stands_behind g.S.Store settled mid new batch (Ok reply) good moves in
+    let longer = rw c.unwrap.ensures at c.push.ensures.items in
+    record {
+      progress = goes_on g.S.Store old mid new c.args.batches.now c.loop-batch.batch-index c.args.replies.now.items c.loop-batch.replies.items c.push.new.self.items batch reply
+          c.loop-batch-test.true c.batch-item.is c.loop-batch.invariant.progress longer (runs_one g.S.Store mid new batch (Ok reply) fails stands) stands;
+      cells = wrote_on g.S.Store old mid new c.args.batches.now c.loop-batch.batch-index c.args.replies.now.items c.loop-batch.replies.items c.push.new.self.items batch reply
+          c.loop-batch-test.true c.batch-item.is c.loop-batch.invariant.progress longer c.loop-batch.invariant.cells fails
+          (writes_one g.S.Store settled mid new batch (Ok reply) good moves fails) (takes_none g.S.Store settled mid new batch (Ok reply) good moves fails c.in-Ok.ensures.still);
+      good = stays_good g.S.Store settled mid new batch (Ok reply) good moves;
+      kept = faults_then (store_of g.S.Store old) (store_of g.S.Store mid) (store_of g.S.Store new) c.loop-batch.invariant.kept c.in-Ok.ensures.kept;
+      room = let longer : vec_len c.push.new.self ≡ vec_len c.loop-batch.replies + 1 = rw c.unwrap.ensures at c.push.ensures.len in omega (arith, longer, c.loop-batch.invariant.room, c.push.ensures.capacity, c.loop-batch-test.true);
+    }
 
 -- a batch met a fault
 pub returns-in-Err : goal.returns-in-Err
@@ -97,8 +112,13 @@ returns-in-Err g c =
     let low = c.loop-batch-test.true in
     let p = c.loop-batch.invariant.progress in
     let cells = c.loop-batch.invariant.cells in
-    let fails = fails_of g.S.Store mid new (Err fault) c.in-Err.ensures.closed c.in-Err.ensures.fails in
-    let runs = runs_one g.S.Store mid new batch (Err fault) fails c.in-Err.ensures.stands in
+    let settled = λ (w : World _). g.met.S.Store.settled w.connection.store in
+    let good = c.loop-batch.invariant.good in
+    let moves = c.in-Err.ensures.moves in
+    let fails = fails_at_store g.S.Store settled mid new batch (Err fault) good moves c.in-Err.ensures.fault in
+    let stands = stands_behind g.S.Store settled mid new batch (Err fault) good moves in
+    let writes = writes_one g.S.Store settled mid new batch (Err fault) good moves fails in
+    let runs = runs_one g.S.Store mid new batch (Err fault) fails stands in
     let works : old.failed ≡ false = subst (λ (w : World _). w.failed ≡ false) c.self.view_is c.if-self.false in
     let stopped = stops (Unit {0}) g.S.Store old mid new all count before behind batch fault low c.batch-item.is p fails runs in
     let end = λ (s : State). after s (acknowledged all (added before behind)) in
@@ -106,34 +126,34 @@ returns-in-Err g c =
     record {
       runs = record {
         adds = record { stood = stood g.S.Store old mid all count before behind p; each = tt; fewer = λ works other. fewer g.S.Store old mid all count before behind low p };
-        turns = runs_stopped g.S.Store old mid new all count before behind batch fault low c.batch-item.is fails c.in-Err.ensures.stands p;
+        turns = runs_stopped g.S.Store old mid new all count before behind batch fault low c.batch-item.is fails stands p;
         states = λ known s it. record { answered = answers g.S.Store old mid all count before behind p known s it; at = stopped known s it };
         leaves = λ s it. record {
           left = by_fault g.S.Store mid new
               (λ f. (let r : Result (Unit {0}) StoreFault = Err f in MatchStore r (IsAt g.S.Store true new (end s)) (next s)) → (let r : Result (Unit {0}) StoreFault = Err f in MatchStore r (HasCleanDisk (store_of g.S.Store new) → Left (store_of g.S.Store new) (end s)) ⊤))
               fault fails (λ error works failed one. tt) (λ shut same one clean. left_at_rest (store_of g.S.Store new) (end s) (g.met.S.Store.settled new.connection.store) (one.tables refl clean)) (stopped true s it);
           cells = λ clean known tables rests.
-              wrote_stopped (Unit {0}) g.S.Store old mid new all (added before behind) batch fault cells fails c.in-Err.ensures.cells clean known tables
-              (is_over g.S.Store true old s tables refl it (cells.clean (c.in-Err.ensures.cells.clean clean)) rests);
+              wrote_stopped (Unit {0}) g.S.Store old mid new all (added before behind) batch fault cells fails writes clean known tables
+              (is_over g.S.Store true old s tables refl it (cells.clean (writes.clean clean)) rests);
           cause = λ clean.
               let at = is_at_end g.S.Store old mid all count before behind p true s it in
               stopped_since (store_of g.S.Store old) (store_of g.S.Store mid) (store_of g.S.Store new) fault c.loop-batch.invariant.kept
-              (λ e is. was_open mid.failed (store_of g.S.Store mid) fault e is (λ failed. (c.in-Err.ensures.closed failed).0) (λ works. (at.shown refl works (c.in-Err.ensures.cells.clean clean)).rests.is_open))
-              (c.in-Err.ensures.cause clean (λ works. at.shown refl works));
+              (λ e is. was_open mid.failed (store_of g.S.Store mid) fault e is (λ failed. (stays_closed g.S.Store settled mid new batch (Err fault) good moves failed).0) (λ works. (at.shown refl works (writes.clean clean)).rests.is_open))
+              (stopped_by g.S.Store settled mid new batch (Err fault) good moves fails c.in-Err.ensures.fault clean (λ works. at.shown refl works));
         };
         led = λ s it clean.
             subst (LeavesLed (store_of g.S.Store new) old.rows.maps (acknowledged all (added before behind)))
             (sym (next_in_hand g.S.Store old mid all count before behind batch low c.batch-item.is p))
             (led_stopped g.S.Store old mid new s all (added before behind) batch _ fault (g.met.S.Store.settled new.connection.store) it
-            (subst (λ (w : World _). w.failed ≡ false → IsGood w.rows.maps) c.self.view_is c.self.invariant.1 it.works) cells fails c.in-Err.ensures.cells clean);
+            (subst (λ (w : World _). w.failed ≡ false → IsGood w.rows.maps) c.self.view_is c.self.invariant.1 it.works) cells fails writes clean);
         still = record {
           same = same_stopped (Unit {0}) g.S.Store old mid new all (added before behind) fault cells fails;
           memory = λ is. absurd (no_memory g.S.Store mid new fault (same_fault fault OutOfMemory is) fails);
           closed = λ failed. absurd (true≢false (sym failed ∙ works));
         };
-        fault = c.in-Err.ensures.fault;
+        fault = is_of_run g.S.Store settled mid new batch (Err fault) good moves c.in-Err.ensures.fault;
         failed = inr (has_failed g.S.Store mid new fault fails);
-        clean = λ clean. cells.clean (c.in-Err.ensures.cells.clean clean);
+        clean = λ clean. cells.clean (writes.clean clean);
         kept = faults_then (store_of g.S.Store old) (store_of g.S.Store mid) (store_of g.S.Store new) c.loop-batch.invariant.kept c.in-Err.ensures.kept;
       };
     }

@@ -1,0 +1,20 @@
+-- Losses that are noted, and told of.
+use Rattle.std.specs.Prelude.{◌≡◌, ◌⊎◌, ◌+◌, ◌-◌, ◌^◌, min, [], ◌∷◌, ◌++◌, Option, Some, None}
+use Rattle.moo_arrivals.specs.declared.cause.Cause.TheVariants.{NoMemory}
+use Rattle.moo_arrivals.specs.declared.cause.Loss.{Loss}
+use Rattle.moo_arrivals.specs.declared.route.Route.TheVariants.{Unknown}
+use Rattle.moo_desk.specs.declared.losses.Losses.{Losses}
+
+-- one more is noted; or, if there is no memory for it, that there is one more
+abbrev pub NotesLoss : Losses → Loss → Losses → Type 0
+NotesLoss old loss new =
+    ((new.all.items ≡ old.all.items ++ loss ∷ []) × (new.more ≡ old.more))
+    ⊎ ((new.all.items ≡ old.all.items) × (new.more ≡ min (old.more + 1) (2 ^ 32 - 1)))
+
+-- One that was noted is told of, and isn't noted any more; then one for which there was no memory. None is told of only if there is none.
+abbrev pub TellsOf : Losses → Option Loss → Losses → Type 0
+TellsOf old None new = (old.all.items ≡ []) × (old.more ≡ 0) × (new.all.items ≡ []) × (new.more ≡ 0)
+TellsOf old (Some loss) new =
+    ((old.all.items ≡ new.all.items ++ loss ∷ []) × (new.more ≡ old.more))
+    ⊎ ((old.all.items ≡ []) × (new.all.items ≡ []) × (old.more ≡ new.more + 1)
+    × (loss ≡ record { route = Unknown; cause = NoMemory }))

@@ -1,0 +1,49 @@
+-- The law of the program, as two runs of it.
+use Rattle.std.specs.Prelude.{◌≡◌, ◌⊎◌, true, ℕ, List, codes, ⊤}
+use Rattle.std.specs.Str.{bytes_eq}
+use Rattle.sqlite_disk.specs.declared.Disk.{Ghosts}
+use Rattle.moo_cli.specs.declared.task.Task.{Task}
+use Rattle.moo_cli.specs.Tasks.{NamesTask}
+use Rattle.moo_files.specs.Remains.{IsCleanRemains}
+use Rattle.moo_files.specs.declared.remains.Remains.{Remains}
+use Rattle.moo_run_lines.specs.Lines.{Reports}
+use Rattle.moo_run_lines.specs.declared.failure.Failure.{Failure}
+use Rattle.moo_run.specs.Given.{Run}
+use Rattle.moo_run.specs.Run.{EndsUsage}
+use Rattle.moo_run.specs.Ends.{IsClosedEnd}
+use Rattle.moo_run_laws.specs.FileRuns.{FileRun, run_of, IsFoundAfter, IsFoundOnCleanDisk, HandsOver}
+use Rattle.moo_run.specs.declared.ends.Ends.{Ends}
+use Rattle.moo_run.specs.declared.ends.Ends.TheVariants as variant
+use Rattle.moo_run.specs.declared.session.Runs as Runs
+
+module _ {T D : Type 0} {disk : Ghosts D} where
+  -- What the words wrote and the status tell how they ended. If no world was opened or made, they tell of a failure. If no file was opened,
+  -- the words name a task on `:memory:`, or have a mistake.
+  abbrev pub TellsEnd : List (List ℕ) → Ends T D disk → Run → Type 0
+  TellsEnd words (variant.Ran conn) run = ⊤
+  TellsEnd words (variant.Refused rest) run = (failure : Failure) × Reports failure run.before run.after run.status
+  TellsEnd words (variant.NoFile start) run =
+      ((task : Task) × NamesTask words task × (bytes_eq task.file.now (codes ":memory:") ≡ true))
+      ⊎ EndsUsage words run.before run.after run.status
+
+module _ {S T D : Type 0} {g : Runs.Ghosts S T D} {disk : Ghosts D} where
+  -- the run ended so, and then its file was closed
+  abbrev pub EndsClosed : FileRun g disk → Type 0
+  EndsClosed r = TellsEnd r.words r.ends (run_of r) × IsClosedEnd r.ends r.closed
+
+module _ {S T D N U E : Type 0} (g : Runs.Ghosts S T D) {disk : Ghosts D} (h : Runs.Ghosts N U E) {other : Ghosts E} where
+  -- Each of the two runs ended so, and then its file was closed. If the disk of the first returned what was written, and the files of the
+  -- second held what is found after the first, then this hands them over to it.
+  abbrev pub RunsTwice : (Ends T D disk → FileRun g disk) → (Ends U E other → FileRun h other) → Type 0
+  RunsTwice run_by next_by = (ends : Ends T D disk) × (next_ends : Ends U E other)
+      × (let first = run_by ends in let next = next_by next_ends in
+      EndsClosed first × EndsClosed next
+      × (IsCleanRemains first.closed → IsFoundAfter first next.image → HandsOver first next))
+
+  -- The same if the process stopped before the first file was closed: if the files of the second run held what may be found on a disk that
+  -- returned what was written until a crash, or that would have until the file was closed, however that was done.
+  abbrev pub StopsAndRuns : (Remains T D disk → FileRun g disk) → (Ends U E other → FileRun h other) → Type 0
+  StopsAndRuns run_by next_by = (next_ends : Ends U E other)
+      × (let next = next_by next_ends in
+      EndsClosed next
+      × ((closed : Remains T D disk) → let first = run_by closed in IsFoundOnCleanDisk first next.image → HandsOver first next))

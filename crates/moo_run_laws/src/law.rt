@@ -1,0 +1,16 @@
+//! The law of the program, of any two runs.
+
+ghost use Rattle.moo_run_laws.specs.FileRuns.{FileRun, Follows, HandsOver};
+
+use moo_run::Runs;
+
+/// The program runs over a file, on a disk that is honest, and is stopped before the file is closed, or closes it. It runs again over what
+/// is then found: it goes on from a state that the first run may leave.
+///
+/// A run is what the clause `over` of `run_words` says of it: any words, with any input, over any host. `run_to_end`, the call that the
+/// program makes, says it too, and closes the file after that. `run_and_run_again` makes two such calls, and says it of them;
+/// `stop_and_run_again` says it of a first run whose file isn't closed.
+pub fn runs_lead_on<S: Runs, N: Runs>()
+    ensures follows { (first : FileRun S.Runs S.Disk.Disk) (next : FileRun N.Runs N.Disk.Disk) → Follows first next →
+        HandsOver first next }
+{}

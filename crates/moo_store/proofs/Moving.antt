@@ -1,0 +1,60 @@
+-- Where any World stands, and what moves and stays together come to.
+use Rattle.moo_store.proofs.Words.{◌≡◌, ◌∙◌, Bool, true, false, refl, sym, subst, Ghosts, HasCleanDisk, IsGood, World, store_of}
+use Rattle.moo_store.specs.Moves.{Stands, MovesBy}
+use Rattle.moo_store_rows.{specs.Moment.{Moment, rows_alone}, specs.Place.{Place, Works, Failed, Between}}
+use Rattle.moo_rows.specs.Opening.{opening_maps}
+use Rattle.moo_world.proofs.Shown.OpeningRows.{opening-good}
+
+-- nothing is known of no cells
+no_cells : {X : Type 0} → false ≡ true → X
+no_cells none = absurd cc
+
+-- a World that works stands at its rows alone
+pub stands_alone : {S : Type 0} (g : Ghosts S) (world : World S) → world.failed ≡ false → IsGood world.rows.maps → Stands g world (Works (rows_alone world.rows.maps))
+stands_alone g world works good = record {
+  failed = works;
+  good = λ m is. subst (λ (x : Moment). IsGood x.rows) (sym is) good;
+  rows = λ _. refl;
+  rests = λ clean opened. tt;
+  crash = λ clean some trees lies. no_cells some;
+}
+
+-- one that has failed stands at any good rows
+pub fails_alone : {S : Type 0} (g : Ghosts S) (world : World S) → world.failed ≡ true → Stands g world (Failed (rows_alone opening_maps))
+fails_alone g world failed = record {
+  failed = failed;
+  good = λ m is. subst (λ (x : Moment). IsGood x.rows) (sym is) opening-good;
+  rows = λ works. (let no : true ≡ false = sym failed ∙ works in absurd cc);
+  rests = λ clean opened. tt;
+  crash = λ clean some trees lies. no_cells some;
+}
+
+pub stands_somewhere : {S : Type 0} (g : Ghosts S) (world : World S) → (world.failed ≡ false → IsGood world.rows.maps) → (place : Place) × Stands g world place
+stands_somewhere {S} g world good = by world.failed refl
+  where
+    by : (failed : Bool) → world.failed ≡ failed → (place : Place) × Stands g world place
+    by false works = (Works (rows_alone world.rows.maps), stands_alone g world works (good works))
+    by true failed = (Failed (rows_alone opening_maps), fails_alone g world failed)
+
+-- one way leads where another does
+pub moves_as : {S : Type 0} (g : Ghosts S) (old new : World S) (First Then : Place → Place → Type 0) → MovesBy g old new First → ((from to : Place) → Stands g old from → Stands g new to → First from to → Then from to) → MovesBy g old new Then
+moves_as g old new First Then moves leads = record {
+  clean = moves.clean;
+  closed = moves.closed;
+  goes = λ from at. (let it = moves.goes from at in (it.0, it.1, leads from it.0 at it.1 it.2));
+}
+
+-- a World that works stands at no place where it has failed
+pub works_at : {S : Type 0} (g : Ghosts S) (world : World S) (P : Place → Type 0) → world.failed ≡ false → ((m : Moment) → Stands g world (Works m) → P (Works m)) → (place : Place) → Stands g world place → P place
+works_at g world P works it (Works m) at = it m at
+works_at g world P works it (Failed m) at = let no : true ≡ false = sym at.failed ∙ works in absurd cc
+works_at g world P works it (Between m next) at = let no : true ≡ false = sym at.failed ∙ works in absurd cc
+
+-- so a call of a World that works moves it from a moment
+pub moves_from : {S : Type 0} (g : Ghosts S) (old new : World S) (Way : Place → Place → Type 0) → old.failed ≡ false → (HasCleanDisk (store_of g new) → HasCleanDisk (store_of g old))
+    → ((m : Moment) → Stands g old (Works m) → (to : Place) × Stands g new to × Way (Works m) to) → MovesBy g old new Way
+moves_from g old new Way works clean it = record {
+  clean = clean;
+  closed = λ failed. (let no : true ≡ false = sym failed ∙ works in absurd cc);
+  goes = works_at g old (λ from. (to : Place) × Stands g new to × Way from to) works it;
+}

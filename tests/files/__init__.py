@@ -1,0 +1,1 @@
+"""Tests of worlds in files: their tables, damage, migration, dumps, and stops."""

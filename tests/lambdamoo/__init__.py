@@ -1,0 +1,1 @@
+"""Tests of what moo has of LambdaMOO: the converters of its database files, and its built-in functions."""

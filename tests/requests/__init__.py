@@ -1,0 +1,1 @@
+"""Tests of the service: what requests over HTTP are answered, and what becomes of peers."""

@@ -1,0 +1,157 @@
+"""The parts of tools/moo-shell: lines taken apart, the program's help, and the types."""
+
+from __future__ import annotations
+
+import re
+import shutil
+import subprocess
+import tempfile
+import unittest
+
+from tests.support import TOOLS
+from tests.support.cases import ProgramTest
+from tests.support.program import MOO, TOP
+
+from moo_shell import files, helping, looks, manual, prompt
+from moolib import calls, lines
+from moo_shell.commands import COMMANDS_BY_HELP
+from moolib.lines import Line
+from moolib.errors import Failed
+from moo_shell.world import Thing
+
+
+class Parts(ProgramTest):
+    def test_lines(self) -> None:
+        cases = (
+            ("", Line("empty")),
+            ("  // words", Line("empty")),
+            ("create(#1)", Line("call", text="create(#1)")),
+            ("  create(#1) // words\r", Line("call", text="create(#1)")),
+            ('set(#4, "name", "a // b \\" // c") // d', Line("call", text='set(#4, "name", "a // b \\" // c")')),
+            ("$hall=create(#1)", Line("call", text="create(#1)", name="$hall")),
+            ("$hall = #5", Line("value", text="#5", name="$hall")),
+            ('$list = {1, "// $a"} // b', Line("value", text='{1, "// $a"}', name="$list")),
+            ("BEGIN // words", Line("begin")),
+            ("End", Line("end")),
+            ("batch as #3", Line("begin", who="#3")),
+            ("batch  as\t#-1 at 17", Line("begin", who="#-1", at=17)),
+            ("include a//b.moo // words", Line("include", text="a//b.moo")),
+            ('include "a b.moo"', Line("include", text="a b.moo")),
+            ("\\show  #5 // words", Line("command", text="#5", word="show")),
+            ("\\SEQ", Line("command", word="seq")),
+            ("\\", Line("command", word="")),
+            ("help", Line("command", word="help")),
+            ("begins", Line("call", text="begins")),
+        )
+        for text, wanted in cases:
+            self.case(f"the line {text!r}", lines.read_line(text), wanted)
+
+    def test_names(self) -> None:
+        values = {"$a": "#4", "$ab": "{1, 2}", "$A": '"x"'}
+        cases = (
+            ("f($a, $ab, $A)", 'f(#4, {1, 2}, "x")'),
+            ('f("$a", "\\"$a", $a)', 'f("$a", "\\"$a", #4)'),
+            ("f({$a, {$a}})", "f({#4, {#4}})"),
+            ('f("$a', 'f("$a'),
+            ("f($, $5)", "f($, $5)"),
+        )
+        for text, wanted in cases:
+            self.case(f"names in {text}", lines.filled(text, values), wanted)
+        with self.assertRaises(Failed):
+            lines.filled("f($b)", values)
+
+    def test_hints(self) -> None:
+        cases = (
+            ("create(#1, {2", "a list without its }"),
+            ("create(#1", "a call without its )"),
+            ("create(#1))", "a ) without its ("),
+            ('set(#1, "a, 2)', 'a text without its closing "'),
+            ('set(#1, "a\\', 'a text without its closing "'),
+            ("# words", "a comment begins with //"),
+        )
+        for text, wanted in cases:
+            self.case(f"the hint of {text}", lines.hint(text), wanted)
+
+    def test_advice(self) -> None:
+        """What people write who come from other prompts."""
+        brackets = "a call has its name and its values in brackets, as create(#1); \\help lists the calls"
+        cases = (
+            ("show #4", "did you mean \\show #4?"),
+            ("tree", "did you mean \\tree?"),
+            ("begin here", "`begin` stands alone on its line"),
+            ("batch as 3", "`batch as #3` begins a batch of #3"),
+            ("$lamp", "\\show $lamp shows it"),
+            ("#4", "\\show #4 shows it"),
+            ("hall = create(#1)", "a name begins with a $, as $hall = create(#1)"),
+            ("#4.light", 'a property is read by get(#4, "light")'),
+            ("$lamp.light = {1, 2}", 'a property is set by set($lamp, "light", {1, 2})'),
+            ("#4:look_self()", "moo keeps verbs and runs none"),
+            ("# words", "a comment begins with //"),
+            ("look", brackets),
+            ("@create #1", brackets),
+            ("create #1", brackets),
+        )
+        for text, wanted in cases:
+            self.case(f"the advice of {text}", lines.advice(text, ("show", "tree")), wanted)
+        for text, wanted in (("#4.light + 1", 'a property is read by get(#4, "light")'), ("#4", ""), ("{1, 2}", "")):
+            self.case(f"the expression {text}", lines.expression_advice(text), wanted)
+
+    def test_calls_that_are_being_typed(self) -> None:
+        cases = (
+            ("get(", ("get", [""])),
+            ('$a = set(#4, "x", ', ("set", ["#4", '"x"', ""])),
+            ("\\ask get($a, ", ("get", ["$a", ""])),
+            ("add_verb(#4, {#3, ", None),
+            ("get(#4, {1}, ", ("get", ["#4", "{1}", ""])),
+            ("get", None),
+        )
+        for text, wanted in cases:
+            self.case(f"typed so far: {text}", prompt.call_at(text), wanted)
+
+    def test_the_ends_of_lines(self) -> None:
+        two = ["a", "b"]
+        for data, wanted in ((b"a\nb\n", two), (b"a\r\nb", two), (b"a\rb\r", two), (b"a\n\n", ["a", ""]), (b"", []), (b"\n", [""])):
+            self.case(f"the lines of {data!r}", files.lines_of(data, "x"), wanted)
+
+    def test_trees(self) -> None:
+        """A chain of 5,000 is shown, and an object in itself can't be."""
+        deep = {number: Thing(number, "", number - 1, -1, 3) for number in range(5000)}
+        self.case("a deep tree", looks.tree(deep).count("\n"), 4999)
+
+    def test_the_help_of_the_program(self) -> None:
+        """The calls are those of docs/CALLS.md."""
+        found = manual.manual_of(MOO)
+        calls = re.findall(r"^\| `([a-z_]*)\(", (TOP / "docs/CALLS.md").read_text(), re.MULTILINE)
+        self.case("every call", sorted(found.calls), sorted(calls))
+        self.case("its values", (found.kinds["set"], found.kinds["valid"], found.kinds["players"]), (["O", "NAME", "V"], ["O"], []))
+        self.case("a call of two lines", found.calls["chparent"].count("\n"), 1)
+        errors = "E_ARGS E_INVARG E_INVIND E_NACC E_PERM E_PROPNF E_QUOTA E_RECMOVE E_TYPE E_VERBNF".split()
+        self.case("every error", sorted(found.reasons), errors)
+        self.case("without a program", manual.manual_of(None).calls, {})
+
+
+    def test_help_on_a_narrow_terminal(self) -> None:
+        """Its lines fit, no word of it is lost, and calls stay apart. What fits stays as it is."""
+        found = manual.manual_of(MOO)
+        told = {word: helping.help_on(found, COMMANDS_BY_HELP, word) for word in [*helping.TOPICS, *helping.ASIDE, *found.calls]}
+        told["all of it"] = helping.overview(found, COMMANDS_BY_HELP)
+        for width in (60, 80):
+            shown = {word: helping.fitted(text, width) for word, text in told.items()}
+            self.case(f"no line is over {width}", [word for word, text in shown.items() if max(map(len, text.splitlines())) > width], [])
+            self.case(f"all words at {width}", [word for word in told if told[word].split() != shown[word].split()], [])
+            begun = [line for line in shown["calls"].splitlines() if re.match("  [a-z_]+[(]", line)]
+            self.case(f"a line for each entry at {width}", len(begun), len(re.findall("^  [a-z_]+[(]", told["calls"], re.MULTILINE)))
+        wide = [word for word, text in helping.TOPICS.items() if helping.fitted(text, 80) != text]
+        self.case("what is the shell's own fits 80", wide, [])
+        self.case("without a terminal", helping.fitted(told["calls"], None), told["calls"])
+
+
+class Types(unittest.TestCase):
+    @unittest.skipUnless(shutil.which("mypy"), "the command mypy is missing")
+    def test_mypy(self) -> None:
+        """The types hold in Python 3.9, the oldest that is supported."""
+        with tempfile.TemporaryDirectory() as room:
+            words = ["mypy", "--python-version", "3.9", "--disallow-untyped-defs", "--follow-imports", "silent", "--cache-dir", room]
+            parts = [TOOLS / "moo-shell", TOOLS / "moo_shell"]
+            ran = subprocess.run([*words, *parts], cwd=TOOLS, stdout=subprocess.PIPE, stderr=subprocess.STDOUT, text=True, timeout=900)
+        self.assertEqual(ran.returncode, 0, ran.stdout)

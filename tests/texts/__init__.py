@@ -1,0 +1,1 @@
+"""Tests of texts of batches, of their replies, and of the command line."""

@@ -1,0 +1,1 @@
+"""Tests of the client and of the programs that copy and watch a world, in tools/."""

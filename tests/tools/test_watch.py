@@ -1,0 +1,160 @@
+"""tools/moo-watch: a file that is gone, and answers of other programs. What the unit runs is in test_install."""
+
+import http.server
+import pathlib
+import re
+import resource
+import shutil
+import subprocess
+import sys
+import tempfile
+import threading
+import time
+import unittest
+import urllib.request
+
+from tests.support.operating import KeptService, SECONDS, TOOLS, make_world
+
+FIRST = "batch as #3\ncreate(#1)\nend\n"
+
+
+class Stranger(http.server.BaseHTTPRequestHandler):
+    """Another program that listens at the port of the service."""
+
+    status, body = 200, b""
+
+    def do_GET(self) -> None:
+        """Answers what the test says."""
+        self.send_response(self.status)
+        self.end_headers()
+        self.wfile.write(self.body)
+
+    def log_message(self, *_: object) -> None:
+        """Says nothing."""
+
+
+class Watch(unittest.TestCase):
+    """An empty folder."""
+
+    def setUp(self) -> None:
+        room = tempfile.TemporaryDirectory()
+        self.addCleanup(room.cleanup)
+        self.room = pathlib.Path(room.name)
+        self.file = self.room / "world.db"
+
+    def watch(self, *words: object) -> tuple[int, str, str]:
+        """The status of moo-watch, and what it printed and complained of. Its command would make the file `ran`."""
+        command = [sys.executable, TOOLS / "moo-watch", "--wait", "60", *words, "touch", self.room / "ran"]
+        ran = subprocess.run(list(map(str, command)), stdout=subprocess.PIPE, stderr=subprocess.PIPE, text=True, timeout=SECONDS)
+        return ran.returncode, ran.stdout, ran.stderr
+
+    def assert_wrong(self, reason: str, *words: object) -> None:
+        """It fails for this reason, and runs nothing."""
+        status, printed, complaint = self.watch(*words)
+        self.assertEqual((status, printed), (1, ""))
+        self.assertIn(reason, complaint)
+        self.assertNotIn("Traceback", complaint)
+        self.assertFalse((self.room / "ran").exists())
+
+
+class File(Watch):
+    """The file that a service has open."""
+
+    def serve(self, count: int = 1_000_000) -> KeptService:
+        """A service of a new world."""
+        make_world(self.file, FIRST)
+        service = KeptService(self.file, count)
+        self.addCleanup(service.stop)
+        return service
+
+    def test_the_file_of_the_service(self) -> None:
+        port = self.serve().port
+        self.assertEqual(self.watch("--world", self.file, port), (0, "seq 1\n", ""))
+
+    def test_a_run_that_ends_with_the_answer(self) -> None:
+        service = self.serve(count=1)
+        for number in range(1, 4):
+            # Between two runs nobody has the file open, which on a busy machine may be so for long.
+            end = time.monotonic() + SECONDS
+            while service.starts < number and time.monotonic() < end:
+                time.sleep(0.01)
+            self.assertEqual(self.watch("--world", self.file, service.port), (0, "seq 1\n", ""))
+
+    def test_a_file_that_is_gone(self) -> None:
+        port = self.serve().port
+        self.file.unlink()
+        self.assert_wrong(f"the file {self.file} is gone: ", "--world", self.file, port)
+
+    def test_a_file_that_was_replaced(self) -> None:
+        port = self.serve().port
+        shutil.copy(self.file, self.room / "other.db")
+        (self.room / "other.db").rename(self.file)
+        self.assert_wrong(f"the service has another file open than {self.file}: ", "--world", self.file, port)
+
+
+class Memory(Watch):
+    """A service with little memory, by a bound of its address space that is set while it runs."""
+
+    def serve(self, text: str) -> None:
+        """A service of a world of this text."""
+        make_world(self.file, text)
+        self.service = KeptService(self.file)
+        self.addCleanup(self.service.stop)
+
+    def bound(self, times: float) -> None:
+        """Sets the bound to so many times what the service takes now."""
+        assert self.service.process
+        pid = self.service.process.pid
+        taken = int(re.findall(r"(?m)^VmSize:\s+(\d+) kB$", pathlib.Path(f"/proc/{pid}/status").read_text())[0]) << 10
+        resource.prlimit(pid, resource.RLIMIT_AS, (int(taken * times), resource.RLIM_INFINITY))
+
+    def seq(self) -> bytes:
+        """What the service answers about the number of its world."""
+        with urllib.request.urlopen(f"http://127.0.0.1:{self.service.port}/seq", timeout=SECONDS) as answer:
+            return bytes(answer.read())
+
+    def test_a_world_that_is_full(self) -> None:
+        # Some 20 MB, so that a part of it is more than a batch takes.
+        long = '"' + "x" * 60_000 + '"'
+        self.serve(FIRST + "batch as #3\n" + "".join(f'add_property(#4, "p{n}", {long}, {{#3, "r"}})\n' for n in range(300)) + "end\n")
+        full, words = self.room / "full", ("--world", self.file, "--full", self.room / "full", self.service.port)
+        self.assertEqual(self.watch(*words), (0, "seq 2\n", ""))
+        self.bound(1.25)
+        self.assert_wrong("the world is full", *words)
+        self.assertTrue(full.exists())
+        self.bound(2)
+        self.assertEqual(self.watch(*words), (0, "seq 2\n", ""))
+        self.assertFalse(full.exists())
+
+    def test_no_memory_for_a_batch(self) -> None:
+        self.serve(FIRST)
+        self.bound(1)
+        self.assertEqual(self.seq(), b'{"seq":1}')
+        self.assert_wrong("the service has no memory for a batch (nomemory)", "--wait", "2", self.service.port)
+        self.bound(3)
+        self.assertEqual(self.watch(self.service.port), (0, "seq 1\n", ""))
+        self.assertEqual(self.seq(), b'{"seq":1}', "the batch has changed nothing")
+
+
+class Answers(Watch):
+    """Another program at the port."""
+
+    def test_another_program(self) -> None:
+        server = http.server.HTTPServer(("127.0.0.1", 0), Stranger)
+        self.addCleanup(server.server_close)
+        self.addCleanup(server.shutdown)
+        threading.Thread(target=server.serve_forever, daemon=True).start()
+        answers = [(200, body) for body in (b"{}", b"[1]", b'{"seq":"1"}', b'{"seq":true}', b'{"seq":-1}', b'{"seq":1.5}')]
+        for status, body in (*answers, (503, b"7"), (503, b"{}"), (404, b"null")):
+            with self.subTest(status=status, body=body):
+                Stranger.status, Stranger.body = status, body
+                self.assert_wrong(f"another program than moo answers at port {server.server_port}", server.server_port)
+        Stranger.status = 200
+        for name, body in (("no JSON", b"<html>"), ("lists in lists", b"[" * 60_000), ("without end", b'{"seq":1' + b" " * 100_000)):
+            with self.subTest(name):
+                Stranger.body = body
+                self.assert_wrong("moo-watch: no answer: ", server.server_port)
+
+
+if __name__ == "__main__":
+    unittest.main()

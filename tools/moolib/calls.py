@@ -1,0 +1,164 @@
+"""Calls: a name and values, read once from a text and understood by nothing else.
+
+    call = Call.read('Create(#1, #4)')
+    call.name, call.values              "create", (Obj(1), Obj(4))
+    call.objects, call.makes            {1, 4}, "object"
+    str(call)                           'create(#1, #4)'
+"""
+
+from __future__ import annotations
+
+import dataclasses
+import functools
+import re
+from collections.abc import Iterable, Iterator
+from typing import Optional
+
+from moolib.values import BLANKS, NoValue, Obj, Value, values_at, written
+
+# A line isn't longer than that.
+LONGEST_CALL = 262_144
+READING = frozenset(
+    "valid parent children is_player players max_object accept_list get properties property_info is_clear_property "
+    "verbs verb_info verb_args petitions".split()
+)
+# What a call makes anew.
+MAKING = {"create": "object", "add_property": "property", "add_verb": "verb", "petition": "petition"}
+CHANGING = frozenset(
+    "create chparent recycle move set_player_flag set_accept set add_property delete_property set_property_info clear_property "
+    "add_verb delete_verb set_verb_info set_verb_args petition grant decline".split()
+)
+NAMES = READING | CHANGING
+# Those that destroy something.
+LOSING = frozenset("recycle delete_property delete_verb chparent".split())
+# Those that give rights away; of `set` the properties of an object that do.
+GIVING = frozenset("set_player_flag set_property_info set_verb_info".split())
+RIGHTS = frozenset("wizard owner programmer w f".split())
+FRONT = re.compile(r"[ \t]*([A-Za-z_]\w*)[ \t]*\([ \t]*(\)?)", re.ASCII)
+
+
+class NoCall(ValueError):
+    """A text isn't a call."""
+
+
+def call_name(text: str) -> str:
+    """The name of the call that a text begins with, in small letters; empty if it doesn't begin with one. The rest may be anything."""
+    found = FRONT.match(text)
+    return found[1].lower() if found else ""
+
+
+def call_text(name: str, given: Iterable[object]) -> str:
+    """A call as it is written, of its name and what it is given: values, or names in their place."""
+    return f"{name}({', '.join(map(written, given))})"
+
+
+@dataclasses.dataclass(frozen=True)
+class Call:
+    """A call of a batch or of a petition: its name, in small letters, and its values. `str` gives its text."""
+
+    name: str
+    values: tuple[Value, ...] = ()
+
+    @staticmethod
+    def read(text: str) -> Call:
+        """The call that a text is, its name and the names of errors in any case. `NoCall`: it isn't one, whatever its name."""
+        found = FRONT.match(text)
+        if not found or len(text) > LONGEST_CALL:
+            raise NoCall(f"no call: {text[:200]!r}")
+        values: list[Value] = []
+        place = found.end()
+        try:
+            if not found[2]:
+                values, place = values_at(text, place, ")", any_case=True)
+        except NoValue as error:
+            raise NoCall(str(error)) from error
+        if text[place:].strip(BLANKS):
+            raise NoCall(f"no call: {text[:200]!r}")
+        return Call(found[1].lower(), tuple(values))
+
+    @staticmethod
+    def of(value: Value) -> Call:
+        """The call that a list in a petition is: its name, and its values. `NoCall`: it isn't one."""
+        if not isinstance(value, list) or not value or not isinstance(value[0], str):
+            raise NoCall(f"no call: {value!r}")
+        return Call(value[0].lower(), tuple(value[1:]))
+
+    def __str__(self) -> str:
+        return call_text(self.name, self.values)
+
+    @property
+    def subject(self) -> Optional[int]:
+        """The number of the object that is its first value; None if there is none."""
+        first = self.values[0] if self.values else None
+        return first.number if isinstance(first, Obj) else None
+
+    @functools.cached_property
+    def objects(self) -> frozenset[int]:
+        """The numbers of the objects that its values name, in lists too. A number in a text names nothing."""
+        return frozenset(objects_in(self.values))
+
+    @property
+    def is_known(self) -> bool:
+        """Whether it is one of the calls of docs/CALLS.md."""
+        return self.name in NAMES
+
+    @property
+    def is_reading(self) -> bool:
+        """Whether it changes nothing."""
+        return self.name in READING
+
+    @property
+    def makes(self) -> str:
+        """What it makes anew: object, property, verb or petition; empty if nothing."""
+        return MAKING.get(self.name, "")
+
+    def made(self, answer: str) -> Optional[int]:
+        """The number of the object that it made, by its answer; None if it makes none, or nothing was answered."""
+        return int(answer[1:]) if self.name == "create" and re.fullmatch(r"#[0-9]+", answer) else None
+
+    @property
+    def is_grave(self) -> bool:
+        """Whether it gives rights away, or destroys something."""
+        if self.name == "set":
+            return len(self.values) > 1 and str(self.values[1]).lower() in RIGHTS
+        return self.name in GIVING or self.name in LOSING
+
+    @property
+    def petition(self) -> Optional[int]:
+        """The number of the petition that it grants or declines; None if it does neither."""
+        number = self.values[0] if self.name in ("grant", "decline") and len(self.values) == 1 else None
+        return number if isinstance(number, int) else None
+
+    @property
+    def asked(self) -> list[Call]:
+        """The calls that a petition asks for, and those of a petition in it that can be read. Of another call there are none."""
+        calls = self.values[0] if self.name == "petition" and self.values else []
+        return list(calls_in(calls)) if isinstance(calls, list) else []
+
+
+def calls_in(values: Iterable[Value]) -> Iterator[Call]:
+    """The calls that these values are, without those that aren't any."""
+    for value in values:
+        try:
+            yield Call.of(value)
+        except NoCall:
+            continue
+
+
+def objects_in(values: Iterable[Value]) -> list[int]:
+    """The numbers of the objects in values, and in the lists among them."""
+    found: list[int] = []
+    for value in values:
+        if isinstance(value, Obj):
+            found.append(value.number)
+        elif isinstance(value, list):
+            found += objects_in(value)
+    return found
+
+
+def read_or_none(text: str) -> Optional[Call]:
+    """The call that a text is, or None."""
+    try:
+        return Call.read(text)
+    except NoCall:
+        return None

@@ -1,0 +1,95 @@
+"""Questions to moo for a person about a change: what its calls would answer, and what is there before it."""
+
+from __future__ import annotations
+
+import time
+from typing import NamedTuple
+
+from moolib.calls import read_or_none
+from moolib.errors import Failed
+from moolib.service import Said
+from moolib.values import written
+
+from moo_web.world.asking import Asker, Moved
+from moo_web.world.door import Answer, Door, Unreachable, batch_body
+
+PATIENCE = 10.0
+TRIES = 20
+LONGEST_WORD = 60
+
+
+class Questions:
+    """Asks a moo in the name of persons, without changing anything. `Unreachable`: no answer came in time."""
+
+    def __init__(self, door: Door, patience: float = PATIENCE) -> None:
+        self.door, self.patience = door, patience
+        self.reader = Asker(door)
+
+    def ask(self, programmer: int, calls: list[str], at: int | None = None) -> Answer:
+        """What a batch would answer. `Moved`: the world doesn't have the number `at`. `Failed`: it is longer than moo takes."""
+        try:
+            body = batch_body(programmer, calls, at)
+        except ValueError as error:
+            raise Failed(str(error)) from None
+        answer = self.door.asked("POST", "/ask?why", body, time.monotonic() + self.patience)
+        if answer.error == "stale":
+            raise Moved
+        return answer
+
+    def number(self) -> int:
+        """The world's number."""
+        seq = self.door.asked("GET", "/seq", None, time.monotonic() + self.patience).said.get("seq")
+        if not isinstance(seq, int):
+            raise Unreachable
+        return seq
+
+    def read(self, programmer: int, calls: list[str], at: int) -> list[Said]:
+        """What each reading call answers, by itself, in the world of the number `at`. `Moved`: it has another one."""
+        return self.reader.said(programmer, calls, at)
+
+    def read_now(self, programmer: int, call: str) -> Said:
+        """What one reading call answers now."""
+        for _ in range(TRIES):
+            try:
+                return self.read(programmer, [call], self.number())[0]
+            except Moved:
+                continue
+        raise Unreachable
+
+
+class Before(NamedTuple):
+    """What a reading call answered before a change, with the words for it."""
+
+    call: str
+    what: str
+
+
+# By the name of a call: the reading calls that tell what it changes, of its first two values, and the words for each; none for the name of
+# a property that it names.
+READS = {
+    "set": (("get({}, {})", ""),),
+    "clear_property": (("get({}, {})", ""), ("is_clear_property({}, {})", "clear")),
+    "delete_property": (("get({}, {})", ""), ("property_info({}, {})", "owner and rights")),
+    "set_property_info": (("property_info({}, {})", "owner and rights"),),
+    "set_verb_info": (("verb_info({}, {})", "owner, rights and names"),),
+    "set_verb_args": (("verb_info({}, {})", "owner, rights and names"), ("verb_args({}, {})", "arguments")),
+    "delete_verb": (("verb_info({}, {})", "owner, rights and names"), ("verb_args({}, {})", "arguments")),
+    "move": (('get({}, "location")', "where it is"),),
+    "chparent": (("parent({})", "parent"),),
+    "recycle": (('get({}, "name")', "name"), ("children({})", "children"), ('get({}, "contents")', "in it")),
+    "set_player_flag": (("is_player({})", "a player"),),
+    "set_accept": (("accept_list({})", "accepts"),),
+}
+
+
+def reads_before(text: str) -> list[Before]:
+    """The reading calls that tell what a call changes. None, if it makes something new or only reads."""
+    call = read_or_none(text)
+    reads = READS.get(call.name, ()) if call else ()
+    if not call or not reads or call.subject is None:
+        return []
+    about = call.values[1] if len(call.values) > 1 else None
+    if reads[0][0].count("{}") > 1 and not isinstance(about, (int, str) if "verb" in call.name else str):
+        return []
+    given = [written(value) for value in call.values[:2]]
+    return [Before(read.format(*given), words or str(about)[:LONGEST_WORD]) for read, words in reads]

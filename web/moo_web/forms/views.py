@@ -1,0 +1,244 @@
+"""Forms as they are shown: what is in each field at first, what it offers, and what is wrong with it."""
+
+from __future__ import annotations
+
+import dataclasses
+import re
+from collections.abc import Mapping
+from typing import Any
+
+from moolib.values import ErrorValue, Obj
+
+from moo_web.forms.forms import Ambiguous, Field, Form, Me, Mistake, object_value
+from moo_web.forms.input import VALUE_KINDS, Mistyped, text_value, typed_as
+from moo_web.forms.patterns import pattern
+from moo_web.world.things import Thing, World
+
+MOST_OFFERED = 100
+LONGEST_LABEL = 50
+
+
+# What may be typed in a field: each with its words.
+Offer = tuple[tuple[str, str], ...]
+
+
+class NamesOf:
+    """The names of a world's objects, for forms to ask about."""
+
+    def __init__(self, world: World) -> None:
+        self.world = world
+
+    def is_object(self, number: int) -> bool:
+        """Whether there is an object of this number."""
+        return number in self.world.things
+
+    def named(self, word: str) -> list[tuple[int, str]]:
+        """The objects of just this name."""
+        folded = word.lower()
+        return [(thing.number, self.label(thing)) for thing in self.world.things.values() if thing.name.lower() == folded]
+
+    def like(self, word: str) -> list[tuple[int, str]]:
+        """The objects with this word in their names, those that begin with it first."""
+        folded = word.lower()
+        found = [thing for thing in self.world.things.values() if folded in thing.name.lower()]
+        found.sort(key=lambda thing: (not thing.name.lower().startswith(folded), thing.name.lower(), thing.number))
+        return [(thing.number, self.label(thing)) for thing in found[:MOST_OFFERED]]
+
+    def short(self, number: int) -> str:
+        """An object by its name and number."""
+        thing = self.world.things.get(number)
+        if thing is None:
+            return "nothing" if number < 0 else f"#{number}"
+        name = thing.name.strip() or "unnamed"
+        return f"{name if len(name) <= LONGEST_LABEL else name[: LONGEST_LABEL - 1] + '…'} #{number}"
+
+    def label(self, thing: Thing) -> str:
+        """An object in words that tell it from others of its name."""
+        where = f"in {self.short(thing.location)}" if thing.location >= 0 else "nowhere"
+        kind = f", under {self.short(thing.parent)}" if thing.parent >= 0 else ""
+        return f"{self.short(thing.number)}, {where}{kind}"
+
+
+@dataclasses.dataclass
+class FieldView:
+    """A field as it is shown. `text` is what is typed in it, `kind` the kind of a value, and `ticked` the letters or objects that are.
+
+    `offered` are objects to tick, and `suggested` what may be typed, each with its words.
+    """
+
+    field: Field
+    text: str = ""
+    kind: str = ""
+    was: str = ""
+    ticked: frozenset[str] = frozenset()
+    offered: Offer = ()
+    suggested: Offer = ()
+    mistake: Mistake | None = None
+
+    @property
+    def id(self) -> str:
+        """The field's name within the page."""
+        return f"f-{self.field.key}"
+
+    @property
+    def kinds(self) -> list[tuple[str, str]]:
+        """The kinds of a value, with their words."""
+        return list(VALUE_KINDS.items())
+
+
+@dataclasses.dataclass
+class View:
+    """A form as it is shown: its fields in their parts, each with the words above it."""
+
+    form: Form
+    parts: list[tuple[str, list[FieldView]]]
+    mistakes: list[FieldView]
+    hidden: list[tuple[str, str]]
+
+
+# What tells whether an object has a list of its own, of what it accepts.
+ACCEPTS = "accept_list(<object>)"
+
+
+def keys_of(field: Field, typed: Mapping[str, str]) -> list[str]:
+    """The fields of a request that belong to a field of a form."""
+    return [key for key in typed if key == field.key or key.startswith(f"{field.key}.")]
+
+
+def chosen_of(form: Form, typed: Mapping[str, str]) -> dict[str, str]:
+    """What was typed, with an object that was chosen from several in the place of the word for it."""
+    kept: dict[str, str] = {}
+    for field in form.fields:
+        kept.update((key, typed[key]) for key in keys_of(field, typed) if not key.endswith(".choice"))
+        if choice := typed.get(f"{field.key}.choice"):
+            kept[field.key] = choice
+    return kept
+
+
+def typed_now(field: Field, value: Any) -> dict[str, str]:
+    """What is typed in a field for a value of the world."""
+    if field.kind == "value":
+        kind, text = typed_as(value)
+        return {field.key: text, f"{field.key}.kind": kind}
+    if field.kind == "letters" and isinstance(value, str):
+        return {f"{field.key}.{letter}": "on" for letter in value}
+    if field.kind == "flag":
+        is_set = value not in (0, "", [])
+        return {f"{field.key}.was": "1" if is_set else "0"} | ({field.key: "on"} if is_set else {})
+    if field.kind == "choice" and field.now == ACCEPTS:
+        return {field.key: "own" if isinstance(value, list) else "inherited"}
+    if field.kind == "objects":
+        return {field.key: ", ".join(map(str, value)) if isinstance(value, list) else ""}
+    if isinstance(value, Obj) and value.number < 0:
+        return {field.key: "nothing"}
+    return {field.key: str(value)}
+
+
+def known_values(form: Form, typed: Mapping[str, str], names: NamesOf, me: Me) -> dict[str, str]:
+    """The values of the fields that say which object, property or verb a form is about, as far as they are known."""
+    found: dict[str, str] = {}
+    for field in form.fields:
+        try:
+            if field.kind == "object" and typed.get(field.key):
+                found[field.key] = object_value(typed[field.key], names, me)
+            elif field.key in ("name", "verb") and not field.now and typed.get(field.key):
+                word = typed[field.key]
+                found[field.key] = word if field.key == "verb" and word.isdigit() else text_value(word)
+        except (Mistyped, Ambiguous):
+            pass
+    return found
+
+
+def reads_at_first(form: Form, typed: Mapping[str, str], known: Mapping[str, str]) -> dict[str, str]:
+    """By the key of a field: the reading call that tells what is there now, if nothing is typed in it yet."""
+    found = {}
+    for field in form.fields:
+        if field.now and pattern(field.now).keys <= known.keys() and not keys_of(field, typed):
+            found[field.key] = pattern(field.now).filled(known)
+    return found
+
+
+def field_part(field: Field, value: Any) -> Any:
+    """The part of an answer that a field is about."""
+    if field.part is None:
+        return value
+    return value[field.part] if isinstance(value, list) and len(value) > field.part else None
+
+
+def default_of(field: Field) -> dict[str, str]:
+    """What is typed in a field before anything is."""
+    if field.kind == "letters":
+        return {f"{field.key}.{letter}": "on" for letter in field.default}
+    return {field.key: field.default} if field.default else {}
+
+
+def typed_at_first(form: Form, typed: Mapping[str, str], answers: Mapping[str, Any]) -> dict[str, str]:
+    """What is typed in a form at first: what its address says, what is there now, and what is usual. An answer may be a refusal."""
+    found = dict(typed)
+    for field in form.fields:
+        if keys_of(field, typed):
+            if field.kind in ("object", "place") and typed.get(field.key, "").isdigit():
+                found[field.key] = f"#{typed[field.key]}"
+            continue
+        value = field_part(field, answers.get(field.key))
+        if value is None or not isinstance(value, (int, str, list, Obj, ErrorValue)):
+            found.update(default_of(field))
+        else:
+            found.update(typed_now(field, value))
+    return found
+
+
+def offered_to(field: Field, typed: Mapping[str, str], names: NamesOf) -> Offer:
+    """The objects that can be ticked."""
+    numbers = {int(number) for number in re.findall(r"\d{1,10}", typed.get(f"{field.key}.offered", ""))}
+    numbers |= {int(key.split(".")[1]) for key in typed if re.fullmatch(re.escape(field.key) + r"\.\d{1,10}", key)}
+    known = [names.world.things[number] for number in sorted(numbers) if number in names.world.things]
+    return tuple((str(thing.number), names.label(thing)) for thing in known)
+
+
+def suggested_to(field: Field, names: NamesOf, me: Me) -> Offer:
+    """Objects that are likely in a field."""
+    things = names.world.things
+    if field.key == "owner":
+        numbers = [thing.number for thing in things.values() if thing.has("player")] if me.is_wizard else [me.number]
+    elif field.key == "parent":
+        numbers = [thing.number for thing in things.values() if thing.has("f") or thing.owner == me.number]
+    elif field.key == "place":
+        here = things[me.number].location if me.number in things else -1
+        held = [number for number in names.world.contents if number >= 0]
+        numbers = [number for number in (here, me.number, *held) if number in things]
+    else:
+        numbers = [thing.number for thing in things.values() if thing.owner == me.number]
+    return tuple((f"#{number}", names.short(number)) for number in list(dict.fromkeys(numbers))[:MOST_OFFERED])
+
+
+def shown_field(field: Field, typed: Mapping[str, str], mistake: Mistake | None, names: NamesOf, me: Me) -> FieldView:
+    """A field as it is shown."""
+    begin = len(field.key) + 1
+    ticked = frozenset(key[begin:] for key in typed if key.startswith(f"{field.key}."))
+    return FieldView(
+        field,
+        typed.get(field.key, ""),
+        typed.get(f"{field.key}.kind", "text"),
+        typed.get(f"{field.key}.was", ""),
+        ticked,
+        offered_to(field, typed, names) if field.kind == "objects" else (),
+        suggested_to(field, names, me) if field.kind in ("object", "place") else (),
+        mistake,
+    )
+
+
+def view_of(
+    form: Form, typed: Mapping[str, str], mistakes: Mapping[str, Mistake], names: NamesOf, me: Me, offers: Mapping[str, Offer]
+) -> View:
+    """A form as it is shown, with what is typed in it. `offers` has what may be typed in a field besides."""
+    parts: list[tuple[str, list[FieldView]]] = []
+    for field in form.fields:
+        shown = shown_field(field, typed, mistakes.get(field.key), names, me)
+        shown.suggested = offers.get(field.key, shown.suggested)[:MOST_OFFERED]
+        if not parts or parts[-1][0] != field.section:
+            parts.append((field.section, []))
+        parts[-1][1].append(shown)
+    wrong = [shown for _, fields in parts for shown in fields if shown.mistake]
+    hidden = [(key, value) for field in form.fields for key, value in typed.items() if key in keys_of(field, typed)]
+    return View(form, parts, wrong, hidden)

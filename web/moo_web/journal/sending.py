@@ -1,0 +1,206 @@
+"""The program `moo-send`: gives the journal of a front, and its people, to who asks for them over a pipe, as over ssh.
+
+It reads a line of JSON, which says what the other side has: `{"version":1,"have":[[SEGMENT,START,END,SUM],..],"people":SHA256}`, the last
+lines of its copy, the newest first. Then it writes frames: a line of JSON, and as many bytes as that says under `length`:
+
+    {"k":"from","segment":1,"end":170}                                 the copy is right up to there; what it has more has to go
+    {"k":"lines","name":"journal-0","segment":1,"at":170,"length":N}   whole lines with right sums, which come there
+    {"k":"people","length":N}                                          the accounts, a file of SQLite
+    {"k":"now"}                                                        there is no more now; once a second
+    {"k":"none"}                                                       the copy is of another journal
+"""
+
+from __future__ import annotations
+
+import argparse
+import hashlib
+import json
+import sqlite3
+import sys
+import time
+from pathlib import Path
+from typing import Any, Iterator, NamedTuple
+
+from moo_web.journal.segments import SUM_LENGTH, Damaged, Segment
+from moo_web.journal.tail import LinesGone, Tail
+from moo_web.people.keeping import people_in, state_of
+from moo_web.programs import Failed
+
+VERSION = 1
+PAUSE = 0.05
+NOW_EVERY = 1.0
+LARGEST_FRAME = 1 << 20
+USAGE = """moo-send FOLDER
+       moo-send FOLDER COPY"""
+MORE = """
+FOLDER is that of moo-web, which may run meanwhile. With one word it serves one `moo-replay --follow --from`, by standard input and output.
+With two it brings the folder COPY up to FOLDER, and ends. Exit status: 0 done, 1 it can't be done, 2 the words are wrong.
+"""
+
+Frame = tuple[dict[str, Any], bytes]
+
+
+class Place(NamedTuple):
+    """A line of a journal: the number of its segment, where it begins and ends there, and its sum."""
+
+    segment: int
+    start: int
+    end: int
+    sum: str
+
+
+class CopyRequest(NamedTuple):
+    """What the other side has: its last lines, the newest first, and the SHA-256 of its accounts."""
+
+    have: list[Place]
+    people: str
+
+    def text(self) -> bytes:
+        """The line that says so."""
+        return json.dumps({"version": VERSION, "have": self.have, "people": self.people}, separators=(",", ":")).encode() + b"\n"
+
+
+def read_request(text: bytes) -> CopyRequest:
+    """The request that a line is. `Failed`: it isn't one."""
+    try:
+        said = json.loads(text)
+        places = [Place(int(segment), int(start), int(end), str(sum_)) for segment, start, end, sum_ in said["have"]]
+        request = CopyRequest(places, str(said["people"]))
+    except (ValueError, TypeError, KeyError):
+        raise Failed("standard input has no request: this is run by `moo-replay --follow --from`") from None
+    if said["version"] != VERSION:
+        raise Failed(f"the other side has version {said['version']}, and this program has version {VERSION}")
+    return request
+
+
+class Sender:
+    """Sends what one other side lacks."""
+
+    def __init__(self, folder: Path, request: CopyRequest) -> None:
+        self.folder, self.request = folder, request
+        self.tail = Tail(folder)
+        self.people_sum, self.people_state = request.people, (0, 0)
+
+    def frames(self, is_once: bool) -> Iterator[Frame]:
+        """What is to be sent, without end or up to the present one. `LinesGone`: the journal isn't what it was any more."""
+        place = self.common()
+        if place is None and self.request.have:
+            yield {"k": "none"}, b""
+            return
+        if place:
+            yield {"k": "from", "segment": place.segment, "end": place.end}, b""
+        last = 0.0
+        while True:
+            sent = 0
+            for frame in self.lines():
+                sent += 1
+                yield frame
+            if sent or time.monotonic() > last + NOW_EVERY:
+                yield from self.people()
+                yield {"k": "now"}, b""
+                last = time.monotonic()
+            if is_once:
+                return
+            time.sleep(PAUSE)
+
+    def common(self) -> Place | None:
+        """The newest line of the other side's that is here too. The tail goes on there; without any it begins with the first segment."""
+        segments = self.tail.segments()
+        for place in self.request.have:
+            segment = segments.get(place.segment)
+            if segment and is_there(segment, place):
+                self.tail.enter(segment)
+                self.tail.start, self.tail.end, self.tail.sum = place.start, place.end, place.sum
+                return place
+        return None
+
+    def lines(self) -> Iterator[Frame]:
+        """The lines that came since, in frames that aren't much longer than a mebibyte unless a line is."""
+        kept: list[bytes] = []
+        first, size = 0, 0
+        segment: Segment | None = None
+        for line in self.tail.lines():
+            if segment and (segment is not line.segment or size >= LARGEST_FRAME):
+                yield frame_of(segment, first, b"".join(kept))
+                kept, size, segment = [], 0, None
+            text = line.sum.encode() + b" " + line.text + b"\n"
+            if segment is None:
+                segment, first = line.segment, line.end - len(text)
+            kept.append(text)
+            size += len(text)
+        if segment:
+            yield frame_of(segment, first, b"".join(kept))
+
+    def people(self) -> Iterator[Frame]:
+        """The accounts, if they have changed."""
+        state = state_of(self.folder)
+        if state == self.people_state:
+            return
+        self.people_state = state
+        text = people_in(self.folder)
+        sum_ = hashlib.sha256(text).hexdigest()
+        if text and sum_ != self.people_sum:
+            self.people_sum = sum_
+            yield {"k": "people", "length": len(text)}, text
+
+
+def is_there(segment: Segment, place: Place) -> bool:
+    """Whether a segment has this line at this place."""
+    with open(segment.path, "rb") as file:
+        file.seek(place.start)
+        if file.read(SUM_LENGTH) != place.sum.encode():
+            return False
+        file.seek(place.end - 1)
+        return file.read(1) == b"\n"
+
+
+def frame_of(segment: Segment, at: int, text: bytes) -> Frame:
+    """The frame of some lines of a segment."""
+    return {"k": "lines", "name": segment.path.name, "segment": segment.number, "at": at, "length": len(text)}, text
+
+
+def send(folder: Path) -> None:
+    """Serves one request, until the other side goes."""
+    request = read_request(sys.stdin.buffer.readline())
+    for head, text in Sender(folder, request).frames(False):
+        sys.stdout.buffer.write(json.dumps(head, separators=(",", ":")).encode() + b"\n" + text)
+        sys.stdout.buffer.flush()
+
+
+def bring_up(folder: Path, target: str) -> None:
+    """Brings a copy up to a folder, once."""
+    from moo_web.journal.history import History
+    from moo_web.journal.receiving import Copy
+
+    copy = Copy(Path(target), lambda text: print(f"moo-send: {text}", file=sys.stderr))
+    try:
+        for head, text in Sender(folder, copy.request()).frames(True):
+            copy.take(head, text)
+        History(copy.folder).end()
+    finally:
+        copy.close()
+
+
+def main() -> None:
+    """Runs the program with the words of the command line."""
+    parser = argparse.ArgumentParser(prog="moo-send", usage=USAGE, description="Gives the journal of a front.", epilog=MORE)
+    parser.add_argument("folder", metavar="FOLDER", type=Path)
+    parser.add_argument("copy", metavar="COPY", nargs="?")
+    said = parser.parse_args()
+    try:
+        if not said.folder.is_dir():
+            raise Failed(f"{said.folder} isn't a folder")
+        if said.copy:
+            bring_up(said.folder, said.copy)
+        else:
+            send(said.folder)
+    except LinesGone:
+        sys.exit("moo-send: the last lines of the journal aren't there any more; the other side asks again")
+    except BrokenPipeError:
+        # The other side has gone.
+        sys.stderr.close()
+        sys.exit(1)
+    except (Failed, Damaged, OSError, sqlite3.Error) as error:
+        sys.exit(f"moo-send: {error}")
+    except KeyboardInterrupt:
+        sys.exit(130)

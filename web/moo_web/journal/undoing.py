@@ -1,0 +1,166 @@
+"""What undoes a batch of the journal: calls that put back what its own calls replaced, and what they can't put back, in sentences.
+
+    undo = undone(batch)
+    undo.lines          ['set(#4, "colour", "green")']
+    undo.lasting        []
+
+A line may give the object that it makes a name, `$again5 = create(#1)`, which later lines use. A text for `moo apply` has no names, so it
+can't make an object again.
+"""
+
+from __future__ import annotations
+
+import collections
+from typing import Iterator, NamedTuple, Optional
+
+from moolib.calls import Call, read_or_none
+from moolib.service import LONGEST_BODY, packed
+from moolib.values import Obj, Value, written
+
+from moo_web.journal.segments import Accepted, Kept
+
+MOST_CALLS = 1000
+# What the calls of a batch may have of a body; its other keys have the rest.
+MOST_BYTES = LONGEST_BODY - 100
+OLD = "Batch {} is of a journal from before batches could be undone: what its calls replaced wasn’t kept."
+# What stays, if another object is made for one that is gone.
+TOLD_AGAIN = (
+    "#{0} is gone for good, and its number isn’t given again: another object is made with the same properties. "
+    "Values that name #{0} stay, and what it owned isn’t given to the new one."
+)
+# What a call leaves as it is, though what undoes it is done.
+LEFT_BY = {
+    "delete_verb": "A verb comes back as the last of its object, whatever its place was.",
+    "delete_property": "A property comes back as the last that its object defines, whatever its place was.",
+    "grant": "The petition isn’t made again.",
+}
+# Where a call has owners in a list; where it names an object besides the first.
+OWNERS = {"add_property": 3, "set_property_info": 2, "add_verb": 1, "set_verb_info": 2}
+OTHERS = {"move": 1, "chparent": 1, "create": 1}
+
+
+class Undo(NamedTuple):
+    """The lines that undo a batch, and what stays as it is."""
+
+    lines: list[str]
+    lasting: list[str]
+
+    @property
+    def parts(self) -> list[list[str]]:
+        """The lines of one batch after another: of each at most 1,000, and no more than a service takes at once."""
+        parts: list[list[str]] = []
+        left = 0
+        for line in self.lines:
+            size = len(packed(line)) + 1
+            if not parts or len(parts[-1]) == MOST_CALLS or size > left:
+                parts.append([])
+                left = MOST_BYTES
+            parts[-1].append(line)
+            left -= size
+        return parts
+
+
+def undone(batch: Accepted, is_text: bool = False) -> Undo:
+    """What undoes a batch; for a text, without names."""
+    if batch.memory is None:
+        return Undo([], [OLD.format(batch.seq)])
+    return Undoing(batch, batch.memory, is_text).undo()
+
+
+class Undoing:
+    """What undoes one batch."""
+
+    def __init__(self, batch: Accepted, kept: Kept, is_text: bool) -> None:
+        self.calls = [read_or_none(text) for text in batch.calls]
+        self.texts, self.kept = batch.calls, kept
+        self.remakes: list[Optional[dict[str, list[str]]]] = [None] * len(self.calls) if is_text or not kept.remakes else kept.remakes
+        answers = batch.answers or [""] * len(self.calls)
+        made = [call.made(answer) for call, answer in zip(self.calls, answers) if call]
+        gone = [call.subject for call in self.calls if call and call.name == "recycle"]
+        self.gone = {number for number in gone if number is not None}
+        # What came and went in this very batch.
+        self.passing = self.gone.intersection(number for number in made if number is not None)
+        self.names: dict[int, str] = {}
+
+    def undo(self) -> Undo:
+        """The lines, those that undo the last call first."""
+        lines: list[str] = []
+        lasting: collections.Counter[str] = collections.Counter()
+        for place in range(len(self.calls) - 1, -1, -1):
+            lines += self.lines_for(place, lasting)
+        return Undo(lines, list(lasting))
+
+    def lines_for(self, place: int, lasting: collections.Counter[str]) -> Iterator[str]:
+        """What undoes the call at this place. What stays is counted."""
+        call, before, remake = self.calls[place], self.kept.before[place], self.remakes[place]
+        if call and call.name == "recycle" and call.subject in self.passing:
+            return
+        for number, calls in reversed((remake or {}).items()):
+            yield from self.remade(int(number[1:]), calls, lasting)
+        if before is None and not remake:
+            lasting[told_lasting(call, self.texts[place])] += 1
+        if call and before and call.name in LEFT_BY:
+            lasting[LEFT_BY[call.name]] += 1
+        for text in before or ():
+            step = Call.read(text)
+            named = numbers_of(step)
+            if named & self.passing:
+                continue
+            if named & self.gone - self.names.keys():
+                lasting[f"{text}: an object that it names is gone."] += 1
+            else:
+                yield renamed(step, self.names)
+
+    def remade(self, number: int, calls: list[str], lasting: collections.Counter[str]) -> Iterator[str]:
+        """The lines that make an object again."""
+        lasting[TOLD_AGAIN.format(number)] += 1
+        first, *others = map(Call.read, calls)
+        yield f"$again{number} = {renamed(first, self.names)}"
+        self.names[number] = f"$again{number}"
+        yield from (renamed(call, self.names) for call in others)
+
+
+def told_lasting(call: Optional[Call], text: str) -> str:
+    """What stays of a call that nothing undoes."""
+    shown = text if len(text) <= 200 else f"{text[:200]}…"
+    if call and call.name == "recycle":
+        return f"{shown}: the object is gone for good, and its number isn’t given again."
+    if call and call.name == "decline":
+        return f"{shown}: the petition isn’t made again."
+    return f"{shown}: what it replaced can’t be put back, or was too much to be kept."
+
+
+def renamed(call: Call, names: dict[int, str]) -> str:
+    """A call with names in place of the numbers of objects that are made again. In values the numbers stay."""
+    if not numbers_of(call) & names.keys():
+        return str(call)
+    given, places = [], naming_places(call)
+    for place, value in enumerate(call.values):
+        if place in places and isinstance(value, list):
+            given.append("{" + ", ".join([name_in(value[0], names), *map(written, value[1:])]) + "}")
+        else:
+            given.append(name_in(value, names) if place in places else written(value))
+    return f"{call.name}({', '.join(given)})"
+
+
+def name_in(value: Value, names: dict[int, str]) -> str:
+    """A value as it is written, by its name if it has one."""
+    return names.get(value.number, str(value)) if isinstance(value, Obj) else written(value)
+
+
+def naming_places(call: Call) -> set[int]:
+    """Which of a call's values are objects that have to be there, or lists that begin with one."""
+    is_owner = call.name == "set" and len(call.values) > 1 and str(call.values[1]).lower() == "owner"
+    return {0, OTHERS.get(call.name, 0), OWNERS.get(call.name, 0), 2 if is_owner else 0}
+
+
+def numbers_of(call: Call) -> set[int]:
+    """The objects that have to be there for a call."""
+    given = [call.values[place] for place in naming_places(call) if place < len(call.values)]
+    firsts = [value[0] if isinstance(value, list) and value else value for value in given]
+    return {value.number for value in firsts if isinstance(value, Obj)}
+
+
+def text_of(batch: Accepted, undo: Undo) -> str:
+    """The batches that undo a batch, as a text for `moo apply`, by the one who made it."""
+    return "".join(f"batch as #{batch.programmer}\n" + "".join(f"{line}\n" for line in part) + "end\n" for part in undo.parts)

@@ -1,0 +1,58 @@
+"""Objects, values and calls as they are shown: with links, and whole texts cut to a length."""
+
+from __future__ import annotations
+
+import re
+from typing import Any
+
+from markupsafe import Markup, escape
+from moolib.values import written
+
+from moo_web.paths import url_for
+from moo_web.world.things import Thing, World
+
+LONGEST_NAME = 80
+LONGEST_VALUE = 1200
+# More than the calls and answers of a batch have that are kept.
+WHOLE = 1 << 22
+PIECES = re.compile(r'("(?:[^"\\]|\\.)*"|#-?\d{1,10})')
+UNNAMED = Markup('<i class="dim">unnamed</i>')
+
+
+def short_name(thing: Thing) -> str:
+    """The name of an object, cut to a length that a page can bear; `unnamed` if it is blank."""
+    name = thing.name if len(thing.name) <= LONGEST_NAME else thing.name[:LONGEST_NAME] + "…"
+    return name if name.strip() else "unnamed"
+
+
+def link(world: World, number: int, nothing: str = "nothing") -> Markup:
+    """An object as a link with its name and number. One that isn't there is struck through; `nothing` is written for #-1."""
+    thing = world.things.get(number)
+    if thing is None:
+        shown = ("gone", f"#{number}") if number >= 0 else ("dim", nothing)
+        return Markup('<span class="{}">{}</span>').format(*shown)
+    name = escape(short_name(thing)) if thing.name.strip() else UNNAMED
+    return Markup('<a href="{}">{}</a>&nbsp;<span class="n">#{}</span>').format(url_for("object", number=number), name, number)
+
+
+def value(world: World, given: Any, longest: int = LONGEST_VALUE) -> Markup:
+    """A value as it is written in a call, its objects as links."""
+    return call(world, written(given), longest)
+
+
+def call(world: World, text: str, longest: int = LONGEST_VALUE) -> Markup:
+    """A call or a value, its objects as links. After so many letters it is cut, and says so."""
+    shown, left = Markup(), longest
+    for place, piece in enumerate(PIECES.split(text)):
+        if left <= 0:
+            break
+        # What is between two pieces may begin with # too.
+        if place % 2 and piece.startswith("#") and int(piece[1:]) in world.things:
+            shown += link(world, int(piece[1:]))
+            left -= len(piece) + len(world.things[int(piece[1:])].name)
+        else:
+            shown += escape(piece[:left])
+            left -= len(piece)
+    if left < 0 or len(text) > longest:
+        shown += Markup(' <span class="dim">… {} letters in all</span>').format(f"{len(text):,}")
+    return shown

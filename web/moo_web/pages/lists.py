@@ -1,0 +1,88 @@
+"""Pages of lists: what is found, what is under, in and of an object, and what is nowhere."""
+
+from __future__ import annotations
+
+import re
+from typing import Any, Iterable, NamedTuple, Sequence
+
+from moo_web.app import Reply
+from moo_web.pages.pages import Visit
+from moo_web.paths import url_for
+from moo_web.world.definers import Definers
+from moo_web.world.things import NOTHING, Thing
+
+# So many objects are on one page.
+PAGE = 100
+MOST_PAGES = 1_000_000
+LONGEST_QUERY = 256
+
+
+class Part(NamedTuple):
+    """A page of something longer: its items, its number from 1 on, how many pages there are, and of how many items."""
+
+    items: Sequence[Any]
+    number: int
+    pages: int
+    total: int
+
+
+def part_of(items: Sequence[Any], asked: str, size: int = PAGE) -> Part:
+    """The page of this number. One that can't be is the first, or the last."""
+    pages = max(1, -(-len(items) // size))
+    number = min(int(asked), pages) if asked.isascii() and asked.isdigit() and 0 < len(asked) < 8 and int(asked) > 0 else 1
+    return Part(items[(number - 1) * size : number * size], number, pages, len(items))
+
+
+def list_page(visit: Visit, title: str, told: str, numbers: Sequence[int], of: Thing | None = None) -> Reply:
+    """A page of a list of objects."""
+    part = part_of(numbers, visit.fields.get("page", ""))
+    things = [visit.world.things[number] for number in part.items if number in visit.world.things]
+    return visit.page("pages/list.html", heading=title, told=told, part=part, things=things, of=of)
+
+
+def listed(visit: Visit, number: int, what: str) -> Reply:
+    """What is under an object, in it, or its own."""
+    world, of = visit.world, visit.world.things.get(number)
+    if of is None:
+        return visit.page("pages/no_object.html", 404, number=number)
+    if what == "children":
+        return list_page(visit, "Children of", "What inherits from it directly.", world.children.get(of.number, ()), of)
+    if what == "contents":
+        return list_page(visit, "Contents of", "What is in it directly.", world.contents.get(of.number, ()), of)
+    return list_page(visit, "Owned by", "What belongs to it.", world.owned.get(of.number, []), of)
+
+
+def nowhere(visit: Visit) -> Reply:
+    """What is in no place."""
+    return list_page(visit, "Nowhere", "What is in no place.", visit.world.contents.get(NOTHING, ()))
+
+
+def roots(visit: Visit) -> Reply:
+    """What has no parent."""
+    return list_page(visit, "Without a parent", "What inherits from nothing.", visit.world.children.get(NOTHING, ()))
+
+
+# Search
+
+
+def find(visit: Visit, definers: Definers) -> Reply:
+    """What is found for a text: an object by its number, objects by their names, and those that define a property by its name."""
+    query = visit.fields.get("q", "").strip()[:LONGEST_QUERY]
+    number = re.fullmatch(r"#\s*(\d{1,10})", query) or re.fullmatch(r"(\d{1,10})", query)
+    if number and int(number[1]) in visit.world.things:
+        return visit.go(url_for("object", number=int(number[1])))
+    is_property = query.startswith(".") and len(query) > 1
+    named = [] if is_property or not query else by_name(visit.world.things.values(), query)
+    properties = definers.found(visit, query.removeprefix(".")) if query else []
+    return visit.page(
+        "pages/find.html", query=query, part=part_of(named, visit.fields.get("page", "")), properties=properties, is_property=is_property,
+        is_number=bool(number),
+    )  # fmt: skip
+
+
+def by_name(things: Iterable[Thing], query: str) -> list[Thing]:
+    """The objects whose names have this text in them, in any case: first those whose name it is, then those that begin with it."""
+    wanted = query.lower()
+    found = [(thing, thing.name.lower()) for thing in things if wanted in thing.name.lower()]
+    found.sort(key=lambda one: (one[1] != wanted, not one[1].startswith(wanted), one[1], one[0].number))
+    return [thing for thing, _ in found]

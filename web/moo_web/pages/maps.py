@@ -1,0 +1,36 @@
+"""The maps: pictures of who inherits from whom, and of what is where. Of a large world a part is shown, and each part of it has its own."""
+
+from __future__ import annotations
+
+from moo_web.app import Reply
+from moo_web.pages.lists import part_of
+from moo_web.pages.pages import Visit
+from moo_web.pages.picture import drawn
+from moo_web.paths import url_for
+from moo_web.world.things import NOTHING
+from moo_web.world.trees import tree
+
+# So many objects are in one picture, and so many trees one under the other.
+MOST_NODES, MOST_TREES = 160, 40
+
+
+def first(visit: Visit) -> Reply:
+    """The map that comes first."""
+    return visit.go(url_for("tree", tree="parents"))
+
+
+def map_page(visit: Visit, what: str) -> Reply:
+    """A map: of all, or from one object down."""
+    world = visit.world
+    links = world.children if what == "parents" else world.contents
+    asked = visit.fields.get("from", "")
+    start = int(asked) if asked.isascii() and asked.isdigit() and len(asked) <= 10 and int(asked) in world.things else None
+    roots = links.get(NOTHING, ()) if start is None else (start,)
+    if what == "places" and start is None:
+        roots = tuple(number for number in roots if number in links)
+    part = part_of(roots, visit.fields.get("page", ""), MOST_TREES)
+    trees = tree(world, links, part.items, MOST_NODES)
+    above = [thing.number for thing in (world.chain(start) if what == "parents" else world.places(start))][1:] if start is not None else []
+    loose = len(world.contents.get(NOTHING, ())) - len(roots) if what == "places" and start is None else 0
+    pictures = [drawn(one) for one in trees]
+    return visit.page("pages/map.html", what=what, pictures=pictures, part=part, start=start, above=above[::-1], loose=loose)

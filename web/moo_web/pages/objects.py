@@ -1,0 +1,128 @@
+"""The page of an object, and that of one of its properties."""
+
+from __future__ import annotations
+
+import re
+from typing import Any, NamedTuple
+
+from moolib.values import written
+
+from moo_web.app import Reply
+from moo_web.journal.history import History
+from moo_web.pages.accepting import accept_calls, accepting
+from moo_web.pages.batches import Telling, in_time
+from moo_web.pages.home import lately
+from moo_web.pages.lists import part_of
+from moo_web.pages.pages import Visit
+from moo_web.world.asking import Refusal
+from moo_web.world.properties import MOST, Property, grouped, names_calls, names_on, properties_of, property_calls
+from moo_web.world.things import NOTHING
+
+# So many of the objects under one, and in one, are on its page.
+SOME = 24
+MOST_VERBS = 200
+# What the bits mean. That of a programmer isn't looked at by any call.
+FLAGS = {
+    "player": ("player", "it is a player"),
+    "programmer": ("programmer", "it has the mark of a programmer, which nothing looks at"),
+    "wizard": ("wizard", "it has every right"),
+    "r": ("readable", "everybody may list its properties and verbs"),
+    "w": ("writable", "everybody may add and delete its properties and verbs"),
+    "f": ("fertile", "everybody may make objects under it"),
+}
+
+
+class Verb(NamedTuple):
+    """A verb of an object. `args`, `owner` and `rights` are None if the person may not read it."""
+
+    names: str
+    args: str | None
+    owner: int | None
+    rights: str | None
+
+
+def object_page(visit: Visit, history: History, one: int) -> Reply:
+    """The page of an object."""
+    visit.trust()
+    thing = visit.world.things.get(one)
+    if thing is None:
+        visit.seen = None
+        thing = visit.world.things.get(one)
+    if thing is None:
+        return visit.page("pages/no_object.html", 404, number=one)
+    world = visit.world
+    chain = [above.number for above in world.chain(one)]
+    # All that the page asks is asked in two requests: what there is, and then all of that.
+    visit.answers([*names_calls(chain), *(f"verbs(#{each})" for each in chain), *accept_calls(chain)])
+    names = names_on(visit, one)
+    part = part_of(names.pairs, visit.fields.get("page", ""), MOST)
+    visit.answers([*property_calls(one, list(part.items), chain), *verb_calls(one, visit.answers([f"verbs(#{one})"])[0])])
+    verbs, inherited = verbs_of(visit, chain)
+    return visit.page(
+        "pages/object.html", thing=thing, chain=chain[1:][::-1], places=[place.number for place in world.places(one)][1:], flags=FLAGS,
+        children=world.children.get(one, ()), contents=world.contents.get(one, ()), some=SOME, part=part,
+        groups=grouped(properties_of(visit, one, list(part.items)), names.hidden if part.number == 1 else [], chain),
+        is_hidden=bool(names.hidden), verbs=verbs, inherited=inherited, lately=lately(visit, history, one),
+        accepts=accepting(visit, one), owned=len(world.owned.get(one, ())), line=lambda batch: Telling(visit, history, batch).line(one),
+    )  # fmt: skip
+
+
+def verbs_of(visit: Visit, chain: list[int]) -> tuple[list[Verb] | None, list[tuple[int, list[str]]]]:
+    """The verbs of the first object of a chain, None if they may not be listed; and the names of those of the others that have some."""
+    listed = visit.answers([f"verbs(#{one})" for one in chain])
+    others = [(one, names) for one, names in zip(chain[1:], listed[1:]) if isinstance(names, list) and names]
+    if not isinstance(listed[0], list):
+        return None, others
+    names = listed[0][:MOST_VERBS]
+    told = visit.answers(verb_calls(chain[0], names))
+    return [verb_of(name, told[2 * place], told[2 * place + 1]) for place, name in enumerate(names)], others
+
+
+def verb_calls(number: int, names: Any) -> list[str]:
+    """What is asked of the verbs of an object, if their names may be listed."""
+    count = min(len(names), MOST_VERBS) if isinstance(names, list) else 0
+    return [f"{call}(#{number}, {place})" for place in range(1, count + 1) for call in ("verb_info", "verb_args")]
+
+
+def verb_of(names: str, info: Any, args: Any) -> Verb:
+    """A verb, of what is told of it."""
+    if isinstance(info, Refusal) or isinstance(args, Refusal):
+        return Verb(names, None, None, None)
+    return Verb(names, " ".join(args), info[0].number, info[1])
+
+
+class Level(NamedTuple):
+    """A property on one object of a chain. `state` is `here`, `clear` or `hidden`."""
+
+    number: int
+    state: str
+    told: Property
+
+
+def one_property(visit: Visit, history: History, one: int) -> Reply:
+    """The page of a property: its whole value, and what it is on each object from which it may come."""
+    world, name = visit.world, visit.fields.get("name", "")
+    if one not in world.things:
+        return visit.page("pages/no_object.html", 404, number=one)
+    pair = pair_of(visit, one, name)
+    if pair is None:
+        return visit.page("pages/no_property.html", 404, thing=world.things[one], name=name)
+    chain = [above.number for above in world.chain(one)]
+    levels = []
+    for above in chain[: chain.index(pair[0]) + 1] if pair[0] in chain else chain:
+        told = properties_of(visit, above, [pair])[0]
+        levels.append(Level(above, "hidden" if not told.is_shown else "here" if told.source == above else "clear", told))
+    is_listed = pair[0] != NOTHING
+    return visit.page(
+        "pages/property.html", thing=world.things[one], name=pair[1], levels=levels, told=levels[0].told, is_listed=is_listed,
+        in_time=in_time(visit, history, one, pair[1]) if levels[0].told.is_shown else [],
+    )  # fmt: skip
+
+
+def pair_of(visit: Visit, number: int, name: str) -> tuple[int, str] | None:
+    """The definer of a property on an object, and its name as that spells it. If it may be read and not listed, the definer is -1."""
+    pair = next((pair for pair in names_on(visit, number).pairs if pair[1].lower() == name.lower()), None)
+    if pair is None and re.fullmatch(r"[\t -~]{1,255}", name):
+        told = visit.answers([f"property_info(#{number}, {written(name)})"])[0]
+        return None if isinstance(told, Refusal) else (NOTHING, name)
+    return pair

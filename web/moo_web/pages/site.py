@@ -1,0 +1,78 @@
+"""All pages: what they are made of, and their routes. This needs python3-jinja2."""
+
+from __future__ import annotations
+
+from moo_web.app import App
+from moo_web.forms.editor import BatchPages
+from moo_web.forms.handlers import FormPages
+from moo_web.forms.inbox import PetitionPages
+from moo_web.forms.previews import Previews
+from moo_web.forms.undo import UndoPages
+from moo_web.forms.questions import Questions
+from moo_web.journal.history import History
+from moo_web.journal.recent import Recent
+from moo_web.journal.writer import Writer
+from moo_web.pages import history as done
+from moo_web.pages import home, lists, maps, objects, programs
+from moo_web.pages.differences import differences
+from moo_web.pages.pages import Pages
+from moo_web.pages.sign import Sign
+from moo_web.people.people import People
+from moo_web.world.asking import Asker
+from moo_web.world.definers import Definers
+from moo_web.world.index import Index
+
+
+def make_pages(app: App, people: People, writer: Writer, history: History, rate: float) -> Pages:
+    """The pages of a front."""
+    index, asker = Index(writer.door, lambda: writer.stopped is not None), Asker(writer.door)
+    writer.listeners.append(index.take)
+    pages = Pages(app, people, index, asker, history, rate)
+    pages.open("GET", "programs", lambda request: programs.page(pages, request))
+    add_pages_to_sign_in(pages, people)
+    add_pages_to_read(pages, people, history, Definers(index, asker))
+    recent = Recent(writer, history)
+    add_pages_to_change(pages, Previews(Questions(writer.door), writer, recent), recent, history)
+    return pages
+
+
+def add_pages_to_sign_in(pages: Pages, people: People) -> None:
+    """The pages to sign in and out, and a person's own."""
+    sign = Sign(pages, people)
+    pages.open("GET", "in", sign.form)
+    pages.open("POST", "in", sign.sign_in)
+    pages.post("out", sign.sign_out)
+    pages.get("you", sign.own)
+    pages.post("password", sign.set_password)
+    pages.post("zone", sign.set_zone)
+
+
+def add_pages_to_read(pages: Pages, people: People, history: History, definers: Definers) -> None:
+    """The pages of what is there, and of what was done."""
+    pages.get("home", lambda visit: home.world(visit, history))
+    pages.get("find", lambda visit: lists.find(visit, definers))
+    pages.get("list", lists.listed)
+    pages.get("nowhere", lists.nowhere)
+    pages.get("roots", lists.roots)
+    pages.get("object", lambda visit, number: objects.object_page(visit, history, number))
+    pages.get("property", lambda visit, number: objects.one_property(visit, history, number))
+    pages.get("tree", maps.map_page)
+    pages.get("map", maps.first)
+    pages.get("history", lambda visit: done.batches(visit, history))
+    pages.get("batch", lambda visit, number: done.one(visit, history, number))
+    pages.get("differences", lambda visit: differences(visit, history))
+    pages.get("done", lambda visit, number: done.one(visit, history, number, is_done=True))
+    pages.get("people", lambda visit: done.people(visit, people))
+
+
+def add_pages_to_change(pages: Pages, previews: Previews, recent: Recent, history: History) -> None:
+    """The pages by which people change the world: forms, the editor of batches, petitions, quotas."""
+    forms, editor, petitions = FormPages(previews, recent), BatchPages(previews, recent), PetitionPages(previews, history)
+    pages.get("forms", forms.all)
+    pages.get("form", forms.show)
+    pages.post("form", forms.act, is_kept=True)
+    pages.get("editor", editor.empty)
+    pages.post("editor", editor.edit, is_kept=True)
+    pages.get("undo", UndoPages(previews, recent, history.one).undo)
+    pages.get("petitions", petitions.inbox)
+    pages.get("quotas", petitions.quotas)

@@ -1,0 +1,105 @@
+"""What each person may add to a world: so many bytes a day, and so many petitions that aren't decided; and nothing, while it is full.
+
+    growth = Growth(door, daily_bytes=10_000_000, full=Path("/run/moo/world.full"))
+    writer.bound = growth.test
+
+Bytes are those of the calls and answers of accepted batches. Wizards may add ten times as many. All bytes of a day may be added at once, and then as
+many as time brings back. A front that is started anew has forgotten what was added. A world is full while there is a file that says so:
+`moo-watch` makes it when the service takes three quarters of the memory that it may have.
+"""
+
+from __future__ import annotations
+
+import os
+import time
+from pathlib import Path
+from typing import Callable
+
+from moolib.calls import READING as READING_CALLS
+from moolib.calls import call_name
+from moolib.values import Obj, read, written
+
+from moo_web.journal.writer import TooMuch
+from moo_web.world.door import Door, TooLong, batch_body
+
+DAY = 86_400.0
+DAILY_BYTES = 10_000_000
+FOR_WIZARDS = 10
+MOST_PETITIONS, MOST_PETITION_BYTES = 100, 1 << 18
+MOST_NAMES = 10_000
+READING = 10.0
+# When to try again after a petition that is one too many: when a wizard may have decided some.
+NEXT_PETITION = 3600.0
+
+# What makes a world no larger.
+SHRINKING = READING_CALLS | frozenset("recycle delete_property delete_verb clear_property decline move set_player_flag".split())
+NEXT_LOOK = 60.0
+OF_ALL = "the world is full: nothing can be added until an operator has made room. What is in it can be removed"
+OF_BYTES = "you have added as much as you may in a day; wait for {seconds:.0f} seconds, or ask an operator for more"
+OF_PETITIONS = f"at most {MOST_PETITIONS} petitions of yours may wait for a decision: take some back, or wait for a wizard"
+OF_PETITION_BYTES = f"your petitions that wait for a decision may have {MOST_PETITION_BYTES >> 10} kB in all: take some back, or wait for a wizard"
+
+
+class Allowance:
+    """So many bytes a day for each name, which come back with time. Who has any left may add a whole batch, and owes the rest."""
+
+    def __init__(self, daily: float, clock: Callable[[], float]) -> None:
+        self.daily, self.clock = daily, clock
+        self.left: dict[str, tuple[float, float]] = {}
+
+    def take(self, name: str, amount: int) -> float:
+        """Takes bytes of this name's, and gives 0; or gives how many seconds it has to wait, if none are left."""
+        left, now = self.now_left(name), self.clock()
+        if left <= 0:
+            return (1 - left) * DAY / self.daily
+        self.left[name] = (left - amount, now)
+        if len(self.left) > MOST_NAMES:
+            self.left = {other: at for other, at in self.left.items() if self.now_left(other) < self.daily}
+        return 0.0
+
+    def now_left(self, name: str) -> float:
+        """How many bytes are left to this name."""
+        left, moment = self.left.get(name, (self.daily, self.clock()))
+        return min(self.daily, left + (self.clock() - moment) * self.daily / DAY)
+
+
+class Growth:
+    """Refuses what is more than a person may add. The writer's one thread uses it."""
+
+    def __init__(
+        self, door: Door, daily_bytes: float = DAILY_BYTES, full: Path | None = None, clock: Callable[[], float] = time.monotonic
+    ) -> None:
+        self.door, self.full = door, full
+        self.of_people, self.of_wizards = Allowance(daily_bytes, clock), Allowance(FOR_WIZARDS * daily_bytes, clock)
+
+    def test(self, who: str, programmer: int, calls: list[str], answers: list[str]) -> None:
+        """Counts a batch that would be accepted. `TooMuch`: it is more than the person may add. `Unreachable`: moo doesn't answer."""
+        if self.full and os.path.exists(self.full) and any(call_name(call) not in SHRINKING for call in calls):
+            raise TooMuch(OF_ALL, NEXT_LOOK)
+        if asked := [call for call in calls if call_name(call) == "petition"]:
+            self.test_petitions(programmer, asked)
+        size = sum(map(len, calls)) + sum(map(len, answers))
+        wait = self.of_people.take(who.lower(), size)
+        if wait and self.is_wizard(programmer):
+            wait = self.of_wizards.take(who.lower(), size)
+        if wait:
+            raise TooMuch(OF_BYTES.format(seconds=wait), wait)
+
+    def test_petitions(self, programmer: int, asked: list[str]) -> None:
+        """`TooMuch`: these petitions are too many, or too long, with those that the programmer has made and that aren't decided."""
+        try:
+            answer = self.door.asked("POST", "/ask", batch_body(programmer, ["petitions()"]), time.monotonic() + READING)
+        except TooLong:
+            raise TooMuch(OF_PETITION_BYTES, NEXT_PETITION) from None
+        found = read(answer.said["answers"][0]) if answer.status == 200 else []
+        assert isinstance(found, list)
+        own = [len(written(calls)) for _, who, calls in found if who == Obj(programmer)]  # type: ignore[misc]
+        if len(own) + len(asked) > MOST_PETITIONS:
+            raise TooMuch(OF_PETITIONS, NEXT_PETITION)
+        if sum(own) + sum(map(len, asked)) > MOST_PETITION_BYTES:
+            raise TooMuch(OF_PETITION_BYTES, NEXT_PETITION)
+
+    def is_wizard(self, number: int) -> bool:
+        """Whether this object is a wizard now."""
+        answer = self.door.asked("GET", f"/object/{number}", None, time.monotonic() + READING)
+        return answer.status == 200 and answer.said.get("wizard") == 1

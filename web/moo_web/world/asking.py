@@ -1,0 +1,62 @@
+"""What one person may know of a world: calls that change nothing, asked with the person's number, each by itself."""
+
+from __future__ import annotations
+
+import time
+from typing import Any, NamedTuple
+
+from moolib.service import Said
+
+from moo_web.world.door import Answer, Door, TooLong, Unreachable
+
+MOST_CALLS = 1000
+READING = 10.0
+
+
+class Moved(Exception):
+    """The world moved on meanwhile: what was asked before is of another number."""
+
+
+class Refusal(NamedTuple):
+    """In place of a value: the call is refused, with this error, and why."""
+
+    error: str
+    why: str = ""
+
+
+TOO_LONG = Said("too long", False, "its answer is too long to be shown")
+
+
+class Asker:
+    """Asks at a door."""
+
+    def __init__(self, door: Door) -> None:
+        self.door = door
+
+    def answers(self, number: int, calls: list[str], seq: int) -> list[Any]:
+        """The value of each call as this programmer, in the world of this number, or a `Refusal`.
+
+        `Moved`: the world has another number by now. `Unreachable`: moo gave no answer in time.
+        """
+        return [said.value if said.is_good else Refusal(said.text, said.why) for said in self.said(number, calls, seq)]
+
+    def said(self, number: int, calls: list[str], seq: int, end: float | None = None) -> list[Said]:
+        """The same as moo writes it. It waits until the moment `end` of the monotonic clock, or for ten seconds."""
+        end = time.monotonic() + READING if end is None else end
+        found: list[Said] = []
+        for first in range(0, len(calls), MOST_CALLS):
+            found += self.part(number, calls[first : first + MOST_CALLS], seq, end)
+        return found
+
+    def part(self, number: int, calls: list[str], seq: int, end: float) -> list[Said]:
+        """The same of at most 1,000 calls. If their answers are too long together they are asked for in halves."""
+        try:
+            said = self.door.alone(number, calls, seq, end - time.monotonic())
+        except TooLong:
+            if len(calls) == 1:
+                return [TOO_LONG]
+            middle = len(calls) // 2
+            return self.part(number, calls[:middle], seq, end) + self.part(number, calls[middle:], seq, end)
+        if isinstance(said, Answer):
+            raise Moved if said.error == "stale" else Unreachable
+        return said
