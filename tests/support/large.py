@@ -3,6 +3,7 @@
 from __future__ import annotations
 
 import http.client
+import json
 import os
 import pathlib
 import random
@@ -91,6 +92,22 @@ def memory_of(process: int) -> float:
     """The megabytes of memory that a process has."""
     status = pathlib.Path(f"/proc/{process}/status").read_text()
     return int(status.partition("VmRSS:")[2].split()[0]) / 1024
+
+
+def reading_of(moo: Any) -> float:
+    """The seconds of processor time, moo's and this program's, that a plain client takes to read the whole world by `/objects`."""
+    before = cpu_of(moo.process.pid, os.getpid())
+    connection = http.client.HTTPConnection("127.0.0.1", moo.port, timeout=SECONDS)
+    number, objects = "0", []
+    try:
+        while number:
+            connection.request("GET", f"/objects/{number}")
+            part = json.loads(connection.getresponse().read())
+            objects += part["objects"]
+            number = (part["next"] or "").lstrip("#")
+    finally:
+        connection.close()
+    return cpu_of(moo.process.pid, os.getpid()) - before
 
 
 class Guest:
