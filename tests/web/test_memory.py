@@ -138,6 +138,19 @@ class Keeps(World):
         wanted = [["recycle(#9)", 'clear_property(#8, "ownership_quota")'], ["recycle(#10)"]]
         self.assertEqual(self.intents()[-1]["before"], wanted)
 
+    def test_an_owner_that_is_gone(self):
+        """What a recycled player owned comes back with another owner, and the undo says so."""
+        none = '{"none", "none", "none"}'
+        self.write(WIZARD, ["create(#1, #-1)", 'add_property(#5, "old", 1, {#8, "r"})', f'add_verb(#5, {{#8, "", "old"}}, {none})'])
+        self.assertNotIn("gone", self.intents()[-1])
+        self.write(WIZARD, ["recycle(#8)"])
+        batch = self.write(WIZARD, ['delete_property(#5, "old")', 'delete_verb(#5, "old")'])
+        self.assertEqual(self.intents()[-1]["gone"], [8])
+        undo = undone(batch)
+        self.assertEqual(undo.lines, [f'add_verb(#5, {{#3, "", "old"}}, {none})', 'add_property(#5, "old", 1, {#3, "r"})'])
+        self.assertIn("#8 is gone and can own nothing: what it owned gets another owner.", undo.lasting)
+        self.assertEqual(self.ask(WIZARD, undo.lines).status, 200)
+
     def test_what_others_may_not_read_is_kept_too(self):
         self.write(WIZARD, ['add_property(#5, "secret", 1, {#3, ""})', 'set(#7, "secret", 2)'])
         self.write(ADA, ["chparent(#6, #1)"] if self.ask(ADA, ["chparent(#6, #1)"]).is_good else ["chparent(#6, #-1)"])

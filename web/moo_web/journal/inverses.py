@@ -33,6 +33,8 @@ class Inverses:
 
     def __init__(self, draft: Draft) -> None:
         self.draft = draft
+        # Owners that are gone, in whose place the steps have others.
+        self.gone: set[int] = set()
 
     def of(self, call: Call, answer: str) -> Optional[list[UndoingCall]]:
         """What undoes this call, which answers this; None if nothing does."""
@@ -111,7 +113,7 @@ class Inverses:
         slot = draft.slot(number, name) if name else None
         if name is None or slot is None or slot.value is None:
             return None
-        owner = Obj(self.living(slot.owner, number))
+        owner = Obj(self.living(slot.owner, draft.mark(number, "owner")))
         pairs = [(one, name) for one in draft.subtree(number)[1:]]
         return [UndoingCall("add_property", (Obj(number), name, slot.value, [owner, slot.perms])), *self.put_back(pairs, number)]
 
@@ -156,7 +158,11 @@ class Inverses:
 
     def living(self, owner: int, other: int) -> int:
         """An owner; another, if that one is gone, so that nothing can be given to it."""
-        return owner if self.draft.is_there(owner) else other
+        if self.draft.is_there(owner):
+            return owner
+        if owner != other:
+            self.gone.add(owner)
+        return other
 
     # Verbs
 

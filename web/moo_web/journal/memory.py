@@ -80,6 +80,8 @@ class Keeping:
         kept: dict[str, Any] = {"before": before[::-1], "names": names}
         if any(self.remakes):
             kept["remakes"] = self.remakes
+        if self.inverses.gone:
+            kept["gone"] = sorted(self.inverses.gone)
         return kept
 
     def names(self, calls: list[Call]) -> dict[str, str]:

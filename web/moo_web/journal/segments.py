@@ -185,18 +185,20 @@ class Kept(NamedTuple):
 
     `before` has for each call those that undo it, or None; `names` the names of the objects that the calls name, by their numbers as `#4`.
     `remakes` has for each call that recycles objects those that make another one like each, by their numbers; it is empty if none does.
+    `gone` has the numbers of former owners that were gone already: `before` names others in their places.
     """
 
     before: list[list[str] | None]
     names: dict[str, str]
     remakes: list[dict[str, list[str]] | None]
+    gone: list[int]
 
 
 def memory_of(intent: dict[str, Any]) -> Kept | None:
     """What an intent keeps; None if it is of version 1."""
     if "before" not in intent:
         return None
-    return Kept(intent["before"], intent.get("names", {}), intent.get("remakes", []))
+    return Kept(intent["before"], intent.get("names", {}), intent.get("remakes", []), intent.get("gone", []))
 
 
 class Accepted(NamedTuple):

@@ -28,6 +28,8 @@ TOLD_AGAIN = (
     "#{0} is gone for good, and its number isn’t given again: another object is made with the same properties. "
     "Values that name #{0} stay, and what it owned isn’t given to the new one."
 )
+# What stays, if an owner was gone before the batch.
+OWNER_GONE = "#{0} is gone and can own nothing: what it owned gets another owner."
 # What a call leaves as it is, though what undoes it is done.
 LEFT_BY = {
     "delete_verb": "A verb comes back as the last of its object, whatever its place was.",
@@ -88,7 +90,7 @@ class Undoing:
         lasting: collections.Counter[str] = collections.Counter()
         for place in range(len(self.calls) - 1, -1, -1):
             lines += self.lines_for(place, lasting)
-        return Undo(lines, list(lasting))
+        return Undo(lines, [*lasting, *map(OWNER_GONE.format, self.kept.gone)])
 
     def lines_for(self, place: int, lasting: collections.Counter[str]) -> Iterator[str]:
         """What undoes the call at this place. What stays is counted."""
