@@ -4,9 +4,9 @@
 all:
 	@.ci/program
 
-# the tests, with the examples and the lints, on the program
+# the tests, with the examples and the lints, on the program: side by side on all processors. SUBJECTS are some of them, as 'web shell'
 test: all
-	@.ci/test
+	@.ci/test -j $(SUBJECTS)
 
 # proves everything from nothing, and tests it: the gate
 prove:
