@@ -1,4 +1,7 @@
-"""That the pages agree with the repository: the front page's demo, the picture and its crates, links, and the mutants of REFUSED."""
+"""That the pages agree with the repository: the length of the front page, the picture and its crates, links, and the mutants of REFUSED.
+
+The commands of the front page are run by tests/packages/test_front_page.py.
+"""
 from __future__ import annotations
 
 import re
@@ -10,21 +13,6 @@ from typing import Iterator
 TOP = Path(__file__).resolve().parents[2]
 LONGEST_README = 120
 PAGES = [*sorted(TOP.glob("*.md")), *sorted(TOP.glob("docs/*.md"))]
-
-
-def demo() -> tuple[list[str], list[str]]:
-    """The two columns of the front page's demo, without empty lines."""
-    lines = (TOP / "README.md").read_text().splitlines()
-    first = next(number for number, line in enumerate(lines) if line.lstrip().startswith("$ cat examples/lantern.txt"))
-    right = lines[first].index("$ ./moo apply")
-    last = next(number for number, line in enumerate(lines) if number > first and line and not line.startswith("    "))
-    shown = [(line[:right].strip(), line[right:].strip()) for line in lines[first + 1 : last]]
-    return [left for left, _ in shown if left], [reply for _, reply in shown if reply]
-
-
-def lines_of(name: str) -> list[str]:
-    """The lines of an example that aren't empty."""
-    return [line for line in (TOP / "examples" / name).read_text().splitlines() if line]
 
 
 def picture() -> list[list[str]]:
@@ -66,15 +54,11 @@ def refused() -> Iterator[tuple[str, object]]:
     of_gate = (TOP / "mutants/gate").read_text().split()
     wanted = {f"There are {len(list(TOP.glob('mutants/*/*.edit')))}.", f"The gate tries {len(of_gate)}"}
     yield "its counts are right", [text for text in wanted if text not in (TOP / "docs/REFUSED.md").read_text()]
-    yield "README counts those of the gate", f"tries {len(of_gate)} mutants" not in (TOP / "README.md").read_text()
 
 
 def cases() -> Iterator[tuple[str, object]]:
     """The name of each case, and what is wrong with it."""
-    texts, replies = demo()
     yield "README is short", len((TOP / "README.md").read_text().splitlines()) > LONGEST_README
-    yield "the demo's batches are those of the example", texts != lines_of("lantern.txt") and texts
-    yield "and its replies too", replies != lines_of("lantern.replies") and replies
     drawn = subprocess.run([sys.executable, TOP / "docs/draw_architecture.py", "--check"], check=False)
     yield "the picture is that of its text (docs/draw_architecture.py draws it)", drawn.returncode != 0
     uses = uses_of_crates()
