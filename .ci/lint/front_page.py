@@ -39,12 +39,25 @@ def crates_against_the_order(uses: dict[str, list[str]]) -> list[str]:
     return [f"{crate} uses {used}" for crate, names in uses.items() for used in names if height.get(used, 0) > height.get(crate, 0)]
 
 
+def anchors(page: Path) -> set[str]:
+    """The names by which links lead to the headings of a page."""
+    headings = re.findall(r"^#+ (.*)$", page.read_text(), re.MULTILINE)
+    return {re.sub(r"[^\w -]", "", heading.lower()).replace(" ", "-") for heading in headings}
+
+
 def broken_links() -> Iterator[str]:
-    """Each link of a page that leads nowhere."""
+    """Each link of a page that leads nowhere: to no file, or to no heading of a page."""
     for page in PAGES:
-        for target in re.findall(r"\]\(([^)#:]+)(?:#[^)]*)?\)", page.read_text()):
-            if not (page.parent / target).exists():
-                yield f"{page.name}: {target}"
+        for target, anchor in re.findall(r"\]\(([^)#:]*)(?:#([^)]*))?\)", page.read_text()):
+            file = page.parent / target if target else page
+            if not file.exists() or (anchor and anchor not in anchors(file)):
+                yield f"{page.name}: {target}#{anchor}" if anchor else f"{page.name}: {target}"
+
+
+def without_readers() -> list[str]:
+    """The pages that don't begin with whom they are for. The two that are for everybody who runs a world say what they have."""
+    begins = {page.name: page.read_text().split("\n\n")[1] for page in TOP.glob("docs/*.md")}
+    return [name for name, first in begins.items() if not first.startswith("For ") and name not in ("OPERATING.md", "WEB.md")]
 
 
 def refused() -> Iterator[tuple[str, object]]:
@@ -66,4 +79,5 @@ def cases() -> Iterator[tuple[str, object]]:
     yield "the picture has each crate", sorted(product - {crate for layer in picture() for crate in layer})
     yield "a crate uses none of a higher layer", crates_against_the_order(uses)
     yield "each link leads somewhere", list(broken_links())
+    yield "each page says first whom it is for", without_readers()
     yield from refused()
