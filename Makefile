@@ -1,12 +1,14 @@
-# The front door. Everything here is a script that can be called by itself.
+# The front door. Everything here is a script that can be called by itself. MOO is the path of another program than that of these sources.
 
-# the program of these sources: the shipped one, or else built
+PROGRAM = $(or $(MOO),$$(.ci/program))
+
+# the program of these sources: the shipped one, or else built. It says where it is
 all:
-	@.ci/program
+	@program=$$(.ci/program) && echo "the program: $$program (make test tests it, make demo shows a world in a browser)"
 
-# the tests, with the examples and the lints, on the program
-test: all
-	@.ci/test
+# the tests, with the examples and the lints, on the program: side by side on all processors. SUBJECTS are some of them, as 'web shell'
+test:
+	@program="$(PROGRAM)" && MOO="$$program" .ci/test -j $(SUBJECTS)
 
 # proves everything from nothing, and tests it: the gate
 prove:
@@ -17,12 +19,12 @@ build:
 	@.ci/build
 
 # a village to look at in a browser, until Ctrl-C
-demo: all
-	@web/moo-demo $(if $(MOO),--moo "$(MOO)")
+demo:
+	@program="$(PROGRAM)" && web/moo-demo --moo "$$program"
 
 PREFIX ?= /usr/local
 
-# the program, the front, their manuals, tools and units, under PREFIX; DESTDIR is put before it. MOO is another program than that of these sources
+# the program, the front, their manuals, tools and units, under PREFIX; DESTDIR is put before it
 install:
 	@MOO="$(MOO)" packaging/install "$(PREFIX)" "$(DESTDIR)"
 	@packaging/install-web "$(PREFIX)" "$(DESTDIR)"

@@ -1,4 +1,7 @@
-"""That the pages agree with the repository: the front page's demo, the picture and its crates, links, and the mutants of REFUSED."""
+"""That the pages agree with the repository: the length of the front page, the picture and its crates, links, and the mutants of REFUSED.
+
+The commands of the front page are run by tests/packages/test_front_page.py.
+"""
 from __future__ import annotations
 
 import re
@@ -10,21 +13,6 @@ from typing import Iterator
 TOP = Path(__file__).resolve().parents[2]
 LONGEST_README = 120
 PAGES = [*sorted(TOP.glob("*.md")), *sorted(TOP.glob("docs/*.md"))]
-
-
-def demo() -> tuple[list[str], list[str]]:
-    """The two columns of the front page's demo, without empty lines."""
-    lines = (TOP / "README.md").read_text().splitlines()
-    first = next(number for number, line in enumerate(lines) if line.lstrip().startswith("$ cat examples/lantern.txt"))
-    right = lines[first].index("$ ./moo apply")
-    last = next(number for number, line in enumerate(lines) if number > first and line and not line.startswith("    "))
-    shown = [(line[:right].strip(), line[right:].strip()) for line in lines[first + 1 : last]]
-    return [left for left, _ in shown if left], [reply for _, reply in shown if reply]
-
-
-def lines_of(name: str) -> list[str]:
-    """The lines of an example that aren't empty."""
-    return [line for line in (TOP / "examples" / name).read_text().splitlines() if line]
 
 
 def picture() -> list[list[str]]:
@@ -51,12 +39,25 @@ def crates_against_the_order(uses: dict[str, list[str]]) -> list[str]:
     return [f"{crate} uses {used}" for crate, names in uses.items() for used in names if height.get(used, 0) > height.get(crate, 0)]
 
 
+def anchors(page: Path) -> set[str]:
+    """The names by which links lead to the headings of a page."""
+    headings = re.findall(r"^#+ (.*)$", page.read_text(), re.MULTILINE)
+    return {re.sub(r"[^\w -]", "", heading.lower()).replace(" ", "-") for heading in headings}
+
+
 def broken_links() -> Iterator[str]:
-    """Each link of a page that leads nowhere."""
+    """Each link of a page that leads nowhere: to no file, or to no heading of a page."""
     for page in PAGES:
-        for target in re.findall(r"\]\(([^)#:]+)(?:#[^)]*)?\)", page.read_text()):
-            if not (page.parent / target).exists():
-                yield f"{page.name}: {target}"
+        for target, anchor in re.findall(r"\]\(([^)#:]*)(?:#([^)]*))?\)", page.read_text()):
+            file = page.parent / target if target else page
+            if not file.exists() or (anchor and anchor not in anchors(file)):
+                yield f"{page.name}: {target}#{anchor}" if anchor else f"{page.name}: {target}"
+
+
+def without_readers() -> list[str]:
+    """The pages that don't begin with whom they are for. The two that are for everybody who runs a world say what they have."""
+    begins = {page.name: page.read_text().split("\n\n")[1] for page in TOP.glob("docs/*.md")}
+    return [name for name, first in begins.items() if not first.startswith("For ") and name not in ("OPERATING.md", "WEB.md")]
 
 
 def refused() -> Iterator[tuple[str, object]]:
@@ -66,15 +67,11 @@ def refused() -> Iterator[tuple[str, object]]:
     of_gate = (TOP / "mutants/gate").read_text().split()
     wanted = {f"There are {len(list(TOP.glob('mutants/*/*.edit')))}.", f"The gate tries {len(of_gate)}"}
     yield "its counts are right", [text for text in wanted if text not in (TOP / "docs/REFUSED.md").read_text()]
-    yield "README counts those of the gate", f"tries {len(of_gate)} mutants" not in (TOP / "README.md").read_text()
 
 
 def cases() -> Iterator[tuple[str, object]]:
     """The name of each case, and what is wrong with it."""
-    texts, replies = demo()
     yield "README is short", len((TOP / "README.md").read_text().splitlines()) > LONGEST_README
-    yield "the demo's batches are those of the example", texts != lines_of("lantern.txt") and texts
-    yield "and its replies too", replies != lines_of("lantern.replies") and replies
     drawn = subprocess.run([sys.executable, TOP / "docs/draw_architecture.py", "--check"], check=False)
     yield "the picture is that of its text (docs/draw_architecture.py draws it)", drawn.returncode != 0
     uses = uses_of_crates()
@@ -82,4 +79,5 @@ def cases() -> Iterator[tuple[str, object]]:
     yield "the picture has each crate", sorted(product - {crate for layer in picture() for crate in layer})
     yield "a crate uses none of a higher layer", crates_against_the_order(uses)
     yield "each link leads somewhere", list(broken_links())
+    yield "each page says first whom it is for", without_readers()
     yield from refused()

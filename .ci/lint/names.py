@@ -1,8 +1,8 @@
 """That pages name what there is: each path in them is one of the repository, and each name of code is a word of its sources."""
 from __future__ import annotations
 
+import os
 import re
-import subprocess
 from pathlib import Path
 from typing import Iterator, Optional
 
@@ -17,15 +17,19 @@ NAME = re.compile(r"\b(?:[a-z][a-z0-9]*(?:_[a-z0-9]+)+|[A-Z][a-z]+(?:[A-Z][a-z]*
 WORD = re.compile(r"[A-Za-z_][A-Za-z_0-9]*")
 # What a reader puts a name of its own for.
 MARKS = {"CRATE", "FILE", "FUNCTION", "FOLDER", "NAME", "WORD"}
+# The folders that builds leave, and that of git.
+MADE = {".git", ".mypy_cache", "__pycache__", "must-fail", "out"}
 # Calls and types of the libraries below.
 FOREIGN = {"query_all"}
 
 
 def files() -> list[str]:
-    """The paths of all files that git knows or doesn't ignore, and that are there."""
-    words = ["git", "ls-files", "--cached", "--others", "--exclude-standard"]
-    listed = subprocess.run(words, cwd=TOP, stdout=subprocess.PIPE, text=True, check=True)
-    return [line for line in listed.stdout.splitlines() if (TOP / line).is_file()]
+    """The paths of all files but those that builds leave. It needs no git, since an unpacked archive has none."""
+    found = []
+    for folder, folders, names in os.walk(TOP):
+        folders[:] = [name for name in folders if name not in MADE]
+        found += [os.path.relpath(os.path.join(folder, name), TOP) for name in names]
+    return sorted(found)
 
 
 def words_of(paths: list[str]) -> set[str]:

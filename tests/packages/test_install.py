@@ -113,6 +113,15 @@ def wants(command):
     return unittest.skipUnless(shutil.which(command), f"the command {command} is missing")
 
 
+def lacks_networks():
+    """Why no network of its own can be made for a command; nothing, if it can. A container may forbid it."""
+    try:
+        made = subprocess.run(["unshare", "--map-root-user", "--net", "true"], stderr=subprocess.PIPE, text=True, timeout=SECONDS, check=False)
+    except OSError:
+        return "the command unshare is missing"
+    return made.returncode and f"this machine makes no networks: {made.stderr.strip()}"
+
+
 class InFolder(unittest.TestCase):
     """An empty folder."""
 
@@ -290,12 +299,13 @@ class Units(InFolder):
         for name in ("moo", "moo-watch"):
             self.assertNotIn("PrivateNetwork", (self.units / f"{name}@.service").read_text(), "a world without a front stays as it is")
 
-    @wants("unshare")
     def test_outside_its_network_nothing_starts(self):
         """A socket of ours plays the one that systemd holds in the network of the machine."""
-        held = self.room / "notify"
+        if why := lacks_networks():
+            self.skipTest(why)
         for file in (self.prefix / "lib/moo-web/alone/moo.conf", self.units / "moo-web@.service"):
             check = shlex.split(re.search(r"(?m)^ExecStartPre=(.*)$", file.read_text())[1])
+            held = self.room / file.name
             with self.subTest(file.name), socket.socket(socket.AF_UNIX, socket.SOCK_DGRAM) as sock:
                 self.assertEqual(ran(*check, held), "")
                 sock.bind(str(held))
@@ -303,7 +313,6 @@ class Units(InFolder):
                 self.assertEqual((outside.returncode, outside.stdout), (1, ""))
                 self.assertRegex(outside.stderr, r"^moo-alone: not in a network of its own, .*\n$")
                 self.assertEqual(ran("unshare", "--map-root-user", "--net", *check, held), "")
-                held.unlink()
 
     def test_the_port_of_the_front_is_held_by_systemd(self):
         self.assertIn("\nListenStream=127.0.0.1:8088\n", (self.units / "moo-web@.socket").read_text())

@@ -4,6 +4,7 @@ The scripts are tried in a small repository of two crates, with programs that ar
 once. Nothing is proved here.
 """
 
+import hashlib
 import os
 import pathlib
 import shutil
@@ -16,7 +17,9 @@ import unittest
 
 TOP = pathlib.Path(__file__).resolve().parents[2]
 SCRIPTS = ("build", "crates", "kit", "program", "release", "sources", "stamp")
-TOOLS = "awk bash cat chmod cp cut dirname env git grep mkdir mktemp mv rm sed sh sha256sum sleep sort tr uname wc xargs xz".split()
+TOOLS = "awk bash cat chmod cp cut dirname env find grep mkdir mktemp mv rm sed sh sha256sum sleep sort tr uname uniq wc xargs xz".split()
+# A script that runs its words while no program can be run in a folder.
+WITHOUT_PROGRAMS = 'mount -t tmpfs -o noexec tmpfs "$0" && exec "$@"'
 SECONDS = 300
 
 # What the stand-in for rt does: it tells that it proved both crates, and makes the program.
@@ -68,13 +71,11 @@ def make_repository(top):
     write(top / "crates/low/src/lib.rt", "// low\n")
     write(top / "crates/moo/src/main.rt", "// moo\n")
     write(top / "crates/test_low/src/lib.rt", "// no part of the program\n")
-    subprocess.run("git init -q . && git add .", shell=True, cwd=top, check=True)
     write(top / "crates/moo/out/moo", '#!/bin/sh\necho shipped "$@"\n[ "$1" != init ] || : >"$2"\n', 0o755)
     sources = subprocess.run([".ci/sources"], cwd=top, check=True, stdout=subprocess.PIPE, text=True).stdout.strip()
     subprocess.run([".ci/stamp", sources], cwd=top, check=True)
     subprocess.run([".ci/release"], cwd=top, check=True)
     shutil.rmtree(top / "crates/moo/out")
-    subprocess.run("git add .", shell=True, cwd=top, check=True)
 
 
 def make_tools(folder):
@@ -100,7 +101,8 @@ class Shipped(unittest.TestCase):
         room = pathlib.Path(room.name)
         shutil.copytree(pathlib.Path(self.kept.name) / "top", room / "top")
         shutil.copytree(pathlib.Path(self.kept.name) / "bin", room / "bin", symlinks=True)
-        self.top, self.bin = room / "top", room / "bin"
+        self.top, self.bin, self.home = room / "top", room / "bin", room / "home"
+        self.home.mkdir()
         self.program = self.top / "crates/moo/out/moo"
         self.group = room / "group"
         self.stand_in_for_rt(PROVES)
@@ -109,7 +111,7 @@ class Shipped(unittest.TestCase):
         write(self.bin / "rt", text, 0o755)
 
     def environment(self):
-        return {"PATH": str(self.bin), "HOME": str(self.top), "GROUP": str(self.group)}
+        return {"PATH": str(self.bin), "HOME": str(self.home), "GROUP": str(self.group)}
 
     def call(self, *words, given=None, script="./moo"):
         return subprocess.run(
@@ -218,9 +220,74 @@ class Shipped(unittest.TestCase):
         shutil.rmtree(self.program.parent)
         self.assert_runs("built", "doesn't run here")
 
-    def test_no_git(self):
-        (self.bin / "git").unlink()
-        self.assert_runs("built", "the checksum of the sources can't be made")
+    def test_which_sources_were_changed(self):
+        (self.bin / "rt").unlink()
+        for number in range(4):
+            write(self.top / f"crates/low/src/new_{number}.rt", "// new\n")
+        said = self.refused()
+        self.assertIn("other sources than these: crates/low/src/new_0.rt, crates/low/src/new_1.rt, crates/low/src/new_2.rt and 1 more\n", said)
+        self.assertIn("./moo --shipped WORD ..", said)
+        self.assertIn("the Rattle kit, which isn't released", said)
+
+    def test_shipped_program_in_any_case(self):
+        """What was built from other sources stays as it is."""
+        write(self.top / "HANDLES", "Handles allowed: none.\n")
+        self.assert_runs("built")
+        ran = self.call("--shipped", "check", "a b")
+        self.assertEqual((ran.stdout, ran.returncode), ("shipped check a b\n", 0), ran.stderr)
+        self.assertEqual(self.assert_runs("built").stderr, "")
+
+    def test_a_folder_in_which_no_file_can_be_made(self):
+        """As in a clone that can only be read, or another user's: the program is in the user's own folder."""
+        write(self.program.parent, "this is a file\n")
+        self.assert_runs("shipped", f"it is in {self.home}/.cache/moo, since", "no file can be made there")
+        self.assertEqual(self.assert_runs("shipped").stderr, "")
+        self.assertEqual(self.call(script=".ci/program").stdout, f"{self.home}/.cache/moo/moo\n")
+        write(self.home / ".cache/moo/moo", "#!/bin/sh\necho other\n", 0o755)
+        self.assert_runs("shipped", "this is the shipped program")
+
+    def test_no_folder_in_which_a_file_can_be_made(self):
+        (self.bin / "rt").unlink()
+        write(self.program.parent, "this is a file\n")
+        write(self.home / ".cache", "this is a file\n")
+        self.assertIn("to unpack it elsewhere: xz -dc dist/moo-x86_64-linux.xz >FILE; chmod +x FILE\n", self.refused())
+
+    def test_a_folder_in_which_no_program_can_be_run(self):
+        self.program.parent.mkdir(parents=True)
+        words = ["unshare", "--map-root-user", "--mount", "sh", "-c", WITHOUT_PROGRAMS, str(self.program.parent)]
+        tried = subprocess.run([*words, "true"], capture_output=True, text=True) if shutil.which("unshare") else None
+        if not tried or tried.returncode:
+            self.skipTest(f"this machine mounts nothing: {tried.stderr.strip() if tried else 'the command unshare is missing'}")
+        ran = subprocess.run(
+            [*words, "env", "-i", *(f"{name}={value}" for name, value in self.environment().items()), "./moo", "check"], cwd=self.top,
+            capture_output=True, text=True, timeout=SECONDS
+        )
+        self.assertEqual((ran.stdout, ran.returncode), ("shipped check\n", 0), ran.stderr)
+        self.assertIn(f"no program can be run in {self.program.parent} (is it mounted noexec?)", ran.stderr)
+
+    def refused(self):
+        """What is said when no program is run."""
+        ran = self.call("check", "a")
+        self.assertEqual((ran.stdout, ran.returncode), ("", 1))
+        return ran.stderr
+
+    def test_the_list_of_sources_is_that_of_their_checksum(self):
+        listed = self.call("--files", script=".ci/sources").stdout
+        self.assertEqual((self.top / "dist/MANIFEST").read_text(), listed)
+        self.assertEqual(hashlib.sha256(listed.encode()).hexdigest(), (self.top / "dist/SOURCES").read_text().strip())
+        self.assertEqual([line.split("  ")[1] for line in listed.splitlines()], [
+            ".ci/kit", "HANDLES", "crates.txt", "crates/low/src/lib.rt", "crates/moo/src/main.rt",
+        ])
+
+    def test_the_repository_has_the_list_too(self):
+        listed = (TOP / "dist/MANIFEST").read_bytes()
+        self.assertEqual(hashlib.sha256(listed).hexdigest(), (TOP / "dist/SOURCES").read_text().strip())
+
+    def test_make_says_where_the_program_is(self):
+        shutil.copy(TOP / "Makefile", self.top / "Makefile")
+        (self.bin / "make").symlink_to(shutil.which("make"))
+        ran = self.call(script="make")
+        self.assertIn(f"the program: {self.program} (make test tests it", ran.stdout)
 
     def test_build_in_any_case(self):
         self.assert_runs("shipped")
@@ -233,7 +300,7 @@ class Shipped(unittest.TestCase):
         (self.bin / "rt").unlink()
         ran = self.call("check", "a")
         self.assertEqual((ran.stdout, ran.returncode), ("", 1))
-        self.assertIn("the command rt is missing", ran.stderr)
+        self.assertIn("its command rt is missing", ran.stderr)
 
     def test_failed_build(self):
         write(self.top / "HANDLES", "Handles allowed: none.\n")

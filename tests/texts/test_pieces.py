@@ -1,7 +1,6 @@
 """Texts of batches: how they are cut, in whatever pieces they come, where they end, and what is told of lines that can't be read."""
 import json
 import os
-import pty
 import select
 import socket
 import subprocess
@@ -10,6 +9,7 @@ from tests.support.cases import ProgramTest
 from tests.support.processes import start
 from tests.support.program import MOO, edit
 from tests.support.service import PATIENCE, Service, answer, post
+from tests.support.terminal import new_terminal
 from tests.support.worlds import accepted, copied, make, rows_of, run, text_of
 
 GREATEST = 2**63 - 1
@@ -201,10 +201,7 @@ class Pieces(ProgramTest):
 
     def test_ends_on_a_terminal(self):
         """An end of input on a terminal is ^D on a line of its own; after other bytes it hands these over first."""
-        try:
-            ours, theirs = pty.openpty()
-        except OSError:
-            self.skipTest("this machine has no terminals")
+        ours, theirs = new_terminal()
         os.write(ours, b"batch as #3\nmax_object()\nend\x04\x04x\nbatch as #3\nend\n")
         ran = subprocess.run([MOO], stdin=theirs, stdout=subprocess.PIPE, stderr=subprocess.DEVNULL, timeout=PATIENCE)
         os.close(theirs)

@@ -356,7 +356,7 @@ class UnderLoad(Copies):
         for _ in range(3):
             before = len(self.writer.made)
             self.assert_not_copied("the world was in use for 0.1 seconds", "--wait", "0.1")
-            copy = self.copied("--wait", "0.1", "--end", f"kill {self.service.process.pid}")
+            copy = self.copied("--wait", "0.1", "--end", f"sh -c 'kill {self.service.process.pid}'")
             self.assert_is_of_the_moment(self.restored(copy), before)
 
     def test_the_command_fails(self):

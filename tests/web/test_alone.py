@@ -29,8 +29,10 @@ NETWORK = f"moo-test-{os.getpid()}"
 
 def why_not():
     """What is missing for it."""
-    if os.geteuid() != 0 or not shutil.which("ip"):
-        return "it wants root and the command ip"
+    if os.geteuid() != 0:
+        return "it wants root"
+    if not shutil.which("ip"):
+        return "the command ip is missing: apt-get install iproute2"
     made = subprocess.run(["ip", "netns", "add", NETWORK], stdout=subprocess.DEVNULL, stderr=subprocess.DEVNULL, check=False)
     if made.returncode:
         return "this machine makes no networks"
@@ -41,9 +43,9 @@ class Alone(unittest.TestCase):
     """A world in a network of its own, at a port that somebody else may have outside."""
 
     def setUp(self):
-        self.addCleanup(subprocess.run, ["ip", "netns", "delete", NETWORK], stderr=subprocess.DEVNULL, check=False)
         if why := why_not():
             self.skipTest(why)
+        self.addCleanup(subprocess.run, ["ip", "netns", "delete", NETWORK], stderr=subprocess.DEVNULL, check=False)
         subprocess.run(["ip", "-n", NETWORK, "link", "set", "lo", "up"], check=True)
         room = tempfile.TemporaryDirectory()
         self.addCleanup(room.cleanup)

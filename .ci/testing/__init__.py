@@ -1,0 +1,1 @@
+"""How `.ci/test` runs the tests and the lints: what there is, the cases of one module, and modules side by side."""
