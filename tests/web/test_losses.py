@@ -14,7 +14,7 @@ use_web()
 from moo_client import Obj  # noqa: E402
 from moolib.values import written  # noqa: E402
 from moolib import facts  # noqa: E402
-from moo_web.people.people import Person  # noqa: E402
+from moo_web.people.person import Person  # noqa: E402
 from moo_web.world.losing import answer_with_losses, losses_of  # noqa: E402
 from moo_web.world.overseeing import Overseeing  # noqa: E402
 

@@ -16,7 +16,9 @@ use_web()
 
 from moo_web.people import passwords, people  # noqa: E402
 from moo_web.people.limits import BackOff, Rate, network_of  # noqa: E402
-from moo_web.people.people import People, Person, TooMany, Wrong, WrongPassword  # noqa: E402
+from moo_web.people.file import VERSION, Wrong  # noqa: E402
+from moo_web.people.people import People, TooMany, WrongPassword  # noqa: E402
+from moo_web.people.person import Person  # noqa: E402
 
 HOME, AWAY = "192.0.2.1", "198.51.100.7"
 HOUR, DAY = 3600.0, 86400.0
@@ -114,7 +116,10 @@ class Accounts(WithPeople):
         self.assertTrue(self.people.all()[0].is_disabled)
 
     def test_nobody_of_that_name(self):
-        for change in (self.people.disable, self.people.enable, self.people.make_token, self.people.end_tokens):
+        for change in (
+            self.people.disable, self.people.enable, self.people.make_token, self.people.end_tokens, self.people.remove, self.people.tokens.of,
+            self.people.sessions_of, self.people.links.make,
+        ):  # fmt: skip
             with self.subTest(change.__name__), self.assertRaises(Wrong):
                 change("ben")
         with self.assertRaises(Wrong):
@@ -129,7 +134,7 @@ class Accounts(WithPeople):
 
     def test_a_later_version_is_refused(self):
         with sqlite3.connect(self.file) as base:
-            base.execute("PRAGMA user_version = 2")
+            base.execute(f"PRAGMA user_version = {VERSION + 1}")
         with self.assertRaises(Wrong):
             People(self.file)
 
@@ -359,8 +364,66 @@ class Program(unittest.TestCase):
         modes = {stat.S_IMODE(path.stat().st_mode) for path in (self.folder, *self.folder.iterdir())}
         self.assertEqual(modes, {0o600, 0o700})
 
+    def test_tokens_have_labels_and_ends(self):
+        self.people("add", "ada", "4", text="pw\n")
+        first = self.people("token", "ada")[1].strip()
+        second = self.people("token", "ada", "--label", "the bot", "--days", "30", "--read-only")[1].strip()
+        third = self.people("token", "ada", "--label", "old")[1].strip()
+        with contextlib.closing(People(self.folder / "people.db")) as kept:
+            bearers = [kept.tokens.bearer(each) for each in (first, second)]
+            self.assertEqual([bearer.is_read_only for bearer in bearers], [False, True])
+            kept.base.execute("UPDATE token SET made = 0, used = 61 WHERE label = ''")
+        status, printed, told = self.people("tokens", "ada")
+        self.assertEqual((status, told), (0, ""))
+        moment = r"\d{4}-\d\d-\d\dT\d\d:\d\d:\d\dZ"
+        lines = printed.splitlines()
+        self.assertEqual(lines[0], "\t1970-01-01T00:00:00Z\t-\t1970-01-01T00:01:01Z")
+        self.assertRegex(lines[1], rf"^the bot\t{moment}\t{moment}\t{moment}$")
+        self.assertRegex(lines[2], rf"^old\t{moment}\t-\t-$")
+        self.assertEqual(self.people("untoken", "ada", "--label", "old"), (0, "", ""))
+        with contextlib.closing(People(self.folder / "people.db")) as kept:
+            self.assertEqual([kept.of_token(each) is not None for each in (first, second, third)], [True, True, False])
+        status, printed, told = self.people("untoken", "ada", "--label", "old")
+        self.assertEqual((status, printed), (1, ""))
+        self.assertIn("'old'", told)
+        self.assertEqual(self.people("untoken", "ada"), (0, "", ""))
+        self.assertEqual(self.people("tokens", "ada"), (0, "", ""))
+
+    def test_a_person_gets_another_number_and_is_removed(self):
+        self.people("add", "ada", "4", text="pw\n")
+        self.people("token", "ada")
+        self.assertEqual(self.people("renumber", "Ada", "#7"), (0, "", ""))
+        self.assertEqual(self.people("list"), (0, "ada #7 0 sessions, 1 tokens\n", ""))
+        self.assertEqual(self.people("remove", "ada"), (0, "", ""))
+        self.assertEqual(self.people("list"), (0, "", ""))
+        self.assertEqual(self.people("add", "ada", "8", text="pw\n"), (0, "", self.SHORT))
+        self.assertEqual(self.people("list"), (0, "ada #8 0 sessions, 0 tokens\n", ""))
+
+    SHORT = "moo-people: a password of fewer than 8 letters is easily guessed\n"
+
+    def test_a_number_is_held_against_the_world(self):
+        """With the port of a world a number has to be a player's. Nothing is asked for before that."""
+        file = self.folder.with_name("world.db")
+        make_world(file, 'batch as #3\ncreate(#1)\nset(#4, "name", "Ada")\nset_player_flag(#4, 1)\ncreate(#1)\nend\n')
+        service = KeptService(file)
+        self.addCleanup(service.stop)
+        port = ("--moo-port", service.port)
+        self.assertEqual(self.people("add", "ada", "4", *port, text="pw\n")[0], 0)
+        for name, number, wanted in (("ben", "5", "ben #5  is not a player"), ("cas", "99", "cas #99 isn't there")):
+            status, printed, told = self.people("add", name, number, *port, text="pw\n")
+            self.assertEqual((status, printed), (1, ""))
+            self.assertIn(wanted, told)
+        self.assertEqual(self.people("list")[1], "ada #4 0 sessions, 0 tokens\n")
+        self.assertEqual(self.people("add", "cas", "99", *port, "--any", text="pw\n")[0], 0)
+        self.assertEqual(self.people("add", "dee", "98", text="pw\n")[0], 0)
+        service.stop()
+        self.assertEqual(self.people("add", "eve", "4", *port, text="pw\n")[:2], (1, ""))
+        self.assertEqual(len(self.people("list")[1].splitlines()), 3)
+
     def test_what_cannot_be_done(self):
         for words, text, wanted in (
+            (("remove", "ada"), "", 1), (("renumber", "ada", "4"), "", 1), (("tokens", "ada"), "", 1), (("renumber", "ada"), "", 2),
+            (("renumber", "ada", "x"), "", 2), (("token", "ada", "--days", "0"), "", 2), (("token", "ada", "--days", "x"), "", 2),
             (("token", "ada"), "", 1), (("disable", "ada"), "", 1), (("list",), "", 1), (("sing",), "", 2), ((), "", 2),
             (("add", "ada"), "", 2),
             (("add", "ada", "x"), "", 2), (("add", "ada", "4"), "", 1), (("add", "ada", "4"), "\n", 1), (("add", "a b", "4"), "x\n", 1),

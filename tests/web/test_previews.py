@@ -23,7 +23,7 @@ from moo_web.journal.history import History  # noqa: E402
 from moo_web.journal.recent import Recent, Seen  # noqa: E402
 from moo_web.journal.tables import sum_of  # noqa: E402
 from moo_web.journal.writer import Unknown, Writer  # noqa: E402
-from moo_web.people.people import Person  # noqa: E402
+from moo_web.people.person import Person  # noqa: E402
 from moo_web.world.door import Door  # noqa: E402
 
 # Ada #4 and Bram #5 are residents, #6 is a fertile class of things with a property, #7 a thing of Ada's in the room #2.

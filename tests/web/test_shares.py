@@ -15,7 +15,7 @@ use_web()
 
 from moolib.errors import LostAnswer, NoService, TooLong  # noqa: E402
 
-from moo_web.people.people import Person  # noqa: E402
+from moo_web.people.person import Person  # noqa: E402
 from moo_web.traffic.shares import BUCKET_MINUTES, OF_ADDRESS, OF_WIZARD, TIME, WRITING, Share, Shares, Spent, share_of  # noqa: E402
 from moo_web.traffic.turns import NobodyWaits, Queue, Turnstile  # noqa: E402
 from moo_web.traffic.visitors import NOBODY, Visitor, present, visiting  # noqa: E402

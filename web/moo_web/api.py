@@ -21,7 +21,8 @@ from moo_web.interface.openapi import description
 from moo_web.journal.writer import Busy, Writer
 from moo_web.paths import Path
 from moo_web.people.limits import Rate, network_of
-from moo_web.people.people import People, Person
+from moo_web.people.people import People
+from moo_web.people.person import Person
 from moo_web.world.door import Answer, Door, Unreachable, batch_body, packed, said_by
 from moo_web.world.losing import answer_with_losses
 from moo_web.world.overseeing import Overseeing
@@ -38,6 +39,8 @@ FORBIDDEN = in_json(403, error="forbidden")
 TOO_MANY = in_json(429, ("Retry-After", "1"), error="too many")
 BAD_REQUEST = in_json(400, error="bad request")
 DESCRIPTION = Reply(200, packed(description()))
+# Paths that a token for reading alone isn't enough for.
+WRITING = frozenset(route.path for route in ROUTES if route.is_writing)
 # Paths that want no token.
 OPEN = frozenset(route.path for route in ROUTES if route.is_open)
 
@@ -98,14 +101,14 @@ class Api:
         if request.path in OPEN:
             return None
         secret = token_of(request)
-        person = self.people.of_token(secret) if secret else None
-        if not person:
+        bearer = self.people.tokens.bearer(secret) if secret else None
+        if not bearer:
             return NO_TOKEN
         if not self.of_tokens.take(secret):
             return TOO_MANY
-        self.app.admit(person, secret)
-        request.person = person
-        return None
+        self.app.admit(bearer.person, secret)
+        request.person = bearer.person
+        return FORBIDDEN if bearer.is_read_only and request.path in WRITING else None
 
     def asked(self, request: Request, may_name: bool = True) -> Sent | Reply:
         """Who asks, and what; or what is answered at once."""

@@ -20,7 +20,7 @@ from moo_web.journal.history import StillRead
 from moo_web.journal.writer import Barred, Busy, Stopped, TooMuch, Unknown
 from moo_web.paths import Path
 from moo_web.people.limits import MOST_NAMES, network_of
-from moo_web.people.people import Person
+from moo_web.people.person import Person
 from moo_web.traffic.shares import TIME, Shares, Spent
 from moo_web.traffic.turns import NobodyWaits
 from moo_web.traffic.visitors import PRESENT, Visitor, never, present, visiting

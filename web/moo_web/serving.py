@@ -20,7 +20,9 @@ from moo_web.journal.segments import Damaged
 from moo_web.journal.writer import Writer
 from moo_web.people.growth import DAILY_BYTES, Growth
 from moo_web.people.keeping import Keeper
-from moo_web.people.people import People, Person, Wrong
+from moo_web.people.file import Wrong
+from moo_web.people.people import People
+from moo_web.people.person import Person
 from moo_web.people.sessions import secret_of
 from moo_web.programs import PEOPLE_FILE, Failed, Teller, only_ours, own_folder, port_number
 from moo_web.traffic.hosts import BY_SOCKET, Hosts, host_name

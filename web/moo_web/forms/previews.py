@@ -25,7 +25,7 @@ from moo_web.forms.questions import Before, Questions, reads_before
 from moo_web.journal.recent import Recent, Seen
 from moo_web.journal.tables import sum_of
 from moo_web.journal.writer import Busy, Unknown, Writer
-from moo_web.people.people import Person
+from moo_web.people.person import Person
 from moo_web.world.asking import Moved
 from moo_web.world.door import Answer, Unreachable
 from moo_web.world.losing import losses_of

@@ -11,7 +11,7 @@ from moolib.names import NoName, have_names, names_of, read_items
 from moolib.values import read
 
 from moo_web.app import Reply, Request, in_json
-from moo_web.people.people import Person
+from moo_web.people.person import Person
 from moo_web.world.door import Answer
 
 MOST_CALLS = 1000

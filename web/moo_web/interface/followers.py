@@ -12,7 +12,7 @@ from moo_web.app import JSON, Reply, Request, in_json
 from moo_web.interface.bodies import wants
 from moo_web.interface.feed import About, Feed, Gone, NotYet
 from moo_web.journal.writer import Busy
-from moo_web.people.people import Person
+from moo_web.people.person import Person
 from moo_web.traffic.visitors import present, visiting
 from moo_web.world.door import packed
 

@@ -25,7 +25,10 @@ class Outcome(NamedTuple):
 
 
 class ApiRoute(NamedTuple):
-    """A route: its name, method and path, what it does, the words of its path and query, the shape of its body, and its own answers."""
+    """A route: its name, method and path, what it does, the words of its path and query, the shape of its body, and its own answers.
+
+    `is_open`: it wants no token. `is_writing`: a token that is for reading alone isn't enough.
+    """
 
     name: str
     method: str
@@ -36,6 +39,7 @@ class ApiRoute(NamedTuple):
     query: tuple[Word, ...] = ()
     body: str = ""
     is_open: bool = False
+    is_writing: bool = False
 
 
 FLAG: dict[str, object] = {"type": "string", "enum": ["", "1"]}
@@ -54,7 +58,7 @@ NO_OBJECT = Outcome(404, "there is no such object", "refusal")
 ROUTES = (
     ApiRoute(
         "batch", "POST", "/api/batch", "Runs a batch, once, and journals it.",
-        (Outcome(200, "every call was done", "answers"), BAD_BODY, STALE, TOO_LARGE), query=(JSON,), body="calls",
+        (Outcome(200, "every call was done", "answers"), BAD_BODY, STALE, TOO_LARGE), query=(JSON,), body="calls", is_writing=True,
     ),
     ApiRoute(
         "ask", "POST", "/api/ask", "Says what a batch would answer, and changes nothing.",
@@ -92,7 +96,7 @@ ROUTES = (
 # What any route may answer besides.
 ALWAYS = (
     Outcome(401, "no token came that is known", "refusal"),
-    Outcome(403, "the person may not do this, or `as` is another's number, or `host` another's name", "refusal"),
+    Outcome(403, "the person may not do this, or the token is read-only and the route writes, or `as` is another's number, or `host` another's name", "refusal"),
     Outcome(429, "the token or the address has used up its rate, or the person a share or what may be added; `retry-after` says when to come again", "refusal"),
     Outcome(503, "nothing was sent (`busy`, `gap`), it isn't decided yet (`unknown`), or moo couldn't", "refusal"),
 )
@@ -111,7 +115,7 @@ CAUSES = (
     Cause("bad request", "400", "the body, a name, a value or a word of the query isn't as it has to be; `why` says which", "mend the program"),
     Cause("malformed", "400", "call K, counted from 1, isn't a call", "mend the program"),
     Cause("unauthorized", "401", "no token came that is known", "get a token"),
-    Cause("forbidden", "403", "the person may not do this", "ask an operator"),
+    Cause("forbidden", "403", "the person may not do this, or the token is for reading alone", "ask an operator, or use another token"),
     Cause("not found", "404", "there is no such route, or N is no number", "mend the program"),
     Cause("method not allowed", "405", "the route has another method, which `allow` names", "mend the program"),
     Cause("stale", "409", "the world has the number S, and not the one in `at`", "look at the world, and send it for S"),

@@ -23,7 +23,7 @@ from moolib.service import FIRST_PAUSE, LONGEST_PAUSE
 from moo_web.journal.journal import Broken, Journal, NoRoom
 from moo_web.journal.memory import Memory
 from moo_web.journal.segments import Accepted, accepted_of, kept_of
-from moo_web.people.people import Person
+from moo_web.people.person import Person
 from moo_web.traffic.turns import NobodyWaits
 from moo_web.traffic.visitors import never, present, visiting
 from moo_web.traffic.writing import Free

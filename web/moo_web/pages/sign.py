@@ -7,7 +7,8 @@ from moo_web.pages.moments import zone_names
 from moo_web.pages.pages import LONGEST_KEPT, Pages, Visit, went
 from moo_web.paths import url_for
 from moo_web.people import sessions
-from moo_web.people.people import Crowded, People, TooMany, Wrong, WrongPassword
+from moo_web.people.file import Wrong
+from moo_web.people.people import Crowded, People, TooMany, WrongPassword
 
 SHORTEST_PASSWORD = 8
 # A form that was kept comes with up to three letters for each of its own.

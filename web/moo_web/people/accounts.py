@@ -3,25 +3,33 @@
 from __future__ import annotations
 
 import argparse
+import datetime
 import getpass
 import sqlite3
 import sys
 from pathlib import Path
+from typing import Callable
 
 from moo_web.people.checking import checked
-from moo_web.people.people import People, Wrong
+from moo_web.people.file import Wrong
+from moo_web.people.people import People
+from moo_web.people.tokens import MOST_DAYS, Terms
 from moo_web.programs import PEOPLE_FILE, Failed, only_ours, own_folder, port_number
 from moo_web.world.door import Door
 
-USAGE = """moo-people FOLDER add NAME NUMBER
-       moo-people FOLDER passwd | disable | enable | token | untoken NAME
+USAGE = """moo-people FOLDER add NAME NUMBER [--moo-port M] [--any]
+       moo-people FOLDER passwd | disable | enable | remove NAME
+       moo-people FOLDER renumber NAME NUMBER
+       moo-people FOLDER token NAME [--label TEXT] [--days N] [--read-only]
+       moo-people FOLDER untoken NAME [--label TEXT]
+       moo-people FOLDER tokens NAME
        moo-people FOLDER list
        moo-people FOLDER check PORT"""
 MORE = """
 FOLDER is that of moo-web, which may run meanwhile. A new password is asked for at a terminal; otherwise it is the first line of standard
-input. NUMBER is the object as which the person acts. `check` prints for each account that isn't disabled the object that the world at PORT
-of `moo serve` has, and its name. Exit status: 0 done, 1 it can't be done, or `check` found an object that isn't there or isn't a player, 2
-the words are wrong.
+input. NUMBER is the object as which the person acts. `tokens` prints a line for each token: label, since, until, last use, with tabs between;
+`-` is never. `check` prints for each account that isn't disabled the object that the world at PORT of `moo serve` has, and its name. Exit
+status: 0 done, 1 it can't be done, or `check` found an object that isn't there or isn't a player, 2 the words are wrong.
 """
 SHORT = 8
 
@@ -31,19 +39,33 @@ def read_words(words: list[str]) -> argparse.Namespace:
     parser = argparse.ArgumentParser(prog="moo-people", usage=USAGE, description="The people of a front.", epilog=MORE)
     parser.add_argument("folder", metavar="FOLDER")
     commands = parser.add_subparsers(dest="command", required=True, metavar="COMMAND", prog="moo-people FOLDER")
-    adding = commands.add_parser("add", help="a new person, with the number of their object", usage="moo-people FOLDER add NAME NUMBER")
-    adding.add_argument("name", metavar="NAME")
+
+    def command(name: str, told: str, usage: str = "NAME") -> argparse.ArgumentParser:
+        made: argparse.ArgumentParser = commands.add_parser(name, help=told, usage=f"moo-people FOLDER {name} {usage}".rstrip())
+        if usage.startswith("NAME"):
+            made.add_argument("name", metavar="NAME")
+        return made
+
+    adding = command("add", "a new person, with the number of their object", "NAME NUMBER [--moo-port M] [--any]")
     adding.add_argument("number", metavar="NUMBER", type=object_number)
-    for command, told in (
-        ("passwd", "a new password, which ends the person's sessions"),
-        ("disable", "keep a person out: ends sessions and tokens"),
-        ("enable", "let a person in again"),
-        ("token", "print a new token for programs, of which only a hash is kept"),
-        ("untoken", "end all tokens of a person"),
-    ):
-        commands.add_parser(command, help=told, usage=f"moo-people FOLDER {command} NAME").add_argument("name", metavar="NAME")
-    commands.add_parser("list", help="everybody", usage="moo-people FOLDER list")
-    checking = commands.add_parser("check", help="hold the accounts against the world", usage="moo-people FOLDER check PORT")
+    told = "refuse a number that isn't a player's in the world at this port of `moo serve`"
+    adding.add_argument("--moo-port", metavar="M", type=port_number, help=told)
+    adding.add_argument("--any", action="store_true", help="take any number all the same")
+    command("passwd", "a new password, which ends the person's sessions")
+    command("disable", "keep a person out: ends sessions and tokens")
+    command("enable", "let a person in again")
+    command("remove", "remove a person; the name may be given again")
+    numbering = command("renumber", "another object, as which the person acts", "NAME NUMBER")
+    numbering.add_argument("number", metavar="NUMBER", type=object_number)
+    token = command("token", "print a new token for programs, of which only a hash is kept", "NAME [--label TEXT] [--days N] [--read-only]")
+    token.add_argument("--label", metavar="TEXT", default="", help="what the token is for")
+    token.add_argument("--days", metavar="N", type=day_count, help="it ends after so many days")
+    token.add_argument("--read-only", action="store_true", help="it can't send batches")
+    ending = command("untoken", "end all tokens of a person, or those with a label", "NAME [--label TEXT]")
+    ending.add_argument("--label", metavar="TEXT", help="end the tokens with this label alone")
+    command("tokens", "the tokens of a person")
+    command("list", "everybody", "")
+    checking = command("check", "hold the accounts against the world", "PORT")
     checking.add_argument("port", metavar="PORT", type=port_number)
     return parser.parse_args(words)
 
@@ -54,6 +76,13 @@ def object_number(text: str) -> int:
     if not digits.isascii() or not digits.isdigit() or len(digits) > 10:
         raise argparse.ArgumentTypeError(f"{text!r} isn't the number of an object")
     return int(digits)
+
+
+def day_count(text: str) -> int:
+    """How many days: at least one."""
+    if not text.isascii() or not text.isdigit() or len(text) > 9 or not 1 <= int(text) <= MOST_DAYS:
+        raise argparse.ArgumentTypeError(f"{text!r} isn't a number of days from 1 to {MOST_DAYS}")
+    return int(text)
 
 
 def file_of(said: argparse.Namespace) -> Path:
@@ -81,17 +110,48 @@ def new_password() -> str:
     return password
 
 
-def list_people(people: People) -> None:
+def add(people: People, said: argparse.Namespace) -> None:
+    """A new person. `Wrong`, `Failed`: it can't be, or the number isn't a player's."""
+    people.test_new(said.name)
+    if said.moo_port is not None and not said.any:
+        found = checked(said.name, said.number, Door(said.moo_port))
+        if not found.is_good:
+            raise Failed(f"{found.text}: give the number of a player, or --any")
+    people.add(said.name, said.number, new_password())
+
+
+def list_people(people: People, said: argparse.Namespace) -> None:
     """Prints everybody, a line each."""
     for one in people.all():
         state = "disabled" if one.is_disabled else f"{one.sessions} sessions, {one.tokens} tokens"
         print(f"{one.name} #{one.number} {state}")
 
 
-def check_people(people: People, port: int) -> None:
+def list_tokens(people: People, said: argparse.Namespace) -> None:
+    """Prints the tokens of a person, a line each. `Wrong`: nobody has the name."""
+    for one in people.tokens.of(said.name):
+        print(one.label, *map(moment, (one.made, one.until, one.used)), sep="\t")
+
+
+def moment(seconds: float | None) -> str:
+    """A moment in UTC, as `2026-11-29T12:00:00Z`, or `-`."""
+    if seconds is None:
+        return "-"
+    return f"{datetime.datetime.fromtimestamp(seconds, datetime.timezone.utc):%Y-%m-%dT%H:%M:%SZ}"
+
+
+def end_tokens(people: People, said: argparse.Namespace) -> None:
+    """Ends tokens of a person: all, or those with a label. `Wrong`: nobody has the name, or no token the label."""
+    if said.label is None:
+        people.tokens.end_all(said.name)
+    else:
+        people.tokens.end(said.name, said.label)
+
+
+def check_people(people: People, said: argparse.Namespace) -> None:
     """Prints what the world has for each account. `Failed`: of some it has no player."""
-    door = Door(port)
-    found = [checked(one, door) for one in people.all() if not one.is_disabled]
+    door = Door(said.port)
+    found = [checked(one.name, one.number, door) for one in people.all() if not one.is_disabled]
     for one in found:
         print(one.text)
     bad = sum(not one.is_good for one in found)
@@ -99,24 +159,20 @@ def check_people(people: People, port: int) -> None:
         raise Failed(f"{bad} of {len(found)} accounts have no player: disable them, or make them anew")
 
 
-def run(said: argparse.Namespace, people: People) -> None:
-    """Does what was said."""
-    if said.command == "add":
-        people.add(said.name, said.number, new_password())
-    elif said.command == "passwd":
-        people.set_password(said.name, new_password())
-    elif said.command == "disable":
-        people.disable(said.name)
-    elif said.command == "enable":
-        people.enable(said.name)
-    elif said.command == "token":
-        print(people.make_token(said.name))
-    elif said.command == "untoken":
-        people.end_tokens(said.name)
-    elif said.command == "check":
-        check_people(people, said.port)
-    else:
-        list_people(people)
+# What each command does.
+COMMANDS: dict[str, Callable[[People, argparse.Namespace], object]] = {
+    "add": add,
+    "passwd": lambda people, said: people.set_password(said.name, new_password()),
+    "disable": lambda people, said: people.disable(said.name),
+    "enable": lambda people, said: people.enable(said.name),
+    "remove": lambda people, said: people.remove(said.name),
+    "renumber": lambda people, said: people.renumber(said.name, said.number),
+    "token": lambda people, said: print(people.tokens.make(said.name, Terms(said.label, said.days, said.read_only))),
+    "untoken": end_tokens,
+    "tokens": list_tokens,
+    "list": list_people,
+    "check": check_people,
+}
 
 
 def main() -> None:
@@ -124,7 +180,7 @@ def main() -> None:
     said = read_words(sys.argv[1:])
     only_ours()
     try:
-        run(said, People(file_of(said)))
+        COMMANDS[said.command](People(file_of(said)), said)
     except (Wrong, Failed, OSError, sqlite3.Error) as error:
         sys.exit(f"moo-people: {error}")
     except KeyboardInterrupt:

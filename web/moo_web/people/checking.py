@@ -5,7 +5,6 @@ from __future__ import annotations
 import time
 from typing import NamedTuple
 
-from moo_web.people.people import Listed
 from moo_web.programs import Failed
 from moo_web.world.door import Door, Unreachable
 
@@ -19,16 +18,16 @@ class Checked(NamedTuple):
     is_good: bool
 
 
-def checked(one: Listed, door: Door) -> Checked:
-    """What the world says of one account. `Failed`: it says nothing."""
+def checked(name: str, number: int, door: Door) -> Checked:
+    """What the world says of the account with this name and number. `Failed`: it says nothing."""
     try:
-        answer = door.asked("GET", f"/object/{one.number}", None, time.monotonic() + WAIT)
+        answer = door.asked("GET", f"/object/{number}", None, time.monotonic() + WAIT)
     except Unreachable:
         raise Failed(f"moo doesn't answer at port {door.port}") from None
     if answer.status == 404:
-        return Checked(f"{one.name} #{one.number} isn't there", False)
+        return Checked(f"{name} #{number} isn't there", False)
     if answer.status != 200:
         raise Failed(f"moo answers {answer.status} {answer.error}")
     is_player = answer.said.get("player") == 1
     kind = "wizard" if answer.said.get("wizard") == 1 else "player"
-    return Checked(f"{one.name} #{one.number} {answer.said.get('name')} {kind if is_player else 'is not a player'}", is_player)
+    return Checked(f"{name} #{number} {answer.said.get('name')} {kind if is_player else 'is not a player'}", is_player)

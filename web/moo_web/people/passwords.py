@@ -6,10 +6,21 @@ import hashlib
 import hmac
 import secrets
 
+from moo_web.people.file import Wrong
+
 COST, BLOCK, LANES = 1 << 15, 8, 1
 SALT_BYTES, HASH_BYTES = 16, 32
 LONGEST = 1024
 MEMORY = 1 << 27
+# What is kept of somebody who has no password yet: that of none.
+NONE = f"scrypt:{COST}:{BLOCK}:{LANES}:{bytes(SALT_BYTES).hex()}:"
+
+
+def kept_of(password: str) -> str:
+    """What is kept of a new password. `Wrong`: it is empty or too long."""
+    if not 1 <= len(password) <= LONGEST:
+        raise Wrong(f"a password has 1 to {LONGEST} letters")
+    return hashed(password)
 
 
 def hashed(password: str) -> str:

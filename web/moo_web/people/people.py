@@ -1,27 +1,24 @@
 """Who may come in: people with their numbers, passwords, sessions and tokens, in one file of SQLite.
 
-Of passwords, sessions and tokens the file holds hashes alone. `moo-people` and the front use it at once.
+Of passwords, sessions, tokens and links the file holds hashes alone. `moo-people` and the front use it at once.
 """
 
 from __future__ import annotations
 
-import contextlib
-import hashlib
-import os
-import re
 import secrets
-import sqlite3
 import threading
 import time
 from pathlib import Path
-from typing import Any, Callable, Iterator, NamedTuple
+from typing import Callable, NamedTuple
 
 from moo_web.people import passwords
+from moo_web.people.file import PeopleFile, Wrong
 from moo_web.people.limits import BackOff, Rate, network_of
+from moo_web.people.links import Links
+from moo_web.people.person import PERSON_NAME, Person, test_name, test_number
+from moo_web.people.secret import MARK, hash_of
+from moo_web.people.tokens import Terms, Tokens
 
-VERSION = 1
-PERSON_NAME = re.compile(r"[A-Za-z0-9][A-Za-z0-9._-]{0,63}")
-LARGEST_NUMBER = 2_147_483_647
 IDLE_SECONDS = 12 * 3600.0
 SESSION_SECONDS = 7 * 86400.0
 SEEN_EVERY = 60.0
@@ -29,20 +26,16 @@ PLACE_SECONDS = 90 * 86400.0
 # Failures with a name from places that don't belong to it: so many at once, then one in twenty seconds.
 STRANGERS_AT_ONCE, STRANGERS_A_SECOND = 30, 1 / 20
 HASHES_AT_ONCE, LONGEST_TURN = 2, 5.0
-
-TABLES = """
-CREATE TABLE person (name TEXT PRIMARY KEY COLLATE NOCASE, number INTEGER NOT NULL, password TEXT NOT NULL,
-    is_disabled INTEGER NOT NULL, made REAL NOT NULL) WITHOUT ROWID;
-CREATE TABLE session (hash BLOB PRIMARY KEY, name TEXT NOT NULL COLLATE NOCASE, form TEXT NOT NULL,
-    made REAL NOT NULL, seen REAL NOT NULL) WITHOUT ROWID;
-CREATE TABLE token (hash BLOB PRIMARY KEY, name TEXT NOT NULL COLLATE NOCASE, made REAL NOT NULL) WITHOUT ROWID;
-CREATE TABLE place (name TEXT NOT NULL COLLATE NOCASE, address TEXT NOT NULL, seen REAL NOT NULL,
-    PRIMARY KEY (name, address)) WITHOUT ROWID;
+# What is kept of a person, each in a table.
+KEPT = ("session", "token", "place", "link")
+# What is listed of people, with what they have that hasn't ended.
+LISTED = """
+SELECT person.name, number, is_disabled, count(session.hash),
+    (SELECT count(*) FROM token WHERE token.name = person.name AND (until IS NULL OR until > ?)), person.made, max(session.seen),
+    (SELECT until FROM link WHERE link.name = person.name AND until > ?)
+FROM person LEFT JOIN session ON session.name = person.name AND session.seen >= ? AND session.made >= ?
+{} GROUP BY person.name ORDER BY person.name
 """
-
-
-class Wrong(Exception):
-    """It can't be done, for this reason."""
 
 
 class WrongPassword(Exception):
@@ -61,15 +54,11 @@ class Crowded(Exception):
     """Too many sign in at this moment."""
 
 
-class Person(NamedTuple):
-    """Somebody who is known, by the programmer's number as which moo is asked."""
-
-    name: str
-    number: int
-
-
 class Listed(NamedTuple):
-    """A line of the list of people. `made` is in seconds since 1970."""
+    """A line of the list of people, with how many sessions and tokens they have that haven't ended.
+
+    Moments are in seconds since 1970: `seen` is the last use of a session, and `link` the end of a link for a password; None if there is none.
+    """
 
     name: str
     number: int
@@ -77,6 +66,8 @@ class Listed(NamedTuple):
     sessions: int
     tokens: int
     made: float
+    seen: float | None = None
+    link: float | None = None
 
 
 class Session(NamedTuple):
@@ -86,6 +77,15 @@ class Session(NamedTuple):
     form: str
 
 
+class ListedSession(NamedTuple):
+    """A session as it is listed. `mark` names it, and isn't its secret; `address` is the one from which it began, or an empty text."""
+
+    mark: str
+    made: float
+    seen: float
+    address: str
+
+
 class SignedIn(NamedTuple):
     """A new session, and the secret that the person's cookie holds."""
 
@@ -93,84 +93,70 @@ class SignedIn(NamedTuple):
     session: Session
 
 
-def hash_of(secret: str) -> bytes:
-    """What is kept of a session's or a token's secret, which has 256 bits of chance and needs no slow hash."""
-    return hashlib.sha256(secret.encode(errors="replace")).digest()
-
-
-class People:
+class People(PeopleFile):
     """The people of a file, which is made if it isn't there. Threads may share it."""
 
     def __init__(self, path: Path, clock: Callable[[], float] = time.time, steady: Callable[[], float] = time.monotonic) -> None:
-        self.path, self.clock = path, clock
-        self.lock = threading.RLock()
+        super().__init__(path, clock)
+        self.tokens, self.links = Tokens(self), Links(self)
         self.pair_waits, self.place_waits = BackOff(clock=steady), BackOff(free=20, clock=steady)
         self.strangers = Rate(STRANGERS_A_SECOND, STRANGERS_AT_ONCE, steady)
         self.turns = threading.BoundedSemaphore(HASHES_AT_ONCE)
-        os.close(os.open(path, os.O_RDWR | os.O_CREAT, 0o600))
-        self.base = sqlite3.connect(path, timeout=10, isolation_level=None, check_same_thread=False)
-        with self.change():
-            version = self.base.execute("PRAGMA user_version").fetchone()[0]
-            if version == 0:
-                for statement in TABLES.split(";"):
-                    self.base.execute(statement)
-                self.base.execute(f"PRAGMA user_version = {VERSION}")
-            elif version != VERSION:
-                raise Wrong(f"{path} has version {version}, and this program reads version {VERSION}")
-
-    def close(self) -> None:
-        """Lets the file go."""
-        with self.lock:
-            self.base.close()
-
-    @contextlib.contextmanager
-    def change(self) -> Iterator[None]:
-        """A transaction that changes something: all of it, or nothing."""
-        with self.lock:
-            self.base.execute("BEGIN IMMEDIATE")
-            try:
-                yield
-                self.base.execute("COMMIT")
-            except BaseException:
-                # On a full disk SQLite has done it by itself.
-                if self.base.in_transaction:
-                    self.base.execute("ROLLBACK")
-                raise
-
-    def row(self, query: str, *given: Any) -> Any:
-        """The first row of a query, or None."""
-        with self.lock:
-            return self.base.execute(query, given).fetchone()
 
     # Accounts
 
+    def test_new(self, name: str) -> None:
+        """`Wrong`: nobody can be given this name, or somebody has it."""
+        test_name(name)
+        if self.row("SELECT 1 FROM person WHERE name = ?", name):
+            raise Wrong(f"there is somebody of the name {name} already")
+
     def add(self, name: str, number: int, password: str) -> None:
         """A new person. `Wrong`: the name is taken or isn't a name, or the number or the password can't be one."""
-        if not PERSON_NAME.fullmatch(name):
-            raise Wrong("a name has 1 to 64 letters, digits, '.', '_' and '-', and begins with a letter or a digit")
-        if not 0 <= number <= LARGEST_NUMBER:
-            raise Wrong(f"a number is from 0 to {LARGEST_NUMBER}")
-        kept = hash_of_password(password)
+        test_name(name)
+        test_number(number)
+        kept = passwords.kept_of(password)
         with self.change():
-            if self.row("SELECT 1 FROM person WHERE name = ?", name):
-                raise Wrong(f"there is somebody of the name {name} already")
-            self.base.execute("INSERT INTO person VALUES (?, ?, ?, 0, ?)", (name, number, kept, self.clock()))
+            self.insert(name, number, kept)
+
+    def add_by_link(self, name: str, number: int) -> str:
+        """A new person without a password, and the secret of the link by which they set one. `Wrong`: as `add` has it."""
+        test_name(name)
+        test_number(number)
+        with self.change():
+            self.insert(name, number, passwords.NONE)
+            return self.links.made(name)
+
+    def insert(self, name: str, number: int, kept: str) -> None:
+        """A new person, within a transaction. `Wrong`: as `test_new` has it."""
+        self.test_new(name)
+        self.base.execute(
+            "INSERT INTO person (name, number, password, is_disabled, made) VALUES (?, ?, ?, 0, ?)", (name, number, kept, self.clock())
+        )
 
     def set_password(self, name: str, password: str) -> None:
-        """A new password, which ends the person's sessions. `Wrong`: nobody has the name, or it can't be a password."""
-        kept = hash_of_password(password)
+        """A new password, which ends the person's sessions and link. `Wrong`: nobody has the name, or it can't be a password."""
+        kept = passwords.kept_of(password)
         with self.change():
             self.must_be(name)
-            self.base.execute("UPDATE person SET password = ? WHERE name = ?", (kept, name))
-            self.base.execute("DELETE FROM session WHERE name = ?", (name,))
+            self.links.set_password(name, kept)
+
+    def renumber(self, name: str, number: int) -> None:
+        """Another object, as which the person acts from now on, by the sessions and tokens that are there too.
+
+        `Wrong`: nobody has the name, or it can't be a number.
+        """
+        test_number(number)
+        with self.change():
+            self.must_be(name)
+            self.base.execute("UPDATE person SET number = ? WHERE name = ?", (number, name))
 
     def disable(self, name: str) -> None:
-        """Keeps a person out, and ends the sessions and tokens. `Wrong`: nobody has the name."""
+        """Keeps a person out, and ends the sessions, the tokens and the link. `Wrong`: nobody has the name."""
         with self.change():
             self.must_be(name)
             self.base.execute("UPDATE person SET is_disabled = 1 WHERE name = ?", (name,))
-            self.base.execute("DELETE FROM session WHERE name = ?", (name,))
-            self.base.execute("DELETE FROM token WHERE name = ?", (name,))
+            self.forget(name, "session", "token", "link")
 
     def enable(self, name: str) -> None:
         """Lets a person in again, with the old password. `Wrong`: nobody has the name."""
@@ -178,49 +164,51 @@ class People:
             self.must_be(name)
             self.base.execute("UPDATE person SET is_disabled = 0 WHERE name = ?", (name,))
 
+    def remove(self, name: str) -> None:
+        """Removes a person with all that is kept of them. The name may be given again. `Wrong`: nobody has it."""
+        with self.change():
+            self.must_be(name)
+            self.base.execute("DELETE FROM person WHERE name = ?", (name,))
+            self.forget(name, *KEPT)
+
+    def forget(self, name: str, *tables: str) -> None:
+        """Removes what these tables have of a person, within a transaction."""
+        for table in tables:
+            self.base.execute(f"DELETE FROM {table} WHERE name = ?", (name,))
+
     def may_come_in(self, name: str) -> bool:
         """Whether somebody has this name and isn't disabled."""
         return self.row("SELECT 1 FROM person WHERE name = ? AND NOT is_disabled", name) is not None
 
     def all(self) -> list[Listed]:
         """Everybody, by name."""
-        with self.lock:
-            rows = self.base.execute(
-                "SELECT name, number, is_disabled, (SELECT count(*) FROM session WHERE session.name = person.name),"
-                " (SELECT count(*) FROM token WHERE token.name = person.name), made FROM person ORDER BY name"
-            ).fetchall()
-        return [Listed(name, number, bool(off), sessions, tokens, made) for name, number, off, sessions, tokens, made in rows]
+        return self.listed("", ())
 
-    def must_be(self, name: str) -> None:
-        """`Wrong` if nobody has this name."""
-        if not self.row("SELECT 1 FROM person WHERE name = ?", name):
-            raise Wrong(f"nobody has the name {name}")
+    def one(self, name: str) -> Listed | None:
+        """The person of this name, in any case; None if there is none."""
+        found = self.listed("WHERE person.name = ?", (name,))
+        return found[0] if found else None
+
+    def listed(self, which: str, given: tuple[str, ...]) -> list[Listed]:
+        """The people of whom a condition holds, by name."""
+        now = self.clock()
+        rows = self.rows(LISTED.format(which), now, now, now - IDLE_SECONDS, now - SESSION_SECONDS, *given)
+        return [Listed(name, number, bool(off), *more) for name, number, off, *more in rows]
 
     # Tokens
 
-    def make_token(self, name: str) -> str:
-        """A new token of a person, which isn't kept and can't be shown again. `Wrong`: nobody has the name, or they are disabled."""
-        secret = "moo_" + secrets.token_urlsafe(32)
-        with self.change():
-            self.must_be(name)
-            if self.row("SELECT is_disabled FROM person WHERE name = ?", name)[0]:
-                raise Wrong(f"{name} is disabled")
-            self.base.execute("INSERT INTO token VALUES (?, ?, ?)", (hash_of(secret), name, self.clock()))
-        return secret
+    def make_token(self, name: str, terms: Terms = Terms()) -> str:
+        """A new token of a person: `Tokens.make`."""
+        return self.tokens.make(name, terms)
 
     def end_tokens(self, name: str) -> None:
         """Ends all tokens of a person. `Wrong`: nobody has the name."""
-        with self.change():
-            self.must_be(name)
-            self.base.execute("DELETE FROM token WHERE name = ?", (name,))
+        self.tokens.end_all(name)
 
     def of_token(self, secret: str) -> Person | None:
         """Whose token this is, if anybody's."""
-        found = self.row(
-            "SELECT person.name, number FROM token JOIN person ON person.name = token.name WHERE hash = ? AND NOT is_disabled",
-            hash_of(secret),
-        )
-        return Person(*found) if found else None
+        found = self.tokens.bearer(secret)
+        return found.person if found else None
 
     # Sessions
 
@@ -284,7 +272,10 @@ class People:
         secret, form, now = secrets.token_urlsafe(32), secrets.token_urlsafe(16), self.clock()
         self.base.execute("DELETE FROM session WHERE seen < ? OR made < ?", (now - IDLE_SECONDS, now - SESSION_SECONDS))
         self.base.execute("DELETE FROM place WHERE seen < ?", (now - PLACE_SECONDS,))
-        self.base.execute("INSERT INTO session VALUES (?, ?, ?, ?, ?)", (hash_of(secret), person.name, form, now, now))
+        self.base.execute(
+            "INSERT INTO session (hash, name, form, made, seen, address) VALUES (?, ?, ?, ?, ?, ?)",
+            (hash_of(secret), person.name, form, now, now, place),
+        )
         self.base.execute("INSERT OR REPLACE INTO place VALUES (?, ?, ?)", (person.name, place, now))
         return SignedIn(secret, Session(person, form))
 
@@ -299,9 +290,8 @@ class People:
         if not found:
             return None
         if now - found[3] > SEEN_EVERY:
-            # On a full disk people go on reading. The session ends earlier then.
-            with contextlib.suppress(sqlite3.OperationalError), self.change():
-                self.base.execute("UPDATE session SET seen = ? WHERE hash = ?", (now, kept))
+            # If it can't be noted the session ends earlier.
+            self.note("UPDATE session SET seen = ? WHERE hash = ?", now, kept)
         return Session(Person(found[0], found[1]), found[2])
 
     def sign_out(self, secret: str) -> None:
@@ -309,9 +299,18 @@ class People:
         with self.change():
             self.base.execute("DELETE FROM session WHERE hash = ?", (hash_of(secret),))
 
+    def sessions_of(self, name: str) -> list[ListedSession]:
+        """The sessions of a person that haven't ended, the one that was used last first. `Wrong`: nobody has the name."""
+        now = self.clock()
+        with self.lock:
+            self.must_be(name)
+            found = self.rows(
+                f"SELECT {MARK}, made, seen, address FROM session WHERE name = ? AND seen >= ? AND made >= ? ORDER BY seen DESC, made, hash",
+                name, now - IDLE_SECONDS, now - SESSION_SECONDS,
+            )  # fmt: skip
+        return [ListedSession(*one) for one in found]
 
-def hash_of_password(password: str) -> str:
-    """What is kept of a new password. `Wrong`: it is empty or too long."""
-    if not 1 <= len(password) <= passwords.LONGEST:
-        raise Wrong(f"a password has 1 to {passwords.LONGEST} letters")
-    return passwords.hashed(password)
+    def end_session(self, name: str, mark: str) -> bool:
+        """Ends the session of a person that this mark names. False: there is no such session any more."""
+        with self.change():
+            return self.base.execute(f"DELETE FROM session WHERE name = ? AND {MARK} = ?", (name, mark)).rowcount > 0

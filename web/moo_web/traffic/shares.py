@@ -15,7 +15,7 @@ import time
 from typing import Callable, NamedTuple
 
 from moo_web.people.limits import MOST_NAMES, Clock
-from moo_web.people.people import Person
+from moo_web.people.person import Person
 from moo_web.traffic.visitors import Visitor
 
 # A bucket holds what comes in so many minutes.

@@ -6,7 +6,7 @@ from typing import Callable
 
 from moolib.calls import read_or_none
 
-from moo_web.people.people import Person
+from moo_web.people.person import Person
 from moo_web.traffic.shares import WRITING, Shares
 from moo_web.traffic.visitors import Visitor
 from moo_web.world.things import World

@@ -11,7 +11,7 @@ from moolib.facts import Facts, TooMuch
 from moolib.losses import Losses, may_lose
 from moolib.values import written
 
-from moo_web.people.people import Person
+from moo_web.people.person import Person
 from moo_web.world.asking import Moved
 from moo_web.world.door import Answer, Unreachable, said_by
 from moo_web.world.overseeing import Overseeing
