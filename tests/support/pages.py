@@ -28,6 +28,8 @@ from moo_web.people import passwords  # noqa: E402
 from moo_web.people.people import People  # noqa: E402
 from moo_web.world.door import Door  # noqa: E402
 
+# tidy doesn't know that a drawing (SVG) in a page may have links.
+LINK_IN_A_DRAWING = re.compile('Warning: <a> proprietary attribute "(href|class)"')
 HOST = "front.example.org"
 HOME = "192.0.2.1"
 
@@ -158,7 +160,7 @@ def tidied(answer: Answer) -> str:
     if not shutil.which("tidy"):
         return ""
     ran = subprocess.run(["tidy", "-q", "-e", "-utf8"], input=answer.bytes, capture_output=True, check=False, timeout=SECONDS)
-    return ran.stderr.decode()
+    return "".join(line for line in ran.stderr.decode().splitlines(keepends=True) if not LINK_IN_A_DRAWING.search(line))
 
 
 class PagesTest(unittest.TestCase):

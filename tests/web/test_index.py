@@ -48,7 +48,11 @@ class IndexTest(PagesTest):
             thing = world.things[number]
             shown = (thing.name, f"#{thing.owner}", f"#{thing.parent}", f"#{thing.location}", *(int(thing.has(bit)) for bit in BITS))
             self.assertEqual(shown, (said["name"], said["owner"], said["parent"], said["location"], *(said[bit] for bit in BITS)))
-        for links, key in ((world.children, "parent"), (world.contents, "location")):
+        for bit in ("player", "wizard", "f"):
+            self.assertEqual(list(world.with_bit(bit)), [number for number in sorted(objects) if objects[number][bit]])
+        named = sorted((said["name"].lower(), number) for number, said in objects.items())
+        self.assertEqual(list(zip(world.names.folded, world.names.numbers)), named)
+        for links, key in ((world.children, "parent"), (world.contents, "location"), (world.owned, "owner")):
             wanted = {}
             for number in sorted(objects):
                 wanted.setdefault(int(objects[number][key][1:]), []).append(number)
@@ -175,7 +179,7 @@ class Elsewhere(IndexTest):
         self.write("wizard", "create(#1)")
         self.check()
         kept = self.index.kept
-        self.index.kept = type(kept)(kept.seq + 5, kept.things, kept.children, kept.contents)
+        self.index.kept = type(kept)(kept.seq + 5, kept.things, kept.children, kept.contents, kept.owned, kept.marked)
         self.index.told_seq = kept.seq + 5
         self.check()
 

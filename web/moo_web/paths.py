@@ -25,7 +25,7 @@ KINDS = {
     "batch": Kind("[0-9]{1,19}", int),
     "key": Kind("[a-z-]{1,40}", str),
     "links": Kind("children|contents|owned", str),
-    "tree": Kind("parents|places", str),
+    "tree": Kind("parents|places|exits", str),
     # The number of an object as moo takes it, or mistakes it.
     "any": Kind("[-+0-9]{1,32}", str),
 }

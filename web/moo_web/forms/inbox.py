@@ -60,7 +60,7 @@ class PetitionPages:
     @staticmethod
     def too_long(visit: Visit, of: int) -> Reply:
         """What is said of petitions that can't be shown together. A wizard is led to those of each player."""
-        players = [thing for thing in visit.world.things.values() if thing.has("player")] if visit.is_wizard and not of else []
+        players = [visit.world.things[number] for number in visit.world.with_bit("player")] if visit.is_wizard and not of else []
         return visit.page("forms/too_long.html", 413, players=players, of=of or None)
 
     def decided(self, visit: Visit) -> list[tuple[Decided, list[str]]]:
@@ -82,7 +82,7 @@ class PetitionPages:
         """How many objects each player may make, for wizards."""
         if not visit.is_wizard:
             return visit.refused("forbidden", 403)
-        players = [thing for thing in visit.world.things.values() if thing.has("player")]
+        players = [visit.world.things[number] for number in visit.world.with_bit("player")]
         answers = visit.answers([f'get(#{thing.number}, "ownership_quota")' for thing in players])
         owned = visit.world.owned
         rows = [

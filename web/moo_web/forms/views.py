@@ -3,8 +3,9 @@
 from __future__ import annotations
 
 import dataclasses
+import itertools
 import re
-from collections.abc import Mapping
+from collections.abc import Iterable, Mapping
 from typing import Any
 
 from moolib.values import ErrorValue, Obj
@@ -34,15 +35,11 @@ class NamesOf:
 
     def named(self, word: str) -> list[tuple[int, str]]:
         """The objects of just this name."""
-        folded = word.lower()
-        return [(thing.number, self.label(thing)) for thing in self.world.things.values() if thing.name.lower() == folded]
+        return [(number, self.label(self.world.things[number])) for number in self.world.names.named(word)]
 
     def like(self, word: str) -> list[tuple[int, str]]:
         """The objects with this word in their names, those that begin with it first."""
-        folded = word.lower()
-        found = [thing for thing in self.world.things.values() if folded in thing.name.lower()]
-        found.sort(key=lambda thing: (not thing.name.lower().startswith(folded), thing.name.lower(), thing.number))
-        return [(thing.number, self.label(thing)) for thing in found[:MOST_OFFERED]]
+        return [(number, self.label(self.world.things[number])) for number in self.world.names.like(word)[:MOST_OFFERED]]
 
     def short(self, number: int) -> str:
         """An object by its name and number."""
@@ -198,17 +195,17 @@ def offered_to(field: Field, typed: Mapping[str, str], names: NamesOf) -> Offer:
 
 def suggested_to(field: Field, names: NamesOf, me: Me) -> Offer:
     """Objects that are likely in a field."""
-    things = names.world.things
+    world = names.world
+    own = world.owned.get(me.number, ())[:MOST_OFFERED]
+    numbers: Iterable[int] = own
     if field.key == "owner":
-        numbers = [thing.number for thing in things.values() if thing.has("player")] if me.is_wizard else [me.number]
+        numbers = world.with_bit("player") if me.is_wizard else [me.number]
     elif field.key == "parent":
-        numbers = [thing.number for thing in things.values() if thing.has("f") or thing.owner == me.number]
+        numbers = sorted({*world.with_bit("f")[:MOST_OFFERED], *own})
     elif field.key == "place":
-        here = things[me.number].location if me.number in things else -1
-        held = [number for number in names.world.contents if number >= 0]
-        numbers = [number for number in (here, me.number, *held) if number in things]
-    else:
-        numbers = [thing.number for thing in things.values() if thing.owner == me.number]
+        here = world.things[me.number].location if me.number in world.things else -1
+        held = itertools.islice((number for number in world.contents if number >= 0), MOST_OFFERED)
+        numbers = [number for number in (here, me.number, *held) if number in world.things]
     return tuple((f"#{number}", names.short(number)) for number in list(dict.fromkeys(numbers))[:MOST_OFFERED])
 
 

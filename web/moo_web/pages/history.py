@@ -9,7 +9,6 @@ from typing import Optional
 from moo_web.app import Reply
 from moo_web.journal.history import Batches, History
 from moo_web.pages.batches import Telling, concerns, told, without_unreadable
-from moo_web.pages.lists import by_name
 from moo_web.pages.pages import Visit
 from moo_web.people.people import People
 
@@ -55,9 +54,8 @@ def numbers_for(visit: Visit, asked: str) -> list[int]:
     found = re.fullmatch(r"#?\s*([0-9]{1,10})", asked)
     if found:
         return [int(found[1])]
-    named = [thing for thing in by_name(visit.world.things.values(), asked)] if asked else []
-    same = [thing.number for thing in named if thing.name.lower() == asked.lower()]
-    return same or [thing.number for thing in named]
+    names = visit.world.names
+    return (names.named(asked) or names.like(asked)) if asked else []
 
 
 def moment_in(visit: Visit, text: str, more: datetime.timedelta = datetime.timedelta()) -> Optional[float]:

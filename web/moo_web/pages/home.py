@@ -1,4 +1,4 @@
-"""The page of the world: how much there is, what happened lately, what is one's own, and what is where."""
+"""The first page: where the person is, what waits for them, what happened lately, and the whole world to browse."""
 
 from __future__ import annotations
 
@@ -8,34 +8,33 @@ from moo_web.app import Reply
 from moo_web.journal.history import Batches, History
 from moo_web.pages.batches import Telling, without_unreadable
 from moo_web.pages.pages import Visit
+from moo_web.pages.sight import SightNames, sight_calls, sight_of
 from moo_web.world.things import NOTHING, World
-from moo_web.world.trees import MOST_NODES, Node, tree
+from moo_web.world.trees import Node, tree
 
 LATELY, NEWEST, YOURS = 6, 8, 12
-MOST_ROOTS = 60
+# So many objects of each tree are on this page, and so many trees. The maps have more.
+MOST_NODES, MOST_ROOTS = 48, 24
 SOON = 0.3
 
 
-def world(visit: Visit, history: History) -> Reply:
-    """The page of the world."""
+def home(visit: Visit, history: History, names: SightNames) -> Reply:
+    """The first page of somebody who is signed in."""
+    visit.trust()
     seen = visit.world
-    yours = seen.owned.get(visit.number, [])
-    quota = visit.answers([f'get(#{visit.number}, "ownership_quota")'])[0]
+    here = seen.things[visit.number].location
+    calls = [f'get(#{visit.number}, "ownership_quota")', "petitions()"]
+    # All that the page asks for is asked in one request.
+    quota, petitions, *_ = visit.answers([*calls, *(sight_calls(names, here) if here in seen.things else ())])
+    yours, found = seen.owned.get(visit.number, ()), lately(visit, history)
     return visit.page(
-        "pages/home.html", counts=counts_of(seen), lately=lately(visit, history), newest=list(itertools.islice(reversed(seen.things), NEWEST)),
-        yours=yours[-YOURS:][::-1], yours_count=len(yours), quota=quota if isinstance(quota, int) else None,
-        parents=parents_of(seen), places=places_of(seen), nowhere=len(seen.contents.get(NOTHING, ())),
-        roots=len(seen.children.get(NOTHING, ())), line=lambda batch: Telling(visit, history, batch).line(None),
+        "pages/home.html", here=here, sight=sight_of(visit, names, here) if here in seen.things else None,
+        waiting=len(petitions) if isinstance(petitions, list) else None, lately=found, others=by_others(visit, found),
+        newest=list(itertools.islice(reversed(seen.things), NEWEST)), yours=yours[-YOURS:][::-1], yours_count=len(yours),
+        quota=quota if isinstance(quota, int) else None, parents=parents_of(seen), places=places_of(seen),
+        nowhere=len(seen.contents.get(NOTHING, ())), roots=len(seen.children.get(NOTHING, ())), players=len(seen.with_bit("player")),
+        line=lambda batch: Telling(visit, history, batch).line(None),
     )  # fmt: skip
-
-
-def counts_of(seen: World) -> list[tuple[str, int]]:
-    """What is counted: its name, and how many there are."""
-    players = sum(thing.bits & 1 for thing in seen.things.values())
-    places = len(seen.contents) - (NOTHING in seen.contents)
-    classes = len(seen.children) - (NOTHING in seen.children)
-    counts = {"objects": len(seen.things), "players": players, "with contents": places, "with children": classes, "batches": seen.seq}
-    return list(counts.items())
 
 
 def lately(visit: Visit, history: History, number: int | None = None) -> Batches | None:
@@ -46,12 +45,17 @@ def lately(visit: Visit, history: History, number: int | None = None) -> Batches
     return without_unreadable(visit, history, history.found(visit.name, number, LATELY, patience=SOON, also=own))
 
 
+def by_others(visit: Visit, found: Batches | None) -> int:
+    """How many of these batches others made. To who isn't a wizard these are changes of what is theirs."""
+    return sum(batch.who.lower() != visit.name.lower() for batch in found.batches) if found and not visit.is_wizard else 0
+
+
 def parents_of(seen: World) -> list[Node]:
     """The tree of who inherits from whom."""
-    return tree(seen, seen.children, seen.children.get(NOTHING, ())[:MOST_ROOTS])
+    return tree(seen, seen.children, seen.children.get(NOTHING, ())[:MOST_ROOTS], MOST_NODES)
 
 
 def places_of(seen: World) -> list[Node]:
     """The tree of what is where: places that aren't in another one."""
-    roots = [number for number in seen.contents.get(NOTHING, ()) if number in seen.contents]
-    return tree(seen, seen.contents, roots[:MOST_ROOTS], MOST_NODES)
+    nowhere = (number for number in seen.contents.get(NOTHING, ()) if number in seen.contents)
+    return tree(seen, seen.contents, list(itertools.islice(nowhere, MOST_ROOTS)), MOST_NODES)

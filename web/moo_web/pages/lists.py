@@ -3,7 +3,7 @@
 from __future__ import annotations
 
 import re
-from typing import Any, Iterable, NamedTuple, Sequence
+from typing import Any, NamedTuple, Sequence
 
 from moo_web.app import Reply
 from moo_web.pages.pages import Visit
@@ -72,17 +72,10 @@ def find(visit: Visit, definers: Definers) -> Reply:
     if number and int(number[1]) in visit.world.things:
         return visit.go(url_for("object", number=int(number[1])))
     is_property = query.startswith(".") and len(query) > 1
-    named = [] if is_property or not query else by_name(visit.world.things.values(), query)
+    part = part_of([] if is_property or not query else visit.world.names.like(query), visit.fields.get("page", ""))
     properties = definers.found(visit, query.removeprefix(".")) if query else []
     return visit.page(
-        "pages/find.html", query=query, part=part_of(named, visit.fields.get("page", "")), properties=properties, is_property=is_property,
-        is_number=bool(number),
+        "pages/find.html", query=query, part=part, things=[visit.world.things[one] for one in part.items], properties=properties,
+        is_property=is_property, is_number=bool(number),
     )  # fmt: skip
 
-
-def by_name(things: Iterable[Thing], query: str) -> list[Thing]:
-    """The objects whose names have this text in them, in any case: first those whose name it is, then those that begin with it."""
-    wanted = query.lower()
-    found = [(thing, thing.name.lower()) for thing in things if wanted in thing.name.lower()]
-    found.sort(key=lambda one: (one[1] != wanted, not one[1].startswith(wanted), one[1], one[0].number))
-    return [thing for thing, _ in found]

@@ -9,11 +9,13 @@ from moolib.values import written
 
 from moo_web.app import Reply
 from moo_web.journal.history import History
+from moo_web.pages.actions import buttons, more, way_to
 from moo_web.pages.accepting import accept_calls, accepting
 from moo_web.pages.batches import Telling, in_time
 from moo_web.pages.home import lately
 from moo_web.pages.lists import part_of
 from moo_web.pages.pages import Visit
+from moo_web.pages.sight import SightNames, sight_calls, sight_of
 from moo_web.world.asking import Refusal
 from moo_web.world.properties import MOST, Property, grouped, names_calls, names_on, properties_of, property_calls
 from moo_web.world.things import NOTHING
@@ -21,6 +23,7 @@ from moo_web.world.things import NOTHING
 # So many of the objects under one, and in one, are on its page.
 SOME = 24
 MOST_VERBS = 200
+MOST_ANCESTORS = 8
 # What the bits mean. That of a programmer isn't looked at by any call.
 FLAGS = {
     "player": ("player", "it is a player"),
@@ -41,7 +44,7 @@ class Verb(NamedTuple):
     rights: str | None
 
 
-def object_page(visit: Visit, history: History, one: int) -> Reply:
+def object_page(visit: Visit, history: History, sight_names: SightNames, one: int) -> Reply:
     """The page of an object."""
     visit.trust()
     thing = visit.world.things.get(one)
@@ -53,18 +56,35 @@ def object_page(visit: Visit, history: History, one: int) -> Reply:
     world = visit.world
     chain = [above.number for above in world.chain(one)]
     # All that the page asks is asked in two requests: what there is, and then all of that.
-    visit.answers([*names_calls(chain), *(f"verbs(#{each})" for each in chain), *accept_calls(chain)])
+    visit.answers([*names_calls(chain), *(f"verbs(#{each})" for each in chain), *accept_calls(chain), *sight_calls(sight_names, one)])
     names = names_on(visit, one)
     part = part_of(names.pairs, visit.fields.get("page", ""), MOST)
     visit.answers([*property_calls(one, list(part.items), chain), *verb_calls(one, visit.answers([f"verbs(#{one})"])[0])])
     verbs, inherited = verbs_of(visit, chain)
+    accepts, told = accepting(visit, one), properties_of(visit, one, list(part.items))
     return visit.page(
-        "pages/object.html", thing=thing, chain=chain[1:][::-1], places=[place.number for place in world.places(one)][1:], flags=FLAGS,
-        children=world.children.get(one, ()), contents=world.contents.get(one, ()), some=SOME, part=part,
-        groups=grouped(properties_of(visit, one, list(part.items)), names.hidden if part.number == 1 else [], chain),
-        is_hidden=bool(names.hidden), verbs=verbs, inherited=inherited, lately=lately(visit, history, one),
-        accepts=accepting(visit, one), owned=len(world.owned.get(one, ())), line=lambda batch: Telling(visit, history, batch).line(one),
+        "pages/object.html", thing=thing, above=folded(chain[1:]), places=[place.number for place in world.places(one)][1:], flags=FLAGS,
+        children=world.children.get(one, ()), some=SOME, part=part, sight=sight_of(visit, sight_names, one), sight_names=sight_names,
+        groups=grouped([each for each in told if each.is_shown], [], chain), unread=[each.name for each in told if not each.is_shown],
+        unlisted=names.hidden, verbs=verbs, inherited=inherited, lately=lately(visit, history, one), accepts=accepts,
+        owned=len(world.owned.get(one, ())), line=lambda batch: Telling(visit, history, batch).line(one),
+        buttons=buttons(visit, one, sight_names), more=more(visit, one), way=way_to(visit, one, bool(accepts.numbers)),
     )  # fmt: skip
+
+
+class Ancestors(NamedTuple):
+    """The ancestors of an object, from it up. Of a long chain those in the middle are left out: so many."""
+
+    near: list[int]
+    left_out: int
+    far: list[int]
+
+
+def folded(above: list[int]) -> Ancestors:
+    """The ancestors that are shown."""
+    if len(above) <= MOST_ANCESTORS:
+        return Ancestors(above, 0, [])
+    return Ancestors(above[: MOST_ANCESTORS - 3], len(above) - MOST_ANCESTORS + 1, above[-2:])
 
 
 def verbs_of(visit: Visit, chain: list[int]) -> tuple[list[Verb] | None, list[tuple[int, list[str]]]]:

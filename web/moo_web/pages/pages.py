@@ -84,7 +84,7 @@ class Visit:
         A page that asks nothing mustn't do so. After the first try of a page nothing is trusted.
         """
         kept = self.index.kept
-        if self.seen is None and self.is_first and kept and self.number in kept.things:
+        if self.seen is None and self.is_first and kept and self.number in kept.things and self.index.is_last(kept):
             self.seen = kept
 
     @property
@@ -133,6 +133,12 @@ class Visit:
         """A value, its objects as links."""
         return links.value(self.world, given, longest)
 
+    def shown(self, given: Any, longest: int = links.LONGEST_VALUE) -> Markup:
+        """A value for readers: a text without quotes, if it has letters."""
+        if isinstance(given, str) and given.strip():
+            return links.text(given, longest)
+        return self.value(given, longest)
+
     def call(self, text: str, longest: int = links.LONGEST_VALUE) -> Markup:
         """A call, its objects as links."""
         return links.call(self.world, text, longest)
@@ -167,6 +173,7 @@ class Pages:
         self.app, self.people, self.index, self.asker, self.history = app, people, index, asker, history
         self.rate = Rate(2 * rate, BURST_SECONDS * 2 * rate)
         self.kept_forms: list[tuple[paths.Path, PageHandler]] = []
+        self.names: set[str] = set()
         # The addresses of the forms that change a property or a verb, by `property` and `verb`.
         self.changes = {"property": url_for("form", key="set"), "verb": url_for("form", key="verb-rights")}
         loader = jinja2.FileSystemLoader(HERE / "templates")
@@ -202,7 +209,12 @@ class Pages:
 
     def get(self, name: str, handler: PageHandler) -> None:
         """A page, at the address of this name, or at one of a regular expression. Its handler is given the visit, and the parts of the address."""
+        self.names.add(name)
         self.app.add("GET", PATHS.get(name, name), lambda request, *parts: self.visited(request, handler, parts))
+
+    def has(self, name: str) -> bool:
+        """Whether there is a page at the address of this name."""
+        return name in self.names
 
     def post(self, name: str, handler: PageHandler, is_kept: bool = False) -> None:
         """What a form does, for who is signed in. The form has the field `form` with the session's token.

@@ -16,6 +16,7 @@ from moo_web.pages import history as done
 from moo_web.pages import home, lists, maps, objects, programs
 from moo_web.pages.differences import differences
 from moo_web.pages.pages import Pages
+from moo_web.pages.sight import SightNames
 from moo_web.pages.sign import Sign
 from moo_web.people.people import People
 from moo_web.world.asking import Asker
@@ -23,14 +24,16 @@ from moo_web.world.definers import Definers
 from moo_web.world.index import Index
 
 
-def make_pages(app: App, people: People, writer: Writer, history: History, rate: float) -> Pages:
-    """The pages of a front."""
+def make_pages(
+    app: App, people: People, writer: Writer, history: History, rate: float, names: SightNames = SightNames()
+) -> Pages:  # fmt: skip
+    """The pages of a front. `names` are those of the properties that say what is seen at a place."""
     index, asker = Index(writer.door, lambda: writer.stopped is not None), Asker(writer.door)
     writer.listeners.append(index.take)
     pages = Pages(app, people, index, asker, history, rate)
     pages.open("GET", "programs", lambda request: programs.page(pages, request))
     add_pages_to_sign_in(pages, people)
-    add_pages_to_read(pages, people, history, Definers(index, asker))
+    add_pages_to_read(pages, people, history, Definers(index, asker), names)
     recent = Recent(writer, history)
     add_pages_to_change(pages, Previews(Questions(writer.door), writer, recent), recent, history)
     return pages
@@ -47,16 +50,16 @@ def add_pages_to_sign_in(pages: Pages, people: People) -> None:
     pages.post("zone", sign.set_zone)
 
 
-def add_pages_to_read(pages: Pages, people: People, history: History, definers: Definers) -> None:
+def add_pages_to_read(pages: Pages, people: People, history: History, definers: Definers, names: SightNames) -> None:
     """The pages of what is there, and of what was done."""
-    pages.get("home", lambda visit: home.world(visit, history))
+    pages.get("home", lambda visit: home.home(visit, history, names))
     pages.get("find", lambda visit: lists.find(visit, definers))
     pages.get("list", lists.listed)
     pages.get("nowhere", lists.nowhere)
     pages.get("roots", lists.roots)
-    pages.get("object", lambda visit, number: objects.object_page(visit, history, number))
+    pages.get("object", lambda visit, number: objects.object_page(visit, history, names, number))
     pages.get("property", lambda visit, number: objects.one_property(visit, history, number))
-    pages.get("tree", maps.map_page)
+    pages.get("tree", lambda visit, what: maps.map_page(visit, names, what))
     pages.get("map", maps.first)
     pages.get("history", lambda visit: done.batches(visit, history))
     pages.get("batch", lambda visit, number: done.one(visit, history, number))

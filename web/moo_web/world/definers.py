@@ -62,8 +62,8 @@ class Definers:
     def brought_up(self, visit: Visit) -> dict[int, list[str]]:
         """All names, after what may have changed was asked for again."""
         world, index = visit.world, self.index
-        wizard = next((number for number, thing in world.things.items() if thing.has("wizard")), None)
-        if wizard is None:
+        wizards = world.with_bit("wizard")
+        if not wizards:
             return {}
         changed = index.taken_definers()
         names = {} if changed is None or self.names is None else self.names.copy()
@@ -71,7 +71,7 @@ class Definers:
         for number in changed or ():
             names.pop(number, None)
         try:
-            defined = self.asker.answers(wizard, [f"properties(#{number})" for number in numbers], world.seq)
+            defined = self.asker.answers(wizards[0], [f"properties(#{number})" for number in numbers], world.seq)
         except BaseException:
             index.forget_definers()
             raise

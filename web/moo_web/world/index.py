@@ -117,6 +117,10 @@ class Index:
 
     # What pages ask
 
+    def is_last(self, world: World) -> bool:
+        """Whether the writer has told of no batch after this world."""
+        return self.told_seq <= world.seq
+
     def world(self) -> World:
         """The world as it is now. `Unreachable`: moo didn't tell in time."""
         end = time.monotonic() + READING

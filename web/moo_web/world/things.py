@@ -4,10 +4,15 @@ from __future__ import annotations
 
 import functools
 import sys
-from typing import Any, Iterable, Iterator, NamedTuple
+from typing import Any, Iterator, NamedTuple
+
+from moo_web.world.linking import Links, Relinking, links_of, relinked
+from moo_web.world.names import Names
 
 # The names of the bits, in the order of their values 1, 2, 4 ..
 BITS = ("player", "programmer", "wizard", "r", "w", "f")
+# The places of the bits whose objects are listed: player, wizard, f.
+LISTED = (0, 2, 5)
 NOTHING = -1
 
 
@@ -42,36 +47,32 @@ def number_in(text: str) -> int:
     return int(text[1:])
 
 
-Links = dict[int, tuple[int, ...]]
-
-
 class World:
     """All objects at one number of the world. It isn't changed any more, so that threads may read it.
 
-    `things` has them by their numbers, ascending. `children` and `contents` have the numbers of those under and in an object, ascending;
-    an object without any isn't in there. Under -1 are those without a parent, and without a location.
+    `things` has them by their numbers, ascending. `children`, `contents` and `owned` have the numbers of those under an object, in it and
+    of it, ascending; an object without any isn't in there. Under -1 are those without a parent, a location and an owner. `marked` has those
+    with a bit by its place in `BITS`, for the bits of `LISTED`.
     """
 
-    def __init__(self, seq: int, things: dict[int, Thing], children: Links, contents: Links) -> None:
-        self.seq, self.things, self.children, self.contents = seq, things, children, contents
+    def __init__(self, seq: int, things: dict[int, Thing], children: Links, contents: Links, owned: Links, marked: Links) -> None:
+        self.seq, self.things = seq, things
+        self.children, self.contents, self.owned, self.marked = children, contents, owned, marked
 
     @classmethod
     def made(cls, seq: int, things: dict[int, Thing]) -> World:
         """The world of these objects."""
-        children: dict[int, list[int]] = {}
-        contents: dict[int, list[int]] = {}
-        for number, thing in things.items():
-            children.setdefault(thing.parent, []).append(number)
-            contents.setdefault(thing.location, []).append(number)
-        return cls(seq, things, {of: tuple(some) for of, some in children.items()}, {of: tuple(some) for of, some in contents.items()})
+        return cls(
+            seq, things, links_of((thing.parent, number) for number, thing in things.items()),
+            links_of((thing.location, number) for number, thing in things.items()),
+            links_of((thing.owner, number) for number, thing in things.items()),
+            links_of((place, number) for place in LISTED for number, thing in things.items() if thing.bits >> place & 1),
+        )  # fmt: skip
 
     @functools.cached_property
-    def owned(self) -> dict[int, list[int]]:
-        """The numbers of the objects of each owner, ascending; an object that owns none isn't in there."""
-        found: dict[int, list[int]] = {}
-        for number, thing in self.things.items():
-            found.setdefault(thing.owner, []).append(number)
-        return found
+    def names(self) -> Names:
+        """The names of the objects, for searches."""
+        return Names.of((number, thing.name) for number, thing in self.things.items())
 
     def changed(self, seq: int, found: dict[int, Thing | None]) -> World:
         """The world in which these objects are as they were found; None: they are gone. What was found comes ascending."""
@@ -82,9 +83,23 @@ class World:
                 things.pop(number, None)
             else:
                 things[number] = thing
-        parents = ((number, old and old.parent, new and new.parent) for number, old, new in pairs(former, found))
-        places = ((number, old and old.location, new and new.location) for number, old, new in pairs(former, found))
-        return World(seq, things, relinked(self.children, parents), relinked(self.contents, places))
+        pairs = [(number, former[number], thing) for number, thing in found.items()]
+        made = World(
+            seq, things, relinked(self.children, ((number, old and old.parent, new and new.parent) for number, old, new in pairs)),
+            relinked(self.contents, ((number, old and old.location, new and new.location) for number, old, new in pairs)),
+            relinked(self.owned, ((number, old and old.owner, new and new.owner) for number, old, new in pairs)),
+            relinked(self.marked, (change for pair in pairs for change in remarked(*pair))),
+        )  # fmt: skip
+        if "names" in self.__dict__:
+            renamed = [(number, old and old.name, new and new.name) for number, old, new in pairs]
+            names = self.names.changed([change for change in renamed if change[1] != change[2]])
+            if names:
+                made.names = names
+        return made
+
+    def with_bit(self, bit: str) -> tuple[int, ...]:
+        """The numbers of the objects with this bit, ascending. It is one of `player`, `wizard` and `f`."""
+        return self.marked.get(BITS.index(bit), ())
 
     @property
     def top(self) -> int:
@@ -112,29 +127,8 @@ class World:
         return number in self.things and self.things[number].has("wizard")
 
 
-Relinking = tuple[int, "int | None", "int | None"]
-
-
-def pairs(former: dict[int, Thing | None], found: dict[int, Thing | None]) -> Iterator[tuple[int, Thing | None, Thing | None]]:
-    """Each number, with the object as it was and as it is."""
-    return ((number, former[number], thing) for number, thing in found.items())
-
-
-def relinked(links: Links, changes: Iterable[Relinking]) -> Links:
-    """Links after these changes: an object, what it was under, and what it is under; None: nothing that exists."""
-    gone: dict[int, set[int]] = {}
-    come: dict[int, set[int]] = {}
-    for number, old, new in changes:
-        if old != new:
-            if old is not None:
-                gone.setdefault(old, set()).add(number)
-            if new is not None:
-                come.setdefault(new, set()).add(number)
-    made = links.copy()
-    for of in gone.keys() | come.keys():
-        under = tuple(sorted((set(links.get(of, ())) - gone.get(of, set())) | come.get(of, set())))
-        if under:
-            made[of] = under
-        else:
-            made.pop(of, None)
-    return made
+def remarked(number: int, old: Thing | None, new: Thing | None) -> Iterator[Relinking]:
+    """What changes of the bits of an object that are listed."""
+    for place in LISTED:
+        was, now = old is not None and old.bits >> place & 1, new is not None and new.bits >> place & 1
+        yield number, place if was else None, place if now else None

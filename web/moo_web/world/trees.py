@@ -5,7 +5,8 @@ from __future__ import annotations
 import collections
 from typing import Sequence
 
-from moo_web.world.things import Links, World
+from moo_web.world.linking import Links
+from moo_web.world.things import World
 
 # So many objects are shown in all, and of leaves under one object so many.
 MOST_NODES = 240

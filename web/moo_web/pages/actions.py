@@ -1,0 +1,49 @@
+"""What can be done with an object, on its page: five buttons, and the menu 'More' with the rest."""
+
+from __future__ import annotations
+
+from typing import NamedTuple
+
+from moo_web.pages.pages import Visit
+from moo_web.pages.sight import SightNames
+from moo_web.paths import form_for, url_for
+
+
+class Action(NamedTuple):
+    """A link to a form: its word, its address, and whether it destroys something."""
+
+    word: str
+    address: str
+    is_loss: bool = False
+
+
+def buttons(visit: Visit, number: int, names: SightNames) -> list[Action]:
+    """What is done most."""
+    edit = [Action("Edit", f"/edit/{number}")] if visit.pages.has("edit") else []
+    describe = url_for("form", key="set", object=f"#{number}", name=names.description)
+    return [
+        *edit, Action("Describe", describe), Action("Rename", form_for("rename", number)), Action("Move", form_for("move", number)),
+        Action("Make something in it", form_for("create", number, "place")),
+    ]  # fmt: skip
+
+
+def more(visit: Visit, number: int) -> list[Action]:
+    """All else."""
+    for_wizards = [Action("Player and wizard", form_for("powers", number)), Action("Quota", form_for("quota", number))]
+    return [
+        Action("Set a property", form_for("set", number)), Action("Add a property", form_for("add-property", number)),
+        Action("Add a verb", form_for("add-verb", number)), Action("Make objects under it", form_for("create", number, "parent")),
+        Action("What others may do", form_for("marks", number)), Action("What it accepts", form_for("accept", number)),
+        Action("Give another parent", form_for("parent", number)), Action("Give to another owner", form_for("owner", number)),
+        Action("All that is in it", url_for("form", key="many", **{"in": number})),
+        Action("All its children", url_for("form", key="many", under=number)),
+        *(for_wizards if visit.is_wizard else []), Action("Recycle", form_for("recycle", number), is_loss=True),
+    ]  # fmt: skip
+
+
+def way_to(visit: Visit, number: int, is_open: bool) -> str:
+    """The form by which the person goes to an object that accepts something; empty if they are there, or can't be."""
+    here = visit.world.things[visit.number].location
+    if not is_open or number in (here, visit.number) or visit.world.things[number].has("player"):
+        return ""
+    return url_for("form", key="move", object=f"#{visit.number}", place=f"#{number}")
