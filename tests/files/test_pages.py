@@ -57,6 +57,26 @@ class Pages(ProgramTest):
             self.case(f"a blank database of pages of {size}: its pages stay", page_size(name), size)
         self.case("the header is SQLite's", first[:16], b"SQLite format 3\0")
 
+    def test_other_pages_are_told(self):
+        """A check and a service say so, other commands don't; the way on of docs/OPERATING.md makes them small."""
+        way_on = ("PRAGMA journal_mode = delete", "PRAGMA page_size = {}", "VACUUM")
+        for size in (512, 4096, 65536):
+            name = f"pages{size}.db"
+            make(name)
+            with closing(sqlite3.connect(name, isolation_level=None)) as connection:
+                for statement in way_on:
+                    connection.execute(statement.format(size))
+            line = f"moo: {name}: pages of {size} bytes: a batch takes twice as long (OPERATING, 'Pages')\n"
+            self.case(f"{size}: a check says so", ended("check", name), (*CHECKED, line))
+            self.case(f"{size}: a service says so", ended("serve", name, "8099", "0").complaint, line)
+            for words in ("dump", "ask -", "apply -"):
+                word, *others = words.split()
+                self.case(f"{size}: {word} doesn't", ended(word, name, *others).complaint, "")
+            with closing(sqlite3.connect(name, isolation_level=None)) as connection:
+                for statement in way_on:
+                    connection.execute(statement.format(NEW))
+            self.case(f"{size}: then nothing is said", ended("check", name), (*CHECKED, ""))
+
     def test_files_that_hold_something(self):
         Path("text.db").write_text("no database\n" * 500)
         Path("short.db").write_text("xy")

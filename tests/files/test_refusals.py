@@ -1,5 +1,8 @@
 """Files and streams that the program can't use: what it says, and that it changes nothing."""
 import os
+import shutil
+import sqlite3
+from contextlib import closing
 from pathlib import Path
 from subprocess import PIPE
 
@@ -80,6 +83,48 @@ class Refusals(ProgramTest):
         self.refused("another database is none of ours", refused, STORE, "moo: store fault: not a database of moo")
         self.case("nor a place for a world", run("init", "other.db"), STORE)
         self.case("its rows are as they were", tables_of("other.db"), {"note": [("keep me",)]})
+
+    def told_alone(self, file, line):
+        """Four cases for each command: status 1 and the line of a store fault, this line on standard error alone, and nothing changed."""
+        before = {path: path.read_bytes() for path in Path().glob(f"{file}*")}
+        for words in ("check", "dump", "ask -", "rehearse -", "apply -", "init", "serve 8099 1"):
+            word, *others = words.split()
+            ran = ended(word, file, *others)
+            self.case(f"{file}: {word} is refused", ran[:2], STORE)
+            self.case(f"{file}: {word} says why", ran.complaint, line)
+        after = {path: path.read_bytes() for path in before}
+        self.case(f"{file}: it is as it was", after, before)
+
+    def test_auto_vacuum(self):
+        """SQLite finds such a file sound, and the way on that is told makes it one of moo's."""
+        shutil.copy("world.db", "vacuum.db")
+        with closing(sqlite3.connect("vacuum.db", isolation_level=None)) as connection:
+            for setting in ("journal_mode = delete", "auto_vacuum = 1"):
+                connection.execute(f"PRAGMA {setting}")
+            connection.execute("VACUUM")
+            self.case("SQLite finds it sound", connection.execute("PRAGMA integrity_check").fetchall(), [("ok",)])
+        way_on = "PRAGMA auto_vacuum=0; VACUUM"
+        self.told_alone("vacuum.db", f"moo: vacuum.db: has auto_vacuum, which moo doesn't read (sqlite3 vacuum.db '{way_on}')\n")
+        with closing(sqlite3.connect("vacuum.db", isolation_level=None)) as connection:
+            for statement in way_on.split("; "):
+                connection.execute(statement)
+        self.case("then it is opened", ended("check", "vacuum.db"), (0, "ok seq 0 objects 4\n", ""))
+        self.case("with its rows", tables_of("vacuum.db"), self.before)
+
+    def test_a_hot_journal(self):
+        """What a program that was killed in a transaction leaves: SQLite takes the transaction back when it opens the file."""
+        with closing(sqlite3.connect("world.db", isolation_level=None)) as connection:
+            for setting in ("journal_mode = delete", "cache_size = 1"):
+                connection.execute(f"PRAGMA {setting}")
+            connection.execute("BEGIN IMMEDIATE")
+            connection.execute("CREATE TABLE left_over (x)")
+            connection.executemany("INSERT INTO left_over VALUES (randomblob(500))", [()] * 200)
+            for end in ("", "-journal"):
+                shutil.copy(f"world.db{end}", f"killed.db{end}")
+            connection.execute("ROLLBACK")
+        self.told_alone("killed.db", "moo: killed.db: another program left killed.db-journal (open it once by sqlite3)\n")
+        self.case("SQLite has the rows of before", tables_of("killed.db"), self.before)
+        self.case("then it is opened", ended("check", "killed.db"), (0, "ok seq 0 objects 4\n", ""))
 
     def test_a_file_in_use(self):
         user = start([MOO, "apply", "world.db", "-"], stdin=PIPE, stdout=PIPE)

@@ -13,6 +13,7 @@ ghost use Rattle.moo_run.specs.Run.{LeavesNothingNew, RunsIn, RunsTask};
 ghost use Rattle.moo_run.specs.Ends.{RunsFile, EndsWith};
 
 use crate::ends::Ends;
+use crate::host::Advice;
 use crate::loading::{dump_word, read_world};
 use crate::over::{run_in, run_over};
 use crate::session::{Runs, Session, Streams};
@@ -103,7 +104,7 @@ fn run_loaded<'s, S: Streams>(
     match load_from(session.alloc, &session.host, file, start, rows) {
         Ok(world) => Ends::Ran(run_in_files(session, world, task)),
         Err((fault, remains)) => {
-            session.fail(refusal(fault));
+            session.fail_to_open(file, refusal(fault));
             Ends::Refused(remains)
         }
     }
@@ -126,9 +127,16 @@ fn run_created<'s, S: Streams>(
     match create_from(session.alloc, &session.host, file, start) {
         Ok(world) => Ends::Ran(run_in_files(session, world, task)),
         Err((fault, remains)) => {
-            session.fail(refusal(fault));
+            session.fail_to_open(file, refusal(fault));
             Ends::Refused(remains)
         }
+    }
+}
+
+/// Says of a file that is checked or served if its pages make it slower than it could be.
+fn note_pages<H: Advice>(host: &H, task: Task<'_>) {
+    if matches!(task.action, Action::Check | Action::Serve(_)) {
+        host.notes_pages(task.file);
     }
 }
 
@@ -145,10 +153,13 @@ fn run_found<'s, S: Streams>(
     ensures input { reads_input task.entry ≡ false → session.new.input ≡ session.old.input }
 {
     match open_from(session.alloc, &session.host, task.file, start) {
-        Ok(world) => Ends::Ran(run_in_files(session, world, task)),
+        Ok(world) => {
+            note_pages(&session.host, task);
+            Ends::Ran(run_in_files(session, world, task))
+        }
         Err((fault, remains)) => {
             let failure = refusal_of(&session.host, task.file, fault);
-            session.fail(failure);
+            session.fail_to_open(task.file, failure);
             Ends::Refused(remains)
         }
     }

@@ -1,4 +1,4 @@
-//! What a run finds on its host: the files of batches.
+//! What a run finds on its host: the files of batches, and what the host knows of a world's file.
 
 ghost use Rattle.std.specs.Prelude.{◌≡◌, IsErr, IfOk, ℕ, List, Option, ⊤};
 
@@ -24,4 +24,13 @@ pub trait BatchFiles {
         requires { may_read self.now path.now }
         ensures lacks { IsErr result → lacks self.now path.now }
         ensures text { IfOk result (λ file. Self.Text.remaining file ≡ text self.now path.now) };
+}
+
+/// What a host says of the file of a world on standard error.
+pub trait Advice {
+    /// Says why a file can't be opened, or is no database that is read here, if the host finds the reason; whether it did.
+    fn explains(&self, path: &str) -> bool;
+
+    /// Says that the pages of a file don't have the size at which a batch is fastest, if they don't.
+    fn notes_pages(&self, path: &str);
 }

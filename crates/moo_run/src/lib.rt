@@ -12,7 +12,7 @@ mod session;
 
 pub use ends::Ends;
 pub use files::run_from;
-pub use host::BatchFiles;
+pub use host::{Advice, BatchFiles};
 pub use over::{run_in, run_over};
 pub use run::{run_to_end, run_words};
 pub use session::{Runs, Session, Streams};

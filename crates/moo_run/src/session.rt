@@ -4,11 +4,11 @@ ghost use Rattle.std.specs.Prelude.{◌≡◌, MatchResult};
 ghost use Rattle.moo_run.specs.Given.{Run, given_to};
 ghost use Rattle.moo_run_lines.specs.Lines.{Reports};
 
-use crate::host::BatchFiles;
+use crate::host::{Advice, BatchFiles};
 use moo_files::WorldFiles;
 use moo_http::Ports;
-use moo_run_lines::{Failure, report};
-use sqlite::Start;
+use moo_run_lines::{Failure, put_failure, report};
+use sqlite::{Error, ErrorCode, Start};
 use sqlite_disk::Disk;
 use std::alloc::Global;
 use std::io::{Eprint, Read, Write};
@@ -18,7 +18,7 @@ use std::time::Clock;
 pub trait Streams {
     type File: Start;
 
-    type Host: WorldFiles<Self::File> + BatchFiles + Ports;
+    type Host: WorldFiles<Self::File> + BatchFiles + Ports + Advice;
 
     type Console: Clock + Eprint;
 
@@ -38,6 +38,14 @@ pub struct Session<'s, S: Streams> {
     pub status: u8,
 }
 
+/// Whether the host may know more of a failure of opening than the store does.
+fn is_unread(failure: Failure) -> bool {
+    matches!(
+        failure,
+        Failure::Store(Error::SqliteFailure(ErrorCode::CannotOpen | ErrorCode::DatabaseCorrupt))
+    )
+}
+
 impl<'s, S: Streams> Session<'s, S> {
     /// Writes the line of a failure, and takes its status.
     pub(crate) fn fail(&mut self, failure: Failure)
@@ -46,6 +54,19 @@ impl<'s, S: Streams> Session<'s, S> {
         ensures input { self.new.input ≡ self.old.input }
     {
         self.status = report(self.alloc, self.console, failure, &mut self.output);
+    }
+
+    /// The same of a file that can't be opened. If the host knows why, it says so in place of the store.
+    pub(crate) fn fail_to_open(&mut self, file: &str, failure: Failure)
+        ensures reports { Reports failure (S.Output.contents self.old.output) (S.Output.contents self.new.output) self.new.status }
+        ensures host { self.new.host ≡ self.old.host }
+        ensures input { self.new.input ≡ self.old.input }
+    {
+        if is_unread(failure) && self.host.explains(file) {
+            self.status = put_failure(self.alloc, failure, &mut self.output);
+        } else {
+            self.fail(failure);
+        }
     }
 
     /// Takes the status of a task that is done; or writes the line of its failure, and takes the status of that.

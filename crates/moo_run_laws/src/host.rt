@@ -6,7 +6,7 @@ ghost use Rattle.sqlite_disk.specs.Fuse.{inner_of, calls_left, IsFresh};
 use crate::connections::HaltingConnections;
 use moo_files::WorldFiles;
 use moo_http::Ports;
-use moo_run::BatchFiles;
+use moo_run::{Advice, BatchFiles};
 use sqlite::{Files, Start};
 use sqlite_disk::{Disk, Fuse};
 use sqlite_std_file::OpenError;
@@ -88,6 +88,16 @@ impl<H: BatchFiles> BatchFiles for HaltingHost<H> {
 
     fn open(&self, path: &str) -> IoResult<H::Text> {
         self.inner.open(path)
+    }
+}
+
+impl<H: Advice> Advice for HaltingHost<H> {
+    fn explains(&self, path: &str) -> bool {
+        self.inner.explains(path)
+    }
+
+    fn notes_pages(&self, path: &str) {
+        self.inner.notes_pages(path);
     }
 }
 

@@ -132,6 +132,17 @@ fn put_not_a_dump<W: Write>(alloc: Global, line: u64, output: &mut W) -> u8
     )
 }
 
+/// Writes the line of a failure, and answers its status.
+pub fn put_failure<W: Write>(alloc: Global, failure: Failure, output: &mut W) -> u8
+    ensures { Reports failure (W.contents output.old) (W.contents output.new) result }
+{
+    match failure {
+        Failure::Damaged(kind, key) => put_damage(alloc, kind, key, output),
+        Failure::NotADump(line) => put_not_a_dump(alloc, line, output),
+        _ => put_line(failure.word(), failure.status(), output),
+    }
+}
+
 /// Writes the line of a failure, and answers its status. If the store, the batches, the dump or the port failed, the cause goes to
 /// standard error.
 pub fn report<C: Eprint, W: Write>(
@@ -143,9 +154,5 @@ pub fn report<C: Eprint, W: Write>(
     ensures { Reports failure (W.contents output.old) (W.contents output.new) result }
 {
     explain(console, failure);
-    match failure {
-        Failure::Damaged(kind, key) => put_damage(alloc, kind, key, output),
-        Failure::NotADump(line) => put_not_a_dump(alloc, line, output),
-        _ => put_line(failure.word(), failure.status(), output),
-    }
+    put_failure(alloc, failure, output)
 }

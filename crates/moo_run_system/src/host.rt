@@ -2,18 +2,22 @@
 
 ghost use Rattle.std.specs.Prelude.{None, ⊤};
 
+use crate::front::{has_journal, read_front};
 use moo_desk::SocketDesk;
 use moo_files::{WorldFiles, fresh_files_hold_start};
 use moo_http::Ports;
 use moo_load_reasons::{WHAT_TO_DO, holds_lambdamoo};
 use moo_progress::{DiskChanges, Telling, telling_files};
-use moo_run::BatchFiles;
+use moo_run::{Advice, BatchFiles};
 use sqlite::{FileFrom, Files, Start};
 use sqlite_std_file::OpenError;
 use std::fs::{self, File, Metadata, OpenOptions};
 use std::hash::{BuildHasher, RandomState};
 use std::io::{Error, ErrorKind, Result};
 use std::os::unix::fs::OpenOptionsExt;
+
+/// The size of a page at which a batch is fastest, in bytes.
+const PAGE: u32 = 1024;
 
 /// The files and the ports of the system. Nothing is known of what the files hold, or of the connections that come.
 #[derive(Drop)]
@@ -37,6 +41,33 @@ impl<'a> BatchFiles for System<'a> {
 
     fn open(&self, path: &str) -> Result<File> {
         File::open(self.rt, path)
+    }
+}
+
+impl<'a> Advice for System<'a> {
+    fn explains(&self, path: &str) -> bool {
+        if has_journal(self.rt, path) {
+            let _said = eprintln!(self.rt;
+                "moo: {path}: another program left {path}-journal (open it once by sqlite3)"
+            );
+            return true;
+        }
+        let has_auto_vacuum = read_front(self.rt, path).is_some_and(|front| front.has_auto_vacuum);
+        if has_auto_vacuum {
+            let _said = eprintln!(self.rt;
+                "moo: {path}: has auto_vacuum, which moo doesn't read (sqlite3 {path} 'PRAGMA auto_vacuum=0; VACUUM')"
+            );
+        }
+        has_auto_vacuum
+    }
+
+    fn notes_pages(&self, path: &str) {
+        let size = read_front(self.rt, path).map_or(PAGE, |front| front.page_size);
+        if size != PAGE {
+            let _said = eprintln!(self.rt;
+                "moo: {path}: pages of {size} bytes: a batch takes twice as long (OPERATING, 'Pages')"
+            );
+        }
     }
 }
 

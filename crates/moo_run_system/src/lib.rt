@@ -1,6 +1,7 @@
 //! The program over the system: its command line, its standard streams, its files and its ports.
 #![tactic(auto)]
 
+mod front;
 mod host;
 mod standard;
 
