@@ -1,4 +1,4 @@
-use Rattle.moo_run_lines.proofs.output.report.Goals as goal
+use Rattle.moo_run_lines.proofs.output.put_failure.Goals as goal
 
 pub returns-in-Damaged : goal.returns-in-Damaged
 returns-in-Damaged g c = rw c.in-Damaged.is c.put_damage.ensures
