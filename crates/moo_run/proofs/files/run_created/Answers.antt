@@ -27,11 +27,11 @@ returns-in-Err-clause-runs g c =
     let image = image_at g.S.File.Start in
     let rest = c.in-Err.remains in
     let s = state_of opening_maps in
-    let given = given_to g.S.Input.Read g.S.Host.BatchFiles g.S.Host.WorldFiles.denies g.S.Host.Ports g.S.Host.Source.Arrivals g.S.Host.Source.Reader.Read g.S.Host.Source.Reader.Incoming.fails g.S.Host.Source.Writer.Write c.args.session.now.input c.args.session.now.host c.fail.new.self.host in
+    let given = given_to g.S.Input.Read g.S.Host.BatchFiles g.S.Host.WorldFiles.denies g.S.Host.Ports g.S.Host.Source.Arrivals g.S.Host.Source.Reader.Read g.S.Host.Source.Reader.Incoming.fails g.S.Host.Source.Writer.Write c.args.session.now.input c.args.session.now.host c.fail_to_open.new.self.host in
     let old = g.S.Output.Write.contents c.args.session.now.output in
-    let new = g.S.Output.Write.contents c.fail.new.self.output in
-    let run : Run = record { given = given; before = old; after = new; status = c.fail.new.self.status } in
-    unmade_over c.args.task (image_at g.S.File.Start) run c.requires.anew fault c.in-Err.remains (state_of opening_maps) (begins_opening c.args.task.action given c.requires.load) c.fail.ensures.host
-    (tells_fault fault c.refusal.result old new c.fail.new.self.status (inl c.refusal.ensures) c.fail.ensures.reports)
+    let new = g.S.Output.Write.contents c.fail_to_open.new.self.output in
+    let run : Run = record { given = given; before = old; after = new; status = c.fail_to_open.new.self.status } in
+    unmade_over c.args.task (image_at g.S.File.Start) run c.requires.anew fault c.in-Err.remains (state_of opening_maps) (begins_opening c.args.task.action given c.requires.load) c.fail_to_open.ensures.host
+    (tells_fault fault c.refusal.result old new c.fail_to_open.new.self.status (inl c.refusal.ensures) c.fail_to_open.ensures.reports)
     unmade.of_store unmade.stopped (table_kept (λ found. LeavesState found s) image fault rest unmade) (trees_or_made (λ found. LeavesState found s) image fault rest unmade)
     (unmade.kept Empty) (unmade.kept HalfMade) unmade.spared (state_kept (λ found. LeavesState found s) image fault rest unmade)

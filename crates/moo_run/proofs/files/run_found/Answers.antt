@@ -23,11 +23,11 @@ returns-in-Ok-clause-runs g c =
 pub returns-in-Err-clause-runs : goal.returns-in-Err-clause-runs
 returns-in-Err-clause-runs g c =
     let fault = c.in-Err.fault in
-    let given = given_to g.S.Input.Read g.S.Host.BatchFiles g.S.Host.WorldFiles.denies g.S.Host.Ports g.S.Host.Source.Arrivals g.S.Host.Source.Reader.Read g.S.Host.Source.Reader.Incoming.fails g.S.Host.Source.Writer.Write c.args.session.now.input c.args.session.now.host c.fail.new.self.host in
+    let given = given_to g.S.Input.Read g.S.Host.BatchFiles g.S.Host.WorldFiles.denies g.S.Host.Ports g.S.Host.Source.Arrivals g.S.Host.Source.Reader.Read g.S.Host.Source.Reader.Incoming.fails g.S.Host.Source.Writer.Write c.args.session.now.input c.args.session.now.host c.fail_to_open.new.self.host in
     let old = g.S.Output.Write.contents c.args.session.now.output in
-    let new = g.S.Output.Write.contents c.fail.new.self.output in
-    let run : Run = record { given = given; before = old; after = new; status = c.fail.new.self.status } in
-    let reports = tells_fault fault c.refusal_of-failure.result old new c.fail.new.self.status c.refusal_of-failure.ensures c.fail.ensures.reports in
+    let new = g.S.Output.Write.contents c.fail_to_open.new.self.output in
+    let run : Run = record { given = given; before = old; after = new; status = c.fail_to_open.new.self.status } in
+    let reports = tells_fault fault c.refusal_of-failure.result old new c.fail_to_open.new.self.status c.refusal_of-failure.ensures c.fail_to_open.ensures.reports in
     record {
       anew = λ anew. never_anew c.args.task c.requires.other anew;
       over = λ other held holds clean. refused_onto (image_at g.S.File.Start) fault c.in-Err.remains run held (c.in-Err.ensures.refuses held holds clean) reports;
@@ -38,7 +38,7 @@ returns-in-Err-clause-runs g c =
       spares = λ some whole. c.in-Err.ensures.refused.spared some;
       fresh = λ anew. never_anew c.args.task c.requires.other anew;
       begun = λ anew. never_anew c.args.task c.requires.other anew;
-      rests = c.fail.ensures.host;
+      rests = c.fail_to_open.ensures.host;
       told = inl (fault, c.in-Err.ensures.refused.stopped, reports);
       cause = λ other s holds clean.
           (fault, (c.in-Err.ensures.refuses (Database holds.trees) holds.holds clean).state s holds.such, c.in-Err.ensures.stopped s holds clean, reports);

@@ -47,15 +47,15 @@ returns-in-Err-load_from-clause-runs g c =
     let unmade = c.in-Err-load_from.ensures.makes in
     let image = image_at g.S.File.Start in
     let rest = c.in-Err-load_from.remains in
-    let given = given_to g.S.Input.Read g.S.Host.BatchFiles g.S.Host.WorldFiles.denies g.S.Host.Ports g.S.Host.Source.Arrivals g.S.Host.Source.Reader.Read g.S.Host.Source.Reader.Incoming.fails g.S.Host.Source.Writer.Write c.args.session.now.input c.args.session.now.host c.fail-in-Err-load_from.new.self.host in
+    let given = given_to g.S.Input.Read g.S.Host.BatchFiles g.S.Host.WorldFiles.denies g.S.Host.Ports g.S.Host.Source.Arrivals g.S.Host.Source.Reader.Read g.S.Host.Source.Reader.Incoming.fails g.S.Host.Source.Writer.Write c.args.session.now.input c.args.session.now.host c.fail_to_open.new.self.host in
     let s = state_of c.in-Ok.rows.maps in
     let begins = begins_dumped c.args.task.action given c.args.dump.now s c.requires.load c.requires.word c.in-Ok.ensures.dumped (held_rows c.in-Ok.rows.maps c.in-Ok.ensures.good c.in-Ok.ensures.limit) in
     let old = g.S.Output.Write.contents c.args.session.now.output in
-    let new = g.S.Output.Write.contents c.fail-in-Err-load_from.new.self.output in
-    let status = c.fail-in-Err-load_from.new.self.status in
+    let new = g.S.Output.Write.contents c.fail_to_open.new.self.output in
+    let status = c.fail_to_open.new.self.status in
     let run : Run = record { given = given; before = old; after = new; status = status } in
-    unmade_over c.args.task (image_at g.S.File.Start) run (load_begins c.args.task c.requires.load) fault c.in-Err-load_from.remains s begins c.fail-in-Err-load_from.ensures.host
-    (tells_fault fault c.refusal.result old new status (inl c.refusal.ensures) c.fail-in-Err-load_from.ensures.reports)
+    unmade_over c.args.task (image_at g.S.File.Start) run (load_begins c.args.task c.requires.load) fault c.in-Err-load_from.remains s begins c.fail_to_open.ensures.host
+    (tells_fault fault c.refusal.result old new status (inl c.refusal.ensures) c.fail_to_open.ensures.reports)
     unmade.of_store unmade.stopped (table_kept (λ found. LeavesState found s) image fault rest unmade) (trees_or_made (λ found. LeavesState found s) image fault rest unmade)
     (unmade.kept Empty) (unmade.kept HalfMade) unmade.spared (state_kept (λ found. LeavesState found s) image fault rest unmade)
 
@@ -69,4 +69,4 @@ pub returns-in-Ok-load_from-clause-input : goal.returns-in-Ok-load_from-clause-i
 returns-in-Ok-load_from-clause-input g c other = c.run_in_files.ensures.input other ∙ c.in-Ok.ensures.input (keeps_input c.args.task c.args.dump.now c.requires.load c.requires.word other)
 
 pub returns-in-Err-load_from-clause-input : goal.returns-in-Err-load_from-clause-input
-returns-in-Err-load_from-clause-input g c other = c.fail-in-Err-load_from.ensures.input ∙ c.in-Ok.ensures.input (keeps_input c.args.task c.args.dump.now c.requires.load c.requires.word other)
+returns-in-Err-load_from-clause-input g c other = c.fail_to_open.ensures.input ∙ c.in-Ok.ensures.input (keeps_input c.args.task c.args.dump.now c.requires.load c.requires.word other)
