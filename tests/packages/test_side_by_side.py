@@ -132,6 +132,17 @@ class TestCommand(unittest.TestCase):
             self.assertFalse(Path("/proc", (self.top / "begun").read_text()).exists(), "what it started has ended")
             self.assertEqual(list(self.temporary.iterdir()), [])
 
+    def test_a_folder_in_which_no_program_can_be_run(self) -> None:
+        self.module("good", PASSES)
+        mounted = ["unshare", "--map-root-user", "--mount", "sh", "-c", 'mount -t tmpfs -o noexec tmpfs "$0" && exec "$@"', str(self.temporary)]
+        tried = subprocess.run([*mounted, "true"], capture_output=True, text=True) if shutil.which("unshare") else None
+        if not tried or tried.returncode:
+            self.skipTest(f"this machine mounts nothing: {tried.stderr.strip() if tried else 'the command unshare is missing'}")
+        env = {**os.environ, "TMPDIR": str(self.temporary)}
+        ran = subprocess.run([*mounted, sys.executable, ".ci/test", "lamps"], cwd=self.top, env=env, capture_output=True, text=True, timeout=SECONDS)
+        self.assertEqual((ran.returncode, ran.stdout.splitlines()[-1]), (0, "3 passed, 0 failed"))
+        self.assertIn(f"no program can be run in {self.temporary} (is it mounted noexec?): the tests use /", ran.stderr)
+
     def test_words_that_mean_nothing(self) -> None:
         self.module("good", PASSES)
         for word, said in (("lamp", "no subject is named lamp; there are lamps, "), ("-j0", "a number from 1 on"), ("-k", "has no word -k")):
