@@ -56,7 +56,9 @@ class TestCommand(unittest.TestCase):
         shutil.copy(TOP / ".ci/test", self.top / ".ci/test")
         for path in (TOP / ".ci/testing").glob("*.py"):
             shutil.copy(path, self.top / ".ci/testing" / path.name)
-        (self.top / ".ci/testing/alone.py").write_text('ALONE = {"lamps.first_alone": "", "lamps.second_alone": ""}\n')
+        order = self.top / ".ci/testing/order.py"
+        changed = re.sub(r"(?s)ALONE = \{.*?\n\}", 'ALONE = {"lamps.first_alone": "", "lamps.second_alone": ""}', order.read_text())
+        order.write_text(re.sub(r"(?s)FIRST = \(.*?\n\)", 'FIRST = ("lamps.third", "lamps.second")', changed))
         (self.top / ".ci/lint/tidy.py").write_text('def cases():\n    yield "a", ""\n    yield "b", None\n')
         (self.top / "tests/lamps").mkdir(parents=True)
         (self.top / "tests/__init__.py").touch()
@@ -130,17 +132,35 @@ class TestCommand(unittest.TestCase):
             self.assertFalse(Path("/proc", (self.top / "begun").read_text()).exists(), "what it started has ended")
             self.assertEqual(list(self.temporary.iterdir()), [])
 
+    def test_a_folder_in_which_no_program_can_be_run(self) -> None:
+        self.module("good", PASSES)
+        mounted = ["unshare", "--map-root-user", "--mount", "sh", "-c", 'mount -t tmpfs -o noexec tmpfs "$0" && exec "$@"', str(self.temporary)]
+        tried = subprocess.run([*mounted, "true"], capture_output=True, text=True) if shutil.which("unshare") else None
+        if not tried or tried.returncode:
+            self.skipTest(f"this machine mounts nothing: {tried.stderr.strip() if tried else 'the command unshare is missing'}")
+        env = {**os.environ, "TMPDIR": str(self.temporary)}
+        ran = subprocess.run([*mounted, sys.executable, ".ci/test", "lamps"], cwd=self.top, env=env, capture_output=True, text=True, timeout=SECONDS)
+        self.assertEqual((ran.returncode, ran.stdout.splitlines()[-1]), (0, "3 passed, 0 failed"))
+        self.assertIn(f"no program can be run in {self.temporary} (is it mounted noexec?): the tests use /", ran.stderr)
+
     def test_words_that_mean_nothing(self) -> None:
         self.module("good", PASSES)
         for word, said in (("lamp", "no subject is named lamp; there are lamps, "), ("-j0", "a number from 1 on"), ("-k", "has no word -k")):
             status, lines = self.ran(word)
             self.assertEqual((status, len(lines), said in lines[0]), (1, 1, True), lines)
 
-    def test_each_module_that_runs_alone_is_there(self) -> None:
-        names = re.findall(r'^    "([a-z_.]+)": ', (TOP / ".ci/testing/alone.py").read_text(), re.MULTILINE)
-        self.assertGreater(len(names), 10)
+    def test_the_longest_begin_first(self) -> None:
+        for name in ("first", "second", "third"):
+            self.module(name, PASSES)
+        _, lines = self.ran("-j1", "lamps")
+        self.assertEqual([line.split(" ")[1] for line in lines[:-1]], ["lamps.third:", "lamps.second:", "lamps.first:"])
+
+    def test_each_module_that_has_its_place_is_there(self) -> None:
+        names = re.findall(r'^    "([a-z_.]+)"[:,]', (TOP / ".ci/testing/order.py").read_text(), re.MULTILINE)
+        self.assertGreater(len(names), 20)
         for name in names:
-            self.assertTrue((TOP / f"tests/{name.replace('.', '/test_')}.py").is_file(), name)
+            file = f"tests/{name.replace('.', '/test_')}.py" if "." in name else f".ci/lint/{name}.py"
+            self.assertTrue((TOP / file).is_file(), name)
 
 
 if __name__ == "__main__":

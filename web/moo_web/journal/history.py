@@ -34,6 +34,19 @@ class StillRead(Exception):
     """The journal is still being read."""
 
 
+class Moments(Sequence[float]):
+    """The moments of batches at some places, each read when it is looked at: `bisect` of Python 3.9 takes no key."""
+
+    def __init__(self, places: Sequence[int], moment_at: Callable[[int], float]) -> None:
+        self.places, self.moment_at = places, moment_at
+
+    def __len__(self) -> int:
+        return len(self.places)
+
+    def __getitem__(self, at: Any) -> Any:
+        return self.moment_at(self.places[at])
+
+
 class Batches(NamedTuple):
     """Some batches, the newest first, each with its place; how many there are in all; and the place to go on from, None after the last."""
 
@@ -111,8 +124,9 @@ class SegmentBatches(NamedTuple):
 
     def between(self, places: Sequence[int], since: float | None, until: float | None) -> Sequence[int]:
         """Those of these places whose batches were made between two moments, as far as the clock went forward."""
-        first = 0 if since is None else bisect.bisect_left(places, since, key=self.moment_at)
-        last = len(places) if until is None else bisect.bisect_right(places, until, key=self.moment_at)
+        moments = Moments(places, self.moment_at)
+        first = 0 if since is None else bisect.bisect_left(moments, since)
+        last = len(places) if until is None else bisect.bisect_right(moments, until)
         return places[first:last]
 
     def moment_at(self, place: int) -> float:
@@ -236,7 +250,7 @@ class History:
 
     def part_with(self, place: int) -> SegmentBatches | None:
         """The part that has the batch at a place."""
-        at = bisect.bisect_right(self.parts, place, key=lambda part: part.first) - 1
+        at = bisect.bisect_right([part.first for part in self.parts], place) - 1
         return self.parts[at] if at >= 0 and place < self.parts[at].end else None
 
     def read(self, places: list[int]) -> Iterator[tuple[int, Accepted]]:

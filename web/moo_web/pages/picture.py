@@ -6,7 +6,7 @@ units of rows and stretched to the cell, and nothing has to know how wide the re
 
 from __future__ import annotations
 
-from typing import NamedTuple
+from typing import NamedTuple, Union
 
 from moo_web.world.trees import Node
 
@@ -41,7 +41,7 @@ class More(NamedTuple):
     kind: str = "more"
 
 
-Rows = list[list[Name | Lines | More]]
+Rows = list[list[Union[Name, Lines, More]]]
 
 
 def drawn(node: Node) -> Rows:
