@@ -101,6 +101,9 @@ class OfPeople(Scene):
             wizard.sees("The account is gone.", "Players without an account", "Ada #4")
             ada.open("/you")
             ada.sees("Sign in")
+            said = self.front.said()
+            self.assertIn(": wizard removed ada, #5\n", said)
+            self.assertNotIn(PASSWORD, said)
 
     def test_all(self):
         for scene in (self.somebody_new, self.kept_out):
