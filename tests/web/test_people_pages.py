@@ -191,6 +191,17 @@ class ALink(PeopleTest):
             self.assertEqual(self.nobody().post("/link", fields, **lines).status, 403)
         self.assertEqual(self.people.links.whose(key), "ada")
 
+    def test_it_has_the_address_by_which_the_browser_asked(self):
+        form = self.wizard.typed("Sign out")["form"]
+        for host, origin, wanted in (
+            ("world.example.org", "https://world.example.org", "https://world.example.org/link?key="),
+            ("world.example.org", "", "https://world.example.org/link?key="), ("127.0.0.1:8088", "", "http://127.0.0.1:8088/link?key="),
+            ("[::1]:8088", "null", "http://[::1]:8088/link?key="), ("world.example.org", "https://evil.example", "https://world.example.org/link?key="),
+        ):  # fmt: skip
+            with self.subTest(host=host, origin=origin):
+                page = self.wizard.post("/people/ada/link", {"form": form}, Host=host, Origin=origin)
+                self.assertIn(f'value="{wanted}', page.html)
+
     def test_no_secret_is_told(self):
         self.nobody().get(self.link)
         self.assertNotIn(self.link.partition("=")[2], "\n".join(self.told))
