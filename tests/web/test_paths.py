@@ -9,7 +9,7 @@ use_web()
 
 from moo_web.paths import PATHS, Path, form_for, url_for  # noqa: E402
 
-GIVEN = {"number": 5, "links": "owned", "tree": "places", "batch": 9, "key": "add-verb"}
+GIVEN = {"number": 5, "links": "owned", "tree": "places", "batch": 9, "key": "add-verb", "name": "Ada.2"}
 NAMED = re.compile(r'url_for\("([a-z]+)"')
 
 

@@ -12,6 +12,8 @@ import re
 from typing import Any, Callable, NamedTuple
 from urllib.parse import quote
 
+from moo_web.people.person import PERSON_NAME
+
 
 class Kind(NamedTuple):
     """What a part of an address may be, and what it is read as."""
@@ -24,6 +26,7 @@ KINDS = {
     "number": Kind("[0-9]{1,10}", int),
     "batch": Kind("[0-9]{1,19}", int),
     "key": Kind("[a-z-]{1,40}", str),
+    "name": Kind(PERSON_NAME.pattern, str),
     "links": Kind("children|contents|owned", str),
     "tree": Kind("parents|places|exits", str),
     # The number of an object as moo takes it, or mistakes it.
@@ -73,9 +76,10 @@ PATHS = {
     name: Path(text) for name, text in {
         "home": "/", "find": "/find", "nowhere": "/nowhere", "roots": "/roots", "map": "/map", "tree": "/map/<tree>",
         "object": "/o/<number>", "list": "/o/<number>/<links>", "property": "/o/<number>/property",
-        "history": "/history", "batch": "/history/<batch>", "done": "/done/<batch>", "undo": "/undo/<batch>", "differences": "/differences", "people": "/people",
+        "history": "/history", "batch": "/history/<batch>", "done": "/done/<batch>", "undo": "/undo/<batch>", "differences": "/differences",
+        "people": "/people", "person": "/people/<name>", "deed": "/people/<name>/<key>", "link": "/link",
         "forms": "/do", "form": "/do/<key>", "editor": "/batch", "petitions": "/petitions", "quotas": "/quotas",
-        "in": "/in", "out": "/out", "you": "/you", "password": "/you/password", "zone": "/you/zone",
+        "in": "/in", "out": "/out", "you": "/you", "password": "/you/password", "zone": "/you/zone", "token": "/you/token", "end": "/you/end",
         "programs": "/api", "sheet": "/style.css", "icon": "/icon.svg",
     }.items()
 }  # fmt: skip

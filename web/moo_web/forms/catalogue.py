@@ -160,7 +160,7 @@ CHANGING = (
         who="wizards", blame={"set E_PROPNF": "how", "add_property E_INVARG": "how", "set": "object", "add_property": "object"},
     ),
     Form(
-        "player", "Somebody new", "A player’s object and its quota. You own both: people who own their object can rid it of its quota.",
+        "player", "A player’s object", "With its quota, and without an account. You own both: people who own their object can rid it of its quota.",
         (
             Field("name", "Name", "text", "What the object is called."),
             Field("parent", "Parent", "place", "What it inherits from: an object that is fertile or yours.", default="#1"),

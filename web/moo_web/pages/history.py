@@ -1,4 +1,4 @@
-"""The pages of what was done: all, by an object, a person and a time, one batch; and the people, for wizards."""
+"""The pages of what was done: all, by an object, a person and a time, and one batch."""
 
 from __future__ import annotations
 
@@ -10,7 +10,6 @@ from moo_web.app import Reply
 from moo_web.journal.history import Batches, History
 from moo_web.pages.batches import Telling, concerns, told, without_unreadable
 from moo_web.pages.pages import Visit
-from moo_web.people.people import People
 
 PAGE = 50
 # So many objects are offered for a name that several have.
@@ -76,10 +75,3 @@ def one(visit: Visit, history: History, number: int, is_done: bool = False) -> R
         return visit.refused("not found", 404)
     shown = told(visit, history, batch)
     return visit.page("pages/one_batch.html", batch=batch, told=shown, is_done=is_done and batch.who.lower() == visit.name.lower())
-
-
-def people(visit: Visit, accounts: People) -> Reply:
-    """Who has an account, for wizards."""
-    if not visit.is_wizard:
-        return visit.refused("forbidden", 403)
-    return visit.page("pages/people.html", people=accounts.all())

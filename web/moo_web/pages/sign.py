@@ -1,25 +1,26 @@
-"""The pages to sign in and out, and a person's own: the password, and the zone of time."""
+"""The pages to sign in and out, and the page to which a link for a password leads."""
 
 from __future__ import annotations
 
 from moo_web.app import Reply, Request
-from moo_web.pages.moments import zone_names
 from moo_web.pages.pages import LONGEST_KEPT, Pages, Visit, went
 from moo_web.paths import url_for
 from moo_web.people import sessions
 from moo_web.people.file import Wrong
+from moo_web.people.log import PeopleLog
 from moo_web.people.people import Crowded, People, TooMany, WrongPassword
 
 SHORTEST_PASSWORD = 8
 # A form that was kept comes with up to three letters for each of its own.
 LONGEST_SIGN_IN = 4 * LONGEST_KEPT
+CROWDED = "Too many people sign in at this moment. Try again."
 
 
 class Sign:
     """What these pages do."""
 
-    def __init__(self, pages: Pages, people: People) -> None:
-        self.pages, self.people = pages, people
+    def __init__(self, pages: Pages, people: People, log: PeopleLog) -> None:
+        self.pages, self.people, self.log = pages, people, log
 
     def form(self, request: Request) -> Reply:
         """The page to sign in."""
@@ -39,7 +40,7 @@ class Sign:
         except TooMany as wait:
             return self.pages.sign_in(request, 429, to, told_wait(wait), name, ("Retry-After", str(int(wait.seconds) + 1)), kept=kept)
         except Crowded:
-            return self.pages.sign_in(request, 503, to, "Too many people sign in at this moment. Try again.", name, kept=kept)
+            return self.pages.sign_in(request, 503, to, CROWDED, name, kept=kept)
         self.people.sign_out(sessions.secret_of(request))
         cookie = sessions.new_cookie(signed.secret)
         shown = self.pages.resumed(request, signed.session, to, sessions.kept_fields(kept)) if kept else None
@@ -50,36 +51,50 @@ class Sign:
         self.people.sign_out(sessions.secret_of(visit.request))
         return went(url_for("in", said="out"), sessions.no_cookie())
 
-    def own(self, visit: Visit, wrong: str = "", status: int = 200) -> Reply:
-        """A person's own page."""
-        return visit.page("pages/you.html", status, wrong=wrong, zones=zone_names(), shortest=SHORTEST_PASSWORD)
+    # Links for a password
 
-    def set_password(self, visit: Visit) -> Reply:
-        """A new password, for who knows the old one. All sessions end, this one too."""
-        old, new = visit.form.get("old", ""), visit.form.get("new", "")
-        if new != visit.form.get("again", ""):
-            return self.own(visit, "The two new passwords aren’t the same.", 400)
-        if len(new) < SHORTEST_PASSWORD:
-            return self.own(visit, f"A new password has at least {SHORTEST_PASSWORD} letters.", 400)
+    def link(self, request: Request) -> Reply:
+        """The page to which a link leads. It can be loaded again and again: the link is used when the password is sent."""
+        return self.link_page(request, request.fields().get("key", ""))
+
+    def link_page(self, request: Request, secret: str, wrong: str = "", status: int = 200) -> Reply:
+        """The same, with what is wrong with a password that was sent."""
+        name = self.people.links.whose(secret)
+        return self.pages.made(
+            "pages/link.html", status if name else 404, request, name=name, secret=secret, wrong=wrong, shortest=SHORTEST_PASSWORD
+        )
+
+    def use_link(self, request: Request) -> Reply:
+        """Sets the password, and signs in. An older session of this browser ends."""
+        if not sessions.is_from_here(request):
+            return self.pages.error(request, Reply(403), {"error": "another page"})
+        form = request.form()
+        secret = form.get("key", "")
         try:
-            self.people.sign_in(visit.name, old, visit.request.address)
-            self.people.set_password(visit.name, new)
-        except WrongPassword:
-            return self.own(visit, "That isn’t your present password.", 403)
-        except TooMany as wait:
-            return self.own(visit, told_wait(wait), 429)
-        except Crowded:
-            return self.own(visit, "Too many people sign in at this moment. Try again.", 503)
+            name = self.people.links.use(secret, new_password(form))
         except Wrong as wrong:
-            return self.own(visit, f"It can’t be a password: {wrong}.", 400)
-        return went(url_for("in", said="password"), sessions.no_cookie())
+            return self.link_page(request, secret, sentence(str(wrong)), 400)
+        signed = self.people.enter(name, request.address) if name else None
+        if name is None or signed is None:
+            return self.link_page(request, secret)
+        self.log(name, "set a password by a link")
+        self.people.sign_out(sessions.secret_of(request))
+        return went(url_for("home"), sessions.new_cookie(signed.secret))
 
-    def set_zone(self, visit: Visit) -> Reply:
-        """The zone in which times are shown."""
-        zone = visit.form.get("zone", "")
-        if zone not in zone_names():
-            return visit.refused("bad request", 400)
-        return went(url_for("you", said="zone"), sessions.zone_cookie(zone))
+
+def new_password(form: dict[str, str]) -> str:
+    """The password that was typed twice. `Wrong`: it can't be taken."""
+    new = form.get("new", "")
+    if new != form.get("again", ""):
+        raise Wrong("the two new passwords aren’t the same")
+    if len(new) < SHORTEST_PASSWORD:
+        raise Wrong(f"a new password has at least {SHORTEST_PASSWORD} letters")
+    return new
+
+
+def sentence(text: str) -> str:
+    """A text that begins in small letters as a sentence."""
+    return f"{text[:1].upper()}{text[1:]}."
 
 
 def told_wait(wait: TooMany) -> str:

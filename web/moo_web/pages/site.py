@@ -6,6 +6,7 @@ from moo_web.app import App
 from moo_web.forms.editor import BatchPages
 from moo_web.forms.handlers import FormPages
 from moo_web.forms.inbox import PetitionPages
+from moo_web.forms.newcomers import NewcomerPages
 from moo_web.forms.previews import Previews
 from moo_web.forms.undo import UndoPages
 from moo_web.forms.questions import Questions
@@ -14,10 +15,13 @@ from moo_web.journal.recent import Recent
 from moo_web.journal.writer import Writer
 from moo_web.pages import history as done
 from moo_web.pages import home, lists, maps, objects, programs
+from moo_web.pages.accounts import AccountPages
 from moo_web.pages.differences import differences
+from moo_web.pages.own import OwnPages
 from moo_web.pages.pages import Pages
 from moo_web.pages.sight import SightNames
 from moo_web.pages.sign import Sign
+from moo_web.people.log import PeopleLog
 from moo_web.people.people import People
 from moo_web.world.asking import Asker
 from moo_web.world.definers import Definers
@@ -32,25 +36,43 @@ def make_pages(
     writer.listeners.append(index.take)
     pages = Pages(app, people, index, asker, history, rate)
     pages.open("GET", "programs", lambda request: programs.page(pages, request))
-    add_pages_to_sign_in(pages, people)
-    add_pages_to_read(pages, people, history, Definers(index, asker), names)
+    log = PeopleLog(app.tell, people.clock)
+    add_pages_to_sign_in(pages, people, log)
+    add_pages_to_read(pages, history, Definers(index, asker), names)
     recent = Recent(writer, history)
-    add_pages_to_change(pages, Previews(Questions(writer.door), writer, recent), recent, history)
+    previews = Previews(Questions(writer.door), writer, recent)
+    add_pages_to_change(pages, previews, recent, history)
+    add_pages_of_people(pages, people, log, previews, recent)
     return pages
 
 
-def add_pages_to_sign_in(pages: Pages, people: People) -> None:
+def add_pages_to_sign_in(pages: Pages, people: People, log: PeopleLog) -> None:
     """The pages to sign in and out, and a person's own."""
-    sign = Sign(pages, people)
+    sign, own = Sign(pages, people, log), OwnPages(people, log)
     pages.open("GET", "in", sign.form)
     pages.open("POST", "in", sign.sign_in)
+    pages.open("GET", "link", sign.link)
+    pages.open("POST", "link", sign.use_link)
     pages.post("out", sign.sign_out)
-    pages.get("you", sign.own)
-    pages.post("password", sign.set_password)
-    pages.post("zone", sign.set_zone)
+    pages.get("you", own.show)
+    pages.post("password", own.set_password)
+    pages.post("zone", own.set_zone)
+    pages.post("token", own.make_token)
+    pages.post("end", own.end)
 
 
-def add_pages_to_read(pages: Pages, people: People, history: History, definers: Definers, names: SightNames) -> None:
+def add_pages_of_people(pages: Pages, people: People, log: PeopleLog, previews: Previews, recent: Recent) -> None:
+    """The pages by which wizards see people, let them in and keep them out."""
+    accounts = AccountPages(people, log)
+    newcomers = NewcomerPages(previews, recent, people, log, accounts.show)
+    pages.get("people", newcomers.all)
+    pages.post("people", newcomers.add, is_kept=True)
+    pages.get("person", accounts.show)
+    pages.get("deed", accounts.preview)
+    pages.post("deed", accounts.act)
+
+
+def add_pages_to_read(pages: Pages, history: History, definers: Definers, names: SightNames) -> None:
     """The pages of what is there, and of what was done."""
     pages.get("home", lambda visit: home.home(visit, history, names))
     pages.get("find", lambda visit: lists.find(visit, definers))
@@ -65,7 +87,6 @@ def add_pages_to_read(pages: Pages, people: People, history: History, definers: 
     pages.get("batch", lambda visit, number: done.one(visit, history, number))
     pages.get("differences", lambda visit: differences(visit, history))
     pages.get("done", lambda visit, number: done.one(visit, history, number, is_done=True))
-    pages.get("people", lambda visit: done.people(visit, people))
 
 
 def add_pages_to_change(pages: Pages, previews: Previews, recent: Recent, history: History) -> None:

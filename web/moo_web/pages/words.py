@@ -16,6 +16,11 @@ SAID = {
     "asked": "A wizard is asked for it. You find it under Petitions until it is decided.",
     "granted": "The petition is granted: all of it was done.",
     "declined": "The petition is gone, and nothing else has changed.",
+    "ended": "It has ended.",
+    "disabled": "This person can’t come in any more. All sessions and tokens have ended.",
+    "enabled": "This person may come in again, with the old password.",
+    "removed": "The account is gone.",
+    "renumbered": "This person acts as another object now.",
 }
 
 # What an answer that isn't a page means: its title, and a text for people.

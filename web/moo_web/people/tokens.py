@@ -48,6 +48,10 @@ class Token(NamedTuple):
     used: float | None
     is_read_only: bool
 
+    def has_ended(self, now: float) -> bool:
+        """Whether its time is over."""
+        return self.until is not None and self.until <= now
+
 
 class Bearer(NamedTuple):
     """Whose token came, and whether it is for reading alone."""

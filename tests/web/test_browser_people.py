@@ -1,0 +1,126 @@
+"""People in a real browser without scripts, with the mouse and with the keyboard alone at 320 pixels: a wizard adds somebody, who chooses a
+password, makes a token and ends it; then somebody is kept out, gets another object and is removed. `PICTURES` in the environment is a folder
+for a picture of each page."""
+
+import os
+import pathlib
+import unittest
+
+from tests.support import browser
+from tests.support.web import PASSWORD
+from tests.web.test_browser_forms import Person, Scene
+
+PICTURES = os.environ.get("PICTURES")
+NEW = "a new password"
+# What can be pressed is at least so many pixels high.
+LEAST_HEIGHT = 24
+PRESSED = "main button:not(.hidden), main a.press, main summary, main input:not([type=hidden]):not([type=checkbox]), main select"
+
+
+class Newcomer(Person):
+    """Somebody who comes by a link, and has no password yet."""
+
+    def __init__(self, test, link, width, by_keys):
+        self.test, self.by_keys, self.width = test, by_keys, width
+        self.driver = browser.browser(width)
+        self.open(link)
+
+
+class OfPeople(Scene):
+    """The scenes."""
+
+    def shown(self, person, name):
+        """Each thing that can be pressed is high enough; a picture of the page is taken."""
+        person.fits()
+        for element in person.driver.find_elements("css selector", PRESSED):
+            if element.is_displayed():
+                self.assertGreaterEqual(element.size["height"], LEAST_HEIGHT, f"{name}: {element.get_attribute('outerHTML')[:120]}")
+        if PICTURES:
+            browser.picture(person.driver, pathlib.Path(PICTURES) / f"{self.width}-{name}.png")
+
+    def somebody_new(self):
+        with self.at("wizard") as (wizard,):
+            wizard.follow("People")
+            self.shown(wizard, "1-people")
+            wizard.act_on(wizard.driver.find_element("css selector", "main summary"), "\ue007")
+            wizard.fill("f-account", "dora")
+            self.shown(wizard, "2-form")
+            wizard.press("Add")
+            wizard.sees("Give dora this link", "Acts as dora #9", "100 more objects")
+            self.shown(wizard, "3-added")
+            link = wizard.driver.find_element("id", "link").get_attribute("value")
+            self.assertTrue(link.startswith(f"http://127.0.0.1:{self.front.port}/link?key="), link)
+            dora = Newcomer(self, link.partition(f":{self.front.port}")[2], self.width, self.by_keys)
+            try:
+                self.newcomer(dora)
+            finally:
+                dora.driver.quit()
+
+    def newcomer(self, dora):
+        dora.sees("You are dora here")
+        self.shown(dora, "4-link")
+        dora.fill("new", NEW)
+        dora.fill("again", NEW)
+        dora.press("Keep it, and come in")
+        dora.sees("Signed in as dora, dora #9")
+        dora.open("/you")
+        dora.fill("label", "a bot")
+        dora.press("Make a token")
+        dora.sees("The new token.", "a bot")
+        self.shown(dora, "5-you")
+        row = dora.driver.find_element("xpath", "//section[@aria-labelledby='tokens']//td[contains(., 'a bot')]/..//button")
+        dora.leave(row)
+        dora.sees("It has ended.")
+
+    def kept_out(self):
+        with self.at("wizard", "ada") as (wizard, ada):
+            wizard.open("/people/ada")
+            self.shown(wizard, "6-person")
+            wizard.follow("Keep out")
+            wizard.sees("This would be done", "ada can’t sign in any more")
+            self.shown(wizard, "7-keep-out")
+            wizard.press("Do it")
+            wizard.sees("can’t come in any more", "disabled")
+            ada.open("/you")
+            ada.sees("Sign in")
+            wizard.press("Let in again")
+            ada.fill("name", "ada")
+            ada.fill("password", PASSWORD)
+            ada.press("Sign in")
+            ada.sees("Signed in as ada")
+            wizard.follow("Another object")
+            wizard.fill("number", "Bram")
+            wizard.press("Preview")
+            self.shown(wizard, "8-another-object")
+            wizard.press("Do it")
+            ada.open("/you")
+            ada.sees("Signed in as ada, Bram #5")
+            wizard.follow("Remove")
+            self.shown(wizard, "9-remove")
+            wizard.press("Do it")
+            wizard.sees("The account is gone.", "Players without an account", "Ada #4")
+            ada.open("/you")
+            ada.sees("Sign in")
+            said = self.front.said()
+            self.assertIn(": wizard removed ada, #5\n", said)
+            self.assertNotIn(PASSWORD, said)
+
+    def test_all(self):
+        for scene in (self.somebody_new, self.kept_out):
+            with self.subTest(scene=scene.__name__):
+                self.play(scene)
+
+
+class WithTheMouse(OfPeople):
+    """In a wide window."""
+
+
+class WithTheKeyboard(OfPeople):
+    """At 320 pixels, without a mouse."""
+
+    width, by_keys = 320, True
+
+
+def load_tests(loader, tests, pattern):
+    """Only the two kinds: the scenes are another module's."""
+    return unittest.TestSuite([loader.loadTestsFromTestCase(each) for each in (WithTheMouse, WithTheKeyboard)])
