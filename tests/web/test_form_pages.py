@@ -158,7 +158,7 @@ class Mistakes(FormsTest):
         )  # fmt: skip
         self.assertEqual(ada.typed()["value"].replace("\r\n", "\n"), typed.replace("\r\n", "\n"))
         page = ada.send("Keep the lines, as a list of texts")
-        self.has(page, 'set(Lamp #8, "weight", {"Cafe \\"??\\".", "", "It is closed."})'.replace("#8,", "#8 ,"), status=200)
+        self.has(page, 'set(Lamp #8 , "weight", {"Cafe \\"??\\".", "", "It is closed."})', status=200)
         self.is_done(ada.send("Do it"))
 
     def test_a_name_of_several_is_chosen(self):
