@@ -119,7 +119,7 @@ class Parts(IndexTest):
         world = self.check()
         self.assertEqual((world.things[1].name, world.things[1].has("f")), ("root", True))
         self.assertEqual([path for path in self.asked if path.startswith(("/object/", "/objects/0", "/objects/1"))], [])
-        self.write("wizard", f"chparent({first}, #-1)", *[f"chparent(#{number}, {first})" for number in range(310, 5, -1) if number % 3 == 0])
+        self.write("wizard", f"chparent({first}, #-1)", *[f"chparent(#{number}, {first})" for number in range(300, 5, -3)])
         self.check()
         self.write("wizard", f"recycle({first})", "recycle(#0)")
         self.check()
