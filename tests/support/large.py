@@ -161,8 +161,11 @@ class Measured:
 
     @staticmethod
     def must(guest: Guest, path: str) -> bytes:
-        """A page that has to be there."""
+        """A page that has to be there. On a busy machine the front may say that moo doesn't answer in time: then it is asked again."""
+        end = time.monotonic() + SECONDS
         status, text = guest.asked("GET", path)
+        while status == 503 and time.monotonic() < end:
+            status, text = guest.asked("GET", path)
         if status not in (200, 303):
             raise AssertionError(f"{path} was answered {status}: {text[:300]!r}")
         return text

@@ -146,6 +146,21 @@ class Mistakes(FormsTest):
         page = ada.send("Use “Cafe”")
         self.has(page, "Lamp #8 is called “Cafe”.", status=200)
 
+    def test_what_was_typed_stays_and_what_is_lost_is_said(self):
+        """Letters of other alphabets become question marks, and lines can be kept: nothing is dropped unseen."""
+        ada = self.somebody("ada")
+        ada.get("/do/set?object=%238&name=weight")
+        typed = "Café “日本”.\r\n\r\nIt is closed."
+        page = ada.send("Preview", value=typed, value__kind="text")
+        self.has(
+            page, "“é”, letter 4, can’t be kept", "“Cafe \"??\". It is closed.” can. Its lines are joined by blanks there.",
+            "No plain letter is like “日”, “本”: “?” is in the place of each.", status=422,
+        )  # fmt: skip
+        self.assertEqual(ada.typed()["value"].replace("\r\n", "\n"), typed.replace("\r\n", "\n"))
+        page = ada.send("Keep the lines, as a list of texts")
+        self.has(page, 'set(Lamp #8 , "weight", {"Cafe \\"??\\".", "", "It is closed."})', status=200)
+        self.is_done(ada.send("Do it"))
+
     def test_a_name_of_several_is_chosen(self):
         ada = self.somebody("ada")
         self.change(ada, "create", "?parent=%236", names="Lamp")

@@ -77,14 +77,24 @@ class Values(unittest.TestCase):
             ("“quoted”", "““”, letter 1 of ““quoted””, can’t be kept", '"quoted"'),
             ("Straße", "“ß”, letter 5 of “Straße”, can’t be kept", "Strasse"),
             ("a\u00a0b", "letter 2", "a b"),
-            ("bell\x07", "U+0007", "bell"),
+            ("bell\x07", "U+0007", "bell?"),
             ("日本", "“日”, letter 1 of “日本”, can’t be kept", ""),
+            ("Café 日本, 日", "No plain letter is like “日”, “本”: “?” is in the place of each.", "Cafe ??, ?"),
+            ("one  é\ntwo", "Its lines are joined by blanks there.", "one  e two"),
             ("one\r\ntwo", "there is one after letter 3", "one two"),
         ):
             with self.subTest(text=text):
                 mistyped = self.mistyped(text_value, text)
                 self.assertIn(told, mistyped.reason)
                 self.assertEqual(mistyped.better, better)
+
+    def test_lines_can_be_kept_as_a_list(self):
+        for text, lines in (
+            ("one\r\ntwo", '{"one", "two"}'), ("one\n\ntwo\n", '{"one", "", "two"}'), ("é\n日", '{"e", "?"}'), ("é", ""),
+            ("a\rb", '{"a", "b"}'),
+        ):  # fmt: skip
+            with self.subTest(text=text):
+                self.assertEqual(self.mistyped(text_value, text).lines, lines)
 
     def test_a_text_is_as_long_as_a_world_holds(self):
         self.assertEqual(len(text_value("x" * 65_535)), 65_537)

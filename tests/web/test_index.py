@@ -111,6 +111,19 @@ class Parts(IndexTest):
         self.index.world()
         self.assertEqual(self.asked, ["/seq"])
 
+    def test_a_parent_of_many_is_not_read_with_a_page_of_others(self):
+        (first, *_) = self.write("wizard", *["create(#1)"] * 300)
+        self.check()
+        self.asked.clear()
+        self.write("wizard", 'set(#1, "name", "root")', 'set(#1, "f", 1)', "create(#1)")
+        world = self.check()
+        self.assertEqual((world.things[1].name, world.things[1].has("f")), ("root", True))
+        self.assertEqual([path for path in self.asked if path.startswith(("/object/", "/objects/0", "/objects/1"))], [])
+        self.write("wizard", f"chparent({first}, #-1)", *[f"chparent(#{number}, {first})" for number in range(300, 5, -3)])
+        self.check()
+        self.write("wizard", f"recycle({first})", "recycle(#0)")
+        self.check()
+
     def test_children_and_contents_of_what_is_recycled(self):
         self.write("wizard", "create(#1)", "create(#4)", "create(#5)", "create(#1)", "set_accept(#5, {#1})", "move(#7, #5)")
         self.check()

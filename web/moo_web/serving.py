@@ -49,7 +49,7 @@ NO_PAGES = "there are no pages, since python3-jinja2 is missing: apt-get install
 
 USAGE = (
     "moo-web FOLDER --moo-port M [--port P] [--journal FOLDER2] [--proxy ADDRESS | --proxy-socket PATH] [--host NAME].. [--share S,R,B]"
-    " [--daily-bytes N] [--full FILE] [--rebase]"
+    " [--daily-bytes N] [--full FILE] [--description NAME] [--exits NAME] [--rebase]"
 )
 MORE = """
 It needs a world that `moo serve FILE M` keeps, and that nobody else writes to. FOLDER has the accounts and the journal. It prints
@@ -75,6 +75,10 @@ def read_words(words: list[str]) -> argparse.Namespace:
     parser.add_argument("--daily-bytes", metavar="N", type=byte_count, default=DAILY_BYTES, help=told)
     told = "while this file is there nothing is added to the world: moo-watch makes it when the world has no room"
     parser.add_argument("--full", metavar="FILE", type=Path, help=told)
+    told = "the name of the property that describes a place or an object (description)"
+    parser.add_argument("--description", metavar="NAME", default="description", help=told)
+    told = 'the name of the property that has the exits of a place, such as {{"west", #7}} (exits)'
+    parser.add_argument("--exits", metavar="NAME", default="exits", help=told)
     parser.add_argument("--segment", metavar="BYTES", type=int, default=SEGMENT_BYTES, help="the size of a file of the journal (64 MiB)")
     return parser.parse_args(words)
 
@@ -95,10 +99,11 @@ def need_server() -> None:
         raise Failed("python3-waitress is missing: apt-get install python3-waitress") from None
 
 
-def add_pages(app: App, people: People, writer: Writer, history: History, rate: float, tell: Teller) -> Any:
+def add_pages(app: App, people: People, writer: Writer, history: History, said: argparse.Namespace, tell: Teller) -> Any:
     """Puts the pages into the application, and gives them. Without Debian's python3-jinja2 there are none, and that is told."""
     sys.path.append(DEBIANS_MODULES)
     try:
+        from moo_web.pages.sight import SightNames
         from moo_web.pages.site import make_pages
     except ModuleNotFoundError as error:
         if error.name not in ("jinja2", "markupsafe"):
@@ -106,7 +111,7 @@ def add_pages(app: App, people: People, writer: Writer, history: History, rate: 
         tell(f"{NO_PAGES}. What programs ask for at /api is served")
         app.for_people = lambda request, reply, parts: Reply(503, f"{NO_PAGES}.\n".encode(), "text/plain; charset=utf-8")
         return None
-    return make_pages(app, people, writer, history, rate)
+    return make_pages(app, people, writer, history, said.rate, SightNames(said.description, said.exits))
 
 
 def whose_of(app: App, channel: Any) -> Visitor:
@@ -154,7 +159,7 @@ class Front:
         self.app.add_guard("", Hosts(self.app, said.host).guard)
         self.api = Api(self.app, self.door, self.writer, self.people, said.rate)
         self.history = History(folder, second)
-        self.pages = add_pages(self.app, self.people, self.writer, self.history, said.rate, tell)
+        self.pages = add_pages(self.app, self.people, self.writer, self.history, said, tell)
         self.writer.watch = Counted(self.shares, self.people.may_come_in, lambda: self.pages.index.kept if self.pages else None)
 
     def is_wizard(self, person: Person) -> bool:

@@ -122,11 +122,15 @@ class Form:
 
 @dataclasses.dataclass(frozen=True)
 class Mistake:
-    """What is wrong with a field: a sentence, a text that would do, and objects to choose from, each as it is typed and in words."""
+    """What is wrong with a field: a sentence, a text that would do, and objects to choose from, each as it is typed and in words.
+
+    `lines` is a list of lines that would do in place of the text, as it is written.
+    """
 
     reason: str
     better: str = ""
     choices: tuple[tuple[str, str], ...] = ()
+    lines: str = ""
 
 
 @dataclasses.dataclass(frozen=True)
@@ -307,7 +311,8 @@ def read_form(form: Form, typed: Typed, names: Names, me: Me) -> Filled:
             filled.values[field.key] = read_field(field, typed, names, me)
         except Mistyped as mistyped:
             choices = mistyped.choices if isinstance(mistyped, Ambiguous) else ()
-            filled.mistakes[field.key] = Mistake(mistyped.reason, mistyped.better, choices)
+            lines = mistyped.lines if field.kind == "value" else ""
+            filled.mistakes[field.key] = Mistake(mistyped.reason, mistyped.better, choices, lines)
     if not filled.mistakes and not items_of(form, filled):
         filled.mistakes[form.fields[-1].key] = Mistake("Nothing is changed yet.")
     return filled

@@ -143,9 +143,7 @@ class FormPages:
         if go == "preview" and is_untouched(visit, form, typed, names, me):
             return self.page(visit, form, typed, {}, FormResult(trouble=TROUBLES["untouched"]))
         filled = read_form(form, typed, names, me)
-        better = visit.form.get("better", "")
-        if better in filled.mistakes and filled.mistakes[better].better:
-            typed[better] = filled.mistakes[better].better
+        if is_bettered(typed, filled.mistakes, visit.form.get("better", "")):
             filled = read_form(form, typed, names, me)
         if filled.mistakes:
             return self.page(visit, form, typed, filled.mistakes, FormResult(status=422))
@@ -245,6 +243,17 @@ def siblings_of(form: Form, typed: Mapping[str, str]) -> list[tuple[str, str]]:
     about = {"object": typed["object"], key: typed[key]}
     group = catalogue.PROPERTIES if key == "name" else catalogue.VERBS
     return [(each.title, url_for("form", **{"key": each.key, **about})) for each in group if each.key in SIBLINGS and each is not form]
+
+
+def is_bettered(typed: dict[str, str], mistakes: Mapping[str, Mistake], wanted: str) -> bool:
+    """Whether what was typed in a field was wrong, and is replaced: by a text that would do (`KEY`), or by a list of lines (`KEY.lines`)."""
+    key, _, way = wanted.partition(".")
+    mistake = mistakes.get(key, Mistake(""))
+    if way == "lines" and mistake.lines:
+        typed[key], typed[f"{key}.kind"] = mistake.lines, "written"
+    elif not way and mistake.better:
+        typed[key] = mistake.better
+    return bool(mistake.lines if way == "lines" else mistake.better)
 
 
 def choose_own(visit: Visit, typed: dict[str, str], number: str) -> None:

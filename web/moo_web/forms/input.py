@@ -25,12 +25,18 @@ ALIKE = {
 VALUE_KINDS = {"text": "a text", "number": "a number", "object": "an object", "written": "as it is written, such as {1, #2, \"a\"}"}
 
 
-class Mistyped(Exception):
-    """What was typed can't be taken, for this reason. `better` is a text that could be."""
+LINE_END = re.compile(r"\r\n|\r|\n")
+# What stands for a letter that is like no plain one, so that nobody misses it unseen.
+UNLIKE = "?"
+MOST_UNLIKE = 12
 
-    def __init__(self, reason: str, better: str = "") -> None:
+
+class Mistyped(Exception):
+    """What was typed can't be taken, for this reason. `better` is a text that could be, and `lines` the same as a list of its lines."""
+
+    def __init__(self, reason: str, better: str = "", lines: str = "") -> None:
         super().__init__(reason)
-        self.reason, self.better = reason, better
+        self.reason, self.better, self.lines = reason, better, lines
 
 
 def is_plain(letter: str) -> bool:
@@ -38,33 +44,57 @@ def is_plain(letter: str) -> bool:
     return letter == "\t" or " " <= letter <= "~"
 
 
+def plain_letter(letter: str) -> str:
+    """The plain letters that are like a letter; `UNLIKE`, if none is."""
+    if is_plain(letter):
+        return letter
+    if letter in ALIKE:
+        return ALIKE[letter]
+    return "".join(each for each in unicodedata.normalize("NFKD", letter) if is_plain(each)) or UNLIKE
+
+
 def plain(text: str) -> str:
-    """The text with letters that a world can hold in place of those that it can't, if there are such that are alike."""
-    kept = []
-    for letter in text:
-        if is_plain(letter):
-            kept.append(letter)
-        elif letter in ALIKE:
-            kept.append(ALIKE[letter])
-        elif letter in "\r\n":
-            kept.append(" ")
-        else:
-            kept.append("".join(each for each in unicodedata.normalize("NFKD", letter) if is_plain(each)))
-    return re.sub(r"  +", " ", "".join(kept)) if "\n" in text else "".join(kept)
+    """The text with letters that a world can hold in place of those that it can't. Its lines are joined by blanks."""
+    lines = LINE_END.split(text)
+    joined = text if len(lines) == 1 else " ".join(line.strip() for line in lines if line.strip())
+    return "".join(map(plain_letter, joined))
+
+
+def plain_lines(text: str) -> str:
+    """The lines of a text as a list, each with plain letters."""
+    return written([plain(line) for line in LINE_END.split(text.strip("\r\n"))])
 
 
 def test_letters(text: str) -> None:
-    """`Mistyped` with the first letter that a world can't hold, and its place."""
-    for place, letter in enumerate(text, 1):
-        if is_plain(letter):
-            continue
-        better = plain(text)
-        if letter in "\r\n":
-            raise Mistyped(f"A text has no line ends, and there is one after letter {place - 1}.", better)
-        shown = f"“{letter}”" if letter.isprintable() else f"A letter that can’t be shown (U+{ord(letter):04X})"
-        where = f"letter {place} of “{clipped(text)}”" if len(text) <= 60 else f"letter {place}"
-        instead = f" “{clipped(better)}” can." if better.strip() else ""
-        raise Mistyped(f"{shown}, {where}, can’t be kept: texts hold plain ASCII letters, digits and signs alone.{instead}", better)
+    """`Mistyped` with the first letter that a world can't hold, its place, and what can be kept in place of the text."""
+    place = next((place for place, letter in enumerate(text, 1) if not is_plain(letter)), 0)
+    if not place:
+        return
+    letter, has_lines = text[place - 1], LINE_END.search(text) is not None
+    unlike = list(dict.fromkeys(each for each in text if not is_plain(each) and each not in "\r\n" and plain_letter(each) == UNLIKE))
+    better = plain(text)
+    better = better if better.strip(f"{UNLIKE} ") else ""
+    ways = way_of(better, unlike, has_lines)
+    if letter in "\r\n":
+        raise Mistyped(f"A text has no line ends, and there is one after letter {place - 1}.{ways}", better, plain_lines(text))
+    shown = f"“{letter}”" if letter.isprintable() else f"A letter that can’t be shown (U+{ord(letter):04X})"
+    where = f"letter {place} of “{clipped(text)}”" if len(text) <= 60 and not has_lines else f"letter {place}"
+    reason = f"{shown}, {where}, can’t be kept: texts hold plain ASCII letters, digits and signs alone.{ways}"
+    raise Mistyped(reason, better, plain_lines(text) if has_lines else "")
+
+
+def way_of(better: str, unlike: list[str], has_lines: bool) -> str:
+    """What can be kept in place of a text, and what is other in it, as sentences."""
+    if not better:
+        return ""
+    told = [f" “{clipped(better)}” can."]
+    if has_lines:
+        told.append(" Its lines are joined by blanks there.")
+    if unlike:
+        shown = ", ".join(f"“{letter}”" if letter.isprintable() else f"U+{ord(letter):04X}" for letter in unlike[:MOST_UNLIKE])
+        more = f" and {len(unlike) - MOST_UNLIKE} more" if len(unlike) > MOST_UNLIKE else ""
+        told.append(f" No plain letter is like {shown}{more}: “{UNLIKE}” is in the place of each.")
+    return "".join(told)
 
 
 def clipped(text: str, most: int = 60) -> str:

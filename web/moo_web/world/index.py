@@ -10,6 +10,7 @@ of a petition that it grants, and new ones. Only these are read again, when the 
 
 from __future__ import annotations
 
+import sys
 import threading
 import time
 from collections.abc import Iterable
@@ -20,7 +21,7 @@ from moolib.values import read
 
 from moo_web.journal.segments import Accepted
 from moo_web.world.door import Answer, Door, TooLong, Unreachable, batch_body
-from moo_web.world.things import Thing, World, number_in, thing_of
+from moo_web.world.things import BITS, Thing, World, number_in, thing_of
 
 READING = 10.0
 # How long a page waits for the writer to tell of a batch that moo has accepted already.
@@ -29,6 +30,11 @@ TOLD_WITHIN = 2.0
 PAGE = 1000
 # So few objects with so few others under them are asked for one by one.
 FEW, SMALL = 3, 200
+# What tells the public facts of an object: its name, owner, parent and place, and its bits in the order of `BITS`.
+FACTS = (
+    'get(#{}, "name")', 'get(#{}, "owner")', "parent(#{})", 'get(#{}, "location")', "is_player(#{})",
+    *(f'get(#{{}}, "{bit}")' for bit in BITS[1:]),
+)  # fmt: skip
 
 
 class Changes:
@@ -218,8 +224,9 @@ class Index:
         while touched:
             first = touched[0]
             near = [number for number in touched if number < first + PAGE]
-            if len(near) <= FEW and len(world.children.get(first, ())) + len(world.contents.get(first, ())) <= SMALL:
-                found[first] = self.one(first, end)
+            if len(near) <= FEW:
+                is_small = len(world.children.get(first, ())) + len(world.contents.get(first, ())) <= SMALL
+                found[first] = self.one(first, end) if is_small else self.by_calls(world, first, end)
                 after = first + 1
             else:
                 after = self.some(first, touched, found, end) or world.top + 1
@@ -236,6 +243,19 @@ class Index:
         """One object; None if it isn't there."""
         answer = self.door.asked("GET", f"/object/{number}", None, end)
         return None if answer.status == 404 else thing_of(number, answer.said)
+
+    def by_calls(self, world: World, number: int, end: float) -> Thing | None:
+        """The same of an object with so many under it that the answer of `one` would be long: by calls, which everybody may make."""
+        wizards = world.with_bit("wizard")
+        calls = [call.format(number) for call in FACTS]
+        answer = self.door.asked("POST", "/each", batch_body(wizards[0], calls), end) if wizards else None
+        each = answer.said.get("each", ()) if answer and answer.status == 200 else ()
+        values: list[Any] = [read(one["answer"]) for one in each if "answer" in one]
+        if len(values) < len(FACTS):
+            return self.one(number, end)
+        name, owner, parent, location, *bits = values
+        sum_of_bits = sum(bool(bit) << place for place, bit in enumerate(bits))
+        return Thing(number, sys.intern(name), owner.number, parent.number, location.number, sum_of_bits)
 
     def some(self, first: int, touched: list[int], found: dict[int, Thing | None], end: float) -> int | None:
         """Finds the objects from a number on, at most a page of them, and which of those touched are gone. It gives the next number."""

@@ -3,7 +3,7 @@
 from __future__ import annotations
 
 import bisect
-from collections.abc import Iterable
+from collections.abc import Iterable, Sequence
 from typing import Optional
 
 Links = dict[int, tuple[int, ...]]
@@ -52,7 +52,7 @@ def merged(under: tuple[int, ...], gone: set[int], come: set[int]) -> tuple[int,
     return tuple(kept)
 
 
-def is_in(kept: list[int], number: int) -> bool:
+def is_in(kept: Sequence[int], number: int) -> bool:
     """Whether a number is among ascending ones."""
     place = bisect.bisect_left(kept, number)
     return place < len(kept) and kept[place] == number

@@ -3,7 +3,9 @@
 from __future__ import annotations
 
 import bisect
-from collections.abc import Iterable
+import itertools
+import operator
+from collections.abc import Iterable, Iterator
 from typing import Optional
 
 # It comes after every letter that a name may have.
@@ -38,9 +40,12 @@ class Names:
         """The objects with this word in their names: first those of just this name, then those that begin with it, then the others."""
         wanted = word.lower()
         first, _, end = self.run(wanted)
-        before = [number for name, number in zip(self.folded[:first], self.numbers) if wanted in name]
-        after = [number for name, number in zip(self.folded[end:], self.numbers[end:]) if wanted in name]
-        return self.numbers[first:end] + before + after
+        return [*self.numbers[first:end], *self.holding(wanted, 0, first), *self.holding(wanted, end, len(self.numbers))]
+
+    def holding(self, word: str, first: int, end: int) -> Iterator[int]:
+        """The objects with a word in their names, from a place to another one. No line of Python runs for each name."""
+        holds = map(operator.contains, self.folded[first:end], itertools.repeat(word))
+        return itertools.compress(self.numbers[first:end], holds)
 
     def changed(self, changes: list[tuple[int, Optional[str], Optional[str]]]) -> Optional[Names]:
         """The names after these changes: an object, its old name and its new one; None: it has none. None if they are too many."""
