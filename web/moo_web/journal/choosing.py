@@ -23,7 +23,7 @@ def make_file(said: argparse.Namespace, program: str, tell: Callable[[str], None
     """
     file = Path(said.file)
     if file.exists() or file.with_name(file.name + "-wal").exists():
-        raise Failed(f"{file} is there already, and --copies makes a new file: move it away, with {file.name}-wal")
+        raise Failed(f"{file} is there already, and --copies makes a new one: go on with it without --copies, or move it away with its log")
     places = places_in(said.copies, file.name, tell)
     course = course_of(said.folder, said.at, [place.sum for place in places.values() if place])
     most = course.seq if said.to is None else min(said.to, course.seq)
@@ -70,9 +70,11 @@ def put_file(copy: WorldCopy, place: Place | None, file: Path) -> None:
         if source.exists():
             put_copy(source, file.with_name(file.name + end))
     mark = Mark(file)
+    # That of a file which was there before says nothing of this one.
+    mark.path.unlink(missing_ok=True)
     if place:
         mark.put(place.seq, place.sum)
-    mark.close()
+        mark.close()
     sync_folder(file.absolute().parent)
 
 
@@ -92,4 +94,5 @@ def begin_new(course: Course, said: argparse.Namespace, program: str, tell: Call
     ran = subprocess.run([program, "init", said.file], stdin=subprocess.DEVNULL, capture_output=True, text=True, check=False)
     if ran.returncode:
         raise Failed(f"{said.file} can't be made: {(ran.stderr or ran.stdout).strip()}")
+    Mark(Path(said.file)).path.unlink(missing_ok=True)
     tell("it begins with a new world")

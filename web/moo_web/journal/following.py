@@ -169,7 +169,7 @@ class Follower:
             return
         since = "nothing came from the other machine" if source.came_at is not None else "nothing has come from the other machine yet"
         notify(f"STATUS=seq {self.seq}, LATE {silence:.0f} seconds: {since}")
-        if not self.said.count("LATE") or now > self.late_at + LATE_AFTER:
+        if silence >= SAY_EVERY and ("LATE" not in self.said or now > self.late_at + LATE_AFTER):
             self.said, self.late_at = f"seq {self.seq} LATE {silence:.0f}", now
             print(self.said, flush=True)
 

@@ -14,24 +14,31 @@ MARK = re.compile(r"(\d{1,20}) ([0-9a-f]{64})\n")
 
 
 class Mark:
-    """The last batch that was run on the world of FILE: its number, and the sum of its intent. They are in FILE-followed."""
+    """The last batch that was run on the world of FILE: its number, and the sum of its intent. They are in FILE-followed.
+
+    The file is made when a batch is noted.
+    """
 
     def __init__(self, file: Path) -> None:
         self.path = file.with_name(file.name + "-followed")
-        self.file = os.open(self.path, os.O_RDWR | os.O_CREAT, 0o600)
+        self.file = -1
 
     def place(self) -> Place | None:
-        """The place that it tells; None if it is a new one."""
-        found = MARK.fullmatch(os.pread(self.file, 200, 0).decode(errors="replace"))
+        """The place that it tells; None if there isn't one."""
+        found = MARK.fullmatch(self.path.read_text(errors="replace")) if self.path.is_file() else None
         return Place("", int(found[1]), found[2]) if found else None
 
     def put(self, seq: int, sum_: str) -> None:
         """Notes a batch that was run."""
+        if self.file < 0:
+            self.file = os.open(self.path, os.O_WRONLY | os.O_CREAT, 0o600)
         os.pwrite(self.file, f"{seq:020d} {sum_}\n".encode(), 0)
 
     def close(self) -> None:
         """Lets the file go."""
-        os.close(self.file)
+        if self.file >= 0:
+            os.close(self.file)
+        self.file = -1
 
 
 def place_beside(file: Path, number: int, mark: Mark) -> Place | None:
