@@ -42,6 +42,8 @@ INSTALLED = {
     "lib/systemd/system/moo@.service": 0o644,
     "lib/systemd/system/moo-backup@.service": 0o644,
     "lib/systemd/system/moo-backup@.timer": 0o644,
+    "lib/systemd/system/moo-check@.service": 0o644,
+    "lib/systemd/system/moo-check@.timer": 0o644,
     "lib/systemd/system/moo-offsite@.service": 0o644,
     "lib/systemd/system/moo-tell@.service": 0o644,
     "lib/systemd/system/moo-watch@.service": 0o644,
@@ -69,6 +71,8 @@ INSTALLED_WEB = {
     **{f"share/man/man1/{name}.1.gz": 0o644 for name in ("moo-people", "moo-replay", "moo-send", "moo-web")},
     "lib/moo-web/alone/moo.conf": 0o644,
     "lib/moo-web/alone/moo-watch.conf": 0o644,
+    "lib/systemd/system/moo-copy@.service": 0o644,
+    "lib/systemd/system/moo-copy@.timer": 0o644,
     "lib/systemd/system/moo-follow@.service": 0o644,
     "lib/systemd/system/moo-keep@.service": 0o644,
     "lib/systemd/system/moo-keep@.timer": 0o644,
@@ -96,6 +100,13 @@ def ran(*words, **options):
     if done.returncode:
         raise AssertionError(f"{words}: status {done.returncode}\n{done.stdout}")
     return done.stdout
+
+
+def line_of_base():
+    """The first line of a journal that begins at 0: its sum, and its bytes."""
+    text = b'{"k":"base","version":2,"segment":1,"seq":0,"former":"%s","t":1.0,"why":"new","branch":"%s"}' % (b"0" * 64, b"0" * 64)
+    now = hashlib.sha256(b"0" * 64 + text).hexdigest()
+    return now, now.encode() + b" " + text + b"\n"
 
 
 def sums(*paths):
@@ -270,7 +281,7 @@ class Units(InFolder):
         self.assertEqual((done.returncode, done.stderr), (2, "usage: moo-tell UNIT\n"))
 
     def test_each_failure_has_its_teller(self):
-        for unit in ("moo-backup@", "moo-watch@", "moo-offsite@", "moo-web@", "moo-follow@", "moo-keep@"):
+        for unit in ("moo-backup@", "moo-check@", "moo-watch@", "moo-offsite@", "moo-web@", "moo-copy@", "moo-follow@", "moo-keep@"):
             with self.subTest(unit):
                 self.assertIn("\nOnFailure=moo-tell@%n.service\n", (self.units / f"{unit}.service").read_text())
 
@@ -336,6 +347,33 @@ class Units(InFolder):
         front = (self.units / "moo-web@.service").read_text()
         for line in ("MemoryMax=2G", "TasksMax=128", "TemporaryFileSystem=/tmp:mode=1777,size=1G /var/tmp:mode=1777,size=1M"):
             self.assertIn(f"\n{line}\n", front)
+
+    def test_a_late_standby_stays_failed(self):
+        """systemd runs OnFailure only of a unit that it doesn't start again."""
+        text = (self.units / "moo-follow@.service").read_text()
+        self.assertRegex(text, r"(?m)^Environment=.*\bLATE=900$")
+        self.assertRegex(text, r"(?m)^ExecStart=.* --late \$\{LATE\} ")
+        self.assertRegex(text, r"(?m)^RestartPreventExitStatus=3$")
+
+    def test_the_commands_of_a_copy_by_the_journal(self):
+        """The world is made again each time, and copied with its place. The journal begins at 0 here."""
+        text = (self.units / "moo-copy@.service").read_text()
+        commands = [line for line in re.findall(r"(?m)^ExecStart(?:Pre)?=(.*)$", text)]
+        self.assertEqual([shlex.split(line)[0].rpartition("/")[2] for line in commands], ["mkdir", "rm", "moo-replay", "moo-backup"])
+        (self.room / "copies-web").mkdir()
+        _, line = line_of_base()
+        (self.room / "copies-web/world").mkdir()
+        (self.room / "copies-web/world/journal-0").write_bytes(line)
+        for count in (1, 2):
+            for command in commands:
+                command = command.replace("%i", "world").replace("/var/backups/moo", f"{self.room}/copies")
+                for name, value in (("KEEP", 14), ("WEEKLY", 8), ("MONTHLY", 12)):
+                    command = command.replace("${" + name + "}", str(value))
+                ran("sh", "-c", command)
+            copies = list((self.room / "copies-web/copies").iterdir())
+            self.assertEqual(len(copies), count)
+        for copy in copies:
+            self.assertEqual(json.loads((copy / "BRANCH").read_text()), {"branch": "0" * 64, "seq": 0, "sum": line[:64].decode()})
 
     def command(self, unit, key, **values):
         """The words of a command in a unit, for the world `world` in this folder."""

@@ -282,6 +282,36 @@ class AtRest(Copies):
         copy = self.copied("--keep", "2")
         self.assertEqual([path.name[:13] for path in sorted(self.folder.iterdir())], [copy.name[:13], "world.db-2099"])
 
+    def test_a_clock_that_was_ahead(self):
+        """Copies of moments to come crowd out no others: they are the first to go, and aren't those of a week or a month."""
+        for month in (1, 2, 3):
+            self.copied().rename(self.folder / f"world.db-2098{month:02}01T000000.000000Z-seq1")
+        made = [self.copied("--keep", "3", "--weekly", "2", "--monthly", "2").name for _ in range(4)]
+        self.assertEqual([path.name for path in sorted(self.folder.iterdir())], made[1:])
+
+    def test_each_copy_is_tested(self):
+        """Its checksums, what it holds, and its number; nothing is changed, and a copy that isn't whole is named."""
+        self.assertEqual(self.backup("--check")[0], 1, "there isn't a folder")
+        good = [self.copied() for _ in range(2)]
+        before = self.bytes_of_copies()
+        told = "".join(f"ok seq 1 {copy}\n" for copy in good)
+        self.assertEqual(self.backup("--check"), (0, told, ""))
+        self.assertEqual(self.bytes_of_copies(), before)
+        (good[0] / "world.db").write_bytes((good[0] / "world.db").read_bytes()[:-1])
+        wrong = good[1].with_name(good[1].name.replace("-seq1", "-seq2"))
+        good[1].rename(wrong)
+        status, printed, complaint = self.backup("--check")
+        self.assertEqual((status, complaint), (1, "moo-backup: 2 of 2 copies aren't whole\n"))
+        self.assertIn(f"{good[0]} isn't whole: the checksum of world.db is wrong\n", printed)
+        self.assertIn(f"{wrong} isn't whole: it has number 1\n", printed)
+        for copy in (good[0], wrong):
+            shutil.rmtree(copy)
+        self.assertEqual(self.backup("--check"), (1, "", f"moo-backup: {self.folder} has no copy of world.db\n"))
+
+    def test_a_journal_that_isnt_there(self):
+        """No run is ended for it, and no copy comes about."""
+        self.assert_not_copied("has no journal", "--journal", str(self.room))
+
     def test_backups_of_one_folder_wait_for_each_other(self):
         other = self.room / "other.db"
         make_world(other, FIRST)

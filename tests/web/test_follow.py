@@ -5,18 +5,23 @@ standbys have to end with the same dump as the world that was served, byte for b
 own. `KILLS` in the environment is how many kills of each side (100), `SEED` the seed.
 """
 
+import argparse
 import contextlib
+import io
+import json
 import os
 import pathlib
 import random
 import re
 import shutil
 import signal
+import socket
 import sqlite3
 import tempfile
 import threading
 import time
 import unittest
+from unittest import mock
 
 from tests.support import processes
 from tests.support.crashing_front import STEPS
@@ -29,6 +34,7 @@ from tests.web.test_replay import ReplayTest
 
 use_web()
 
+from moo_web.journal import following  # noqa: E402
 from moo_web.journal.segments import FIRST_SUM, line_of  # noqa: E402
 from moo_web.journal.tail import LinesGone, Tail  # noqa: E402
 from moo_web.world.door import Door  # noqa: E402
@@ -321,6 +327,123 @@ class Eras(FollowTest):
                 self.assert_same(self.room / "second.db")
 
 
+    def back_to_two(self):
+        """The world went on to 4, and back to 2: there is a copy of each."""
+        self.write(["create(#1)"], ["create(#1)"])
+        good = self.copy_world("good.db")
+        self.write(['set(#4, "name", "SPOILED")'], ["max_object()"])
+        spoiled = self.copy_world("spoiled.db")
+        self.world = good
+        self.write(["max_object()"], is_rebase=True)
+        return spoiled
+
+    def test_a_new_standby_after_it(self):
+        """Also one to which the journal comes bit by bit: nothing is run before it is known what was given up."""
+        self.back_to_two()
+        for name, words in (("live.db", {}), ("copied.db", {"folder": self.room / "copy"})):
+            make_world(self.room / name, "")
+            standby = self.standby(*(self.from_other() if words else ()), file=self.room / name, **words)
+            standby.wait_for("seq 3")
+            self.assertEqual(standby.stop(), 0)
+            self.assert_same(self.room / name)
+
+    def test_an_old_gap_isnt_told(self):
+        """Writing goes on, since the journal was begun anew."""
+        self.write(["create(#1)"], self.stranger)
+        with contextlib.suppress(AssertionError):
+            self.write()
+        copy = self.copy_world("copy.db")
+        self.write(["create(#1)"], is_rebase=True)
+        standby = self.standby(file=copy)
+        standby.wait_for("seq 3")
+        self.assertEqual((standby.stop(), standby.said()), (0, ""))
+
+    def test_a_copy_of_what_was_given_up(self):
+        """It is refused at once, though no batch is there that could be run on it."""
+        spoiled = self.back_to_two()
+        self.assert_ends(self.standby(file=spoiled), "has number 4, and the journal was begun anew at 2: it may have batches")
+        self.assert_ends(self.standby("--branch", FIRST_SUM, file=spoiled), "was brought up to number 4 before the journal was begun anew at 2")
+        sums = [json.loads(line[65:])["former"] for line in (self.folder / "journal-2").read_text().splitlines()[:1]]
+        standby = self.standby("--branch", sums[0], file=self.copy_world("now.db"))
+        standby.wait_for("seq 3")
+        self.write(["max_object()"])
+        standby.wait_for("seq 4")
+        self.assertEqual(standby.stop(), 0)
+
+
+class Source:
+    """What a standby sees of the way to the other machine: when something came, and for how many seconds nothing did."""
+
+    def __init__(self):
+        self.came_at = self.whole_at = None
+        self.quiet = 0.0
+
+    def silence(self):
+        return self.quiet
+
+    def look(self):
+        pass
+
+
+class Late(unittest.TestCase):
+    """What systemd and a terminal are told while something comes from the other machine, or nothing does."""
+
+    def setUp(self):
+        room = tempfile.TemporaryDirectory()
+        self.addCleanup(room.cleanup)
+        self.room = pathlib.Path(room.name)
+        self.socket = socket.socket(socket.AF_UNIX, socket.SOCK_DGRAM)
+        self.addCleanup(self.socket.close)
+        self.socket.bind(str(self.room / "notify"))
+        self.socket.setblocking(False)
+        self.source, self.printed = Source(), io.StringIO()
+        words = argparse.Namespace(folder=self.room, file="standby.db", branch=None, late=900)
+        self.follower = following.Follower(words, MOO, self.source, self.fail)
+        self.follower.world = argparse.Namespace(seq=7)
+
+    def told(self):
+        """What systemd was told meanwhile."""
+        texts = []
+        with contextlib.suppress(BlockingIOError):
+            while True:
+                texts.append(self.socket.recv(4096).decode())
+        return texts
+
+    def say(self, quiet, behind=0):
+        """What is said if nothing came for so many seconds: to systemd, and on standard output."""
+        self.source.quiet, self.follower.said_at = quiet, 0.0
+        self.printed.truncate(self.printed.seek(0))
+        with mock.patch.dict(os.environ, NOTIFY_SOCKET=str(self.room / "notify")), contextlib.redirect_stdout(self.printed):
+            self.follower.say(behind)
+        return self.told(), self.printed.getvalue()
+
+    def test_it_isnt_ready_before_something_came(self):
+        self.assertEqual(self.say(13), (["STATUS=seq 7, LATE 13 seconds: nothing has come from the other machine yet"], "seq 7 LATE 13\n"))
+        self.source.came_at = time.monotonic()
+        self.assertEqual(self.say(1)[0], ["STATUS=seq 7, and the first copy of the journal is coming"])
+        self.source.whole_at = self.follower.even_at = time.monotonic()
+        self.assertEqual(self.say(1, 3), (["STATUS=seq 7, 3 batches behind, lag 0 seconds"], "seq 7 behind 3\n"))
+        self.assertEqual(self.say(1), (["STATUS=seq 7, 0 batches behind, lag 0 seconds\nREADY=1"], "seq 7\n"))
+
+    def test_nothing_comes_any_more(self):
+        self.source.came_at = self.source.whole_at = time.monotonic()
+        for quiet, wanted in ((30, "seq 7, 0 batches behind, lag "), (31, "seq 7, LATE 31 seconds: nothing came from the other machine")):
+            self.assertIn(wanted, self.say(quiet)[0][0])
+        self.assertEqual(self.say(32)[1], "", "it is printed once in a while, and the status has each second")
+
+    def test_the_lag_in_seconds(self):
+        """It counts from when it had all, also while batches come."""
+        self.source.came_at = self.source.whole_at = time.monotonic()
+        self.follower.even_at = time.monotonic() - 3600
+        seconds = [int(re.search(r"5 batches behind, lag (\d+) seconds$", text)[1]) for text in self.say(1, 5)[0]]
+        self.assertTrue(3600 <= seconds[0] < 3600 + SECONDS, seconds)
+
+    def test_it_fails_in_the_end(self):
+        self.source.quiet = 900.5
+        with self.assertRaisesRegex(following.Late, "nothing came from the other machine for 900 seconds; standby.db has number 7"):
+            self.follower.wait()
+
+
 class Copied(FollowTest):
     """A standby with a copy of the folder, which moo-send brings up."""
 
@@ -421,6 +544,24 @@ class Copied(FollowTest):
         status, _, told = program("moo-replay", self.copy, self.room / "world.db", "--follow", *self.from_other())
         self.assertEqual(status, 1)
         self.assertIn("is in use by another front", told)
+
+    def test_a_source_that_is_dead(self):
+        """It is never ready, says so, and ends with a status of its own after the time that was set."""
+        self.write(["create(#1)"])
+        with socket.socket(socket.AF_UNIX, socket.SOCK_DGRAM) as told:
+            told.bind(str(self.room / "notify"))
+            told.setblocking(False)
+            with mock.patch.dict(os.environ, NOTIFY_SOCKET=str(self.room / "notify")):
+                standby = self.standby("--from", "exit 255", "--late", 2, folder=self.copy)
+            self.assertEqual(standby.process.wait(SECONDS), 3)
+            texts = []
+            with contextlib.suppress(BlockingIOError):
+                while True:
+                    texts.append(told.recv(4096).decode())
+        self.assertIn("nothing came from the other machine for 2 seconds", standby.said())
+        self.assertRegex(texts[0], r"^STATUS=seq 0, LATE \d+ seconds: nothing has come from the other machine yet$")
+        self.assertFalse([text for text in texts if "READY" in text])
+        self.assertRegex(standby.lines()[0], r"^seq 0 LATE \d+$")
 
     def test_a_command_that_fails(self):
         """It is run again, and said."""

@@ -3,10 +3,13 @@
 import json
 import pathlib
 import shutil
+import subprocess
+import sys
 import tempfile
 import unittest
 
-from tests.support.operating import KeptService, SECONDS, checked, make_world, said
+from tests.support.operating import KeptService, SECONDS, TOOLS, checked, make_world, said
+from tests.support.program import MOO
 from tests.support.web import program, use_web
 
 use_web()
@@ -191,6 +194,177 @@ class Eras(ReplayTest):
         make_world(self.room / "second.db", "")
         self.assertEqual(self.replay(file=self.room / "second.db"), (0, "seq 3\n", ""))
         self.assert_same(self.room / "second.db")
+
+
+class Branches(ReplayTest):
+    """Copies of before the journal was begun anew at a lower number: the spoiled world doesn't come back unseen."""
+
+    def setUp(self):
+        super().setUp()
+        self.copies = self.room / "copies"
+        self.write(["create(#1)"], ['set(#4, "name", "hall")'])
+
+    def backup(self, *words, world=None):
+        """The folder of a copy that moo-backup makes of the world that nobody has open."""
+        command = [sys.executable, TOOLS / "moo-backup", "--moo", MOO, *words, world or self.world, self.copies]
+        ran = subprocess.run(list(map(str, command)), capture_output=True, text=True, timeout=SECONDS)
+        self.assertEqual((ran.returncode, ran.stderr), (0, ""))
+        return pathlib.Path(ran.stdout.rstrip("\n"))
+
+    def noon(self, *words):
+        """A copy at 2, a spoiler up to 5 and a copy of that; back to 2, and on to 4. Gives both copies."""
+        good = self.backup(*words)
+        self.clock.now += 60
+        self.write(['set(#4, "name", "SPOILED")'], ['set(#4, "w", 1)'], ["max_object()"])
+        spoiled = self.backup(*words)
+        self.again(good)
+        self.clock.now += 60
+        self.write(["max_object()"], ["max_object()"], is_rebase=True)
+        return good, spoiled
+
+    def again(self, copy):
+        """Puts a copy in the place of the world."""
+        for end in ("", "-wal"):
+            shutil.copy(copy / f"world.db{end}", f"{self.world}{end}")
+
+    def restored(self, copy):
+        """The file of a copy in a folder of its own, as an operator has it."""
+        return shutil.copytree(copy, self.room / f"restored-{copy.name}") / "world.db"
+
+    def sums(self):
+        """The sums of all lines of the journal, and what the lines say, in the order of the segments."""
+        lines = [line for path in sorted(self.folder.glob("journal-*")) for line in path.read_text().splitlines()]
+        return [(line[:64], json.loads(line[65:])) for line in lines]
+
+    def assert_refused(self, why, *words, file):
+        before = checked(file)
+        status, printed, told = self.replay(*words, file=file)
+        self.assertEqual((status, printed, checked(file)), (1, "", before))
+        self.assertIn(why, told)
+
+    def test_a_copy_says_its_place(self):
+        place = json.loads((self.backup("--journal", self.folder) / "BRANCH").read_text())
+        last, said_ = self.sums()[-1]
+        self.assertEqual((said_, place), ({"k": "done", "seq": 2}, {"branch": "0" * 64, "seq": 2, "sum": last}))
+
+    def test_a_copy_after_the_journal_was_begun_anew(self):
+        self.noon()
+        place = json.loads((self.backup("--journal", self.folder) / "BRANCH").read_text())
+        (begun,) = [said_ for _, said_ in self.sums() if said_.get("why") == "rebase"]
+        self.assertEqual((place["branch"], place["seq"]), (begun["former"], 4))
+        self.assertIn(place["sum"], [sum_ for sum_, said_ in self.sums() if said_.get("seq") == 4])
+
+    def test_a_journal_that_lacks_the_number(self):
+        """As that of another world, or of a world that somebody else wrote: no copy comes about."""
+        make_world(self.room / "later.db", "batch as #3\nmax_object()\nend\n" * 3)
+        command = [sys.executable, TOOLS / "moo-backup", "--moo", MOO, "--journal", self.folder, self.room / "later.db", self.copies]
+        ran = subprocess.run(list(map(str, command)), capture_output=True, text=True, timeout=SECONDS)
+        self.assertEqual((ran.returncode, ran.stdout, list(self.copies.iterdir())), (1, "", []))
+        self.assertIn(f"the world has number 3, and the journal of {self.folder} has 2 there: it isn't the journal of this world", ran.stderr)
+
+    def test_a_spoiled_copy_is_refused(self):
+        """Answers alone wouldn't tell it: those of `set` are 0 in both histories."""
+        good, spoiled = self.noon("--journal", self.folder)
+        why = "was brought up to number 5 before the journal was begun anew at 2: it has batches that were given up then"
+        self.assert_refused(why, file=self.restored(spoiled))
+        file = self.restored(good)
+        self.assertEqual(self.replay(file=file), (0, "seq 4\n", ""))
+        self.assert_same(file)
+
+    def test_a_copy_that_says_no_place(self):
+        good, spoiled = self.noon()
+        now = self.restored(self.backup())
+        for file, number in ((self.restored(spoiled), 5), (now, 4)):
+            why = f"has number {number}, and the journal was begun anew at 2: it may have batches that were given up then"
+            self.assert_refused(why, file=file)
+        (begun,) = [said_ for _, said_ in self.sums() if said_.get("why") == "rebase"]
+        self.assert_refused("before the journal was begun anew at 2", "--branch", "0" * 64, file=now)
+        self.assert_refused("by batches that this journal doesn't have", "--branch", "1" * 64, file=now)
+        self.assertEqual(self.replay("--branch", begun["former"], file=now), (0, "seq 4\n", ""))
+        self.assertEqual(self.replay(file=now), (0, "seq 4\n", ""), "what was said once is kept")
+        self.assertEqual(self.replay(file=self.restored(good)), (0, "seq 4\n", ""), "2 isn't past 2")
+
+    def test_up_to_a_moment_before(self):
+        """Then the branch that was left later is the one that counts."""
+        _, spoiled = self.noon("--journal", self.folder)
+        file = self.restored(spoiled)
+        self.assertEqual(self.replay("--at", "2027-01-15T08:01:30", file=file), (0, "seq 5\n", ""))
+        self.assert_refused("has number 5, and the world had 2 at that moment", "--at", "2027-01-15T08:00:30", file=file)
+
+    def test_a_file_that_was_brought_up_before(self):
+        """Its mark tells of which branch it is, whatever its copy was."""
+        self.write(['set(#4, "name", "SPOILED")'])
+        self.assertEqual(self.replay(), (0, "seq 3\n", ""))
+        copy = self.copy_world("two.db", self.file)
+        make_world(self.room / "restored.db", "")
+        self.assertEqual(self.replay("--to", 2, file=self.room / "restored.db")[0], 0)
+        self.world = self.room / "restored.db"
+        self.write(["max_object()"], ["max_object()"], is_rebase=True)
+        self.assert_refused("was brought up to number 3 before the journal was begun anew at 2", file=self.file)
+        self.assert_refused("has number 3, and the journal was begun anew at 2", file=copy)
+
+    def test_another_journal(self):
+        """A copy of a world that has another front."""
+        copy = self.backup("--journal", self.folder)
+        (copy / "BRANCH").write_text(json.dumps({"branch": "0" * 64, "seq": 2, "sum": "1" * 64}))
+        self.assert_refused("by batches that this journal doesn't have: take a copy of the world of this journal", file=self.restored(copy))
+        (copy / "BRANCH").write_text("nonsense")
+        shutil.rmtree(self.room / f"restored-{copy.name}")
+        self.assert_refused("isn't the file BRANCH of a copy", file=self.restored(copy))
+
+    def test_a_hole_without_a_batch_after_it(self):
+        self.write(lambda port: Door(port).sent("POST", "/batch", b'{"as":"#3","calls":["create(#1)"]}'))
+        self.write(is_rebase=True)
+        self.assertEqual(self.replay()[:2], (1, ""))
+
+    def made(self, *words):
+        """The status, and what is said, of a world that is made from the copies."""
+        room = pathlib.Path(tempfile.mkdtemp(dir=self.room))
+        return room / "world.db", *self.replay("--copies", self.copies, *words, file=room / "world.db")
+
+    def test_the_best_copy_is_taken(self):
+        """By branch and number: not the spoiled one, though it has the greatest number, and not the one of the latest name."""
+        good, spoiled = self.noon("--journal", self.folder)
+        good.rename(self.copies / good.name.replace("world.db-20", "world.db-19"))
+        now = self.backup("--journal", self.folder)
+        now = now.rename(self.copies / now.name.replace("world.db-20", "world.db-18"))
+        self.write(["max_object()"])
+        file, status, printed, told = self.made()
+        self.assertEqual((status, printed), (0, "seq 5\n"))
+        self.assertIn(f"left out: {spoiled}: {spoiled} was brought up to number 5 before the journal was begun anew at 2", told)
+        self.assertIn(f"it begins with {now}\n", told)
+        self.assert_same(file)
+        self.assertEqual(self.made("--to", 3)[1:3], (0, "seq 3\n"))
+        self.assertEqual(self.made("--at", "2027-01-15T08:01:30")[1:3], (0, "seq 5\n"), "the spoiled world of then")
+
+    def test_a_damaged_copy_is_left_out(self):
+        good, _ = self.noon("--journal", self.folder)
+        now = self.backup("--journal", self.folder)
+        (now / "world.db").write_bytes((now / "world.db").read_bytes()[:-1])
+        _, status, printed, told = self.made()
+        self.assertEqual((status, printed), (0, "seq 4\n"))
+        self.assertIn(f"left out: {now}: the checksum of world.db is wrong", told)
+        self.assertIn(f"it begins with {good}\n", told)
+
+    def test_without_a_copy_that_fits(self):
+        """A journal that begins at 0 makes the world alone, and leaves out what was given up; another one can't."""
+        _, spoiled = self.noon("--journal", self.folder)
+        for path in self.copies.iterdir():
+            if path != spoiled:
+                shutil.rmtree(path)
+        file, status, printed, told = self.made()
+        self.assertEqual((status, printed), (0, "seq 4\n"))
+        self.assertIn("it begins with a new world", told)
+        self.assert_same(file)
+        self.assertEqual(self.replay("--copies", self.copies, file=file)[:2], (1, ""), "nothing is made in place of a file")
+        (self.folder / "journal-0").unlink()
+        _, status, printed, told = self.made()
+        self.assertEqual((status, printed), (1, ""))
+        self.assertIn("has no copy of world.db from which this journal can go on: it begins at number 2", told)
+
+    def test_wrong_words(self):
+        for words in (("--branch", "x"), ("--copies", "a", "--branch", "0" * 64), ("--late", "5"), ("--follow", "--from", "true", "--late", "0")):
+            self.assertEqual(self.replay(*words)[0], 2, words)
 
 
 class Mistakes(ReplayTest):

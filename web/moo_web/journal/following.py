@@ -3,61 +3,55 @@
 A batch is run when its `done` is there: then it was accepted, and its intent is on the disk. The world's own number is its place in the
 journal. Beside FILE there is FILE-followed, with the number of the last batch that was run and the sum of its intent: so a world that isn't
 of this journal's past any more, since an older copy was restored there, is found out.
+
+Of another machine's journal nothing is run before a first frame has come that made the copy whole, and only what was whole: so it is known
+which batches count.
 """
 
 from __future__ import annotations
 
+import argparse
 import contextlib
 import os
-import re
 import signal
 import socket
 import time
 from pathlib import Path
-from typing import Any, Callable
+from typing import Callable, Iterator
+
+from moolib.copies import Place
 
 from moo_web.journal.applying import Ended, WorldFile
+from moo_web.journal.branches import Course
+from moo_web.journal.bringing import Bringing
+from moo_web.journal.marks import Mark, place_beside
 from moo_web.journal.receiving import Receiver
-from moo_web.journal.segments import Accepted, Outcomes
 from moo_web.journal.tail import LinesGone, Tail
 from moo_web.programs import Failed, only_ours
 
 PAUSE = 0.1
 SAY_EVERY = 1.0
+# After so many seconds in which nothing came a standby is late, and says so again and again.
+LATE_AFTER = 30.0
 WAITED_LONG = 10.0
 FIRST_REST, LONGEST_REST = 0.1, 5.0
 LAST_TRIES = 10
-MARK = re.compile(r"(\d{1,20}) ([0-9a-f]{64})\n")
 
 
-class Mark:
-    """The last batch that was run on a world, in a file beside it: its number, and the sum of its intent."""
-
-    def __init__(self, file: Path, seq: int) -> None:
-        self.path = file.with_name(file.name + "-followed")
-        self.file = os.open(self.path, os.O_RDWR | os.O_CREAT, 0o600)
-        found = MARK.fullmatch(os.pread(self.file, 200, 0).decode(errors="replace"))
-        # A world of an older number is another copy, of which the mark says nothing.
-        is_of_it = found is not None and int(found[1]) <= seq
-        self.seq, self.sum = (int(found[1]), found[2]) if found and is_of_it else (-1, "")
-
-    def put(self, seq: int, sum_: str) -> None:
-        """Notes a batch that was run."""
-        self.seq, self.sum = seq, sum_
-        os.pwrite(self.file, f"{seq:020d} {sum_}\n".encode(), 0)
-
-    def close(self) -> None:
-        """Lets the file go."""
-        os.close(self.file)
+class Late(Failed):
+    """Nothing came from the other machine for as long as the operator allows."""
 
 
 class Follower:
     """Brings FILE up to the journal of FOLDER as that grows. `source` is what brings FOLDER up, if anything does."""
 
-    def __init__(self, folder: Path, file: str, program: str, source: Receiver | None, tell: Callable[[str], None]) -> None:
-        self.folder, self.file, self.program, self.source, self.tell = folder, file, program, source, tell
+    def __init__(self, said: argparse.Namespace, program: str, source: Receiver | None, tell: Callable[[str], None]) -> None:
+        self.folder, self.file, self.program, self.source, self.tell = said.folder, said.file, program, source, tell
+        self.branch, self.longest = said.branch, said.late
         self.is_over = False
-        self.said, self.said_at = "", 0.0
+        self.said, self.said_at, self.late_at = "", 0.0, 0.0
+        # When FILE had all that the journal had.
+        self.even_at = time.monotonic()
         self.why, self.why_since = "", 0.0
         self.world: WorldFile | None = None
 
@@ -89,9 +83,8 @@ class Follower:
     def run_once(self) -> int:
         """The same, until moo ends or the journal has to be read anew."""
         self.world = WorldFile(self.program, self.file)
-        mark = Mark(Path(self.file), self.world.seq)
-        try:
-            reading = Past(Tail(self.folder, self.source.synced if self.source else None), self.world, mark, self.tell)
+        with contextlib.closing(Mark(Path(self.file))) as mark:
+            reading = Past(self, self.world, mark)
             while not self.is_over:
                 self.bring_up(reading)
                 self.wait()
@@ -99,8 +92,15 @@ class Follower:
                 self.source.end()
             self.bring_up(reading)
             return self.world.seq
-        finally:
-            mark.close()
+
+    def limit(self) -> tuple[int, int]:
+        """Up to which segment, and which place in it, a copy of the journal is run: what was whole; in the end, all that is there."""
+        assert self.source
+        return self.source.synced() if self.is_over else self.source.whole
+
+    def place_of(self, world: WorldFile, mark: Mark) -> Place | None:
+        """The place of FILE in the journal, as far as it is known."""
+        return Place(self.branch, world.seq, "") if self.branch else place_beside(Path(self.file), world.seq, mark)
 
     def leave(self) -> None:
         """Lets FILE go."""
@@ -109,32 +109,69 @@ class Follower:
             world.close()
 
     def wait(self) -> None:
-        """Rests until there may be more."""
-        if self.source:
-            self.source.look()
-            self.source.news.wait(PAUSE)
-            self.source.news.clear()
-        else:
+        """Rests until there may be more. `Late`: nothing came for too long."""
+        if not self.source:
             time.sleep(PAUSE)
+            return
+        self.source.look()
+        if self.longest is not None and self.source.silence() > self.longest:
+            raise Late(f"nothing came from the other machine for {self.longest:g} seconds; {self.file} has number {self.seq}")
+        self.source.news.wait(PAUSE)
+        self.source.news.clear()
+
+    @property
+    def seq(self) -> int:
+        """The number of FILE."""
+        return self.world.seq if self.world else 0
 
     def bring_up(self, reading: Past) -> None:
         """Runs what the journal has more by now."""
         for _ in reading.steps():
+            # From now on its mark tells the place of FILE.
+            self.branch = None
             if time.monotonic() > self.said_at + SAY_EVERY:
-                self.say(reading.world.seq, reading.behind)
-        self.say(reading.world.seq, 0)
-        self.tell_wait(reading.tail.why)
+                self.say(reading.behind)
+        is_there = reading.course.first is not None
+        if is_there and not (self.source and self.source.whole_at is None):
+            self.even_at = self.source.whole_at if self.source and self.source.whole_at else time.monotonic()
+        self.say(0, is_there)
+        self.tell_wait(reading.ahead.why)
 
-    def say(self, seq: int, behind: int) -> None:
-        """Prints the number of FILE, and how many batches it lacks, if that is news; and tells it to systemd."""
-        text = f"seq {seq} behind {behind}" if behind else f"seq {seq}"
-        if text != self.said or time.monotonic() > self.said_at + SAY_EVERY:
-            age = f"; the journal's copy is of {self.source.age():.0f} seconds ago" if self.source else ""
-            notify(f"STATUS=seq {seq}, {behind} batches behind{age}" + ("" if behind else "\nREADY=1"))
-            self.said_at = time.monotonic()
+    def say(self, behind: int, is_there: bool = True) -> None:
+        """Says the number of FILE, and how many batches it lacks; or that nothing comes. `is_there`: a journal is."""
+        if self.source and not self.is_over and (self.source.silence() > LATE_AFTER or self.source.whole_at is None):
+            self.say_late(self.source)
+            return
+        text = f"seq {self.seq} behind {behind}" if behind else f"seq {self.seq}"
+        now = time.monotonic()
+        if text != self.said or now > self.said_at + SAY_EVERY:
+            notify(self.status(behind, is_there))
+            self.said_at = now
         if text != self.said:
             print(text, flush=True)
         self.said = text
+
+    def status(self, behind: int, is_there: bool) -> str:
+        """What systemd is told if something came."""
+        if not is_there:
+            return f"STATUS=seq {self.seq}, and {self.folder} has no journal yet"
+        told = f"STATUS=seq {self.seq}, {behind} batches behind, lag {time.monotonic() - self.even_at:.0f} seconds"
+        return told if behind else f"{told}\nREADY=1"
+
+    def say_late(self, source: Receiver) -> None:
+        """Says that nothing came, or that the first copy isn't whole yet."""
+        silence, now = source.silence(), time.monotonic()
+        if now < self.said_at + SAY_EVERY:
+            return
+        self.said_at = now
+        if source.came_at is not None and silence <= LATE_AFTER:
+            notify(f"STATUS=seq {self.seq}, and the first copy of the journal is coming")
+            return
+        since = "nothing came from the other machine" if source.came_at is not None else "nothing has come from the other machine yet"
+        notify(f"STATUS=seq {self.seq}, LATE {silence:.0f} seconds: {since}")
+        if silence >= SAY_EVERY and ("LATE" not in self.said or now > self.late_at + LATE_AFTER):
+            self.said, self.late_at = f"seq {self.seq} LATE {silence:.0f}", now
+            print(self.said, flush=True)
 
     def tell_wait(self, why: str) -> None:
         """Tells for what it has waited for long."""
@@ -145,83 +182,33 @@ class Follower:
 
 
 class Past:
-    """The batches that made the world what it is, run on FILE as they are read.
+    """A journal that grows, run on FILE. It is read ahead, so that no batch is run that was given up by what the journal has by now."""
 
-    If the journal was begun anew at an older number, since a copy was restored, the batches from that number on aren't among them.
-    """
+    def __init__(self, follower: Follower, world: WorldFile, mark: Mark) -> None:
+        self.world = world
+        place = follower.place_of(world, mark)
+        self.course = Course([place.sum] if place and place.sum else [])
+        self.ahead = Tail(follower.folder, follower.limit if follower.source else None)
+        self.tail = Tail(follower.folder, self.read_by_now)
+        self.bringing = Bringing(world, self.course, place, mark, follower.tell)
 
-    def __init__(self, tail: Tail, world: WorldFile, mark: Mark, tell: Callable[[str], None]) -> None:
-        self.tail, self.world, self.mark, self.tell = tail, world, mark, tell
-        self.outcomes = Outcomes()
-        # The number at each beginning, as far as they are known; how many of them were read; and the last batch that is known.
-        self.bases: list[int] = []
-        self.passed, self.last = 0, 0
-        self.is_past_mark = False
-        self.look_ahead()
-
-    def look_ahead(self) -> None:
-        """Learns at which numbers the journal was begun, and how far it goes."""
-        last = None
-        for line in Tail(self.tail.folder, self.tail.limit).lines():
-            kind = line.kind
-            if kind == "base":
-                self.bases.append(line.said()["seq"])
-            last = line if kind in ("base", "done") else last
-        self.last = last.said()["seq"] if last else 0
+    def read_by_now(self) -> tuple[int, int]:
+        """Up to which segment, and which place in it, the course is known."""
+        return (self.ahead.segment.number, self.ahead.end) if self.ahead.segment else (0, 0)
 
     @property
     def behind(self) -> int:
         """How many batches the world lacks of what is known of the journal."""
-        return max(0, self.last - self.world.seq)
+        return max(0, self.course.seq - self.world.seq)
 
-    def steps(self) -> Any:
+    def steps(self) -> Iterator[None]:
         """Runs each batch that is there and wasn't run, and yields after it. `Failed`: FILE can't be brought up by this journal."""
+        for line in self.ahead.lines():
+            self.course.take(line)
+        self.bringing.test()
         for line in self.tail.lines():
-            told = self.outcomes.take(line)
-            if isinstance(told, Accepted):
-                self.take(told, self.outcomes.sum)
+            if self.bringing.take(line):
                 yield
-            elif told is not None and told["k"] == "gap":
-                self.tell(f"there writing has stopped: the world has number {told['world']} and the journal {told['journal']}")
-            elif told is not None:
-                self.begin_anew(told)
-
-    def take(self, batch: Accepted, sum_: str) -> None:
-        """Runs a batch, if it is the next one."""
-        self.last = max(self.last, batch.seq)
-        self.is_past_mark = self.is_past_mark or sum_ == self.mark.sum
-        if any(batch.at >= base for base in self.bases[self.passed :]) or batch.at < self.world.seq:
-            return
-        if batch.at > self.world.seq:
-            raise Failed(self.lacking(batch.at))
-        if self.mark.seq > self.bases[0] and not self.is_past_mark:
-            raise Failed(self.strange("by batches that this journal doesn't have"))
-        self.world.run(batch)
-        self.mark.put(batch.seq, sum_)
-        self.is_past_mark = True
-
-    def begin_anew(self, base: dict[str, Any]) -> None:
-        """Passes the beginning of a segment."""
-        self.passed += 1
-        if self.passed > len(self.bases):
-            self.bases.append(base["seq"])
-            self.last = base["seq"]
-        if base["why"] == "full":
-            return
-        if self.world.seq < base["seq"]:
-            raise Failed(self.lacking(base["seq"]))
-        if self.is_past_mark and self.mark.seq > base["seq"]:
-            raise Failed(self.strange(f"to number {self.mark.seq} before the journal was begun anew at {base['seq']}"))
-
-    def lacking(self, seq: int) -> str:
-        """What is said if the world can't reach this number."""
-        told = f"{self.world.file} has number {self.world.seq}; the journal has no batch for it, and goes on at {seq}"
-        return f"{told}: take a copy of that number or a later one"
-
-    def strange(self, how: str) -> str:
-        """What is said if the world isn't of the journal's past."""
-        told = f"{self.world.file} was brought up {how}: take a copy of what is served there now"
-        return f"{told}. If it is one, remove {self.mark.path}"
 
 
 def notify(text: str) -> None:
@@ -233,11 +220,11 @@ def notify(text: str) -> None:
             peer.send(text.encode())
 
 
-def follow(folder: Path, file: str, command: str | None, program: str, tell: Callable[[str], None]) -> None:
-    """Follows until SIGTERM comes. `Failed`, `Damaged`, `InUse`: it can't."""
+def follow(said: argparse.Namespace, program: str, tell: Callable[[str], None]) -> None:
+    """Follows until SIGTERM comes. `Failed`, `Damaged`, `InUse`: it can't. `Late`: nothing came for too long."""
     only_ours()
-    source = Receiver(folder, command, tell) if command else None
-    follower = Follower(folder, file, program, source, tell)
+    source = Receiver(said.folder, said.source, tell) if said.source else None
+    follower = Follower(said, program, source, tell)
     signal.signal(signal.SIGTERM, follower.stop)
     try:
         if source:

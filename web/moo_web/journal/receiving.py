@@ -155,14 +155,18 @@ class Receiver(threading.Thread):
         self.command, self.tell = command, tell
         self.copy = Copy(folder, tell)
         self.news, self.is_over = threading.Event(), threading.Event()
-        self.heard, self.was_whole = time.monotonic(), time.monotonic()
+        self.began = self.heard = time.monotonic()
+        # When a frame came last, and when one that made the copy whole; and up to which place it was whole then.
+        self.came_at: float | None = None
+        self.whole_at: float | None = None
+        self.whole = (0, 0)
         self.process: subprocess.Popen[bytes] | None = None
         self.failure: Exception | None = None
 
     def run(self) -> None:
         rest = FIRST_REST
         while not self.is_over.is_set():
-            before = self.was_whole
+            before = self.whole_at
             try:
                 self.receive()
             except Damaged as error:
@@ -171,7 +175,7 @@ class Receiver(threading.Thread):
             except (Failed, OSError, ValueError, KeyError, TypeError) as error:
                 self.tell(f"{error}. The command is run again")
                 self.read_again()
-            rest = FIRST_REST if self.was_whole > before else min(2 * rest, LONGEST_REST)
+            rest = FIRST_REST if self.whole_at != before else min(2 * rest, LONGEST_REST)
             self.is_over.wait(rest)
 
     def read_again(self) -> None:
@@ -192,15 +196,22 @@ class Receiver(threading.Thread):
                 self.process.stdin.write(self.copy.request().text())
                 self.process.stdin.flush()
                 while not self.is_over.is_set() and (frame := read_frame(self.process.stdout)):
-                    self.heard = time.monotonic()
-                    self.copy.take(*frame)
-                    if frame[0]["k"] == "now":
-                        self.was_whole = self.heard
-                    self.news.set()
+                    self.take(*frame)
             finally:
                 self.kill()
         if not self.is_over.is_set():
             self.tell(f"the command ended with status {self.process.returncode}. It is run again: {self.command}")
+
+    def take(self, head: dict[str, Any], text: bytes) -> None:
+        """Puts a frame into the copy."""
+        self.heard = time.monotonic()
+        self.copy.take(head, text)
+        self.came_at = self.heard
+        if head["k"] == "now":
+            self.whole, self.whole_at = self.copy.synced, self.heard
+        # What the other machine has lost isn't whole any more.
+        self.whole = min(self.whole, self.copy.synced)
+        self.news.set()
 
     def kill(self) -> None:
         """Ends the command, and what it has started."""
@@ -222,9 +233,9 @@ class Receiver(threading.Thread):
         """Up to which segment, and which place in it, the copy is on the disk."""
         return self.copy.synced
 
-    def age(self) -> float:
-        """Of how many seconds ago the copy is."""
-        return time.monotonic() - self.was_whole
+    def silence(self) -> float:
+        """For how many seconds nothing came, since the beginning if nothing ever did."""
+        return time.monotonic() - (self.began if self.came_at is None else self.came_at)
 
     def end(self) -> None:
         """Takes nothing more, and lets the folder go."""

@@ -6,31 +6,43 @@ The world's own number is its place in the journal, so that a run that was broke
 from __future__ import annotations
 
 import argparse
+import contextlib
 import datetime
+import re
 import sys
 from pathlib import Path
-from typing import Any, Callable, Iterator, Optional
+from typing import Callable, Optional
 
 from moolib.calls import Call, call_name
+from moolib.copies import Place
 
 from moo_web.journal.applying import WorldFile, program_named
+from moo_web.journal.branches import course_of, history_of, lines_until
+from moo_web.journal.bringing import Bringing
+from moo_web.journal.choosing import make_file
 from moo_web.journal.differing import Between, swapped
-from moo_web.journal.following import follow
+from moo_web.journal.following import Late, follow
 from moo_web.journal.journal import InUse
-from moo_web.journal.segments import Accepted, Damaged, accepted_in
+from moo_web.journal.marks import Mark, place_beside
+from moo_web.journal.segments import Accepted, Damaged
 from moo_web.journal.undoing import text_of, undone
 from moo_web.programs import Failed, Teller
 
-USAGE = """moo-replay FOLDER FILE [--to S] [--at TIME] [--moo PROGRAM]
-       moo-replay FOLDER FILE --follow [--from COMMAND] [--moo PROGRAM]
+USAGE = """moo-replay FOLDER FILE [--to S] [--at TIME] [--copies COPIES | --branch SUM] [--moo PROGRAM]
+       moo-replay FOLDER FILE --follow [--from COMMAND] [--late SECONDS] [--branch SUM] [--moo PROGRAM]
        moo-replay FOLDER --undo S
        moo-replay FOLDER --diff A B [--object #N]"""
+LATE_STATUS = 3
 MORE = """
-FILE is a new world or a copy, and no program has it open. FOLDER is that of moo-web, which may run meanwhile. It prints `seq S`, and with
---follow a line each time that FILE has caught up, or `seq S behind N`. A following run ends at SIGTERM, with all in FILE that FOLDER has.
+FILE is a new world or a copy, and no program has it open. FOLDER is that of moo-web, which may run meanwhile. With --copies there is no FILE
+yet: it is made from the copy in the folder COPIES that has most of what is asked for, and is of the history of the journal. A copy of another
+branch, from before the journal was begun anew at a lower number, is refused.
+It prints `seq S`, and with --follow a line each time that FILE has caught up, `seq S behind N`, or `seq S LATE N` if nothing came for N
+seconds. A following run ends at SIGTERM, with all in FILE that FOLDER has.
 --undo prints the batch that undoes batch S, as a text for `moo apply`; --diff what differs between numbers A and B of the world, a line a
 value. Both need no FILE.
-Exit status: 0 FILE is where it was asked for; 1 it isn't; 2 the words are wrong. docs/WEB.md has more.
+Exit status: 0 FILE is where it was asked for; 1 it isn't; 2 the words are wrong; 3 nothing came for the seconds of --late. docs/WEB.md has
+more.
 """
 
 
@@ -45,6 +57,11 @@ def read_words(words: list[str]) -> argparse.Namespace:
     parser.add_argument("--follow", action="store_true", help="go on with what comes to the journal, until SIGTERM comes")
     told = "a command that runs `moo-send` on the other machine: FOLDER is a copy, which this brings up meanwhile"
     parser.add_argument("--from", metavar="COMMAND", dest="source", help=told)
+    parser.add_argument("--late", metavar="SECONDS", type=seconds, help="with --from: end with status 3 if nothing came for so long")
+    told = "FILE isn't there: make it from the best copy in this folder, or as a new world if the journal begins at 0"
+    parser.add_argument("--copies", metavar="COPIES", type=Path, help=told)
+    told = "the branch of the journal of which FILE is: 64 digits and letters, as in a file BRANCH"
+    parser.add_argument("--branch", metavar="SUM", type=branch_sum, help=told)
     parser.add_argument("--undo", metavar="S", type=batch_number, help="print what undoes the batch that made number S of the world")
     parser.add_argument("--diff", metavar=("A", "B"), nargs=2, type=batch_number, help="print what differs between two numbers of the world")
     parser.add_argument("--object", metavar="#N", dest="number", type=object_number, help="with --diff: of this object alone")
@@ -54,6 +71,10 @@ def read_words(words: list[str]) -> argparse.Namespace:
         parser.error("--follow has no end, so --to and --at don't go with it")
     if said.source and not said.follow:
         parser.error("--from goes with --follow")
+    if said.late is not None and not said.source:
+        parser.error("--late goes with --from")
+    if said.copies and (said.follow or said.branch):
+        parser.error("--copies goes with neither --follow nor --branch")
     if said.number is not None and said.diff is None:
         parser.error("--object goes with --diff")
     if said.undo is not None and said.diff is not None:
@@ -77,6 +98,20 @@ def object_number(text: str) -> int:
     return int(text.removeprefix("#"))
 
 
+def seconds(text: str) -> float:
+    """A number of seconds, more than 0."""
+    if not re.fullmatch(r"\d+(\.\d+)?", text, re.ASCII) or float(text) <= 0:
+        raise argparse.ArgumentTypeError(f"{text!r} isn't a number of seconds")
+    return float(text)
+
+
+def branch_sum(text: str) -> str:
+    """The name of a branch of a journal."""
+    if not re.fullmatch(r"[0-9a-f]{64}", text):
+        raise argparse.ArgumentTypeError(f"{text!r} isn't a branch: it has 64 digits and letters from a to f")
+    return text
+
+
 def moment(text: str) -> float:
     """A moment in seconds since 1970."""
     try:
@@ -91,71 +126,57 @@ def moment_text(seconds: float) -> str:
     return datetime.datetime.fromtimestamp(seconds, datetime.timezone.utc).isoformat(timespec="milliseconds")
 
 
-# What the journal has
-
-
-def before(folder: Path, end: float | None) -> Iterator[Accepted | dict[str, Any]]:
-    """What the journal tells, up to the first line past a moment."""
-    for one in accepted_in(folder):
-        if end is not None and (one.t if isinstance(one, Accepted) else one["t"]) > end:
-            return
-        yield one
-
-
-def world_batches(folder: Path, end: float | None) -> Iterator[Accepted]:
-    """The batches that made the world what it is, in their order.
-
-    If the journal was begun anew at an older number, since a copy was restored, the batches from that number on aren't among them.
-    """
-    bases = [one["seq"] for one in before(folder, end) if isinstance(one, dict) and one["k"] == "base"]
-    if not bases:
-        raise Failed(f"{folder} has no journal" + (" of a moment so early" if end is not None else ""))
-    passed = 0
-    for one in before(folder, end):
-        if isinstance(one, Accepted):
-            if all(one.at < base for base in bases[passed:]):
-                yield one
-        elif one["k"] == "base":
-            passed += 1
-
-
-def tell_clock(batches: Iterator[Accepted], tell: Callable[[str], None]) -> Iterator[Accepted]:
-    """The same batches. A clock that went back is told."""
-    last = 0.0
-    for one in batches:
-        if one.t < last:
-            tell(f"the clock went back before batch {one.seq}: from {moment_text(last)} to {moment_text(one.t)}")
-        last = one.t
-        yield one
-
-
 # What is done to the world
+
+
+class Clock:
+    """Tells it if the clock went back between two batches."""
+
+    def __init__(self, tell: Callable[[str], None]) -> None:
+        self.tell, self.last = tell, 0.0
+
+    def take(self, batch: Accepted) -> None:
+        """Looks at the moment of the next batch."""
+        if batch.t < self.last:
+            self.tell(f"the clock went back before batch {batch.seq}: from {moment_text(self.last)} to {moment_text(batch.t)}")
+        self.last = batch.t
 
 
 def replay(said: argparse.Namespace, tell: Callable[[str], None]) -> int:
     """Brings the file up, and gives its number. `Failed`, `Damaged`: it can't be brought up."""
-    world = WorldFile(program_named(said.moo), said.file)
-    if said.to is not None and world.seq > said.to:
-        raise Failed(f"{said.file} has number {world.seq} already")
-    last = world.seq
+    program = program_named(said.moo)
+    if said.copies:
+        make_file(said, program, tell)
+    world = WorldFile(program, said.file)
     try:
-        for batch in tell_clock(world_batches(said.folder, said.at), tell):
-            last = batch.seq
-            if batch.at < world.seq:
-                continue
-            if world.seq == said.to:
-                break
-            if batch.at > world.seq:
-                told = f"{said.file} has number {world.seq}; the journal has no batch for it, and goes on at {batch.at}"
-                raise Failed(f"{told}: take a copy of that number or a later one")
-            world.run(batch)
+        if said.to is not None and world.seq > said.to:
+            raise Failed(f"{said.file} has number {world.seq} already")
+        with contextlib.closing(Mark(Path(said.file))) as mark:
+            bring_up(said, world, mark, tell)
     finally:
         world.close()
-    if said.to is not None and world.seq < said.to:
-        raise Failed(f"the journal ends at number {last}; {said.file} has {world.seq}")
-    if said.to is None and said.at is None and world.seq > last:
-        tell(f"{said.file} is past the journal's last batch, which is {last}")
     return world.seq
+
+
+def bring_up(said: argparse.Namespace, world: WorldFile, mark: Mark, tell: Callable[[str], None]) -> None:
+    """Runs what the file lacks of what was asked for. `Failed`, `Damaged`: as `replay`."""
+    place = Place(said.branch, world.seq, "") if said.branch else place_beside(Path(said.file), world.seq, mark)
+    course = course_of(said.folder, said.at, [place.sum] if place and place.sum else [])
+    bringing, clock = Bringing(world, course, place, mark, tell), Clock(tell)
+    bringing.test()
+    for line in lines_until(said.folder, said.at):
+        if world.seq == said.to:
+            break
+        if batch := bringing.take(line):
+            clock.take(batch)
+    if said.to is not None and world.seq < said.to:
+        raise Failed(f"the journal ends at number {course.seq}; {said.file} has {world.seq}")
+    if said.at is not None and world.seq > course.seq:
+        raise Failed(f"{said.file} has number {world.seq}, and the world had {course.seq} at that moment: take an older copy")
+    if said.to is None and world.seq > course.seq:
+        tell(f"{said.file} is past the journal's last batch, which is {course.seq}")
+    if course.telling and world.seq == course.seq:
+        mark.put(course.seq, course.telling.sum)
 
 
 # What undoes a batch
@@ -163,7 +184,7 @@ def replay(said: argparse.Namespace, tell: Callable[[str], None]) -> int:
 
 def print_undo(folder: Path, seq: int, tell: Callable[[str], None]) -> None:
     """Prints the batch that undoes one. `Failed`: nothing does."""
-    batch = next((one for one in world_batches(folder, None) if one.seq == seq), None)
+    batch = next((one for one in history_of(folder) if one.seq == seq), None)
     if batch is None:
         raise Failed(f"{folder} has no batch {seq}")
     undo = undone(batch, is_text=True)
@@ -179,7 +200,7 @@ def print_differences(folder: Path, first: int, last: int, number: Optional[int]
     low, high = sorted((first, last))
     petitions: dict[int, list[Call]] = {}
     between, reached = Between(lambda petition: petitions.get(petition, [])), None
-    for batch in world_batches(folder, None):
+    for batch in history_of(folder):
         for text, answer in zip(batch.calls, batch.answers or ()):
             if call_name(text) == "petition" and answer.isdigit():
                 petitions[int(answer)] = Call.read(text).asked
@@ -210,9 +231,12 @@ def main() -> None:
         elif said.diff is not None:
             print_differences(said.folder, said.diff[0], said.diff[1], said.number)
         elif said.follow:
-            follow(said.folder, said.file, said.source, program_named(said.moo), tell)
+            follow(said, program_named(said.moo), tell)
         else:
             print(f"seq {replay(said, tell)}")
+    except Late as error:
+        print(f"moo-replay: {error}", file=sys.stderr)
+        sys.exit(LATE_STATUS)
     except (Failed, Damaged, InUse, OSError) as error:
         sys.exit(f"moo-replay: {error}")
     except KeyboardInterrupt:

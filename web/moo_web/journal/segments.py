@@ -30,7 +30,10 @@ class Damaged(Exception):
 
 
 class Segment(NamedTuple):
-    """A segment's file, its number from 1 on, the sum before its first line, its version, why it was begun, and its branch, if it says it."""
+    """A segment's file, its number from 1 on, the sum before its first line, its version, why it was begun, and its branch, if it says it.
+
+    `seq` is the world's number at which it begins.
+    """
 
     path: Path
     number: int
@@ -38,6 +41,7 @@ class Segment(NamedTuple):
     version: int = VERSION
     why: str = "full"
     branch: str | None = None
+    seq: int = 0
 
 
 class Line(NamedTuple):
@@ -85,23 +89,28 @@ def header_of(path: Path) -> Segment | None:
         return None
     try:
         said = json.loads(line[SUM_LENGTH + 1 :])
-        version, number, former = said["version"], said["segment"], said["former"]
+        version, number, former, seq = said["version"], said["segment"], said["former"], said["seq"]
     except (ValueError, TypeError, KeyError):
         raise Damaged(f"{path}, line 1: this isn't the first line of a segment") from None
     if version not in VERSIONS:
         raise Damaged(f"{path}: the journal has version {version}, and this program reads versions {VERSIONS[0]} and {VERSIONS[-1]}")
-    if not isinstance(number, int) or not isinstance(former, str):
+    if not isinstance(number, int) or not isinstance(former, str) or not isinstance(seq, int):
         raise Damaged(f"{path}, line 1: this isn't the first line of a segment")
-    return Segment(path, number, former, version, said.get("why", "full"), said.get("branch"))
+    return Segment(path, number, former, version, said.get("why", "full"), said.get("branch"), seq)
 
 
 def branch_of(segments: Iterable[Segment]) -> str:
     """The branch of the last of these segments. Those of version 1 don't say theirs."""
     branch = FIRST_SUM
     for segment in segments:
-        worked_out = {"new": FIRST_SUM, "rebase": segment.former}.get(segment.why, branch)
-        branch = worked_out if segment.branch is None else segment.branch
+        branch = next_branch(segment, branch)
     return branch
+
+
+def next_branch(segment: Segment, branch: str) -> str:
+    """The branch of a segment after one of this branch."""
+    worked_out = {"new": FIRST_SUM, "rebase": segment.former}.get(segment.why, branch)
+    return worked_out if segment.branch is None else segment.branch
 
 
 def segments_of(folder: Path) -> tuple[list[Segment], list[Path]]:
@@ -140,6 +149,11 @@ class Reading:
         for segment in self.segments:
             self.enter(segment)
             yield from self.rest(segment)
+
+    def only(self, segment: Segment) -> Iterator[Line]:
+        """Each line of one segment alone."""
+        self.end, self.number, self.sum = 0, 0, segment.former
+        yield from self.rest(segment)
 
     def enter(self, segment: Segment) -> None:
         """Goes to the beginning of a segment, which is the next one."""

@@ -30,16 +30,16 @@ class Tail:
         self.known: dict[str, tuple[int, Segment]] = {}
         self.segment: Segment | None = None
         self.sum, self.number, self.start, self.end = "", 0, 0, 0
-        self.why = ""
+        self.why, self.is_at_limit = "", False
 
     def lines(self) -> Iterator[Line]:
         """Each line that is whole by now and wasn't given before. `LinesGone`: as that says."""
-        self.why = ""
+        self.why, self.is_at_limit = "", False
         if self.segment is None and not self.enter_first():
             return
         while True:
             yield from self.rest()
-            if self.why or not self.enter_next():
+            if self.why or self.is_at_limit or not self.enter_next():
                 return
 
     def rest(self) -> Iterator[Line]:
@@ -79,6 +79,7 @@ class Tail:
             self.why = "its last line isn't whole" if is_torn else f"{self.segment.path}, line {self.number + 1}: its sum is wrong"
             return None
         if self.limit and (self.segment.number, self.end + len(raw)) > self.limit():
+            self.is_at_limit = True
             return None
         self.start, self.end, self.number, self.sum = self.end, self.end + len(raw), self.number + 1, now
         return Line(self.segment, self.number, now, text, self.end)
