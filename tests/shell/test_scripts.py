@@ -132,8 +132,8 @@ class Scripts(OnWorld):
     def test_answers(self) -> None:
         came = run_script('$hall = create(#1)\nset($hall, "name", "The Hall") // a comment\n\nget($hall, "name")\n$n = 5\n')
         self.case("they are bare", came, Ended(0, '$hall = #4\n0\n"The Hall"\n', ""))
-        self.world_is("each call was a batch", 3, 5)
-        self.case("quiet", run_script('get(#4, "name")\n\\seq\n', "-q"), Ended(0, "4\n", ""))
+        self.world_is("each call that changes something was a batch", 2, 5)
+        self.case("quiet", run_script('get(#4, "name")\n\\seq\n', "-q"), Ended(0, "2\n", ""))
         self.case("from standard input", run_shell("world.db", text='get(#4, "name")'), Ended(0, '"The Hall"\n', ""))
         self.case("and by its name", run_shell("-f", "-", "world.db", text='get(#4, "name")'), Ended(0, '"The Hall"\n', ""))
         self.case("in memory", run_shell(":memory:", text="create(#1)\n"), Ended(0, "#4\n", ""))
@@ -143,7 +143,8 @@ class Scripts(OnWorld):
         text = QUOTA + '\\as $ada\n$a = create(#1)\n$b = create(#1)\n\\as #3\nset($b, "name", "wrong")\n'
         came = run_script(text)
         self.told("a quota that is used up", came, 8, "refused: create(#1)", "E_QUOTA")
-        self.case("what came before it stays", came.complaint.splitlines()[1:], ["moo-shell: 2 batches before it were accepted, and stay"])
+        stays = ["moo-shell: 2 batches before it were accepted, and stay", "moo-shell: mended, it goes on by --from-line 8 -f build.moo"]
+        self.case("what came before it stays", came.complaint.splitlines()[1:], stays)
         self.case("and was answered", came.written, "0\n$ada = #4\n0\n$a = #5\n")
         self.world_is("nothing came after it", 2, 6)
 
@@ -197,8 +198,9 @@ class Scripts(OnWorld):
     def test_a_text_for_apply(self) -> None:
         came = run_script("batch as #3 at 0\ncreate(#1)\nend\nBATCH AS #3\nmax_object()\nEND\n")
         self.case("its batches are read", came, Ended(0, "#4\n#4\n", ""))
-        came = run_script("batch as #3 at 0\ncreate(#1)\nend\n")
-        self.case("`at` holds", (came.status, "the world has the number 2 and not 0" in came.complaint), (1, True))
+        for call in ("create(#1)", "max_object()"):
+            came = run_script(f"batch as #3 at 0\n{call}\nend\n")
+            self.case(f"`at` holds for {call}", (came.status, "the world has the number 1 and not 0" in came.complaint), (1, True))
 
     def test_the_examples(self) -> None:
         """The numbers are those of the comments: three classes, ten rooms, a lamp, two builders with quotas 2 and 1, a hut and a boat."""
@@ -292,7 +294,7 @@ class Mistakes(OnWorld):
             ("chparent(#4, #6)", ["refused: chparent(#4, #6): E_RECMOVE"]),
             ('get(#4, "descripton")', ["E_PROPNF", "did you mean ", "description"]),
             ('get(#4, "nam")', ["E_PROPNF", "did you mean ", "name"]),
-            ("# next", ["a comment begins with //"]),
+            ("#next", ["a comment begins with //"]),
             ("create(#1", ["malformed: "]),
             ("create #1", ["malformed: "]),
             ("set_accept(#4, {1, 2)", ["malformed: "]),
@@ -300,14 +302,18 @@ class Mistakes(OnWorld):
             ('set(#4, "name", "Café")', ["malformed: ", "'é'"]),
             ("set(#4, 'name', 3)", ["malformed: "]),
             ("END", ["`end` without `begin`"]),
-            ("show #4", ["malformed: show #4 isn't a call: did you mean \\show #4?"]),
-            ("#4", ["malformed: #4 isn't a call: \\show #4 shows it"]),
+            ("show #77", ["#77 isn't an object"]),
+            ("#77", ["#77 isn't an object"]),
             ("$lamp", ["$lamp has no value"]),
-            ("$lamp = #4.light", ['#4.light isn\'t a value: a property is read by get(#4, "light")']),
+            ("$lamp = #4.light", ['get(#4, "light"): E_PROPNF']),
+            ("$lamp = #4.light + 1", ['#4.light + 1 isn\'t a value: a property is read by get(#4, "light")']),
+            ("#4.description = light", ["malformed: "]),
+            ("#4.location.name", ['get(#-1, "name"): E_INVIND']),
             ('$lamp = "light', ['"light isn\'t a value: a text without its closing "']),
-            ("lamp = create(#1)", ["a name begins with a $, as $lamp = create(#1)"]),
+            ("lamp = create(#77)", ["create(#77): E_PERM"]),
+            ("@recycle #4", ["malformed: @recycle #4 isn't a call: ", "recycle(#5)"]),
             ("\\show", ["which object? #5 is one"]),
-            ("begin\ntree", ["malformed: tree isn't a call: did you mean \\tree?"]),
+            ("begin\nwood", ["malformed: wood isn't a call: "]),
             ("\\shwo #4", ["\\shwo isn't a word of the shell (did you mean \\show?)"]),
             ("\\show box", ["box isn't an object"]),
             ("\\as 77", ["#77 isn't an object"]),

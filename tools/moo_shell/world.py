@@ -105,6 +105,16 @@ class World:
             self.has_objects = found is not None
         return self.things_by_asking() if found is None else found
 
+    def number_named(self, name: str) -> int:
+        """The number of the object of this name, in any case. `Failed`: none has it, or several have."""
+        found = [thing for thing in self.things().values() if thing.name.lower() == name.lower()]
+        if len(found) == 1:
+            return found[0].number
+        if found:
+            which = ", ".join(shown_name(thing.number) for thing in found[:MOST_NEAR])
+            raise Failed(f"{name} is the name of several objects: {which}")
+        raise Failed(f"{name} isn't an object: none has this name; #5 is one, or a name such as $hall that stands for one")
+
     def things_by_pages(self) -> Optional[dict[int, Thing]]:
         """The same by the route for it; None if the service has none."""
         found: dict[int, Thing] = {}
