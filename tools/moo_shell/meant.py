@@ -103,7 +103,7 @@ def of_word(text: str, words: Collection[str]) -> Optional[Line]:
         word = "show"
     if word in BATCH_WORDS and not given:
         return Line("end") if BATCH_WORDS[word] == "end" else Line("command", word=BATCH_WORDS[word])
-    is_named = word in words and not (text.startswith("@") and word in COMMANDS)
+    is_named = len(word) > 1 and word in words and not (text.startswith("@") and word in COMMANDS)
     return Line("command", given, word=word) if is_named else None
 
 

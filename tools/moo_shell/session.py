@@ -5,6 +5,7 @@ from __future__ import annotations
 import collections
 import contextlib
 import re
+import time
 from collections.abc import Callable, Collection, Iterable, Mapping
 from pathlib import Path
 from typing import Optional
@@ -18,6 +19,7 @@ from moo_shell.meant import advice, expression_advice, meant
 from moo_shell.resuming import Passing, Start
 from moo_shell.statements import Statement, is_open, parted, statements
 from moo_shell.told import Output
+from moo_shell.watching import only_looks
 from moo_shell.world import BUILT_IN, World
 from moolib.batches import Item
 from moolib.calls import LONGEST_CALL, READING, call_name
@@ -69,7 +71,8 @@ class Session:
     `counts` are the accepted batches and the calls in them by their names. `confirm` asks at a terminal whether something is done that
     destroys; it is given the lines to show first. `is_single` is whether all calls of the scripts are one batch. `stopped_at` are the lines
     at which a script stopped: its own, then that of the file which it includes there, and so on; `passing` are those to begin at, and
-    `was_resumed` is whether the names are those of a script that stopped.
+    `was_resumed` is whether the names are those of a script that stopped. `has_timing` is whether the time of each line is told.
+    `last_line` is the last call, `last_look` the last line that only reads.
     """
 
     def __init__(
@@ -97,6 +100,8 @@ class Session:
         self.stopped_at: list[str] = []
         self.passing = Passing()
         self.was_resumed = False
+        self.has_timing = False
+        self.last_line = self.last_look = ""
 
     @property
     def who(self) -> int:
@@ -111,7 +116,18 @@ class Session:
 
     def do_part(self, text: str) -> None:
         """Does a call or a word."""
+        began, had_timing = time.monotonic(), self.has_timing
         line = meant(text, self.words, self.read)
+        self.do_line(line)
+        if line.kind in ("call", "value"):
+            self.last_line = text
+        if only_looks(line):
+            self.last_look = text
+        if had_timing and self.has_timing and line.kind != "empty":
+            self.output.note(f"{(time.monotonic() - began) * 1000:.1f} ms")
+
+    def do_line(self, line: Line) -> None:
+        """Does what a line says."""
         if line.kind == "call" and f"${line.text}" in self.names:
             self.show_alone(f"${line.text}")
         elif line.kind == "call":
