@@ -4,7 +4,7 @@ from __future__ import annotations
 
 import re
 
-from lambdamoo_files import PREPOSITIONS, PROPERTY_RIGHTS, VERB_RIGHTS
+from lambdamoo.words import PREPOSITIONS, PROPERTY_RIGHTS, VERB_RIGHTS
 
 WORDS = ("object", "property", "slot", "verb", "petition", "end")
 BITS = ("player", "programmer", "wizard", "r", "w", "f")

@@ -5,39 +5,31 @@ from __future__ import annotations
 
 import argparse
 import sys
-from collections.abc import Iterator
+from collections.abc import Iterator, Mapping
 
-from lambdamoo_files import (
+from lambdamoo.accepting import Accepting
+from lambdamoo.database import Database, Thing
+from lambdamoo.links import clash_in, owed_to_each
+from lambdamoo.losses import PROGRAMS, REFUSED_BYTES, REFUSED_FLOATS, STRANGE_NAMES, STRANGE_VERBS, Losses, add_words
+from lambdamoo.texts import Broken, finish, opened, write_out
+from lambdamoo.words import (
     FLAGS,
     PLACES,
     PREPOSITIONS,
     PROPERTY_RIGHTS,
-    REFUSED_BYTES,
-    REFUSED_FLOATS,
     VERB_RIGHTS,
-    Broken,
-    Database,
-    Losses,
-    Thing,
-    clash_in,
     escaped,
-    finish,
     may_name_property,
-    opened,
-    owed_to_each,
     quoted,
-    write_out,
 )
 
 TOOL = "from_lambdamoo"
-STRANGE_NAMES = "properties whose name is empty, built in or over 255 bytes, left out"
-STRANGE_VERBS = "verbs without a name, left out"
 
 ABOUT = """\
 Reads a database file of LambdaMOO, format version 1 to 4, and writes its world
 to standard output, as 'moo dump' writes one: objects, parents, locations,
 flags, properties with their values, and the headers of verbs. The world has
-seq 0, no accept lists and no petitions.
+seq 0, no petitions, and no accept lists unless --accept makes them.
 
 What moo can't hold is reported on standard error by kind, with the count and
 the place of the first. Verb programs are always left out: keep the database
@@ -45,6 +37,7 @@ file, from which to_lambdamoo.py takes them again. Nothing is written unless
 the whole file was read.
 """
 ENDING = """\
+  from_lambdamoo.py --check --all core.db
   from_lambdamoo.py core.db | moo load world.db -
   from_lambdamoo.py core.db >core.dump
   from_lambdamoo.py --floats text --bytes escape core.db >core.dump
@@ -62,8 +55,9 @@ def letters(rights: dict[str, int], number: int) -> str:
 class Dump:
     """The dump of a database. Properties and verbs that moo can't hold are reported."""
 
-    def __init__(self, database: Database, losses: Losses) -> None:
+    def __init__(self, database: Database, losses: Losses, accepts: Mapping[int, str] = {}) -> None:
         self.things = database.things
+        self.accepts = accepts
         self.top = database.top
         self.losses = losses
         self.bytes = database.bytes
@@ -128,7 +122,7 @@ class Dump:
         """The line of an object."""
         flags = ", ".join("1" if thing.flags & worth else "0" for worth in FLAGS.values())
         links = f"#{thing.owner}, #{thing.parent}, #{thing.location}"
-        return f"object {{#{number}, {quoted(thing.name)}, {links}, {flags}, 0}}\n"
+        return f"object {{#{number}, {quoted(thing.name)}, {links}, {flags}, {self.accepts.get(number, '0')}}}\n"
 
     def slot_lines(self, number: int, thing: Thing) -> Iterator[str]:
         """The lines of an object's slots."""
@@ -161,20 +155,25 @@ def read_words(words: list[str]) -> argparse.Namespace:
         default="refuse",
         help="write bytes that no string of moo holds as ~XX, as encode_binary does, or refuse them (the default)",
     )
-    reader.add_argument("--strict", action="store_true", help="write nothing, with status 1, if anything is left out or changed")
+    reader.add_argument("--accept", action="store_true", help="make accept lists of verbs accept that only say yes or no or name classes")
+    add_words(reader, "dump")
     return reader.parse_args(words)
 
 
 def convert(asked: argparse.Namespace) -> int:
     """Writes the dump, and answers the status."""
-    losses = Losses()
+    losses = Losses(asked.all)
     with opened(asked.database) as stream:
-        dump = Dump(Database(stream, losses, asked.floats, asked.bytes), losses)
+        database = Database(stream, losses, asked.floats, asked.bytes, keep_lacking=asked.accept)
+        dump = Dump(database, losses, Accepting(database, losses).lists if asked.accept else {})
     losses.report(TOOL)
-    if REFUSED_FLOATS in losses.counts or REFUSED_BYTES in losses.counts or (asked.strict and losses.counts):
-        sys.stderr.write(f"{TOOL}: no dump was written\n")
+    beyond = losses.beyond(asked.allow) if asked.strict else []
+    if REFUSED_FLOATS in losses.counts or REFUSED_BYTES in losses.counts or beyond:
+        why = f": --strict, and {', '.join(beyond)} not allowed" if beyond else ""
+        sys.stderr.write(f"{TOOL}: no dump was written{why}\n")
         return 1
-    write_out(dump.pieces())
+    if not asked.check:
+        write_out(dump.pieces())
     return 0
 
 

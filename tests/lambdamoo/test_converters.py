@@ -628,9 +628,11 @@ class Broken(Temporary):
             status, dump, _ = from_database(database_text(world, random.Random(1), version))
             self.assertEqual((status, dump), (0, dump_text(world)))
         for version in (0, 5, 17, 123456789):
-            done = from_database(edited(EXAMPLE, 1, f"** LambdaMOO Database, Format Version {version} **"))
-            self.broken(done, 1)
-            self.assertIn(f"format version {version} can't be read", done[2])
+            status, output, said = from_database(edited(EXAMPLE, 1, f"** LambdaMOO Database, Format Version {version} **"))
+            self.assertEqual((status, output), (1, ""))
+            self.assertIn(f"from_lambdamoo: standard input, line 1: format version {version} can't be read", said)
+            advice = "write it as format 4: LAMBDAMOO, 'Databases of Stunt and ToastStunt', says how\n"
+            self.assertEqual((said.endswith(advice), "waifs" in said, "is unknown here" in said), (version > 4, version > 13, version > 17))
 
     def test_a_second_program(self):
         line = EXAMPLE.split("\n").index("#1:0") + 1

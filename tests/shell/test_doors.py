@@ -59,7 +59,7 @@ class Ports(Served):
     def test_a_service_that_runs(self) -> None:
         came = run_shell("--port", str(self.service.port), text='$a = create(#4)\nget($a, "description")\n')
         self.case("it is used", came, Ended(0, '$a = #7\n"dull"\n', ""))
-        self.case("and goes on", self.seq(), 3)
+        self.case("and goes on; what was read isn't counted", self.seq(), 2)
         came = run_shell("--port", str(self.service.port), "--as", "6", text="recycle(#4)\n")
         self.case("in the name of another", (came.status, "E_PERM" in came.complaint), (1, True))
 
@@ -140,6 +140,17 @@ class Strangers(Served):
         self.case("nothing has acted", self.seq(), 1)
 
 
+class Looks(Served):
+    def test_a_look_changes_nothing(self) -> None:
+        """So it makes no other client's `at` stale."""
+        text = 'get(#4, "name")\n#4.name\n$a = #4.owner\nbegin\nvalid(#4)\nparent(#4)\nend\n\\show #4\n'
+        there = self.stand_in(routes=True)
+        came = run_shell("--port", str(there.port), text=text)
+        self.case("it is answered", (came.status, came.written.splitlines()[:5]), (0, ['"Lantern"', '"Lantern"', "$a = #3", "1", "#1"]))
+        self.case("the number stays", self.seq(), 1)
+        self.case("no batch was sent", [path for path in there.seen if path.startswith("/batch")], [])
+
+
 class Writers(Served):
     """Batches act at most once, whatever else happens."""
 
@@ -154,7 +165,7 @@ class Writers(Served):
         there.fault = write_once
         came = run_shell("--port", str(there.port), text='begin\n$a = create(#4)\nset($a, "name", "mine")\nend\nget($a, "name")\n')
         self.case("the batch is made anew", (came.status, came.written), (0, '$a = #7\n0\n"mine"\n'))
-        there.fault = lambda moment: self.write("create(#1)") if moment == "before" and self.seq() < 5 else None
+        there.fault = lambda moment: self.write("create(#1)") if moment == "before" and self.seq() < 4 else None
         came = run_shell("--port", str(there.port), text='begin\n$a = create(#4)\nset($a, "name", "mine")\nend\nget($a, "name")\n')
         self.case("also if the other one makes an object", (came.status, came.written), (0, '$a = #9\n0\n"mine"\n'))
 

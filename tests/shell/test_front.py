@@ -73,3 +73,13 @@ class AtAFront(RoomTest):
         came = self.shell("wizard", '\\petitions\ngrant(1)\nget(#4, "size")\n\\dump out.txt\n')
         self.assertEqual(came, Ended(0, 'petition 1 by #5 "Ada"\n    set(#4, "size", 2)\n0\n2\n', ""))
         self.assertTrue(pathlib.Path("out.txt").read_text().startswith("seq 4\ntop #5\n"))
+
+    def test_history(self) -> None:
+        self.shell("ada", BUILD)
+        self.shell("wizard", 'set(#6, "name", "blue box")\nset(#4, "size", 5)\n')
+        came = self.shell("wizard", "\\history #6\n")
+        rows = [line.split("  ") for line in came.written.splitlines()]
+        self.assertEqual([row[-1] if row[0] else "".join(row) for row in rows], [
+            "wizard as #3", 'set(#6, "name", "blue box")', "ada as #5", "create(#4)", 'set(#6, "name", "red box")',
+        ])  # fmt: skip
+        self.assertIn("\\history: a front tells it to wizards alone", self.shell("ada", "\\history #6\n").complaint)

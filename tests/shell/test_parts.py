@@ -12,7 +12,7 @@ from tests.support import TOOLS
 from tests.support.cases import ProgramTest
 from tests.support.program import MOO, TOP
 
-from moo_shell import files, helping, looks, manual, prompt
+from moo_shell import files, helping, looks, manual, meant, prompt, statements
 from moolib import calls, lines
 from moo_shell.commands import COMMANDS_BY_HELP
 from moolib.lines import Line
@@ -72,29 +72,67 @@ class Parts(ProgramTest):
         for text, wanted in cases:
             self.case(f"the hint of {text}", lines.hint(text), wanted)
 
+    def test_statements(self) -> None:
+        """Brackets that are open put lines together, and `;` cuts them apart, but not in texts, comments or the words of the shell."""
+        cases = (
+            ("create(#1)", [("create(#1)", 1, 1)]),
+            ("create(#1); set(#4, \"name\", \"a;b\");", [("create(#1)", 1, 1), (' set(#4, "name", "a;b")', 1, 2)]),
+            ("\n;create(#1)", [("create(#1)", 2, 1)]),
+            ("create( // the parent\n  #1\n)\nget(#1, \"x\")", [("create( #1 )", 1, 1), ('get(#1, "x")', 4, 1)]),
+            ("set_accept(#4, {1, 2)\nend", [("set_accept(#4, {1, 2)", 1, 1), ("end", 2, 1)]),
+            ("set(#4, \"a(b\", 1)\nend", [('set(#4, "a(b", 1)', 1, 1), ("end", 2, 1)]),
+            ("// a; b (\n# a; b (\n-- a; b (\nend // c; d (", [("end ", 4, 1)]),
+            ("\\show #5;\n\\find a;b(\ninclude a;b", [("\\show #5", 1, 1), ("\\find a;b(", 2, 1), ("include a;b", 3, 1)]),
+            ("\\ask create(\n#1)", [("\\ask create( #1)", 1, 1)]),
+            ("create(#1", [("create(#1", 1, 1)]),
+        )
+        for text, wanted in cases:
+            found = [(each.text, each.line, each.part) for each in statements.statements(text.split("\n"))]
+            self.case(f"the statements of {text!r}", found, wanted)
+
+    def test_what_is_meant(self) -> None:
+        """What people write who come from other prompts is done."""
+        answers = {'get(#5, "location")': "#2", 'get(#6, "name")': '"box"'}
+        cases = (
+            ("create(#1)", Line("call", "create(#1)")),
+            ("#5", Line("alone", "#5")),
+            ("$inn", Line("alone", "$inn")),
+            ("#5.name", Line("call", 'get(#5, "name")')),
+            ("$inn.name", Line("call", 'get($inn, "name")')),
+            ("#5.location.name", Line("call", 'get(#2, "name")')),
+            ('#5.name = "x = y"', Line("call", 'set(#5, "name", "x = y")')),
+            ("#5.name=#6.name", Line("call", 'set(#5, "name", "box")')),
+            ("$a = #5.name", Line("call", 'get(#5, "name")', name="$a")),
+            ("a = create(#1)", Line("call", "create(#1)", name="$a")),
+            ("a = 5", Line("value", "5", name="$a")),
+            ("a == 5", Line("call", "a == 5")),
+            ("show #2", Line("command", "#2", word="show")),
+            ("@show #2", Line("command", "#2", word="show")),
+            (".tree", Line("command", "", word="tree")),
+            ("look Inn", Line("command", "Inn", word="show")),
+            ("show(#2)", Line("call", "show(#2)")),
+            ("commit", Line("end")),
+            ("ROLLBACK", Line("command", word="abandon")),
+        )
+        for text, wanted in cases:
+            self.case(f"what {text} means", meant.meant(text, ("show", "tree"), answers.__getitem__), wanted)
+
     def test_advice(self) -> None:
-        """What people write who come from other prompts."""
+        """What can't be done is told in a sentence."""
         brackets = "a call has its name and its values in brackets, as create(#1); \\help lists the calls"
         cases = (
-            ("show #4", "did you mean \\show #4?"),
-            ("tree", "did you mean \\tree?"),
             ("begin here", "`begin` stands alone on its line"),
             ("batch as 3", "`batch as #3` begins a batch of #3"),
-            ("$lamp", "\\show $lamp shows it"),
-            ("#4", "\\show #4 shows it"),
-            ("hall = create(#1)", "a name begins with a $, as $hall = create(#1)"),
-            ("#4.light", 'a property is read by get(#4, "light")'),
-            ("$lamp.light = {1, 2}", 'a property is set by set($lamp, "light", {1, 2})'),
             ("#4:look_self()", "moo keeps verbs and runs none"),
-            ("# words", "a comment begins with //"),
+            ("@recycle #4", "@recycle is a command of LambdaMOO; here it is recycle(#5)"),
+            ("#4.light + 1", 'a property is read by get(#4, "light")'),
             ("look", brackets),
-            ("@create #1", brackets),
             ("create #1", brackets),
         )
         for text, wanted in cases:
-            self.case(f"the advice of {text}", lines.advice(text, ("show", "tree")), wanted)
-        for text, wanted in (("#4.light + 1", 'a property is read by get(#4, "light")'), ("#4", ""), ("{1, 2}", "")):
-            self.case(f"the expression {text}", lines.expression_advice(text), wanted)
+            self.case(f"the advice of {text}", meant.advice(text), wanted)
+        for text in ("#4", "{1, 2}"):
+            self.case(f"the expression {text}", meant.expression_advice(text), "")
 
     def test_calls_that_are_being_typed(self) -> None:
         cases = (

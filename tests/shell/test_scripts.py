@@ -132,8 +132,8 @@ class Scripts(OnWorld):
     def test_answers(self) -> None:
         came = run_script('$hall = create(#1)\nset($hall, "name", "The Hall") // a comment\n\nget($hall, "name")\n$n = 5\n')
         self.case("they are bare", came, Ended(0, '$hall = #4\n0\n"The Hall"\n', ""))
-        self.world_is("each call was a batch", 3, 5)
-        self.case("quiet", run_script('get(#4, "name")\n\\seq\n', "-q"), Ended(0, "4\n", ""))
+        self.world_is("each call that changes something was a batch", 2, 5)
+        self.case("quiet", run_script('get(#4, "name")\n\\seq\n', "-q"), Ended(0, "2\n", ""))
         self.case("from standard input", run_shell("world.db", text='get(#4, "name")'), Ended(0, '"The Hall"\n', ""))
         self.case("and by its name", run_shell("-f", "-", "world.db", text='get(#4, "name")'), Ended(0, '"The Hall"\n', ""))
         self.case("in memory", run_shell(":memory:", text="create(#1)\n"), Ended(0, "#4\n", ""))
@@ -143,7 +143,8 @@ class Scripts(OnWorld):
         text = QUOTA + '\\as $ada\n$a = create(#1)\n$b = create(#1)\n\\as #3\nset($b, "name", "wrong")\n'
         came = run_script(text)
         self.told("a quota that is used up", came, 8, "refused: create(#1)", "E_QUOTA")
-        self.case("what came before it stays", came.complaint.splitlines()[1:], ["moo-shell: 2 batches before it were accepted, and stay"])
+        stays = ["moo-shell: 2 batches before it were accepted, and stay", "moo-shell: mended, it goes on by --from-line 8 -f build.moo"]
+        self.case("what came before it stays", came.complaint.splitlines()[1:], stays)
         self.case("and was answered", came.written, "0\n$ada = #4\n0\n$a = #5\n")
         self.world_is("nothing came after it", 2, 6)
 
@@ -197,8 +198,64 @@ class Scripts(OnWorld):
     def test_a_text_for_apply(self) -> None:
         came = run_script("batch as #3 at 0\ncreate(#1)\nend\nBATCH AS #3\nmax_object()\nEND\n")
         self.case("its batches are read", came, Ended(0, "#4\n#4\n", ""))
-        came = run_script("batch as #3 at 0\ncreate(#1)\nend\n")
-        self.case("`at` holds", (came.status, "the world has the number 2 and not 0" in came.complaint), (1, True))
+        for call in ("create(#1)", "max_object()"):
+            came = run_script(f"batch as #3 at 0\n{call}\nend\n")
+            self.case(f"`at` holds for {call}", (came.status, "the world has the number 1 and not 0" in came.complaint), (1, True))
+
+    def test_calls_of_the_command_line(self) -> None:
+        words = ("-c", '$a = create(#1); $a.name = "Inn"', "-c", "$a.name", "world.db")
+        self.case("they are done in turn", run_shell(*words), Ended(0, '$a = #4\n0\n"Inn"\n', ""))
+        came = run_shell("-c", "create(#1", "world.db")
+        self.told("a refusal", came, 1, "malformed: create(#1: a call without its )", file="-c")
+        self.world_is("what only reads isn't counted", 2, 5)
+
+    def test_one_batch_of_all(self) -> None:
+        text = '$a = create(#1)\nbegin\n$n = "box"\nset($a, "name", $n)\nend\n$n = "lid"\n$b = create($a)\nset($b, "name", $n)\n'
+        came = run_script(text + "get($a, \"name\")\nset($b, \"name\", 3)\n", "--single")
+        self.told("a refusal", came, 10, 'set(#5, "name", 3): E_TYPE')
+        self.case("nothing stays", came.complaint.splitlines()[1:], ["moo-shell: nothing was changed"])
+        self.world_is("nothing was done", 0, 4)
+        wanted = '$a = #4\n0\n$b = #5\n0\n"box"\n"lid"\n'
+        came = run_script(text + "get($a, \"name\")\n", "--single", "-c", "get($b, \"name\")")
+        self.case("names have the values of their lines", came, Ended(0, wanted, ""))
+        self.world_is("all is one batch", 1, 6)
+        self.told("two programmers", run_script("create(#1)\nbatch as #4\nend\n", "--single"), 2, "all is one batch of #3")
+        came = run_script("create(#1)\n" * 1001, "--single")
+        self.told("over 1,000 calls", came, 1001, "at most 1000 calls, and this one has 1001")
+        self.world_is("nothing was sent", 1, 6)
+
+    def test_a_mended_script_goes_on(self) -> None:
+        """What came before the line at which it stopped isn't done again, and its names are known."""
+        lines = ["$a = create(#1); set($a, \"nme\", \"a\")", "include part.moo", "begin", "$c = create($b)", "set($c, \"name\", 3)", "end", "\\seq"]
+        Path("part.moo").write_text("$b = create($a)\n\nset($b, \"name\", 3)\n")
+        came = run_script("\n".join(lines))
+        self.case("a part of a line", came.complaint.splitlines()[-1], "moo-shell: mended, it goes on by --from-line 1.2 -f build.moo")
+        lines[0] = lines[0].replace("nme", "name")
+        came = run_script("\n".join(lines), "--from-line", "1.2")
+        self.case("a line of another file", came.complaint.splitlines()[-1], "moo-shell: mended, it goes on by --from-line 2,3 -f build.moo")
+        Path("part.moo").write_text("$b = create($a)\n\nset($b, \"name\", \"b\")\n")
+        came = run_script("\n".join(lines), "--from-line", "2,3")
+        self.case("a batch, from its beginning", came.complaint.splitlines()[-1], "moo-shell: mended, it goes on by --from-line 3 -f build.moo")
+        lines[4] = "set($c, \"name\", \"c\")"
+        self.told("not in a batch", run_script("\n".join(lines), "--from-line", "4"), 4, "in the batch that begins on line 3")
+        self.case("to its end", run_script("\n".join(lines), "--from-line", "3"), Ended(0, "$c = #6\n0\n5\n", ""))
+        self.world_is("each line was done once", 5, 7)
+        self.case("what was kept for that is removed", os.path.exists("build.moo.stopped"), False)
+        self.told("past its end", run_script("create(#1)\n", "--from-line", "9"), 1, "--from-line 9: build.moo has 1 line")
+
+    def test_names_of_zero(self) -> None:
+        """`$room` is #0.room, as in LambdaMOO, unless the session has such a name."""
+        text = 'add_property(#0, "room", #2, {#3, "r"})\n$room.name\n$b = create($room)\nbegin\n$room = create(#1)\nset($room, "name", "mine")\nend\n'
+        came = run_script(text + "$room.name\nparent($b)\n")
+        self.case("it is read", came, Ended(0, '0\n"The First Room"\n$b = #4\n$room = #5\n0\n"mine"\n#2\n', ""))
+
+    def test_what_is_meant(self) -> None:
+        text = '$a = create(#1)\n$a.name = "The Inn"\n#4.name\n$a.owner.name\nx = 5\nx\n$x\n\\seq\n'
+        self.case("properties and names", run_script(text), Ended(0, '$a = #4\n0\n"The Inn"\n"Wizard"\n5\n5\n2\n', ""))
+        shown = run_script("\\show #4\n").written
+        for line in ("#4", "show #4", "\\show The Inn", "\\show inn", "@show #4", "$a = #4\n$a", "\\d #4;"):
+            self.case(f"{line} shows it", run_script(f"{line}\n").written, shown)
+        self.told("a name of two", run_script("\\show room\n$b = create(#1)\n$b.name = \"Room\"\n\\show r\n"), 4, "r may be #1")
 
     def test_the_examples(self) -> None:
         """The numbers are those of the comments: three classes, ten rooms, a lamp, two builders with quotas 2 and 1, a hut and a boat."""
@@ -292,7 +349,7 @@ class Mistakes(OnWorld):
             ("chparent(#4, #6)", ["refused: chparent(#4, #6): E_RECMOVE"]),
             ('get(#4, "descripton")', ["E_PROPNF", "did you mean ", "description"]),
             ('get(#4, "nam")', ["E_PROPNF", "did you mean ", "name"]),
-            ("# next", ["a comment begins with //"]),
+            ("#next", ["a comment begins with //"]),
             ("create(#1", ["malformed: "]),
             ("create #1", ["malformed: "]),
             ("set_accept(#4, {1, 2)", ["malformed: "]),
@@ -300,14 +357,18 @@ class Mistakes(OnWorld):
             ('set(#4, "name", "Café")', ["malformed: ", "'é'"]),
             ("set(#4, 'name', 3)", ["malformed: "]),
             ("END", ["`end` without `begin`"]),
-            ("show #4", ["malformed: show #4 isn't a call: did you mean \\show #4?"]),
-            ("#4", ["malformed: #4 isn't a call: \\show #4 shows it"]),
+            ("show #77", ["#77 isn't an object"]),
+            ("#77", ["#77 isn't an object"]),
             ("$lamp", ["$lamp has no value"]),
-            ("$lamp = #4.light", ['#4.light isn\'t a value: a property is read by get(#4, "light")']),
+            ("$lamp = #4.light", ['get(#4, "light"): E_PROPNF']),
+            ("$lamp = #4.light + 1", ['#4.light + 1 isn\'t a value: a property is read by get(#4, "light")']),
+            ("#4.description = light", ["malformed: "]),
+            ("#4.location.name", ['get(#-1, "name"): E_INVIND']),
             ('$lamp = "light', ['"light isn\'t a value: a text without its closing "']),
-            ("lamp = create(#1)", ["a name begins with a $, as $lamp = create(#1)"]),
+            ("lamp = create(#77)", ["create(#77): E_PERM"]),
+            ("@recycle #4", ["malformed: @recycle #4 isn't a call: ", "recycle(#5)"]),
             ("\\show", ["which object? #5 is one"]),
-            ("begin\ntree", ["malformed: tree isn't a call: did you mean \\tree?"]),
+            ("begin\nwood", ["malformed: wood isn't a call: "]),
             ("\\shwo #4", ["\\shwo isn't a word of the shell (did you mean \\show?)"]),
             ("\\show box", ["box isn't an object"]),
             ("\\as 77", ["#77 isn't an object"]),

@@ -100,7 +100,7 @@ class Lines(Typed):
         shown = shell.until("\n#3> ")
         shown = shown if "E_TYPE" in shown else shown + shell.until("\n#3> ")
         self.case("they are done up to the first that is refused", ("accepted 2" in shown, "E_TYPE" in shown), (True, True))
-        self.case("what comes after it isn't", self.done(shell, 'get(#6, "name")'), ['""  accepted 3'])
+        self.case("what comes after it isn't", self.done(shell, 'get(#6, "name")'), ['""'])
         self.leave(shell)
 
     def test_end_of_input_in_a_batch(self) -> None:
@@ -123,7 +123,51 @@ class Lines(Typed):
         shell.until("recycle(#4)")
         shell.interrupt("\n#3> ")
         self.case("and the line that is typed", self.done(shell, "\\seq"), ["1"])
-        self.case("the service goes on", self.done(shell, "valid(#4)"), ["1  accepted 2"])
+        self.case("the service goes on", self.done(shell, "valid(#4)"), ["1"])
+        self.leave(shell)
+
+    def test_what_destroys_is_shown_first(self) -> None:
+        shell = self.shell()
+        self.done(shell, 'set(#5, "weight", 3)')
+        shell.line("recycle(#4)")
+        shown = shell.until("do it? [y/N] ")
+        self.case("what goes", ['#4 "Lantern" goes' in shown, "1 object right under it" in shown, "weight of #5, now 3" in shown], [True] * 3)
+        self.case("a no", "nothing was done" in self.done(shell, "n"), True)
+        self.case("does nothing", self.done(shell, "valid(#4); \\seq"), ["1", "2"])
+        self.case("what would be refused isn't asked", "E_INVARG" in self.done(shell, "recycle(#77)")[0], True)
+        shell.line('delete_property(#4, "weight")')
+        shell.until("do it? [y/N] ")
+        self.case("a yes", self.done(shell, "y"), ["0  accepted 3"])
+        self.case("a change of parent that loses nothing isn't asked", self.done(shell, "chparent(#5, #4)"), ["0  accepted 4"])
+        self.leave(shell)
+
+    def test_a_call_of_several_lines(self) -> None:
+        shell = self.shell()
+        self.done(shell, "$a = create(", "  ..> ")
+        self.case("it goes on until it is closed", self.done(shell, "#1); $a.name"), ["$a = #6  accepted 2", '""'])
+        shell.line("create(")
+        shell.until("  ..> ")
+        shell.interrupt("\n#3> ")
+        self.case("Ctrl-C drops it", self.done(shell, "\\seq"), ["2"])
+        self.leave(shell)
+
+    def test_words_of_other_prompts(self) -> None:
+        shell = self.shell(EDITOR="sed -i s/dull/bright/")
+        self.done(shell, '#5.description = "dull"')
+        self.case("an editor", "0  accepted 3" in self.done(shell, "\\e"), True)
+        self.case("what it left is done", self.done(shell, "#5.description"), ['"bright"'])
+        self.case("nothing else", self.done(shell, "\\e")[0], "nothing was changed in it, and nothing is done")
+        self.case("again and again", self.done(shell, "\\watch i=0 c=2 #5.weight")[1::2], ["1", "1"])
+        self.case("not what changes something", "only reads" in self.done(shell, "\\watch create(#1)")[0], True)
+        self.done(shell, "\\o answers.txt")
+        self.case("answers to a file", self.done(shell, "#5.weight"), [])
+        self.done(shell, "\\o")
+        with open("answers.txt") as file:
+            self.case("are there", file.read(), "1\n")
+        self.case("times", self.done(shell, "\\timing")[0], "timing is on")
+        self.case("are told", self.done(shell, "\\seq")[-1].split()[-1], "ms")
+        self.done(shell, "\\timing")
+        self.case("classes", [line.split("  ")[0] for line in self.done(shell, "\\classes")], ['#1 "Root Class"', '#4 "Lantern"'])
         self.leave(shell)
 
     def test_help(self) -> None:
@@ -184,12 +228,12 @@ class History(Typed):
         shell = self.shell()
         self.done(shell, 'get(#4, "name")')
         shell.type(UP + "\n")
-        self.case("a line comes again", '"Lantern"  accepted 3' in shell.until("\n#3> "), True)
+        self.case("a line comes again", '"Lantern"\n' in shell.until("\n#3> "), True)
         self.leave(shell)
         self.case("nobody else may read the file", stat.S_IMODE(os.stat("history").st_mode), 0o600)
         shell = self.shell()
         shell.type(UP + "\n")
-        self.case("also in the next session", '"Lantern"  accepted 4' in shell.until("\n#3> "), True)
+        self.case("also in the next session", '"Lantern"\n' in shell.until("\n#3> "), True)
         self.leave(shell)
 
 
@@ -264,6 +308,6 @@ class Ends(Typed):
         os.kill(service, signal.SIGKILL)
         # While it ends it would still take a connection, and lose the answer.
         self.case("it was killed", has_ended(service), True)
-        self.case("it is started again", self.done(shell, "valid(#4)")[-1], "1  accepted 2")
+        self.case("it is started again", self.done(shell, "valid(#4)")[-1], "1")
         self.case("as another process", self.service_of(shell) != service, True)
-        self.case("and ended", (self.leave(shell), run("check", "world.db")), (0, (0, "ok seq 2 objects 6\n")))
+        self.case("and ended", (self.leave(shell), run("check", "world.db")), (0, (0, "ok seq 1 objects 6\n")))

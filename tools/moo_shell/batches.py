@@ -44,6 +44,11 @@ class Unsure(Failed):
         self.at = at
 
 
+def stale(moved: Stale, at: int) -> Refused:
+    """Why a batch that is for the world of a number isn't done on one of another."""
+    return Refused(f"the world has the number {moved.seq} and not {at}", 0, "stale", None)
+
+
 class Batches:
     """Runs batches through a door, and asks them."""
 
@@ -62,22 +67,25 @@ class Batches:
             except Stale as moved:
                 self.seq = moved.seq
                 if at is not None:
-                    raise Refused(f"the world has the number {moved.seq} and not {at}", 0, "stale", None) from None
+                    raise stale(moved, at) from None
                 if waiting.is_over:
                     raise Failed("others write all the time: the batch found no moment") from None
             self.door.rest(waiting.pause())
 
-    def ask(self, items: list[Item], who: int, names: Mapping[str, str]) -> Done:
-        """What a batch would answer; nothing changes."""
+    def ask(self, items: list[Item], who: int, names: Mapping[str, str], at: Optional[int] = None) -> Done:
+        """What a batch would answer; nothing changes. With `at` it is asked of the world of that number alone."""
         self.test_length(items)
         while True:
             try:
-                calls, answer = self.prepared_to_ask(items, who, names)
-            except Stale:
+                calls, answer = self.prepared_to_ask(items, who, names, at)
+            except Stale as moved:
+                if at is not None:
+                    raise stale(moved, at) from None
                 continue
             if not answer.is_good:
                 raise self.refusal(items, calls, answer)
-            return Done(answer.said["answers"], int(answer.said["seq"]))
+            self.seq = int(answer.said["seq"])
+            return Done(answer.said["answers"], self.seq)
 
     def losses(self, items: list[Item], who: int, names: Mapping[str, str], done: Done, is_script: bool) -> list[str]:
         """What a batch would destroy or replace that was asked and would be answered so, in lines."""
@@ -103,13 +111,13 @@ class Batches:
             raise self.refusal(items, calls, answer)
         return calls, seq
 
-    def prepared_to_ask(self, items: list[Item], who: int, names: Mapping[str, str]) -> tuple[list[str], Answer]:
+    def prepared_to_ask(self, items: list[Item], who: int, names: Mapping[str, str], at: Optional[int]) -> tuple[list[str], Answer]:
         """The calls of a batch that is only asked, and what they would answer."""
         if local_names(items):
-            seq = self.door.seq()
+            seq = self.door.seq() if at is None else at
             return resolved(items, names, lambda some: self.asked(who, some, seq))
         calls = written_calls(items, names, {})
-        return calls, self.asked(who, calls, None)
+        return calls, self.asked(who, calls, at)
 
     def asked(self, who: int, calls: list[str], at: Optional[int]) -> Answer:
         """What calls would answer. `Stale`: the world has another number than `at`."""

@@ -9,13 +9,17 @@ from typing import Optional
 
 from moo_shell import looks
 from moo_shell.batches import Refused
+from moo_shell.editing import edit
 from moo_shell.files import write_new
+from moo_shell.meant import meant
 from moo_shell.helping import ASIDE, TOPICS, fitted, help_on, overview
+from moo_shell.history import history
 from moo_shell.service import OwnService
 from moo_shell.session import Session
+from moo_shell.watching import watch
 from moolib.batches import Item
 from moolib.errors import Failed
-from moolib.lines import counted, did_you_mean, read_line, unquoted
+from moolib.lines import counted, did_you_mean, unquoted
 
 
 @dataclasses.dataclass(frozen=True)
@@ -57,6 +61,35 @@ def find(session: Session, text: str) -> None:
     session.output.show(found or f"no name has {unquoted(text)}")
 
 
+def classes(session: Session, text: str) -> None:
+    """The objects that others are under."""
+    session.output.show(looks.classes(session.world.things(), unquoted(text)) or f"no class has {unquoted(text)} in its name")
+
+
+def show_history(session: Session, text: str) -> None:
+    """What was done with an object."""
+    session.output.show(history(session.door, session.number(text)))
+
+
+def timing(session: Session, text: str) -> None:
+    """Whether the time of each line is told."""
+    if text.lower() not in ("", "on", "off"):
+        raise Failed("\\timing [on|off]")
+    session.has_timing = not session.has_timing if not text else text.lower() == "on"
+    session.output.note(f"timing is {'on' if session.has_timing else 'off'}")
+
+
+def output(session: Session, text: str) -> None:
+    """Answers to a file, or to standard output again."""
+    if text and session.is_copy:
+        session.output.note(f"{text} isn't written: this is a copy of the world")
+        return
+    try:
+        session.output.send_to(Path(unquoted(text)).expanduser() if text else None)
+    except OSError as error:
+        raise Failed(f"{text}: {error.strerror}") from None
+
+
 def petitions(session: Session, _: str) -> None:
     """The petitions that may be seen."""
     found = session.world.petitions()
@@ -67,7 +100,7 @@ def petitions(session: Session, _: str) -> None:
 def ask(session: Session, text: str) -> None:
     """What a call would answer, or the open batch so far."""
     if text:
-        line = read_line(text)
+        line = meant(text, (), session.read)
         if line.kind != "call":
             raise Failed("\\ask CALL: a call is tried, as \\ask create(#1)")
         session.test_call(line.text)
@@ -89,7 +122,7 @@ def ask(session: Session, text: str) -> None:
         session.output.show("\n".join(answer for _, answer in rows))
     else:
         session.output.show("\n".join(f"{answer}  {session.output.dim('would answer ' + item.text)}" for item, answer in rows))
-    for told in session.batches.losses(items, who, session.names, done, session.is_script):
+    for told in session.batches.losses(items, who, session.values_for(items), done, session.is_script):
         session.output.note(told)
 
 
@@ -113,7 +146,7 @@ def as_number(session: Session, text: str) -> None:
     """Another programmer for the calls that follow."""
     if not session.door.can_name:
         raise Failed("the front knows by the token who calls: \\as can't name another programmer")
-    if session.open is not None:
+    if session.open or (session.open is not None and not session.is_single):
         raise Failed("a batch is open: it is of one programmer")
     if not text:
         session.output.show(session.find_programmer())
@@ -121,6 +154,8 @@ def as_number(session: Session, text: str) -> None:
     number = session.number(text)
     session.world.built_in(number)
     session.world.who = number
+    if session.is_single:
+        session.open_who = number
     if not session.is_script:
         session.output.note(session.find_programmer())
 
@@ -191,7 +226,7 @@ def fix(session: Session, text: str) -> None:
     """Sends a batch that was refused again, with another call in the place of the refused one."""
     if session.open is not None:
         raise Failed("a batch is open: \\abandon drops it")
-    line = read_line(text)
+    line = meant(text, (), session.read)
     if line.kind != "call":
         raise Failed("\\fix CALL: the call that takes the place of the refused one")
     session.test_call(line.text)
@@ -215,6 +250,8 @@ COMMANDS = {
     "tree": Command("[#1]", "the objects by their parents", tree),
     "places": Command("[#2]", "the objects by where they are", places),
     "find": Command("WORD", "the objects with a word in their names", find),
+    "classes": Command("[WORD]", "the objects that others are under, and how many are under each", classes),
+    "history": Command("#5", "through a front: the last batches that named an object, or made it", show_history),
     "petitions": Command("", "the petitions: all of them for a wizard, else one's own", petitions),
     "ask": Command("CALL", "what a call would answer, and what would be lost; nothing changes. In a batch without a CALL: the batch so far", ask),
     "as": Command("N", "the calls that follow are those of programmer #N", as_number),
@@ -226,10 +263,18 @@ COMMANDS = {
     "undo": Command("", "drops the last call of the open batch", undo),
     "abandon": Command("", "drops the open batch; so does Ctrl-C", abandon),
     "fix": Command("CALL", "sends the batch that was refused again, with CALL in the place of the refused call", fix),
+    "e": Command("", "the open batch, the refused one or the last call in an editor; it is done when that ends", edit),
+    "o": Command("[FILE]", "answers go to the end of FILE from now on; without FILE they are shown again", output),
+    "watch": Command("[i=2] [c=N] [LINE]", "does a line that only reads every 2 seconds, N times or until Ctrl-C", watch),
+    "timing": Command("[on|off]", "tells how long each line takes", timing),
     "help": Command("[WORD]", f"this, or help on a call, an error, or one of: {', '.join([*TOPICS, *ASIDE])}", show_help),
     "quit": Command("", "ends the shell; so does Ctrl-D", leave),
 }
-ALIASES = {"exit": "quit", "q": "quit", "h": "help", "?": "help"}
+# Words of other prompts.
+ALIASES = {
+    "exit": "quit", "q": "quit", "h": "help", "?": "help", "edit": "e", "output": "o", "out": "o", "i": "include", "ir": "include",
+    "d": "show", "dt": "classes", "p": "list", "print": "list", "r": "abandon", "reset": "abandon",
+}  # fmt: skip
 COMMANDS_BY_HELP = {name: (command.given, command.does) for name, command in COMMANDS.items()}
 
 

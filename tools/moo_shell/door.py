@@ -14,7 +14,7 @@ from moolib.service import OPEN, Answer, Service
 # The seconds for which a service is tried that doesn't listen, and those for which one answer may take.
 PATIENCE, WAIT = 15.0, 300.0
 # Answers that say how a batch ended, or that what was asked for isn't there; and errors after which it is tried again.
-DECIDED = (200, 400, 404, 405, 409, 413)
+DECIDED = (200, 400, 404, 405, 409, 410, 413)
 AGAIN = (*OPEN, "busy", "too many")
 
 

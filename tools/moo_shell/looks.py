@@ -156,6 +156,23 @@ def tree(things: Things, number: Optional[int] = None) -> str:
     return "\n".join(indented(below.get(-1, []) if root is None else [root], below, lambda each: named(each, things)))
 
 
+def classes(things: Things, word: str = "") -> str:
+    """The objects that others are under or may be made under, with a word in their names, and how many are under each."""
+    below = groups(things, "parent")
+    under: dict[int, int] = {}
+    order = list(below.get(-1, []))
+    for number in order:
+        order += below.get(number, [])
+    for number in reversed(order):
+        under[number] = sum(1 + under[each] for each in below.get(number, []))
+    lines = []
+    for number in sorted(order):
+        if (below.get(number) or things[number].f) and word.lower() in things[number].name.lower():
+            fertile = "; anybody may make objects under it" if things[number].f else ""
+            lines.append(f"{named(number, things)}  {under[number]} under it{fertile}")
+    return "\n".join(lines)
+
+
 def places(things: Things, number: Optional[int] = None) -> str:
     """The objects by where they are, from one down, or all. Of those that are nowhere and hold nothing there is the count alone."""
     inside = groups(things, "location")

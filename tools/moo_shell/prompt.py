@@ -11,6 +11,7 @@ from typing import Optional
 from moo_shell.batches import Refused
 from moo_shell.commands import COMMANDS
 from moo_shell.session import Session
+from moo_shell.statements import goes_on, statements
 from moo_shell.told import BOLD, PLAIN
 from moo_shell.world import BUILT_IN
 from moolib.calls import call_name
@@ -26,6 +27,8 @@ except ImportError:  # a Python without it has neither history nor completion
 DELIMITERS = " \t,(){}="
 LONGEST_HISTORY = 2000
 OF_FILES = ("include", "dump", "names")
+# The prompt for a line on which a call goes on.
+GOING_ON = "  ..> "
 
 
 def history_file() -> Path:
@@ -150,6 +153,7 @@ class Prompt:
     def prepare(self) -> None:
         """Sets up the pager, the history and the completion."""
         self.session.output.has_pager = True
+        self.session.confirm = self.confirmed
         if readline is None:
             return
         readline.set_completer(Completion(self.session).complete)
@@ -163,8 +167,8 @@ class Prompt:
         except OSError:
             pass
 
-    def typed(self) -> str:
-        """A line that is typed, which is put into the file of the history at once.
+    def typed(self, words: str) -> str:
+        """A line that is typed after a prompt, which is put into the file of the history at once.
 
         Meanwhile a signal to end ends the shell at once, and its service with it. Python itself would sometimes see the signal only after
         the next key. On a copy it is left to do so, since the copy has to be removed.
@@ -172,7 +176,7 @@ class Prompt:
         ends = () if self.session.is_copy else (signal.SIGTERM, signal.SIGHUP)
         before = {each: signal.signal(each, signal.SIG_DFL) for each in ends}
         try:
-            text = input(self.text())
+            text = input(words)
         finally:
             for number, handler in before.items():
                 signal.signal(number, handler)
@@ -190,21 +194,32 @@ class Prompt:
             words = f"{len(session.open) + 1:>4}> "
         else:
             words = f"#{session.who}> " if session.door.can_name else "moo> "
-        if not session.output.has_colours:
+        return self.shown(words)
+
+    def shown(self, words: str) -> str:
+        """The words of a prompt, of more weight if there are colours."""
+        if not self.session.output.has_colours:
             return words
         return f"\001{BOLD}\002{words}\001{PLAIN}\002" if readline else words
 
+    def lines(self) -> list[str]:
+        """A line that is typed, with those on which it goes on. What is pasted may be several too."""
+        lines = re.split(r"\r\n|\n|\r", self.typed(self.text()))
+        while goes_on(lines):
+            lines += re.split(r"\r\n|\n|\r", self.typed(self.shown(GOING_ON)))
+        return lines
+
     def line(self) -> None:
-        """Reads one line and does it. What is pasted may be several, which are done up to the first that isn't."""
+        """Reads a call, or a line of several, and does it. Of several calls those are done that come before the first that isn't."""
         try:
-            text = self.typed()
+            lines = self.lines()
         except EOFError:
             print()
             self.at_end_of_input()
             return
         try:
-            for each in re.split(r"\r\n|\n|\r", text):
-                self.session.do(each)
+            for statement in statements(lines):
+                self.session.do_part(statement.text)
                 if self.session.is_over:
                     break
             self.session.save_names()
@@ -213,6 +228,19 @@ class Prompt:
         except KeyboardInterrupt:
             print()
             self.session.output.note("stopped; a batch that was sent already may have been done: \\seq tells the number")
+
+    def confirmed(self, lines: list[str]) -> bool:
+        """Whether something is done after these lines were shown. Anything but a yes is a no."""
+        for line in lines:
+            self.session.output.note(line)
+        try:
+            answer = input(self.shown("do it? [y/N] "))
+        except (EOFError, KeyboardInterrupt):
+            print()
+            return False
+        if readline is not None and answer.strip():
+            readline.remove_history_item(readline.get_current_history_length() - 1)
+        return answer.strip().lower() in ("y", "yes")
 
     def tell_failed(self, failed: Failed) -> None:
         """Says why a line wasn't done; of a batch also which call it was, and how it can be mended."""

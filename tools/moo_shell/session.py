@@ -5,30 +5,27 @@ from __future__ import annotations
 import collections
 import contextlib
 import re
-from collections.abc import Callable, Collection
+import time
+from collections.abc import Callable, Collection, Iterable, Mapping
 from pathlib import Path
 from typing import Optional
 
 from moo_shell.batches import Batches, Done, Refused
 from moo_shell.door import Door
 from moo_shell.files import read_lines, write_whole
+from moo_shell.going import going, is_asked_first
 from moo_shell.manual import Manual
+from moo_shell.meant import advice, expression_advice, meant
+from moo_shell.resuming import Passing, Start
+from moo_shell.statements import Statement, is_open, parted, statements
 from moo_shell.told import Output
+from moo_shell.watching import only_looks
 from moo_shell.world import BUILT_IN, World
 from moolib.batches import Item
-from moolib.calls import call_name
+from moolib.calls import LONGEST_CALL, READING, call_name
 from moolib.errors import Failed
-from moolib.lines import (
-    Line,
-    advice,
-    did_you_mean,
-    expression_advice,
-    filled,
-    names_in,
-    read_line,
-    unfinished,
-)
-from moolib.values import read
+from moolib.lines import Line, counted, did_you_mean, filled, names_in, read_line, unfinished, unquoted
+from moolib.values import read, written
 
 DEEPEST = 20
 RunWord = Callable[["Session", str, str], None]
@@ -43,12 +40,39 @@ def is_value(text: str) -> bool:
     return True
 
 
+def names_in_file(file: Path) -> dict[str, str]:
+    """The names that a file of names has, with their values."""
+    held: dict[str, str] = {}
+    for number, text in enumerate(read_lines(file), 1):
+        line = read_line(text)
+        if line.kind == "value" and line.name and is_value(line.text):
+            held[line.name] = line.text
+        elif line.kind != "empty":
+            raise Failed("a file of names has lines such as `$hall = #5` alone", (str(file), number))
+    return held
+
+
+def text_of_names(names: Mapping[str, str]) -> str:
+    """The text of a file of names."""
+    return "".join(f"{name} = {value}\n" for name, value in sorted(names.items()))
+
+
+def only_reads(items: Iterable[Item]) -> bool:
+    """Whether there are calls, and none of them changes anything."""
+    names = [call_name(item.text) for item in items]
+    return bool(names) and all(name in READING for name in names)
+
+
 class Session:
     """Does the lines of a prompt or of scripts. `run_word` does the `\\` words, which are `words`.
 
     `is_script` is whether the lines come from a script: then answers are bare. `is_copy` is whether the world is a copy: then no other
     file is written. `refused` is the last batch, if it was refused at a call: its calls, who calls, its number, and which call that was.
-    `counts` are the accepted batches and the calls in them by their names.
+    `counts` are the accepted batches and the calls in them by their names. `confirm` asks at a terminal whether something is done that
+    destroys; it is given the lines to show first. `is_single` is whether all calls of the scripts are one batch. `stopped_at` are the lines
+    at which a script stopped: its own, then that of the file which it includes there, and so on; `passing` are those to begin at, and
+    `was_resumed` is whether the names are those of a script that stopped. `has_timing` is whether the time of each line is told.
+    `last_line` is the last call, `last_look` the last line that only reads.
     """
 
     def __init__(
@@ -71,6 +95,13 @@ class Session:
         self.accepted = 0
         self.counts: collections.Counter[str] = collections.Counter()
         self.is_over = False
+        self.confirm: Optional[Callable[[list[str]], bool]] = None
+        self.is_single = False
+        self.stopped_at: list[str] = []
+        self.passing = Passing()
+        self.was_resumed = False
+        self.has_timing = False
+        self.last_line = self.last_look = ""
 
     @property
     def who(self) -> int:
@@ -78,12 +109,33 @@ class Session:
         return self.world.who
 
     def do(self, text: str) -> None:
-        """Does a line."""
-        line = read_line(text)
-        if line.kind == "call":
+        """Does the calls and words of a line."""
+        for part in parted(text):
+            if not self.is_over:
+                self.do_part(part)
+
+    def do_part(self, text: str) -> None:
+        """Does a call or a word."""
+        began, had_timing = time.monotonic(), self.has_timing
+        line = meant(text, self.words, self.read)
+        self.do_line(line)
+        if line.kind in ("call", "value"):
+            self.last_line = text
+        if only_looks(line):
+            self.last_look = text
+        if had_timing and self.has_timing and line.kind != "empty":
+            self.output.note(f"{(time.monotonic() - began) * 1000:.1f} ms")
+
+    def do_line(self, line: Line) -> None:
+        """Does what a line says."""
+        if line.kind == "call" and f"${line.text}" in self.names:
+            self.show_alone(f"${line.text}")
+        elif line.kind == "call":
             self.take_call(Item(line.text, line.name, self.place))
         elif line.kind == "value":
             self.take_value(line)
+        elif line.kind == "alone":
+            self.show_alone(line.text)
         elif line.kind == "begin":
             self.begin(line)
         elif line.kind == "end":
@@ -100,33 +152,80 @@ class Session:
             self.run([item], self.who, None)
             return
         self.test_names(item.text)
-        self.open.append(item)
+        self.open.append(self.with_values(item) if self.is_single else item)
+
+    def with_values(self, item: Item) -> Item:
+        """A call of the one batch of all scripts with the values that names have now; those that are answers of the batch stay names."""
+        given = {earlier.name for earlier in self.open or [] if earlier.name}
+        values = self.values(item.names - given)
+        kept = {**values, **{name: name for name in given}}
+        return Item(item.filled(kept, LONGEST_CALL), item.name, item.place)
 
     def test_call(self, text: str) -> None:
         """Fails if a line has no name of a call with a bracket after it, and says what may be meant."""
         if not call_name(text):
             self.test_names(text)
             shown = text if len(text) <= 80 else text[:78] + ".."
-            raise Failed(f"malformed: {shown} isn't a call: {advice(text, self.words)}")
+            raise Failed(f"malformed: {shown} isn't a call: {advice(text)}")
+        if is_open(text):
+            raise Failed(f"malformed: {text}: {unfinished(text)}")
 
     def test_names(self, text: str) -> None:
         """Fails if a line uses a name that has no value, and that no call of the open batch has."""
-        known = {*self.names, *(earlier.name for earlier in self.open or [] if earlier.name)}
-        for name in sorted(names_in(text) - known):
+        given = {earlier.name for earlier in self.open or [] if earlier.name}
+        unknown = names_in(text) - given
+        known = {*self.values(unknown), *given}
+        for name in sorted(unknown - known):
             raise Failed(f"{name} has no value{did_you_mean(name, known)}")
 
+    def values(self, wanted: Iterable[str]) -> Mapping[str, str]:
+        """The names with their values. Of the wanted ones that the session hasn't, `$room` is the property `room` of #0, as in LambdaMOO."""
+        lacking = sorted(set(wanted) - set(self.names))
+        if not lacking:
+            return self.names
+        answers = self.world.each([f"get(#0, {written(name[1:])})" for name in lacking])
+        return {**{name: answer.text for name, answer in zip(lacking, answers) if answer.is_good}, **self.names}
+
+    def values_for(self, items: list[Item]) -> Mapping[str, str]:
+        """The names with their values for a batch, whose calls may use the answers of calls before them."""
+        wanted: set[str] = set()
+        given: set[str] = set()
+        for item in items:
+            wanted |= item.names - given
+            given |= {item.name} if item.name else set()
+        return self.values(wanted)
+
+    def read(self, text: str) -> str:
+        """What a reading call answers, as it is written."""
+        return self.ask([Item(text, None, self.place)], self.who).answers[0]
+
+    def show_alone(self, text: str) -> None:
+        """An object, or what a name stands for."""
+        value = filled(text, self.values(names_in(text)))
+        if re.fullmatch(r"#-?\d+", value):
+            self.run_word(self, "show", value)
+        else:
+            self.output.show(value)
+
     def take_value(self, line: Line) -> None:
-        """A name for a value that is written out."""
+        """A name for a value that is written out. At a prompt it is shown."""
         assert line.name
-        if self.open is not None:
+        if self.open is not None and not self.is_single:
             raise Failed(f"a batch holds calls alone: give {line.name} its value before `begin`")
-        value = filled(line.text, self.names)
+        if any(item.name == line.name for item in self.open or []):
+            raise Failed(f"{line.name} is the name of an answer of this batch: another name is wanted for the value")
+        value = filled(line.text, self.values(names_in(line.text)))
         if not is_value(value):
             raise Failed(f"{value} isn't a value: " + (expression_advice(line.text) or unfinished(line.text) or "\\help values"))
         self.names[line.name] = value
+        if not self.is_script:
+            self.output.answer(f"{line.name} = {value}")
 
     def begin(self, line: Line) -> None:
-        """Opens a batch."""
+        """Opens a batch. If all is one batch, that is open already."""
+        if self.is_single:
+            self.test_single(line)
+            return
         if self.open is not None:
             raise Failed("a batch is open already: `end` sends it")
         if line.who is not None and not self.door.can_name:
@@ -134,12 +233,28 @@ class Session:
         self.open_who = self.who if line.who is None else self.number(line.who)
         self.open, self.open_at = [], line.at
 
+    def test_single(self, line: Line) -> None:
+        """Fails if a batch in the one of all scripts is of another programmer, or for the world of a number."""
+        who = self.open_who if line.who is None else self.number(line.who)
+        if who != self.open_who or line.at is not None:
+            raise Failed(f"with --single all is one batch of #{self.open_who}")
+
     def end(self) -> None:
-        """Sends the open batch."""
+        """Sends the open batch. If all is one batch, that goes on."""
         if self.open is None:
             raise Failed("`end` without `begin`")
-        items, self.open = self.open, None
-        self.run(items, self.open_who, self.open_at)
+        if not self.is_single:
+            self.send()
+
+    def send(self) -> None:
+        """Sends the open batch, if it has calls or was opened by a line."""
+        items, self.open = self.open or [], None
+        if items or not self.is_single:
+            self.run(items, self.open_who, self.open_at)
+
+    def begin_single(self) -> None:
+        """Opens the one batch of all scripts."""
+        self.is_single, self.open, self.open_who, self.open_at = True, [], self.who, None
 
     def abandon(self) -> int:
         """Drops the open batch, and gives how many calls it had."""
@@ -147,19 +262,41 @@ class Session:
         return len(dropped)
 
     def run(self, items: list[Item], who: int, at: Optional[int]) -> None:
-        """Runs a batch, takes in its names, and writes its answers."""
+        """Runs a batch, takes in its names, and writes its answers. One that only reads is asked: it changes nothing, and isn't counted."""
+        names = self.values_for(items)
+        is_asked = only_reads(items)
         try:
-            done = self.batches.run(items, who, self.names, at)
+            done = self.batches.ask(items, who, names, at) if is_asked else self.run_confirmed(items, who, names, at)
         except Refused as refused:
             self.refused = (items, who, at, refused.call) if 0 < refused.call <= len(items) else None
             raise self.with_help(refused, items) from None
+        if done is None:
+            return
         self.refused = None
-        self.accepted += 1
-        self.counts.update(call_name(item.text) for item in items)
+        if not is_asked:
+            self.accepted += 1
+            self.counts.update(call_name(item.text) for item in items)
         for item, answer in zip(items, done.answers):
             if item.name:
                 self.names[item.name] = answer
-        self.write_answers(items, done)
+        self.write_answers(items, done, not is_asked)
+
+    def run_confirmed(self, items: list[Item], who: int, names: Mapping[str, str], at: Optional[int]) -> Optional[Done]:
+        """Runs a batch. At a terminal one that destroys something is shown first, and runs on the world that was shown; None: it isn't run."""
+        while self.confirm is not None and not self.is_script and is_asked_first(items):
+            lines, seq = going(self, items, who, names)
+            if not lines:
+                break
+            if not self.confirm(lines):
+                self.output.note("nothing was done")
+                return None
+            try:
+                return self.batches.run(items, who, names, seq if at is None else at)
+            except Refused as refused:
+                if refused.error != "stale" or at is not None:
+                    raise
+                self.output.note("the world has changed meanwhile")
+        return self.batches.run(items, who, names, at)
 
     def fix(self, item: Item) -> None:
         """Sends the batch that was refused once more, with another call in the place of that which was refused."""
@@ -182,12 +319,12 @@ class Session:
             refused.reason += did_you_mean(found[2], sorted(known))
         return refused
 
-    def write_answers(self, items: list[Item], done: Done) -> None:
+    def write_answers(self, items: list[Item], done: Done, is_accepted: bool) -> None:
         """Writes the answers of a batch: bare to a file or a pipe, beside their calls to a terminal, and at a prompt with its number."""
         rows = [f"{item.name} = {answer}" if item.name else answer for item, answer in zip(items, done.answers)]
-        note = "" if self.is_script else self.output.dim(f"accepted {done.seq}")
-        if len(items) == 1 and note:
-            self.output.answer(f"{rows[0]}  {note}")
+        note = self.output.dim(f"accepted {done.seq}") if is_accepted and not self.is_script else ""
+        if len(items) == 1 and not self.is_script:
+            self.output.answer(f"{rows[0]}  {note}".rstrip())
             return
         longest = max((len(row) for row in rows if len(row) <= 40), default=0)
         for item, row in zip(items, rows):
@@ -197,20 +334,21 @@ class Session:
 
     def ask(self, items: list[Item], who: int) -> Done:
         """What a batch would answer; nothing changes."""
-        return self.batches.ask(items, who, self.names)
+        return self.batches.ask(items, who, self.values_for(items))
 
     def number(self, text: str) -> int:
-        """The number of an object that is written as `#5`, `5` or `$name`."""
-        value = filled(text.strip(), self.names)
+        """The number of an object that is written as `#5`, `5` or `$name`, or by its own name, which may be in quotes."""
+        value = filled(text.strip(), self.values(names_in(text)))
         found = re.fullmatch(r"#?(-?\d+)", value)
-        if not found:
-            which = f"{text} isn't an object:" if text.strip() else "which object?"
-            raise Failed(f"{which} #5 is one, or a name such as $hall that stands for one")
-        return int(found[1])
+        if found:
+            return int(found[1])
+        if not value:
+            raise Failed("which object? #5 is one, or a name such as $hall that stands for one")
+        return self.world.number_named(unquoted(value))
 
     def include(self, name: str) -> None:
         """Does the lines of another file, whose name is read from the folder of the present one."""
-        if self.open is not None:
+        if self.open is not None and not self.is_single:
             raise Failed("a batch is open: `include` is outside of batches")
         if not name:
             raise Failed("include FILE: which file?")
@@ -232,32 +370,46 @@ class Session:
         """Does lines up to the first failure, which then has its place. A batch that begins in them has to end in them."""
         before, was_script = self.place, self.is_script
         self.is_script = True
+        start, began = self.passing.begin(), Start(1)
         try:
-            for number, text in enumerate(lines, 1):
-                self.place = (name, number)
+            for statement in statements(lines):
+                self.place = (name, statement.line)
+                if self.open is None:
+                    began = Start(statement.line, statement.part)
                 try:
-                    self.do(text)
+                    self.do_from(start, statement)
                 except Failed as failed:
                     failed.place = failed.place or self.place
+                    self.stopped_at.insert(0, str(began))
                     raise
                 if self.is_over:
                     return
-            if self.open is not None:
-                raise Failed("the file ends inside a batch: `end` is missing", (name, max(len(lines), 1)))
+            self.test_end(name, start, len(lines))
         finally:
-            self.abandon()
+            if not self.is_single:
+                self.abandon()
             self.place, self.is_script = before, was_script
+
+    def do_from(self, start: Start, statement: Statement) -> None:
+        """Does a statement, if it isn't before the place at which its file begins."""
+        here = Start(statement.line, statement.part)
+        if here < start:
+            self.passing.pass_over(self, start, statement)
+            return
+        if here.line == start.line:
+            self.passing.test_include(read_line(statement.text).kind, here)
+        self.do_part(statement.text)
+
+    def test_end(self, name: str, start: Start, count: int) -> None:
+        """Fails if lines have ended before their first one, or in a batch."""
+        if start.line > max(count, 1):
+            raise Failed(f"--from-line {start}: {name} has {counted(count, 'line')}")
+        if self.open is not None and not self.is_single:
+            raise Failed("the file ends inside a batch: `end` is missing", (name, max(count, 1)))
 
     def keep_names(self, file: Path) -> None:
         """Keeps the names in a file from now on; those that are in it are taken in, and the session's own are stronger."""
-        held: dict[str, str] = {}
-        if file.exists():
-            for number, text in enumerate(read_lines(file), 1):
-                line = read_line(text)
-                if line.kind == "value" and line.name and is_value(line.text):
-                    held[line.name] = line.text
-                elif line.kind != "empty":
-                    raise Failed("a file of names has lines such as `$hall = #5` alone", (str(file), number))
+        held = names_in_file(file) if file.exists() else {}
         self.names = {**held, **self.names}
         self.file_of_names, self.saved_names = file, held
         self.save_names()
@@ -266,9 +418,8 @@ class Session:
         """Writes the names to their file, if there is one and they have changed."""
         if self.file_of_names is None or self.names == self.saved_names or self.is_copy:
             return
-        text = "".join(f"{name} = {value}\n" for name, value in sorted(self.names.items()))
         try:
-            write_whole(self.file_of_names, text)
+            write_whole(self.file_of_names, text_of_names(self.names))
         except OSError as error:
             raise Failed(f"{self.file_of_names}: {error.strerror}") from None
         self.saved_names = dict(self.names)

@@ -6,7 +6,8 @@ import os
 import shutil
 import subprocess
 import sys
-from typing import Optional
+from pathlib import Path
+from typing import IO, Optional
 
 RED, DIM, BOLD, PLAIN = "\x1b[31m", "\x1b[2m", "\x1b[1m", "\x1b[0m"
 PAGER = ("less", "-FRX")
@@ -17,9 +18,25 @@ class Output:
 
     def __init__(self, is_quiet: bool = False) -> None:
         self.is_quiet = is_quiet
-        self.is_terminal = sys.stdout.isatty()
         self.has_pager = False
+        self.file: Optional[IO[str]] = None
+        self.look_at_stream()
+
+    def look_at_stream(self) -> None:
+        """Notes whether answers go to a terminal, and whether that has colours."""
+        self.is_terminal = self.file is None and sys.stdout.isatty()
         self.has_colours = self.is_terminal and "NO_COLOR" not in os.environ and os.environ.get("TERM", "dumb") != "dumb"
+
+    def send_to(self, path: Optional[Path]) -> None:
+        """Sends answers to the end of a file from now on, or with None to standard output again."""
+        if self.file is not None:
+            self.file.close()
+        self.file = None if path is None else path.open("a")
+        self.look_at_stream()
+
+    def write(self, text: str) -> None:
+        """Writes a line of an answer."""
+        print(text, file=self.file or sys.stdout, flush=self.is_terminal or self.file is not None)
 
     def dim(self, text: str) -> str:
         """A text of less weight, if there are colours."""
@@ -36,14 +53,14 @@ class Output:
     def answer(self, text: str) -> None:
         """Writes an answer, unless the shell is quiet."""
         if not self.is_quiet:
-            print(text, flush=self.is_terminal)
+            self.write(text)
 
     def show(self, text: str) -> None:
         """Writes a text that was asked for, by a pager if it is longer than the terminal."""
         lines = text.count("\n") + 1
         if self.has_pager and self.is_terminal and lines >= shutil.get_terminal_size().lines and self.page(text):
             return
-        print(text, flush=self.is_terminal)
+        self.write(text)
 
     @staticmethod
     def page(text: str) -> bool:

@@ -18,15 +18,16 @@ from moo_shell.door import Door, Front
 from moo_shell.files import copy_world, load_copy
 from moo_shell.manual import manual_of
 from moo_shell.prompt import Prompt
-from moo_shell.script import greatest, run_script, would_make
+from moo_shell.resuming import starts_of
+from moo_shell.script import Script, go_on, greatest, run_scripts, would_make
 from moo_shell.service import OwnService, find_program, look_at
 from moo_shell.session import Session
 from moo_shell.told import Output
 from moolib.errors import Failed
 
-USAGE = """moo-shell [-f SCRIPT].. [OPTION].. FILE
-       moo-shell [-f SCRIPT].. [OPTION].. --port PORT
-       moo-shell [-f SCRIPT].. [OPTION].. --web URL"""
+USAGE = """moo-shell [-c CALL | -f SCRIPT].. [OPTION].. FILE
+       moo-shell [-c CALL | -f SCRIPT].. [OPTION].. --port PORT
+       moo-shell [-c CALL | -f SCRIPT].. [OPTION].. --web URL"""
 INTERRUPTED = 130
 # The seconds for which a service is tried at the beginning: it may be between two runs, or not be there at all.
 SHORTEST_PATIENCE = 4.0
@@ -44,8 +45,14 @@ def read_words(words: list[str]) -> argparse.Namespace:
     parser.add_argument("--web", metavar="URL", help="a front of moo; the token is that of --token, MOO_TOKEN, or asked for")
     parser.add_argument("--token", metavar="FILE", type=Path, help="the file that holds the token for --web")
     parser.add_argument("--as", dest="who", metavar="N", help="the number of the programmer who calls (3)")
-    scripts = parser.add_argument("-f", "--file", dest="scripts", metavar="SCRIPT", action="append", default=[])
-    scripts.help = "do the lines of SCRIPT and end"
+    parser.add_argument(
+        "-c", "--call", dest="scripts", metavar="CALL", action="append", type=Script.of_call, help="do a call, or several with ; between them, and end"
+    )
+    parser.add_argument(
+        "-f", "--file", dest="scripts", metavar="SCRIPT", action="append", type=Script.of_file, help="do the lines of SCRIPT and end"
+    )
+    parser.add_argument("--single", action="store_true", help="make one batch of all: all of it acts, or none")
+    parser.add_argument("--from-line", dest="starts", metavar="N", type=starts_of, help="begin at line N of the first SCRIPT")
     parser.add_argument("--dry-run", action="store_true", help="do all on a copy, say what it would make, and change nothing")
     parser.add_argument("-q", "--quiet", action="store_true", help="write no answers of calls")
     parser.add_argument("--names", metavar="FILE", type=Path, help="keep the names in FILE")
@@ -61,6 +68,9 @@ def read_words(words: list[str]) -> argparse.Namespace:
     if said.who is not None and not said.who.lstrip("#").isdigit():
         parser.error("--as N: N is the number of an object, as 3")
     said.who = 3 if said.who is None else int(said.who.lstrip("#"))
+    said.scripts = said.scripts or []
+    if said.starts and not (said.scripts and said.scripts[0].file not in ("", "-")):
+        parser.error("--from-line N wants -f SCRIPT, which is a file")
     return said
 
 
@@ -123,17 +133,18 @@ def run(said: argparse.Namespace) -> None:
         session.world.who = said.who
         if said.names:
             session.keep_names(said.names)
+        if said.starts:
+            go_on(session, said.scripts[0].file, said.starts)
         before = greatest(session) if said.dry_run else None
         try:
             if is_typed:
                 greet(session, said)
                 Prompt(session).run()
-            for script in said.scripts if said.scripts else [] if is_typed else ["-"]:
-                if not session.is_over:
-                    run_script(session, script)
+            else:
+                run_scripts(session, said.scripts or [Script.of_file("-")], said.single)
         except BaseException as error:
             if isinstance(error, Failed) and not is_typed:
-                error.afterword = what_stays(session, isinstance(error, Unsure))
+                error.afterword = "\n".join(filter(None, (what_stays(session, isinstance(error, Unsure)), error.afterword)))
             with contextlib.suppress(Failed):
                 session.save_names()
             raise
@@ -175,8 +186,8 @@ def main() -> None:
         sys.stdout.flush()
     except Failed as failed:
         Output().complain(f"moo-shell: {failed}")
-        if failed.afterword:
-            Output().note(f"moo-shell: {failed.afterword}")
+        for line in failed.afterword.splitlines():
+            Output().note(f"moo-shell: {line}")
         sys.exit(failed.status)
     except KeyboardInterrupt:
         print("moo-shell: stopped; a batch that was sent already may have been done", file=sys.stderr)

@@ -17,21 +17,24 @@ from moolib.values import written
 PIECE = 1000
 # How many of its children and of its contents are shown of an object.
 MOST_NEAR = 50
+# How many objects are told that a name may mean.
+MOST_TOLD = 10
 # The facts of an object that a batch of reading calls asks for, with the field of each.
-FACTS = {"name": 'get({}, "name")', "parent": "parent({})", "location": 'get({}, "location")', "owner": 'get({}, "owner")'}
+FACTS = {"name": 'get({}, "name")', "parent": "parent({})", "location": 'get({}, "location")', "owner": 'get({}, "owner")', "f": 'get({}, "f")'}
 BITS = ("player", "programmer", "wizard", "r", "w", "f")
 BUILT_IN = ("name", "owner", "location", "contents", "programmer", "wizard", "r", "w", "f")
 
 
 @dataclasses.dataclass(frozen=True)
 class Thing:
-    """What everybody may know of an object."""
+    """What everybody may know of an object. `f` is whether anybody may make objects under it."""
 
     number: int
     name: str
     parent: int
     location: int
     owner: int
+    f: bool = False
 
 
 @dataclasses.dataclass(frozen=True)
@@ -105,6 +108,19 @@ class World:
             self.has_objects = found is not None
         return self.things_by_asking() if found is None else found
 
+    def number_named(self, name: str) -> int:
+        """The number of the object of this name, in any case, or of the only one with it in its name. `Failed`: there is none, or several."""
+        things = list(self.things().values())
+        found = [thing for thing in things if thing.name.lower() == name.lower()]
+        found = found or [thing for thing in things if name.lower() in thing.name.lower()]
+        if len(found) == 1:
+            return found[0].number
+        if found:
+            which = ", ".join(f"{shown_name(thing.number)} {written(thing.name)}" for thing in found[:MOST_TOLD])
+            more = f" and {len(found) - MOST_TOLD} more" if len(found) > MOST_TOLD else ""
+            raise Failed(f"{name} may be {which}{more}")
+        raise Failed(f"{name} isn't an object: none has this name; #5 is one, or a name such as $hall that stands for one")
+
     def things_by_pages(self) -> Optional[dict[int, Thing]]:
         """The same by the route for it; None if the service has none."""
         found: dict[int, Thing] = {}
@@ -140,7 +156,7 @@ class World:
             if all(fact.is_good for fact in facts):
                 values = dict(zip(FACTS, (fact.value for fact in facts)))
                 places = {key: values[key].number for key in ("parent", "location", "owner")}
-                found[number] = Thing(number=number, name=values["name"], **places)
+                found[number] = Thing(number=number, name=values["name"], f=bool(values["f"]), **places)
         return found
 
     def built_in(self, number: int) -> dict[str, Any]:
@@ -252,4 +268,4 @@ def number_of(text: str) -> int:
 def thing_of(said: dict[str, Any]) -> Thing:
     """What everybody may know of an object, as a service tells it."""
     places = {key: number_of(said[key]) for key in ("number", "parent", "location", "owner")}
-    return Thing(name=said["name"], **places)
+    return Thing(name=said["name"], f=bool(said.get("f")), **places)

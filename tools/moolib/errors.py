@@ -182,7 +182,7 @@ class Failed(MooError):
     """Why a line that somebody wrote wasn't done. `place` is the file and the line that it is about, if that isn't the line that is being
     done.
 
-    `status` is what a script ends with: 1, or what the program `moo` ended with. `afterword` is what is told in a line after it.
+    `status` is what a script ends with: 1, or what the program `moo` ended with. `afterword` is what is told in lines after it.
     """
 
     def __init__(self, reason: str, place: Optional[tuple[str, int]] = None, status: int = 1) -> None:

@@ -117,34 +117,6 @@ def read_line(line: str) -> Line:
     return Line("call", text=text)
 
 
-def advice(text: str, words: Iterable[str] = ()) -> str:
-    """What is likely meant by a line that isn't a call, as people write it who come from other prompts. `words` are those of the shell."""
-    first = text.partition(" ")[0].lower()
-    if first in words:
-        return f"did you mean \\{text}?"
-    if first in ("begin", "end"):
-        return f"`{first}` stands alone on its line"
-    if first == "batch":
-        return "`batch as #3` begins a batch of #3"
-    if re.fullmatch(r"\$\w+|#-?\d+", text):
-        return f"\\show {text} shows it"
-    named = re.fullmatch(r"([A-Za-z_]\w*)\s*=\s*(\S.*)", text)
-    if named:
-        return f"a name begins with a $, as ${named[1]} = {named[2]}"
-    return expression_advice(text) or hint(text)
-
-
-def expression_advice(text: str) -> str:
-    """What to write for an expression of LambdaMOO: `#4.light`, `#4.light = 1` or `#4:look()`."""
-    found = re.fullmatch(r"(\$[A-Za-z_]\w*|#-?\d+)(?:(:)|\.)(\w+)\s*(?:=\s*(\S.*))?.*", text)
-    if not found:
-        return ""
-    thing, colon, name, value = found.groups()
-    if colon:
-        return "moo keeps verbs and runs none"
-    return f'a property is set by set({thing}, "{name}", {value})' if value else f'a property is read by get({thing}, "{name}")'
-
-
 def strange_letter(text: str) -> str:
     """The first letter of a text that isn't one that worlds hold, or nothing."""
     return next((letter for letter in text if not (letter == "\t" or " " <= letter <= "~")), "")

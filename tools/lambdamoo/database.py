@@ -1,285 +1,69 @@
-"""What from_lambdamoo.py and to_lambdamoo.py share: texts by lines, what is lost, links between objects, and LambdaMOO's files."""
+"""LambdaMOO's database files of format versions 1 to 4, read whole."""
 
 from __future__ import annotations
 
-import contextlib
-import io
-import os
 import re
-import sys
-from collections.abc import Callable, Iterable, Iterator
-from typing import BinaryIO, Optional, TextIO, Tuple, TypeVar
+from collections.abc import Iterable
+from typing import Optional, Tuple
 
-T = TypeVar("T")
+from lambdamoo import stunt
+from lambdamoo.links import loop_in
+from lambdamoo.losses import (
+    BYTES,
+    CHILDREN,
+    CLOCKS,
+    CONNECTIONS,
+    CONTENTS,
+    DEEP_LISTS,
+    FLOATS,
+    HANDLES,
+    LONG_STRINGS,
+    MORE_LINES,
+    NO_CONNECTIONS,
+    OLD_FLAGS,
+    OWN_CLEAR,
+    PLAYERS,
+    PROGRAMS,
+    REFUSED_BYTES,
+    REFUSED_FLOATS,
+    STRANGE_PARENTS,
+    STRANGE_PLACES,
+    TASKS,
+    Kind,
+    Losses,
+)
+from lambdamoo.texts import Broken, Lines, shown
+from lambdamoo.words import (
+    CLEAR,
+    DEEPEST_LIST,
+    ERROR,
+    ERRORS,
+    FLAGS,
+    FLOAT,
+    GREATEST_INTEGER,
+    GREATEST_OBJECT,
+    INTEGER,
+    LEAST_INTEGER,
+    LEAST_OBJECT,
+    LIST,
+    LONGEST_STRING,
+    NOTHING,
+    OBJECT,
+    OBSOLETE_FLAGS,
+    PREPOSITIONS,
+    STRANGE_BYTE,
+    STRING,
+    VERSION,
+    escaped,
+    quoted,
+)
+
 # A value of a file as a literal, or None for a clear one, with its owner and rights.
 Value = Tuple[Optional[str], int, int]
 
-NOTHING = -1
-LEAST_OBJECT, GREATEST_OBJECT = -(2**31), 2**31 - 1
-LEAST_INTEGER, GREATEST_INTEGER = -(2**63), 2**63 - 1
-LONGEST_STRING = 65535
-# Lists nest 32 deep in moo. A line of a dump is a list too, which isn't counted.
-DEEPEST_LIST = 32
-LONGEST_NAME = 255
-
-# The errors in the order of their numbers in a file.
-ERRORS = (
-    "E_NONE E_TYPE E_DIV E_PERM E_PROPNF E_VERBNF E_VARNF E_INVIND E_RECMOVE E_MAXREC E_RANGE E_ARGS E_NACC E_INVARG E_QUOTA E_FLOAT"
-).split()
-# The fifteen sets in the order of their numbers in a file, from 0.
-PREPOSITIONS = (
-    "with/using",
-    "at/to",
-    "in front of",
-    "in/inside/into",
-    "on top of/on/onto/upon",
-    "out of/from inside/from",
-    "over",
-    "through",
-    "under/underneath/beneath",
-    "behind",
-    "beside",
-    "for/about",
-    "is",
-    "as",
-    "off/off of",
-)
-PLACES = ("none", "any", "this")
-FLAGS = {"player": 1, "programmer": 2, "wizard": 4, "r": 16, "w": 32, "f": 128}
-OBSOLETE_FLAGS = 8 | 64
-PROPERTY_RIGHTS = {"r": 1, "w": 2, "c": 4}
-VERB_RIGHTS = {"r": 1, "w": 2, "x": 4, "d": 8}
-BUILT_IN_NAMES = frozenset("name owner location contents programmer wizard r w f".split())
-
-# The types of values in a file.
-INTEGER, OBJECT, STRING, ERROR, LIST, CLEAR, FLOAT = "0", "1", "2", "3", "4", "5", "9"
-
-# What is left out or changed.
-PROGRAMS = "verb programs, which moo doesn't keep"
-FLOATS = "floats, written as strings"
-REFUSED_FLOATS = "floats, refused (use --floats text to write them as strings)"
-BYTES = "strings with bytes other than 9 and 32 to 126, written as ~XX"
-REFUSED_BYTES = "strings with bytes other than 9 and 32 to 126, refused (use --bytes escape to write these bytes as ~XX)"
-LONG_STRINGS = "strings over 65,535 bytes, cut there"
-DEEP_LISTS = "lists over 32 deep, replaced by E_MAXREC"
-HANDLES = "old handles, left out"
-OLD_FLAGS = "objects with the obsolete flags 8 or 64, left out"
-STRANGE_PARENTS = "parents that aren't objects, replaced by #-1"
-STRANGE_PLACES = "locations that aren't objects, replaced by #-1"
-CHILDREN = "lists of children that differ from the parents (the parents count)"
-CONTENTS = "lists of contents that differ from the locations (the locations count)"
-PLAYERS = "players in the list or by their flag, but not both (the flag counts)"
-OWN_CLEAR = "clear values on the object that defines the property, replaced by 0"
-TASKS = "queued and suspended tasks, left out"
-CONNECTIONS = "connections, left out"
-NO_CONNECTIONS = "missing lists of connections, as in an older server's file or one that was cut short"
-MORE_LINES = "lines after the list of connections, left out"
-
-NUMBER = re.compile(r"-?[0-9]{1,20}")
-STRANGE_BYTE = re.compile(r"[^\t -~]")
-ESCAPED_BYTE = re.compile(r"[^\t -}]")
-VERSION = re.compile(r"\*\* LambdaMOO Database, Format Version ([0-9]{1,9}) \*\*")
+FIRST_LINE = re.compile(r"\*\* LambdaMOO Database, Format Version ([0-9]{1,9}) \*\*")
 PROGRAM = re.compile(r"#([0-9]{1,10}):([0-9]{1,10})")
 CONNECTED = re.compile(r"([0-9]{1,10}) active connections(?: with listeners)?")
-
-
-class Broken(Exception):
-    """A text that isn't what it should be, with the number of the line that shows it, and the name of its file once that is known."""
-
-    def __init__(self, line: int, reason: str) -> None:
-        super().__init__(line, reason)
-        self.line = line
-        self.reason = reason
-        self.file = "a file"
-
-    def __str__(self) -> str:
-        return f"{self.file}, line {self.line}: {self.reason}"
-
-
-class Losses:
-    """What is left out or changed: how many of each kind, and the place of the first."""
-
-    def __init__(self) -> None:
-        self.counts: dict[str, int] = {}
-        self.firsts: dict[str, str] = {}
-
-    def note(self, kind: str, where: str, count: int = 1) -> None:
-        """Counts one more of a kind, or several."""
-        if count:
-            self.firsts.setdefault(kind, where)
-            self.counts[kind] = self.counts.get(kind, 0) + count
-
-    def report(self, tool: str) -> None:
-        """Writes a line for each kind to standard error."""
-        for kind, count in self.counts.items():
-            sys.stderr.write(f"{tool}: {kind}: {count}, first at {self.firsts[kind]}\n")
-
-
-class Lines:
-    """The lines of a text in their order, with the number of the one read last. What is asked of the next line is Broken if it isn't so."""
-
-    def __init__(self, stream: Iterable[str]) -> None:
-        self.stream = iter(stream)
-        self.number = 0
-
-    def broken(self, reason: str) -> Broken:
-        """The fault of the line read last."""
-        return Broken(self.number, reason)
-
-    def more(self) -> str | None:
-        """The next line without its end, or None after the last one."""
-        line = next(self.stream, None)
-        self.number += 1
-        if line is None:
-            return None
-        if line[-1] != "\n":
-            raise self.broken("the file ends within this line")
-        return line[:-1]
-
-    def next(self) -> str:
-        """The next line without its end. The file has to have one."""
-        line = self.more()
-        if line is None:
-            raise self.broken("the file ends before this line")
-        return line
-
-    def integer(self, least: int, greatest: int, what: str) -> int:
-        """The next line, a number within limits."""
-        line = self.next()
-        if NUMBER.fullmatch(line):
-            number = int(line)
-            if least <= number <= greatest:
-                return number
-        raise self.broken(f"{what} is wanted here, and not {shown(line)}")
-
-    def object(self, what: str) -> int:
-        """The next line, the number of an object or a negative number."""
-        return self.integer(LEAST_OBJECT, GREATEST_OBJECT, what)
-
-    def count(self, what: str) -> int:
-        """The next line, how many of something follow."""
-        return self.integer(0, GREATEST_OBJECT + 1, f"the number of {what}")
-
-
-def shown(text: str) -> str:
-    """A text for a message, which may be long or hold any byte."""
-    return ascii(text) if len(text) <= 40 else f"{ascii(text[:40])}.."
-
-
-def bytes_of(stream: TextIO | None, name: str) -> BinaryIO:
-    """A standard stream as bytes, unless it is closed."""
-    if stream is None:
-        raise OSError(f"standard {name} is closed")
-    return stream.buffer
-
-
-@contextlib.contextmanager
-def opened(path: str) -> Iterator[TextIO]:
-    """The text of a file or, for '-', of standard input, a character for each byte. A line ends at byte 10 and nowhere else."""
-    try:
-        if path == "-":
-            yield io.TextIOWrapper(bytes_of(sys.stdin, "input"), encoding="latin-1", newline="\n")
-        else:
-            with open(path, encoding="latin-1", newline="\n") as stream:
-                yield stream
-    except Broken as fault:
-        fault.file = "standard input" if path == "-" else path
-        raise
-
-
-def write_out(pieces: Iterable[str]) -> None:
-    """Writes texts to standard output, a byte for each character."""
-    out = bytes_of(sys.stdout, "output")
-    held: list[str] = []
-    size = 0
-    try:
-        for piece in pieces:
-            held.append(piece)
-            size += len(piece)
-            if size > 1 << 16:
-                out.write("".join(held).encode("latin-1"))
-                held, size = [], 0
-        out.write("".join(held).encode("latin-1"))
-        out.flush()
-    except OSError:
-        # Python writes what is left at its end, which would fail once more.
-        os.dup2(os.open(os.devnull, os.O_WRONLY), out.fileno())
-        raise
-
-
-def finish(tool: str, work: Callable[[], int]) -> int:
-    """Runs a tool, which answers its status. A fault is a line on standard error, and status 1."""
-    try:
-        return work()
-    except Broken as fault:
-        sys.stderr.write(f"{tool}: {fault}\n")
-    except BrokenPipeError:
-        sys.stderr.write(f"{tool}: the reader of the output went away\n")
-    except OSError as fault:
-        sys.stderr.write(f"{tool}: {fault}\n")
-    except MemoryError:
-        sys.stderr.write(f"{tool}: out of memory\n")
-    return 1
-
-
-def loop_in(links: dict[int, int]) -> int | None:
-    """An object whose links lead round in a loop, or None. Each link is a key too, or NOTHING."""
-    ends = {NOTHING}
-    for start in links:
-        path: dict[int, bool] = {}
-        number = start
-        while number not in ends:
-            if number in path:
-                return number
-            path[number] = True
-            number = links[number]
-        ends.update(path)
-    return None
-
-
-def owed_to_each(parents: dict[int, int], defines: dict[int, list[T]]) -> dict[int, list[T]]:
-    """What each object and its ancestors define, its own first, as a list. There are no loops. Objects share lists that are equal."""
-    owed: dict[int, list[T]] = {NOTHING: []}
-    for start in parents:
-        path = []
-        number = start
-        while number not in owed:
-            path.append(number)
-            number = parents[number]
-        for number in reversed(path):
-            above = owed[parents[number]]
-            owed[number] = defines[number] + above if defines[number] else above
-    return owed
-
-
-def clash_in(parents: dict[int, int], names: dict[int, list[str | None]]) -> tuple[int, int] | None:
-    """An object and the place of a name among its names that it or an ancestor has already, or None. A name may be None for none."""
-    owed = owed_to_each(parents, names)
-    for number, own in names.items():
-        if own:
-            seen = set(owed[parents[number]])
-            for place, name in enumerate(own):
-                if name is not None and name in seen:
-                    return number, place
-                seen.add(name)
-    return None
-
-
-def may_name_property(name: str) -> bool:
-    """Whether a property may have a name."""
-    return 0 < len(name) <= LONGEST_NAME and name.lower() not in BUILT_IN_NAMES
-
-
-def escaped(text: str) -> str:
-    """A string with each byte that moo's strings can't hold as ~XX, as encode_binary does; then a tilde is ~7E too."""
-    if not STRANGE_BYTE.search(text):
-        return text
-    return ESCAPED_BYTE.sub(lambda byte: f"~{ord(byte[0]):02X}", text)
-
-
-def quoted(text: str) -> str:
-    """The literal of a string."""
-    return '"' + text.replace("\\", "\\\\").replace('"', '\\"') + '"'
 
 
 class Verb:
@@ -364,20 +148,22 @@ class Database:
         self.check_links()
 
     def read_version(self) -> int:
-        """The version that the first line names."""
-        named = VERSION.fullmatch(self.lines.next())
+        """The version that the first line names. `stunt.Later`: it is one of a later server."""
+        named = FIRST_LINE.fullmatch(self.lines.next())
         if not named:
             raise self.lines.broken("this isn't a LambdaMOO database of format version 1 to 4")
         version = int(named[1])
-        if not 1 <= version <= 4:
-            raise self.lines.broken(f"format version {version} can't be read, only 1 to 4 can (later ones are Stunt's and ToastStunt's)")
+        if version > VERSION:
+            raise stunt.Later(self.lines.number, version)
+        if version < 1:
+            raise self.lines.broken(f"format version {version} can't be read, only 1 to 4 can")
         return version
 
     def where(self) -> str:
         """The place of the line read last."""
         return f"{self.here}, line {self.lines.number}"
 
-    def note(self, kind: str) -> None:
+    def note(self, kind: Kind) -> None:
         """Tells of the line read last."""
         self.losses.note(kind, self.where())
 
@@ -540,7 +326,10 @@ class Database:
 
     def read_tasks(self) -> None:
         """Passes over clocks and tasks."""
-        for _ in range(self.counted("clocks")):
+        clocks = self.counted("clocks")
+        self.here = "the clocks"
+        self.losses.note(CLOCKS, self.where(), clocks)
+        for _ in range(clocks):
             self.lines.next()
         queued = self.counted("queued tasks")
         self.here = "the tasks"
@@ -600,7 +389,7 @@ class Database:
         self.check_lists("parent", "child", "sibling", CHILDREN)
         self.check_lists("location", "contents", "next", CONTENTS)
 
-    def check_lists(self, link: str, first: str, following: str, kind: str) -> None:
+    def check_lists(self, link: str, first: str, following: str, kind: Kind) -> None:
         """Tells of each object whose list holds others than those that link to it."""
         linked: dict[int, set[int]] = {}
         for number, thing in self.things.items():

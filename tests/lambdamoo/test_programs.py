@@ -1,0 +1,120 @@
+"""The programs of verbs on the way in and back: each verb has its own, or it is told.
+
+WORLDS is how many random worlds are tried: 2000 is the full size. SEED is where chance begins, which is printed.
+"""
+
+from __future__ import annotations
+
+import contextlib
+import io
+import os
+import sys
+import unittest
+from pathlib import Path
+from random import Random
+from unittest import mock
+
+from tests.support.cases import ProgramTest
+from tests.support.lambdamoo_worlds import Thing, Verb, World, database_text, dump_text, read_database
+from tests.support.verb_changes import Changed
+from tests.support.worlds import run
+
+import from_lambdamoo
+import to_lambdamoo
+
+WORLDS = int(os.environ.get("WORLDS", "100"))
+SEED = int(os.environ.get("SEED") or Random().randrange(10**6))
+NONE, ANY = ("this", "none", "none"), ("this", "with/using", "any")
+
+
+def ran(tool: object, *words: str) -> tuple[int, str, str]:
+    """The status of a tool that runs in this process, its output, and what it says."""
+    out, said = io.TextIOWrapper(io.BytesIO(), encoding="latin-1", newline=""), io.StringIO()
+    with contextlib.redirect_stdout(out), contextlib.redirect_stderr(said):
+        status = tool.main(list(words))  # type: ignore[attr-defined]
+    out.flush()
+    return status, out.buffer.getvalue().decode("latin-1"), said.getvalue()  # type: ignore[attr-defined]
+
+
+def back(dump: str, *words: str) -> tuple[World, str]:
+    """The world that a dump becomes with the programs of core.db, and what is told of it."""
+    Path("new.dump").write_text(dump)
+    status, text, said = ran(to_lambdamoo, "new.dump", "--programs", "core.db", *words)
+    assert status == 0, said
+    return read_database(text), said
+
+
+class Matched(ProgramTest):
+    """One object with a few verbs."""
+
+    def given(self, before: list[Verb], now: list[Verb], seq: int = 1) -> tuple[list[object], str]:
+        """The programs of the verbs of an object that had other verbs before, and what is told."""
+        Path("core.db").write_text(database_text(World(0, {0: Thing("", verbs=before)}), Random(1)))
+        dump = dump_text(World(0, {0: Thing("", verbs=now)})).replace("seq 0", f"seq {seq}", 1)
+        world, said = back(dump)
+        return [verb.program for verb in world.things[0].verbs], said
+
+    def test_the_first_of_two_verbs_of_one_name_is_deleted(self) -> None:
+        """The second keeps its own program, which is known by its arguments."""
+        before = [Verb("open", 0, "rd", NONE, ["1"]), Verb("open", 0, "rd", ANY, ["2"])]
+        found, said = self.given(before, [Verb("open", 0, "rd", ANY)])
+        self.case("by its arguments", found, [["2"]])
+        self.case("the other program is told", "programs without a verb in the dump, left out: 1, first at #0:'open'\n" in said, True)
+
+    def test_other_arguments(self) -> None:
+        before = [Verb("open", 0, "rd", NONE, ["1"]), Verb("shut", 0, "rd", NONE, ["2"])]
+        found, said = self.given(before, [Verb("open", 0, "rd", ANY), Verb("shut", 0, "rd", NONE)])
+        self.case("by its names", found, [["1"], ["2"]])
+        self.case("it is told", "programs given by their names to a verb of other arguments: 1, first at #0:0, line 4\n" in said, True)
+
+    def test_a_renamed_verb_after_a_deleted_one(self) -> None:
+        """Verbs never change their order, so it is one between its neighbours, and the one with its arguments."""
+        before = [Verb(name, 0, "rd", args, [name]) for name, args in (("a", NONE), ("b", ANY), ("c", NONE))]
+        found, said = self.given(before, [Verb("x", 0, "rd", ANY), Verb("c", 0, "rd", NONE)])
+        self.case("it has its own program", found, [["b"], ["c"]])
+        self.case("it is told", "first at #0:0, line 4, which was 'b'\n" in said, True)
+
+    def test_twins(self) -> None:
+        twins = [Verb("open", 0, "rd", NONE, ["1"]), Verb("open", 0, "rd", NONE, ["2"])]
+        kind = "programs given by their order to one of several verbs of the same names and arguments"
+        found, said = self.given(twins, twins)
+        self.case("they are told", (found, f"{kind}: 2, first at #0:0, line 4\n" in said), ([["1"], ["2"]], True))
+        self.case("not in a world in which no batch has acted", kind in self.given(twins, twins, seq=0)[1], False)
+        found, said = self.given(twins, twins[:1])
+        self.case("nor is the one that is left sure", (found, f"{kind}: 1, " in said), ([["1"]], True))
+
+    def test_another_order(self) -> None:
+        verbs = [Verb("open", 0, "rd", NONE, ["1"]), Verb("shut", 0, "rd", NONE, ["2"])]
+        found, said = self.given(verbs, verbs[::-1])
+        kind = "programs given by their names to a verb that has another place among the object's verbs: 2"
+        self.case("it is told", (found, kind in said), ([["2"], ["1"]], True))
+
+
+class Worlds(ProgramTest):
+    """Random worlds with twins of verbs, added, deleted and renamed between."""
+
+    def test_each_verb_has_its_own_program_or_it_is_told(self) -> None:
+        print(f"programs: {WORLDS} worlds, SEED={SEED}", file=sys.stderr)
+        for number in range(WORLDS):
+            changed = Changed(Random(f"{SEED} {number}"))
+            found, told = self.there_and_back(changed)
+            self.assertEqual(changed.wrong(found, told), [], f"SEED={SEED}, world {number}: {changed.calls}\n{told}")
+            self.assertEqual(changed.lost(found, told), [], f"SEED={SEED}, world {number}: {changed.calls}\n{told}")
+
+    def there_and_back(self, changed: Changed) -> tuple[World, str]:
+        """A world after its changes by moo, as a database, and what is told of it."""
+        Path("core.db").write_text(database_text(changed.world, Random(1)))
+        for file in Path().glob("world.db*"):
+            file.unlink()
+        status, dump, said = ran(from_lambdamoo, "core.db")
+        self.assertEqual(status, 0, said)
+        Path("core.dump").write_text(dump)
+        self.assertEqual(run("load", "world.db", "core.dump")[0], 0)
+        if changed.text:
+            Path("changes.txt").write_text(changed.text)
+            self.assertEqual(run("apply", "world.db", "changes.txt")[1].split()[:1], ["accepted"], changed.calls)
+        return back(run("dump", "world.db")[1], "--all")
+
+
+if __name__ == "__main__":
+    unittest.main()

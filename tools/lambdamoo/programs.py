@@ -1,0 +1,101 @@
+"""Which program is that of which verb, though verbs were added, deleted and renamed since.
+
+On each object verbs are matched by their names and arguments, then by their names, then by their place. What isn't certain is told.
+"""
+
+from __future__ import annotations
+
+from collections.abc import Callable, Hashable
+from typing import NamedTuple, Optional
+
+from lambdamoo.losses import BY_NAMES, BY_PLACE, MOVED, TWINS, Kind
+
+# The bits of a verb's number above its rights: its direct and indirect objects.
+ARGUMENTS_SHIFT = 4
+
+
+class Header(NamedTuple):
+    """A verb without its program: its names, its arguments (the bits of its objects, and its preposition), and its owner and rights."""
+
+    names: str
+    arguments: tuple[int, int]
+    others: tuple[int, int]
+
+    @staticmethod
+    def of(names: str, owner: int, rights: int, preposition: int) -> Header:
+        """The header with these values of a database."""
+        return Header(names, (rights >> ARGUMENTS_SHIFT, preposition), (owner, rights & (1 << ARGUMENTS_SHIFT) - 1))
+
+
+class Match(NamedTuple):
+    """The place that a verb had, and why that isn't certain; None if it is."""
+
+    place: int
+    doubt: Optional[Kind]
+
+
+class Matching:
+    """The verbs of one object, matched with those that it had: `found` has a match for each place of a verb that had one."""
+
+    def __init__(self, before: list[Header], now: list[Header]) -> None:
+        self.before, self.now = before, now
+        self.places: dict[int, int] = {}
+        self.doubts: dict[int, Kind] = {}
+        self.left = dict.fromkeys(range(len(before)))
+        self.match_by(lambda header: header, None)
+        self.match_by(lambda header: header[:2], None)
+        self.doubt_twins()
+        self.match_by(lambda header: header.names, BY_NAMES)
+        self.match_by_place()
+        self.doubt_order()
+
+    @property
+    def found(self) -> dict[int, Match]:
+        """For each place of a verb that was there before: the place that it had, and the doubt."""
+        return {place: Match(was, self.doubts.get(place)) for place, was in self.places.items()}
+
+    def take(self, place: int, was: int, doubt: Optional[Kind]) -> None:
+        """Notes that a verb had another's place."""
+        self.places[place] = was
+        del self.left[was]
+        if doubt:
+            self.doubts[place] = doubt
+
+    def match_by(self, key: Callable[[Header], Hashable], doubt: Optional[Kind]) -> None:
+        """Matches the verbs that are left and have the same key, in their order."""
+        waiting: dict[Hashable, list[int]] = {}
+        for was in reversed(self.left):
+            waiting.setdefault(key(self.before[was]), []).append(was)
+        for place, header in enumerate(self.now):
+            if place not in self.places and waiting.get(key(header)):
+                self.take(place, waiting[key(header)].pop(), doubt)
+
+    def doubt_twins(self) -> None:
+        """Which of several verbs of the same names and arguments is which can't be known."""
+        for place in self.places:
+            wanted = self.now[place][:2]
+            if any([header[:2] for header in verbs].count(wanted) > 1 for verbs in (self.before, self.now)):
+                self.doubts[place] = TWINS
+
+    def match_by_place(self) -> None:
+        """Matches a verb that is left with one that may have been at its place, since verbs never change their order."""
+        for place in range(len(self.now)):
+            was = self.place_before(place) if place not in self.places else None
+            if was is not None:
+                self.take(place, was, BY_PLACE)
+
+    def place_before(self, place: int) -> Optional[int]:
+        """The place that a verb of new names had: the only one between its neighbours' with its arguments, or else the same one, if it is left."""
+        least = max((was for other, was in self.places.items() if other < place), default=-1)
+        most = min((was for other, was in self.places.items() if other > place), default=len(self.before))
+        between = [was for was in self.left if least < was < most]
+        alike = [was for was in between if self.before[was].arguments == self.now[place].arguments]
+        if len(alike) == 1:
+            return alike[0]
+        return place if place in self.left else None
+
+    def doubt_order(self) -> None:
+        """A verb that has another place among the others was deleted and added, or others were renamed."""
+        for place, was in self.places.items():
+            if any((other < place) != (others < was) for other, others in self.places.items() if other != place):
+                self.doubts.setdefault(place, MOVED)

@@ -1,0 +1,127 @@
+"""What is meant by a line as people write it who come from LambdaMOO, psql or sqlite3; and advice on what can't be done."""
+
+from __future__ import annotations
+
+import re
+from collections.abc import Callable, Collection
+from typing import Optional
+
+from moolib.calls import call_name
+from moolib.lines import Line, hint, read_line
+from moolib.values import written
+
+# What a reading call answers, as it is written.
+Read = Callable[[str], str]
+
+THING = r"(?:\$[A-Za-z_]\w*|#-?\d+)"
+ALONE = re.compile(THING)
+PROPERTY = re.compile(rf"({THING})((?:\.[A-Za-z_]\w*)+)(?:\s*=(?!=)\s*(\S.*))?", re.DOTALL)
+ASSIGNED = re.compile(r"([A-Za-z_]\w*)\s*=(?!=)\s*(\S.*)", re.DOTALL)
+VERB = re.compile(rf"{THING}:\w+.*", re.DOTALL)
+WORD = re.compile(r"[@.]?([A-Za-z]+)(?:\s+(.*))?", re.DOTALL)
+
+# Words of other prompts that end a batch or drop it, and the word of the shell for each.
+BATCH_WORDS = {"commit": "end", "rollback": "abandon", "abort": "abandon"}
+SHOWING = ("look", "examine", "exam", "display")
+# What to write for a command of LambdaMOO.
+COMMANDS = {
+    "create": "$thing = create(#1), with the parent's number in the brackets",
+    "dig": "$room = create(CLASS), and then set($room, \"exits\", ..) if the class has exits",
+    "recycle": "recycle(#5)",
+    "chparent": "chparent(#5, #6)",
+    "move": "move(#5, #6)",
+    "rename": '#5.name = "Inn"',
+    "describe": '#5.description = "A tavern."',
+    "set": "#5.name = VALUE",
+    "property": 'add_property(#5, "light", 0, {#3, "rc"})',
+    "prop": 'add_property(#5, "light", 0, {#3, "rc"})',
+    "rmprop": 'delete_property(#5, "light")',
+    "rmproperty": 'delete_property(#5, "light")',
+    "verb": 'add_verb(#5, {#3, "rxd", "look"}, {"this", "none", "none"})',
+    "rmverb": 'delete_verb(#5, "look")',
+    "chmod": 'set_property_info(#5, "light", {#3, "rc"})',
+    "chown": "#5.owner = #3",
+    "audit": "\\find WORD, or \\tree",
+    "kids": "\\tree #5",
+    "parents": "\\show #5",
+    "contents": "\\places #5",
+    "locations": "\\show #5",
+    "dump": "\\dump FILE",
+    "who": "\\places, since nobody is connected to a world of moo",
+    "program": "moo keeps verbs and runs none",
+    "list": "moo keeps verbs and runs none",
+}
+
+
+def meant(text: str, words: Collection[str], read: Read) -> Line:
+    """What a line says. `words` are those of the shell.
+
+    A line of other prompts is read as the line of the shell that does the same: a property as `get` or `set`, a word without its `\\` as that
+    word, `x = 5` as `$x = 5`. An object or a name alone is a line of the kind `alone`. `Failed`: an object of a chain can't be read.
+    """
+    line = read_line(text)
+    if line.kind == "value":
+        found = PROPERTY.fullmatch(line.text)
+        return Line("call", property_call(found, read), line.name) if found and not found[3] else line
+    if line.kind != "call" or line.name or call_name(line.text):
+        return line
+    return of_expression(line.text, read) or of_word(line.text, words) or line
+
+
+def of_expression(text: str, read: Read) -> Optional[Line]:
+    """The line that an object, a name, a property or an assignment is; None if the text is none of them."""
+    if ALONE.fullmatch(text):
+        return Line("alone", text)
+    found = PROPERTY.fullmatch(text)
+    if found:
+        return Line("call", property_call(found, read))
+    given = ASSIGNED.fullmatch(text)
+    if given:
+        return meant(f"${given[1]} = {given[2]}", (), read)
+    return None
+
+
+def property_call(found: re.Match[str], read: Read) -> str:
+    """The call that reads or sets the property of an expression, such as `#5.name` or `#5.location.name = "Inn"`."""
+    thing, (*path, name) = found[1], found[2][1:].split(".")
+    for each in path:
+        thing = read(f"get({thing}, {written(each)})")
+    if found[3] is None:
+        return f"get({thing}, {written(name)})"
+    value = PROPERTY.fullmatch(found[3].strip())
+    given = read(property_call(value, read)) if value and value[3] is None else found[3]
+    return f"set({thing}, {written(name)}, {given})"
+
+
+def of_word(text: str, words: Collection[str]) -> Optional[Line]:
+    """The word of the shell that a line is without its `\\`; None if it isn't one."""
+    found = WORD.fullmatch(text)
+    if not found:
+        return None
+    word, given = found[1].lower(), found[2] or ""
+    if word in SHOWING and given:
+        word = "show"
+    if word in BATCH_WORDS and not given:
+        return Line("end") if BATCH_WORDS[word] == "end" else Line("command", word=BATCH_WORDS[word])
+    is_named = len(word) > 1 and word in words and not (text.startswith("@") and word in COMMANDS)
+    return Line("command", given, word=word) if is_named else None
+
+
+def advice(text: str) -> str:
+    """What to write for a line that isn't a call and can't be done as it is."""
+    first = text.partition(" ")[0].lower()
+    if first in ("begin", "end"):
+        return f"`{first}` stands alone on its line"
+    if first == "batch":
+        return "`batch as #3` begins a batch of #3"
+    if first.startswith("@") and first[1:] in COMMANDS:
+        return f"{first} is a command of LambdaMOO; here it is {COMMANDS[first[1:]]}"
+    return expression_advice(text) or hint(text)
+
+
+def expression_advice(text: str) -> str:
+    """What to write for an expression of LambdaMOO that is more than a property; or nothing."""
+    if VERB.fullmatch(text):
+        return "moo keeps verbs and runs none"
+    found = re.match(rf"({THING})\.([A-Za-z_]\w*)", text)
+    return f'a property is read by get({found[1]}, "{found[2]}")' if found else ""
