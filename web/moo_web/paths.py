@@ -74,6 +74,7 @@ PATHS = {
         "home": "/", "find": "/find", "nowhere": "/nowhere", "roots": "/roots", "map": "/map", "tree": "/map/<tree>",
         "object": "/o/<number>", "list": "/o/<number>/<links>", "property": "/o/<number>/property",
         "history": "/history", "batch": "/history/<batch>", "done": "/done/<batch>", "undo": "/undo/<batch>", "differences": "/differences", "people": "/people",
+        "edit": "/edit/<number>", "new": "/edit/new", "class": "/class/<number>",
         "forms": "/do", "form": "/do/<key>", "editor": "/batch", "petitions": "/petitions", "quotas": "/quotas",
         "in": "/in", "out": "/out", "you": "/you", "password": "/you/password", "zone": "/you/zone",
         "programs": "/api", "sheet": "/style.css", "icon": "/icon.svg",

@@ -8,6 +8,7 @@ from typing import Any, NamedTuple
 from moolib.values import written
 
 from moo_web.app import Reply
+from moo_web.forms.exits import EXITS, exits_in
 from moo_web.journal.history import History
 from moo_web.pages.accepting import accept_calls, accepting
 from moo_web.pages.batches import Telling, in_time
@@ -53,7 +54,7 @@ def object_page(visit: Visit, history: History, one: int) -> Reply:
     world = visit.world
     chain = [above.number for above in world.chain(one)]
     # All that the page asks is asked in two requests: what there is, and then all of that.
-    visit.answers([*names_calls(chain), *(f"verbs(#{each})" for each in chain), *accept_calls(chain)])
+    visit.answers([*names_calls(chain), *(f"verbs(#{each})" for each in chain), *accept_calls(chain), f"get(#{one}, {written(EXITS)})"])
     names = names_on(visit, one)
     part = part_of(names.pairs, visit.fields.get("page", ""), MOST)
     visit.answers([*property_calls(one, list(part.items), chain), *verb_calls(one, visit.answers([f"verbs(#{one})"])[0])])
@@ -63,7 +64,7 @@ def object_page(visit: Visit, history: History, one: int) -> Reply:
         children=world.children.get(one, ()), contents=world.contents.get(one, ()), some=SOME, part=part,
         groups=grouped(properties_of(visit, one, list(part.items)), names.hidden if part.number == 1 else [], chain),
         is_hidden=bool(names.hidden), verbs=verbs, inherited=inherited, lately=lately(visit, history, one),
-        accepts=accepting(visit, one), owned=len(world.owned.get(one, ())), line=lambda batch: Telling(visit, history, batch).line(one),
+        is_room=exits_in(visit.answers([f"get(#{one}, {written(EXITS)})"])[0]) is not None, accepts=accepting(visit, one), owned=len(world.owned.get(one, ())), line=lambda batch: Telling(visit, history, batch).line(one),
     )  # fmt: skip
 
 
