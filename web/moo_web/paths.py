@@ -78,6 +78,7 @@ PATHS = {
         "object": "/o/<number>", "list": "/o/<number>/<links>", "property": "/o/<number>/property",
         "history": "/history", "batch": "/history/<batch>", "done": "/done/<batch>", "undo": "/undo/<batch>", "differences": "/differences",
         "people": "/people", "person": "/people/<name>", "deed": "/people/<name>/<key>", "link": "/link",
+        "edit": "/edit/<number>", "new": "/edit/new", "class": "/class/<number>",
         "forms": "/do", "form": "/do/<key>", "editor": "/batch", "petitions": "/petitions", "quotas": "/quotas",
         "in": "/in", "out": "/out", "you": "/you", "password": "/you/password", "zone": "/you/zone", "token": "/you/token", "end": "/you/end",
         "programs": "/api", "sheet": "/style.css", "icon": "/icon.svg",

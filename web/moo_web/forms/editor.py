@@ -121,7 +121,7 @@ class BatchPages(FormPages):
         """Where the text is sent to."""
         return url_for("editor")
 
-    def more(self, typed: Mapping[str, str], mistakes: Mapping[str, Mistake], found: FormResult) -> dict[str, object]:
+    def more(self, form: Form, typed: Mapping[str, str], mistakes: Mapping[str, Mistake], found: FormResult) -> dict[str, object]:
         """The lines around the one that is wrong, with the reason under it."""
         if not found.line:
             return {"listing": []}

@@ -11,17 +11,20 @@ from __future__ import annotations
 
 import dataclasses
 import re
-from collections.abc import Callable, Mapping
+from collections.abc import Callable, Mapping, Sequence
 from typing import Any, Protocol
 
 from moolib.batches import Item
+from moolib.naming import Found, names_of_objects, numbered, replaced, shown_as
 from moolib.values import ERRORS
 
-from moo_web.forms.input import LONGEST_NAME, Mistyped, clipped, number_value, text_value, written_value
+from moo_web.forms.input import LONGEST_NAME, Mistyped, clipped, number_value, test_letters, text_value, written_value
 from moo_web.forms.patterns import condition, pattern
 
 Typed = Mapping[str, str]
 WORDS_FOR_NOTHING = ("nothing", "nowhere", "none", "nobody", "-1", "#-1")
+# How pages call an object without a name.
+UNNAMED = "unnamed"
 MOST_CHOICES = 20
 MOST_OBJECTS = 1000
 
@@ -142,11 +145,14 @@ class Me:
 
 
 class Ambiguous(Mistyped):
-    """Several objects, or none, have just the name that was typed; `choices` are those that are meant perhaps."""
+    """Several objects, or none, have just the name that was typed; `choices` are those that are meant perhaps.
 
-    def __init__(self, reason: str, choices: list[tuple[int, str]]) -> None:
+    Each choice is what is typed for it, and its words: by the number of an object, or in `typed` as a whole text.
+    """
+
+    def __init__(self, reason: str, choices: Sequence[tuple[int, str]] = (), typed: Sequence[tuple[str, str]] = ()) -> None:
         super().__init__(reason)
-        self.choices = tuple((f"#{number}", label) for number, label in choices)
+        self.choices = (*((f"#{number}", label) for number, label in choices), *typed)
 
 
 class Names(Protocol):
@@ -171,7 +177,7 @@ class Filled:
 
 
 def object_value(typed: str, names: Names, me: Me, may_be_nothing: bool = False) -> str:
-    """An object that is typed by its number or its name. `Mistyped`, `Ambiguous`: it isn't one, or it could be several."""
+    """An object that is typed by its number, its name, or both. `Mistyped`, `Ambiguous`: it isn't one, or it could be several."""
     word = typed.strip()
     if may_be_nothing and word.lower() in WORDS_FOR_NOTHING:
         return "#-1"
@@ -179,10 +185,7 @@ def object_value(typed: str, names: Names, me: Me, may_be_nothing: bool = False)
         raise Mistyped(f"An object is missing: its number, such as #5, or its name{', or: nothing' if may_be_nothing else ''}.")
     found = re.fullmatch(r"(?:#(\d{1,10})\b.*|(\d{1,10}))", word)
     if found:
-        number = int(found[1] or found[2])
-        if not names.is_object(number):
-            raise Mistyped(f"There is no object #{number}. If there was one, it was recycled.")
-        return f"#{number}"
+        return f"#{known_number(int(found[1] or found[2]), names)}"
     exact = names.named(word)
     if len(exact) == 1:
         return f"#{exact[0][0]}"
@@ -190,10 +193,30 @@ def object_value(typed: str, names: Names, me: Me, may_be_nothing: bool = False)
         raise Ambiguous(f"{len(exact)} objects are named “{clipped(word)}”. Choose one:", exact[:MOST_CHOICES])
     if word.lower() in ("me", "myself"):
         return f"#{me.number}"
+    if shown := shown_as(word):
+        return f"#{shown_number(*shown, names)}"
     like = names.like(word)
     if like:
         raise Ambiguous(f"No object is named “{clipped(word)}”. Is it one of these?", like[:MOST_CHOICES])
     raise Mistyped(f"No object is named “{clipped(word)}”. Write its number, such as #5, or its name.")
+
+
+def known_number(number: int, names: Names) -> int:
+    """The number of an object that is there. `Mistyped`: it isn't."""
+    if not names.is_object(number):
+        raise Mistyped(f"There is no object #{number}. If there was one, it was recycled.")
+    return number
+
+
+def shown_number(name: str, number: int, names: Names) -> int:
+    """The number of an object that is typed as pages show it. `Mistyped`, `Ambiguous`: it isn't there, or has another name."""
+    known_number(number, names)
+    is_cut = name.endswith("…")
+    likely = names.like(name[:-1]) if is_cut else names.named(name)
+    if name == UNNAMED or number in (each for each, _ in likely) or is_cut and len(likely) >= MOST_CHOICES:
+        return number
+    choices = [(number, f"#{number}, which has another name"), *likely[: MOST_CHOICES - 1]]
+    raise Ambiguous(f"#{number} isn’t named “{clipped(name)}”. Choose one:", choices)
 
 
 def several_objects(field: Field, typed: Typed, names: Names, me: Me) -> list[str]:
@@ -218,12 +241,43 @@ def property_name(typed: str) -> str:
 
 def any_value(field: Field, typed: Typed, names: Names, me: Me) -> str:
     """A value of the kind that was chosen beside it."""
-    kind, text = typed.get(f"{field.key}.kind", "text"), typed.get(field.key, "")
+    return value_of_kind(typed.get(f"{field.key}.kind", "text"), typed.get(field.key, ""), names, me)
+
+
+def value_of_kind(kind: str, text: str, names: Names, me: Me) -> str:
+    """A value that is typed as this kind. `Mistyped`, `Ambiguous`: it can't be taken."""
     if kind == "number":
         return number_value(text)
     if kind == "object":
         return object_value(text, names, me, may_be_nothing=True)
-    return written_value(text) if kind == "written" else text_value(text)
+    return value_with_names(text, names, me) if kind == "written" else text_value(text)
+
+
+def value_with_names(text: str, names: Names, me: Me) -> str:
+    """A value that is typed as it is written, with names of objects or without. `Mistyped`, `Ambiguous`: at which letter it can't be taken."""
+    try:
+        return written_value(text)
+    except Mistyped:
+        if not names_of_objects(text):
+            raise
+    test_letters(text.strip().replace("…", ""))
+    try:
+        return written_value(numbered(text, lambda found: number_at(text, found, names, me)))
+    except Mistyped as mistyped:
+        if "{" in text or isinstance(mistyped, Ambiguous):
+            raise
+    return written_value(text)
+
+
+def number_at(text: str, found: Found, names: Names, me: Me) -> str:
+    """The number of the object whose name is in a text. `Mistyped`, `Ambiguous`: as `object_value`, with the letter at which the name begins."""
+    try:
+        return object_value(found.word, names, me)
+    except Ambiguous as several:
+        choices = [(replaced(text, found, value), label) for value, label in several.choices]
+        raise Ambiguous(f"Letter {found.place + 1}: {several.reason}", typed=choices) from None
+    except Mistyped as mistyped:
+        raise Mistyped(f"Letter {found.place + 1}: {mistyped.reason}") from None
 
 
 def filled_lines(typed: str) -> list[str]:

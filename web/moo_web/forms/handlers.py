@@ -39,6 +39,8 @@ GROUPS = (
     ("For wizards", catalogue.CHANGING[6:]),
 )  # fmt: skip
 MOST_OFFERED = 1000
+# The forms that make objects, which show how many more the person may make.
+MAKING = ("create", "new", "class")
 # A page of a form may be kept by the browser of who sent it, for the way back to it.
 KEPT_BY_BROWSER = ("Cache-Control", "private, no-cache")
 NOT_THERE = ("E_INVARG", "E_INVIND")
@@ -180,8 +182,10 @@ class FormPages:
             if why.field:
                 mistakes[why.field] = Mistake(refusal_sentence(why))
             call = found.preview.refusal.call if found.preview.refusal else 0
-            place = items[call - 1].place if 0 < call <= len(items) else None
-            found.line = place[1] if place else 0
+            # Of a call it is known in which field, or in which line of a text, it was typed.
+            key, found.line = (items[call - 1].place if 0 < call <= len(items) else None) or ("", 0)
+            if key and not found.is_asking:
+                mistakes[key] = Mistake(refusal_sentence(why))
         # The preview may be of a later number than the page so far.
         visit.seen = None
         return self.page(visit, form, typed, mistakes, found)
@@ -196,24 +200,28 @@ class FormPages:
         """The page of a form."""
         stay_with(visit)
         names, me = NamesOf(visit.world), me_of(visit)
-        about = known_values(form, typed, names, me).get("object", "")
+        about = self.about(visit, form, typed)
         shown = (*found.preview.changes, *found.preview.inner) if found.preview else ()
         link = linked(visit.link, [(change.call, change.answer) for change in shown])
-        offers = self.offers(visit, form, int(about[1:])) if about and not found.trouble else {}
+        offers = self.offers(visit, form, about) if about >= 0 and not found.trouble else {}
         view = view_of(form, typed, mistakes, names, me, offers)
         return visit.page(
-            self.template, found.status, KEPT_BY_BROWSER, view=view, found=found, about=int(about[1:]) if about else -1, path_of=self.path(form),
+            self.template, found.status, KEPT_BY_BROWSER, view=view, found=found, about=about, path_of=self.path(form),
             told=lambda call: told(call, link), is_grave=is_grave, values=values_before,
-            quota=self.quota(visit) if form.key == "create" and not found.trouble else None,
-            accepts=accepting(visit, int(about[1:])) if about and form.key == "accept" and not found.trouble else None,
-            siblings=siblings_of(form, typed), **self.more(typed, mistakes, found),
+            quota=self.quota(visit) if form.key in MAKING and not found.trouble else None,
+            accepts=accepting(visit, about) if about >= 0 and form.key == "accept" and not found.trouble else None,
+            siblings=siblings_of(form, typed), **self.more(form, typed, mistakes, found),
         )  # fmt: skip
 
     def path(self, form: Form) -> str:
         """Where a form is sent to."""
         return url_for("form", key=form.key)
 
-    def more(self, typed: Mapping[str, str], mistakes: Mapping[str, Mistake], found: FormResult) -> dict[str, object]:
+    def about(self, visit: Visit, form: Form, typed: Mapping[str, str]) -> int:
+        """The number of the object that a form is about, as far as it is known, or -1."""
+        return int(known_values(form, typed, NamesOf(visit.world), me_of(visit)).get("object", "#-1")[1:])
+
+    def more(self, form: Form, typed: Mapping[str, str], mistakes: Mapping[str, Mistake], found: FormResult) -> dict[str, object]:
         """What a page has besides."""
         return {}
 

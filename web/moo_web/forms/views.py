@@ -17,6 +17,7 @@ from moo_web.world.things import Thing, World
 
 MOST_OFFERED = 100
 LONGEST_LABEL = 50
+MOST_ROWS = 14
 
 
 # What may be typed in a field: each with its words.
@@ -78,6 +79,12 @@ class FieldView:
         return f"f-{self.field.key}"
 
     @property
+    def rows(self) -> int:
+        """How many rows of a page its text is given."""
+        least = 1 if self.kind in ("number", "object") else 2
+        return min(MOST_ROWS, max(least, sum(len(line) // 64 + 1 for line in self.text.split("\n"))))
+
+    @property
     def kinds(self) -> list[tuple[str, str]]:
         """The kinds of a value, with their words."""
         return list(VALUE_KINDS.items())
@@ -92,6 +99,11 @@ class View:
     mistakes: list[FieldView]
     hidden: list[tuple[str, str]]
 
+    @property
+    def fields(self) -> dict[str, FieldView]:
+        """The fields by their keys."""
+        return {shown.field.key: shown for _, fields in self.parts for shown in fields}
+
 
 # What tells whether an object has a list of its own, of what it accepts.
 ACCEPTS = "accept_list(<object>)"
@@ -102,11 +114,20 @@ def keys_of(field: Field, typed: Mapping[str, str]) -> list[str]:
     return [key for key in typed if key == field.key or key.startswith(f"{field.key}.")]
 
 
+def by_field(typed: Mapping[str, str]) -> dict[str, dict[str, str]]:
+    """What was typed, by the keys of the fields of a form."""
+    found: dict[str, dict[str, str]] = {}
+    for key, text in typed.items():
+        found.setdefault(key.partition(".")[0], {})[key] = text
+    return found
+
+
 def chosen_of(form: Form, typed: Mapping[str, str]) -> dict[str, str]:
     """What was typed, with an object that was chosen from several in the place of the word for it."""
     kept: dict[str, str] = {}
+    parts = by_field(typed)
     for field in form.fields:
-        kept.update((key, typed[key]) for key in keys_of(field, typed) if not key.endswith(".choice"))
+        kept.update((key, text) for key, text in parts.get(field.key, {}).items() if not key.endswith(".choice"))
         if choice := typed.get(f"{field.key}.choice"):
             kept[field.key] = choice
     return kept
@@ -230,12 +251,13 @@ def view_of(
 ) -> View:
     """A form as it is shown, with what is typed in it. `offers` has what may be typed in a field besides."""
     parts: list[tuple[str, list[FieldView]]] = []
+    typed_in = by_field(typed)
     for field in form.fields:
-        shown = shown_field(field, typed, mistakes.get(field.key), names, me)
+        shown = shown_field(field, typed_in.get(field.key, {}), mistakes.get(field.key), names, me)
         shown.suggested = offers.get(field.key, shown.suggested)[:MOST_OFFERED]
         if not parts or parts[-1][0] != field.section:
             parts.append((field.section, []))
         parts[-1][1].append(shown)
     wrong = [shown for _, fields in parts for shown in fields if shown.mistake]
-    hidden = [(key, value) for field in form.fields for key, value in typed.items() if key in keys_of(field, typed)]
+    hidden = [one for field in form.fields for one in typed_in.get(field.key, {}).items()]
     return View(form, parts, wrong, hidden)

@@ -19,20 +19,24 @@ class Action(NamedTuple):
 
 def buttons(visit: Visit, number: int, names: SightNames) -> list[Action]:
     """What is done most."""
-    edit = [Action("Edit", f"/edit/{number}")] if visit.pages.has("edit") else []
     describe = url_for("form", key="set", object=f"#{number}", name=names.description)
     return [
-        *edit, Action("Describe", describe), Action("Rename", form_for("rename", number)), Action("Move", form_for("move", number)),
+        Action("Edit", url_for("edit", number=number)), Action("Describe", describe), Action("Rename", form_for("rename", number)), Action("Move", form_for("move", number)),
         Action("Make something in it", form_for("create", number, "place")),
     ]  # fmt: skip
 
 
-def more(visit: Visit, number: int) -> list[Action]:
-    """All else."""
+def more(visit: Visit, number: int, is_room: bool) -> list[Action]:
+    """All else. A room is an object with exits."""
+    parent = visit.world.things[number].parent
+    leads_here = url_for("new", parent=parent, **{"from": number})
+    rooms = [Action("Make a room that leads here", leads_here)] if is_room and parent >= 0 else []
     for_wizards = [Action("Player and wizard", form_for("powers", number)), Action("Quota", form_for("quota", number))]
     return [
         Action("Set a property", form_for("set", number)), Action("Add a property", form_for("add-property", number)),
-        Action("Add a verb", form_for("add-verb", number)), Action("Make objects under it", form_for("create", number, "parent")),
+        Action("Add a verb", form_for("add-verb", number)), Action("Make one under it", url_for("new", parent=number)),
+        Action("Make objects under it", form_for("create", number, "parent")), *rooms,
+        Action("Its children as a table", url_for("class", number=number)),
         Action("What others may do", form_for("marks", number)), Action("What it accepts", form_for("accept", number)),
         Action("Give another parent", form_for("parent", number)), Action("Give to another owner", form_for("owner", number)),
         Action("All that is in it", url_for("form", key="many", **{"in": number})),

@@ -61,14 +61,15 @@ def object_page(visit: Visit, history: History, sight_names: SightNames, one: in
     part = part_of(names.pairs, visit.fields.get("page", ""), MOST)
     visit.answers([*property_calls(one, list(part.items), chain), *verb_calls(one, visit.answers([f"verbs(#{one})"])[0])])
     verbs, inherited = verbs_of(visit, chain)
+    sight = sight_of(visit, sight_names, one)
     accepts, told = accepting(visit, one), properties_of(visit, one, list(part.items))
     return visit.page(
         "pages/object.html", thing=thing, above=folded(chain[1:]), places=[place.number for place in world.places(one)][1:], flags=FLAGS,
-        children=world.children.get(one, ()), some=SOME, part=part, sight=sight_of(visit, sight_names, one), sight_names=sight_names,
+        children=world.children.get(one, ()), some=SOME, part=part, sight=sight, sight_names=sight_names,
         groups=grouped([each for each in told if each.is_shown], [], chain), unread=[each.name for each in told if not each.is_shown],
         unlisted=names.hidden, verbs=verbs, inherited=inherited, lately=lately(visit, history, one), accepts=accepts,
         owned=len(world.owned.get(one, ())), line=lambda batch: Telling(visit, history, batch).line(one),
-        buttons=buttons(visit, one, sight_names), more=more(visit, one), way=way_to(visit, one, bool(accepts.numbers)),
+        buttons=buttons(visit, one, sight_names), more=more(visit, one, bool(sight.exits)), way=way_to(visit, one, bool(accepts.numbers)),
     )  # fmt: skip
 
 

@@ -7,6 +7,7 @@ from moo_web.forms.editor import BatchPages
 from moo_web.forms.handlers import FormPages
 from moo_web.forms.inbox import PetitionPages
 from moo_web.forms.newcomers import NewcomerPages
+from moo_web.forms.one_form import ClassPages, ObjectPages
 from moo_web.forms.previews import Previews
 from moo_web.forms.undo import UndoPages
 from moo_web.forms.questions import Questions
@@ -95,6 +96,13 @@ def add_pages_to_change(pages: Pages, previews: Previews, recent: Recent, histor
     pages.get("forms", forms.all)
     pages.get("form", forms.show)
     pages.post("form", forms.act, is_kept=True)
+    whole, classes = ObjectPages(previews, recent), ClassPages(previews, recent)
+    pages.get("edit", whole.edit)
+    pages.post("edit", whole.edited, is_kept=True)
+    pages.get("new", whole.new)
+    pages.post("new", whole.made, is_kept=True)
+    pages.get("class", classes.table)
+    pages.post("class", classes.changed, is_kept=True)
     pages.get("editor", editor.empty)
     pages.post("editor", editor.edit, is_kept=True)
     pages.get("undo", UndoPages(previews, recent, history.one).undo)
