@@ -164,7 +164,7 @@ class NewcomerPages(FormPages):
         """Where the form is sent to."""
         return url_for("people")
 
-    def more(self, typed: Mapping[str, str], mistakes: Mapping[str, Mistake], found: FormResult) -> dict[str, object]:
+    def more(self, form: Form, typed: Mapping[str, str], mistakes: Mapping[str, Mistake], found: FormResult) -> dict[str, object]:
         """The people, and the players who have no account."""
         return {"listed": self.listed, "without": self.without, "most": MOST_SHOWN, "is_open": bool(typed.get("account") or typed.get("object"))}
 
