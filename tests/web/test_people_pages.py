@@ -115,9 +115,9 @@ class SomebodyNew(PeopleTest):
         wizard = self.somebody("wizard")
         for typed, told, status in (
             ({"account": ""}, "A name has 1 to 64 letters", 422), ({"account": "a b"}, "A name has 1 to 64 letters", 422),
-            ({"account": "dora", "quota": "x"}, "May make", 422), ({"account": "dora", "parent": "No such"}, "Its parent", 422),
-            ({"account": "dora", "parent": "nothing", "name": "日本"}, "Name of the new object", 422),
-            ({"account": "dora", "what": "there"}, "That object", 422), ({"account": "dora", "what": "there", "object": "Lamp"}, "isn’t a player", 422),
+            ({"account": "dora", "quota": "x"}, "Quota of a new object", 422), ({"account": "dora", "parent": "No such"}, "Parent of a new object", 422),
+            ({"account": "dora", "parent": "nothing", "name": "日本"}, "Name of a new object", 422),
+            ({"account": "dora", "what": "there"}, "Object that is there", 422), ({"account": "dora", "what": "there", "object": "Lamp"}, "isn’t a player", 422),
         ):  # fmt: skip
             wizard.get("/people")
             with self.subTest(typed=typed):
