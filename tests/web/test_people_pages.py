@@ -8,6 +8,7 @@ from unittest import mock
 from tests.support.forms import Checked, FormsTest
 from tests.support.reader import in_process
 from tests.support.web import PASSWORD, use_web
+from tests.web.test_form_stops import WithFront
 
 use_web()
 
@@ -115,9 +116,9 @@ class SomebodyNew(PeopleTest):
         wizard = self.somebody("wizard")
         for typed, told, status in (
             ({"account": ""}, "A name has 1 to 64 letters", 422), ({"account": "a b"}, "A name has 1 to 64 letters", 422),
-            ({"account": "dora", "quota": "x"}, "May make", 422), ({"account": "dora", "parent": "No such"}, "Its parent", 422),
-            ({"account": "dora", "parent": "nothing", "name": "日本"}, "Name of the new object", 422),
-            ({"account": "dora", "what": "there"}, "That object", 422), ({"account": "dora", "what": "there", "object": "Lamp"}, "isn’t a player", 422),
+            ({"account": "dora", "quota": "x"}, "Quota of a new object", 422), ({"account": "dora", "parent": "No such"}, "Parent of a new object", 422),
+            ({"account": "dora", "parent": "nothing", "name": "日本"}, "Name of a new object", 422),
+            ({"account": "dora", "what": "there"}, "Object that is there", 422), ({"account": "dora", "what": "there", "object": "Lamp"}, "isn’t a player", 422),
         ):  # fmt: skip
             wizard.get("/people")
             with self.subTest(typed=typed):
@@ -358,6 +359,24 @@ class OnesOwn(PeopleTest):
         self.has(wizard.send("End the session from 192.0.2.1"), "It has ended.", status=200)
         self.assertEqual(ada.get("/").status, 401)
         self.assertEqual(self.logged(), ["ada ended a session of ada", "wizard ended a session of ada"])
+
+
+class InTheLog(WithFront):
+    """What `moo-web` says on standard error."""
+
+    def test_each_time_is_a_line(self):
+        """The teller leaves out a line that it has told within a minute; here it may not."""
+        wizard = self.reader("wizard")
+        for _ in range(2):
+            wizard.get("/people/ada/disable")
+            wizard.send("Do it")
+            self.has(wizard.send("Let in again"), "may come in again", status=200)
+        self.has(wizard.send("A link for a password"), "Give ada this link", status=200)
+        secret = re.search(r"key=([\w-]+)", wizard.page.html)[1]
+        lines = [line for line in self.front.said().splitlines() if line.startswith("moo-web: people: ")]
+        done = [re.sub(r"^moo-web: people: \S+: ", "", line) for line in lines]
+        self.assertEqual(done, ["wizard disabled ada", "wizard let ada in again"] * 2 + ["wizard made a link for a password of ada"])
+        self.assertNotIn(secret, self.front.said())
 
 
 if __name__ == "__main__":

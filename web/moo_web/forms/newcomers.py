@@ -42,10 +42,10 @@ FORM = Form(
     (
         Field("account", "Name to sign in with", "text", "1 to 64 letters, digits, ‘.’, ‘_’ and ‘-’."),
         Field("what", "Acts as", "choice", default="new", options=(("new", "a new object, which you own"), ("there", "an object that is there"))),
-        Field("object", "That object", "object", "A player: its number, or its name.", section=THERE),
-        Field("name", "Name of the new object", "text", "Empty: as above.", is_needed=False, section=NEW),
-        Field("parent", "Its parent", "place", "What it inherits from.", section=NEW),
-        Field("quota", "May make", "number", "How many objects.", default=FIRST_QUOTA, section=NEW),
+        Field("object", "Object that is there", "object", "A player: its number, or its name. Empty for a new object.", section=THERE),
+        Field("name", "Name of a new object", "text", "Empty: the name to sign in with.", is_needed=False, section=NEW),
+        Field("parent", "Parent of a new object", "place", "What it inherits from.", section=NEW),
+        Field("quota", "Quota of a new object", "number", "How many objects the person may make.", default=FIRST_QUOTA, section=NEW),
     ),
     (
         Step("create(<parent>)", is_new=True), Step('set(<new>, "name", <name>)', given="name"),
