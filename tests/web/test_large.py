@@ -15,7 +15,11 @@ from tests.support.pages import lacking as lacking_pages
 from tests.support.web import add_person, lacking
 
 COUNT = 100_000
-FIRST_PAGE, EACH_PAGE = 3.0, 0.2
+FIRST_PAGE, EACH_PAGE = 3.0, 0.1
+# In seconds of processor time, as on an idle machine: a busy one takes up to thrice as much for the same, since its cores share their caches.
+BUSY = 3
+GOALS = {"a form": 0.006, "a form to make objects": 0.006, "search by a letter": 0.04}
+AFTER_A_BATCH = 0.01
 MOST_MEMORY = 1.2
 
 
@@ -35,9 +39,9 @@ class Large(unittest.TestCase):
                 self.assertLess(measured.start_cpu, FIRST_PAGE)
             for page, (_, cpu) in measured.pages.items():
                 with self.subTest(page):
-                    self.assertLess(cpu, EACH_PAGE)
+                    self.assertLess(cpu, BUSY * GOALS.get(page, EACH_PAGE / BUSY))
             with self.subTest("the first page after a batch"):
-                self.assertLess(measured.after_write(token)[1], EACH_PAGE)
+                self.assertLess(measured.after_write(token)[1], BUSY * AFTER_A_BATCH)
             with self.subTest("memory in MB for each 1,000 objects"):
                 self.assertLess(measured.memory / (COUNT / 1000), MOST_MEMORY)
 
