@@ -28,13 +28,13 @@ MAKING = "/do/create?parent=generic+lamp&names=lantern%0Atorch&place=Ada%27s+Hut
 # The file, who looks, the path, the browser, and how many pixels of the page are kept from the top; None: all. If the path is that of a
 # form its button 'Preview' is pressed.
 PICTURES: tuple[tuple[str, str, str, dict[str, Any], Optional[int]], ...] = (
-    ("page-world.png", "wizard", "/", {"width": 900, "height": 700}, 1040),
-    ("page-object.png", "ada", "/o/24", {"width": 900, "height": 700}, 720),
+    ("page-world.png", "cleo", "/", {"width": 1000, "height": 700}, None),
+    ("page-object.png", "cleo", "/o/7", {"width": 1000, "height": 700}, 900),
     ("page-history.png", "wizard", "/history", {"width": 900, "height": 600}, None),
-    ("page-map-dark.png", "cleo", "/map/places", {"width": 900, "height": 700, "dark": True}, None),
+    ("page-map-dark.png", "cleo", "/map/exits", {"width": 1000, "height": 700, "dark": True}, 720),
     ("page-preview.png", "ada", MAKING, {"width": 900, "height": 700}, 880),
     ("page-petitions.png", "wizard", "/petitions", {"width": 900, "height": 700}, None),
-    ("page-object-narrow.png", "ada", "/o/24", {"width": 320, "height": 640}, 1000),
+    ("page-object-narrow.png", "cleo", "/o/7", {"width": 320, "height": 640}, 1000),
 )
 COLOURS = 48
 Pixel = Tuple[int, ...]

@@ -26,11 +26,12 @@ WORDS = "oak brass silver old small broken painted heavy round blue lamp chest k
 PATHS = {
     "world": "/", "an object": f"/o/{FIRST_THING + 77}", "a class with 50,000 children": f"/o/{FIRST_CLASS}",
     "its children": f"/o/{FIRST_CLASS}/children?page=300",
-    "search by name": "/find?q=brass+lamp", "search by number": "/find?q=77", "search by property": "/find?q=.size",
+    "search by name": "/find?q=brass+lamp", "search by a letter": "/find?q=a", "search by number": "/find?q=77", "search by property": "/find?q=.size",
     "map of inheritance": "/map/parents",
     "map of places": "/map/places", "a part of a map": f"/map/places?from={FIRST_ROOM}", "history": "/history",
     "history of an object": f"/history?o={FIRST_THING}",
-    "people": "/people",
+    "people": "/people", "map of exits": f"/map/exits?from={FIRST_ROOM}",
+    "a form": f"/do/move?object=%23{FIRST_THING}", "a form to make objects": "/do/create",
 }  # fmt: skip
 BATCH = 300
 

@@ -17,14 +17,14 @@ from tests.web.test_pages import WORLD
 
 SCRIPT = "<script>document.title='hit'</script><b>x"
 PATHS = (
-    "/", "/o/8", "/o/8/property?name=colour", "/o/1/children", "/find?q=box", "/find?q=.size", "/map/parents", "/map/places", "/history",
+    "/", "/o/8", "/o/8/property?name=colour", "/o/1/children", "/find?q=box", "/find?q=.size", "/map/parents", "/map/places", "/map/exits?from=7", "/history",
     "/people", "/you", "/o/99",
     "/o/10",
 )  # fmt: skip
 LIGHT, DARK = 0.7, 0.1
 # Run by the driver, and not by the page: the colour of each text.
 COLOURS = """const found = {};
-for (const one of document.querySelectorAll("h1, h2, p, a, .n, .dim, td, th, label, span, b, code, summary, button.plain"))
+for (const one of document.querySelectorAll("h1, h2, p, a:not(.go), .n, .dim, td, th, label, span, b, code, summary, button.plain"))
     if (one.textContent.trim()) found[one.textContent.trim().slice(0, 40)] = getComputedStyle(one).color;
 return found"""
 
@@ -300,7 +300,7 @@ class Sessions(BrowserTest):
         driver.get(self.home + "/o/8")
         driver.delete_cookie("__Host-moo")
         driver.add_cookie({"name": "__Host-moo", "value": "an-old-one", "path": "/", "secure": True, "httpOnly": True, "sameSite": "Lax"})
-        driver.find_element(By.CSS_SELECTOR, "dl.facts a[href='/o/7']").click()
+        driver.find_element(By.CSS_SELECTOR, ".card a[href='/o/7']").click()
         self.wait(lambda: driver.title == "Sign in · moo")
         self.type_name(driver, "ada")
         driver.find_element(By.NAME, "password").send_keys(PASSWORD + "\n")

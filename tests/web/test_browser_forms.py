@@ -176,6 +176,7 @@ class Scene(WithFront):
             ada.press("Do it")
             ada.sees("Made: Generic Key #10")
             ada.follow("Generic Key")
+            ada.act_on(ada.driver.find_element("css selector", ".menu summary"), "\ue007")
             ada.follow("Make objects under it")
             ada.fill("f-names", "\ue007".join(f"Key {number}" for number in range(1, 11)))
             ada.fill("f-place", "The Attic")

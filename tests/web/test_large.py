@@ -15,8 +15,9 @@ from tests.support.pages import lacking as lacking_pages
 from tests.support.web import add_person, lacking
 
 COUNT = 100_000
-# In readings of the whole world by a plain client.
-FIRST_PAGE, EACH_PAGE = 5.0, 0.25
+# In readings of the whole world by a plain client. One takes 0.8 s of an idle core.
+FIRST_PAGE, EACH_PAGE, AFTER_A_BATCH = 5.0, 0.25, 0.05
+GOALS = {"a form": 0.025, "a form to make objects": 0.025, "search by a letter": 0.15}
 MOST_MEMORY = 1.2
 
 
@@ -37,9 +38,9 @@ class Large(unittest.TestCase):
                 self.assertLess(measured.start_cpu, FIRST_PAGE * reading)
             for page, (_, cpu) in measured.pages.items():
                 with self.subTest(page):
-                    self.assertLess(cpu, EACH_PAGE * reading)
+                    self.assertLess(cpu, GOALS.get(page, EACH_PAGE) * reading)
             with self.subTest("the first page after a batch"):
-                self.assertLess(measured.after_write(token)[1], EACH_PAGE * reading)
+                self.assertLess(measured.after_write(token)[1], AFTER_A_BATCH * reading)
             with self.subTest("memory in MB for each 1,000 objects"):
                 self.assertLess(measured.memory / (COUNT / 1000), MOST_MEMORY)
 

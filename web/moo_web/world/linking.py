@@ -42,6 +42,9 @@ def merged(under: tuple[int, ...], gone: set[int], come: set[int]) -> tuple[int,
     """Numbers without those that are gone and with those that came, ascending."""
     if len(gone) + len(come) > MANY:
         return tuple(sorted(set(under) - gone | come))
+    if not gone and come and (not under or min(come) > under[-1]):
+        # New objects come so, and the rest is copied once.
+        return (*under, *sorted(come))
     kept = list(under)
     for number in gone:
         if is_in(kept, number):

@@ -10,8 +10,10 @@ from typing import Optional
 
 # It comes after every letter that a name may have.
 LAST = "\x7f"
-# From so many changes on the order is made anew.
-MANY = 200
+# After more changes than these the order is made anew.
+MOST_RENAMINGS = 200
+# An object, its old name and its new one; None: it has none.
+Renaming = tuple[int, Optional[str], Optional[str]]
 
 
 class Names:
@@ -47,10 +49,8 @@ class Names:
         holds = map(operator.contains, self.folded[first:end], itertools.repeat(word))
         return itertools.compress(self.numbers[first:end], holds)
 
-    def changed(self, changes: list[tuple[int, Optional[str], Optional[str]]]) -> Optional[Names]:
-        """The names after these changes: an object, its old name and its new one; None: it has none. None if they are too many."""
-        if len(changes) > MANY:
-            return None
+    def changed(self, changes: list[Renaming]) -> Names:
+        """The names after these changes, in their order."""
         made = Names(self.folded.copy(), self.numbers.copy())
         for number, old, new in changes:
             if old is not None:

@@ -7,7 +7,7 @@ import sys
 from typing import Any, Iterator, NamedTuple
 
 from moo_web.world.linking import Links, Relinking, links_of, relinked
-from moo_web.world.names import Names
+from moo_web.world.names import MOST_RENAMINGS, Names, Renaming
 
 # The names of the bits, in the order of their values 1, 2, 4 ..
 BITS = ("player", "programmer", "wizard", "r", "w", "f")
@@ -58,6 +58,8 @@ class World:
     def __init__(self, seq: int, things: dict[int, Thing], children: Links, contents: Links, owned: Links, marked: Links) -> None:
         self.seq, self.things = seq, things
         self.children, self.contents, self.owned, self.marked = children, contents, owned, marked
+        # The names of a world before this one, and what has changed of them: they are put in order by the next search.
+        self.former: tuple[Names, list[Renaming]] | None = None
 
     @classmethod
     def made(cls, seq: int, things: dict[int, Thing]) -> World:
@@ -72,7 +74,15 @@ class World:
     @functools.cached_property
     def names(self) -> Names:
         """The names of the objects, for searches."""
+        if self.former:
+            former, changes = self.former
+            return former.changed(changes)
         return Names.of((number, thing.name) for number, thing in self.things.items())
+
+    def former_of_next(self, changes: list[Renaming]) -> tuple[Names, list[Renaming]] | None:
+        """The names that are known, and what will have changed after these changes. None: nothing is known, or it is too much."""
+        names, before = (self.names, []) if "names" in self.__dict__ else self.former or (None, [])
+        return (names, before + changes) if names and len(before) + len(changes) <= MOST_RENAMINGS else None
 
     def changed(self, seq: int, found: dict[int, Thing | None]) -> World:
         """The world in which these objects are as they were found; None: they are gone. What was found comes ascending."""
@@ -90,11 +100,9 @@ class World:
             relinked(self.owned, ((number, old and old.owner, new and new.owner) for number, old, new in pairs)),
             relinked(self.marked, (change for pair in pairs for change in remarked(*pair))),
         )  # fmt: skip
-        if "names" in self.__dict__:
-            renamed = [(number, old and old.name, new and new.name) for number, old, new in pairs]
-            names = self.names.changed([change for change in renamed if change[1] != change[2]])
-            if names:
-                made.names = names
+        made.former = self.former_of_next(
+            [(number, old and old.name, new and new.name) for number, old, new in pairs if (old and old.name) != (new and new.name)]
+        )
         return made
 
     def with_bit(self, bit: str) -> tuple[int, ...]:
