@@ -71,7 +71,8 @@ def read_words(words: list[str]) -> argparse.Namespace:
         parser.error("--follow has no end, so --to and --at don't go with it")
     if said.source and not said.follow:
         parser.error("--from goes with --follow")
-    if said.late is not None and not said.source:
+    # The unit of a standby gives both, and the command may be empty.
+    if said.late is not None and said.source is None:
         parser.error("--late goes with --from")
     if said.copies and (said.follow or said.branch):
         parser.error("--copies goes with neither --follow nor --branch")
