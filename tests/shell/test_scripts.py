@@ -241,7 +241,7 @@ class Scripts(OnWorld):
         self.case("to its end", run_script("\n".join(lines), "--from-line", "3"), Ended(0, "$c = #6\n0\n5\n", ""))
         self.world_is("each line was done once", 5, 7)
         self.case("what was kept for that is removed", os.path.exists("build.moo.stopped"), False)
-        self.told("past its end", run_script("create(#1)\n", "--from-line", "9"), 1, "--from-line 9: build.moo has 1 line")
+        self.told("past its end", run_script("create(#1)\n", "--from-line", "9"), 1, "--from-line 9: the file has 1 line")
 
     def test_names_of_zero(self) -> None:
         """`$room` is #0.room, as in LambdaMOO, unless the session has such a name."""

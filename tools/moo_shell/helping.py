@@ -16,11 +16,15 @@ WIDTH = 79
 LINES = """\
 A line is
   create(#1)            a call, a batch of its own: it acts whole or not at all
-  $hall = create(#1)    the same, and $hall stands for the answer from then on
+  get(#1, "name")       a call that only reads: it changes nothing, nor the number
+  $hall = create(#1)    a call, and $hall stands for its answer from then on
+  #5.name, #5.name = "Inn"    a property is read, or set
+  #5, $hall, show Inn   an object is shown
   $price = 12           a name for a value
   begin .. end          the calls between them are one batch: all act, or none
   include FILE          the lines of a file
   // words              a comment, also after a call
+A call goes on over several lines until it is closed; `;` parts several calls.
   \\WORD                 one of these words:"""
 
 TOPICS = {
@@ -44,13 +48,19 @@ A name is a $ and letters, digits or _, as $hall. `$hall = create(#1)` gives it
 the answer of a call, `$hall = #5` a value. It stands for that value in calls,
 also in lists, but not in texts. Large and small letters differ. \\names lists
 the names. They last for the session; \\names FILE, or --names FILE, keeps them
-in a file.""",
+in a file. A name that the session hasn't is a property of #0, as in LambdaMOO:
+$room is #0.room.""",
     "scripts": """\
 `moo-shell -f build.moo world.db` does the lines of a file as if they were
 typed. It stops at the first line that is refused, with its file, its line and
 the reason; what came before it stays. With --dry-run it does all of it on a
 copy of the world, says what it would make, and changes nothing. `include FILE`
-reads FILE from the folder of the file that it is written in.""",
+reads FILE from the folder of the file that it is written in.
+
+A script that stopped says from which line it goes on when it is mended:
+`--from-line 9 -f build.moo`. The lines before are not done again; their names
+are in build.moo.stopped. --single makes one batch of all calls, 1,000 at most.
+`-c CALL` does a call in place of a script.""",
     "classes": """\
 A class is an object that others are made under. They inherit its properties,
 until a property is set on one of them:

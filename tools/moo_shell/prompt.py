@@ -26,7 +26,7 @@ except ImportError:  # a Python without it has neither history nor completion
 
 DELIMITERS = " \t,(){}="
 LONGEST_HISTORY = 2000
-OF_FILES = ("include", "dump", "names")
+OF_FILES = ("include", "dump", "names", "o")
 # The prompt for a line on which a call goes on.
 GOING_ON = "  ..> "
 
@@ -69,7 +69,7 @@ class Completion:
         inside = call_at(before)
         if inside and word.startswith('"'):
             return self.offered_texts(inside, word)
-        if not inside and re.fullmatch(r"(?:\\(?:ask|fix)\b)?(?:\s*\$\w+\s*=)?", start):
+        if not inside and re.fullmatch(r"(?:\\(?:ask|fix|watch)\b)?(?:\s*\$\w+\s*=)?", start):
             return self.offered_calls(start, word)
         return []
 
@@ -106,7 +106,7 @@ class Completion:
 
 def call_at(before: str) -> Optional[tuple[str, list[str]]]:
     """The call that is open at the end of a text, with its values so far; the last one isn't written yet."""
-    text = re.sub(r"^\s*(?:\\(?:ask|fix)\s+)?(?:\$\w+\s*=\s*)?", "", before)
+    text = re.sub(r"^\s*(?:\\(?:ask|fix|watch)\s+)?(?:\$\w+\s*=\s*)?", "", before)
     name = call_name(text)
     if not name:
         return None

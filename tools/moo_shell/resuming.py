@@ -1,4 +1,4 @@
-"""Where a script stopped, and how it goes on there: `--from-line`.
+"""The place at which a script stopped, and how it goes on there: `--from-line`.
 
 A place is a line, as `9`, or a part of one, as `9.2`: the second call of a line with several. After a comma comes the place in the file that
 is included on that line.

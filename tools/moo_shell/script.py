@@ -9,8 +9,9 @@ from typing import NamedTuple, Optional
 
 from moo_shell.batches import Unsure
 from moo_shell.files import lines_of, write_whole
+from moo_shell.naming import names_in_file, text_of_names
 from moo_shell.resuming import Start, file_of_stop, how_to_go_on
-from moo_shell.session import Session, names_in_file, text_of_names
+from moo_shell.session import Session
 from moolib.errors import Failed
 from moolib.lines import counted
 from moolib.values import written

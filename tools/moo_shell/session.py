@@ -16,6 +16,7 @@ from moo_shell.files import read_lines, write_whole
 from moo_shell.going import going, is_asked_first
 from moo_shell.manual import Manual
 from moo_shell.meant import advice, expression_advice, meant
+from moo_shell.naming import is_value, names_in_file, text_of_names
 from moo_shell.resuming import Passing, Start
 from moo_shell.statements import Statement, is_open, parted, statements
 from moo_shell.told import Output
@@ -25,36 +26,10 @@ from moolib.batches import Item
 from moolib.calls import LONGEST_CALL, READING, call_name
 from moolib.errors import Failed
 from moolib.lines import Line, counted, did_you_mean, filled, names_in, read_line, unfinished, unquoted
-from moolib.values import read, written
+from moolib.values import written
 
 DEEPEST = 20
 RunWord = Callable[["Session", str, str], None]
-
-
-def is_value(text: str) -> bool:
-    """Whether a text is a value as worlds hold them."""
-    try:
-        read(text)
-    except ValueError:
-        return False
-    return True
-
-
-def names_in_file(file: Path) -> dict[str, str]:
-    """The names that a file of names has, with their values."""
-    held: dict[str, str] = {}
-    for number, text in enumerate(read_lines(file), 1):
-        line = read_line(text)
-        if line.kind == "value" and line.name and is_value(line.text):
-            held[line.name] = line.text
-        elif line.kind != "empty":
-            raise Failed("a file of names has lines such as `$hall = #5` alone", (str(file), number))
-    return held
-
-
-def text_of_names(names: Mapping[str, str]) -> str:
-    """The text of a file of names."""
-    return "".join(f"{name} = {value}\n" for name, value in sorted(names.items()))
 
 
 def only_reads(items: Iterable[Item]) -> bool:
@@ -403,7 +378,7 @@ class Session:
     def test_end(self, name: str, start: Start, count: int) -> None:
         """Fails if lines have ended before their first one, or in a batch."""
         if start.line > max(count, 1):
-            raise Failed(f"--from-line {start}: {name} has {counted(count, 'line')}")
+            raise Failed(f"--from-line {start}: the file has {counted(count, 'line')}", (name, max(count, 1)))
         if self.open is not None and not self.is_single:
             raise Failed("the file ends inside a batch: `end` is missing", (name, max(count, 1)))
 
