@@ -93,7 +93,7 @@ class OfPeople(Scene):
             wizard.press("Preview")
             self.shown(wizard, "8-another-object")
             wizard.press("Do it")
-            ada.open("/you")
+            ada.open("/")
             ada.sees("Signed in as ada, Bram #5")
             wizard.follow("Remove")
             self.shown(wizard, "9-remove")
