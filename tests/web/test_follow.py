@@ -561,7 +561,7 @@ class Copied(FollowTest):
         self.assertIn("nothing came from the other machine for 2 seconds", standby.said())
         self.assertRegex(texts[0], r"^STATUS=seq 0, LATE \d+ seconds: nothing has come from the other machine yet$")
         self.assertFalse([text for text in texts if "READY" in text])
-        self.assertRegex(standby.lines()[0], r"^seq 0 LATE \d+$")
+        self.assertNotIn("seq 0", standby.lines(), "it doesn't say that it has all")
 
     def test_a_command_that_fails(self):
         """It is run again, and said."""
