@@ -72,7 +72,7 @@ class AtAFront(RoomTest):
         self.assertEqual(self.shell("ada", 'petition({{"set", #4, "size", 2}})\n').written, "1\n")
         came = self.shell("wizard", '\\petitions\ngrant(1)\nget(#4, "size")\n\\dump out.txt\n')
         self.assertEqual(came, Ended(0, 'petition 1 by #5 "Ada"\n    set(#4, "size", 2)\n0\n2\n', ""))
-        self.assertTrue(pathlib.Path("out.txt").read_text().startswith("seq 4\ntop #5\n"))
+        self.assertTrue(pathlib.Path("out.txt").read_text().startswith("seq 3\ntop #5\n"))
 
     def test_history(self) -> None:
         self.shell("ada", BUILD)

@@ -106,6 +106,8 @@ class Parts(ProgramTest):
             ("a = create(#1)", Line("call", "create(#1)", name="$a")),
             ("a = 5", Line("value", "5", name="$a")),
             ("a == 5", Line("call", "a == 5")),
+            ("player.name", Line("call", 'get($player, "name")')),
+            ('a.name = "x"', Line("call", 'set($a, "name", "x")')),
             ("show #2", Line("command", "#2", word="show")),
             ("@show #2", Line("command", "#2", word="show")),
             (".tree", Line("command", "", word="tree")),

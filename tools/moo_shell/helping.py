@@ -49,7 +49,7 @@ the answer of a call, `$hall = #5` a value. It stands for that value in calls,
 also in lists, but not in texts. Large and small letters differ. \\names lists
 the names. They last for the session; \\names FILE, or --names FILE, keeps them
 in a file. A name that the session hasn't is a property of #0, as in LambdaMOO:
-$room is #0.room.""",
+$room is #0.room. $me is the programmer who calls, but at a front.""",
     "scripts": """\
 `moo-shell -f build.moo world.db` does the lines of a file as if they were
 typed. It stops at the first line that is refused, with its file, its line and

@@ -7,7 +7,7 @@ from collections.abc import Callable, Collection
 from typing import Optional
 
 from moolib.calls import call_name
-from moolib.lines import Line, hint, read_line
+from moolib.lines import Line, hint, pieces, read_line
 from moolib.values import written
 
 # What a reading call answers, as it is written.
@@ -17,6 +17,8 @@ THING = r"(?:\$[A-Za-z_]\w*|#-?\d+)"
 ALONE = re.compile(THING)
 PROPERTY = re.compile(rf"({THING})((?:\.[A-Za-z_]\w*)+)(?:\s*=(?!=)\s*(\S.*))?", re.DOTALL)
 ASSIGNED = re.compile(r"([A-Za-z_]\w*)\s*=(?!=)\s*(\S.*)", re.DOTALL)
+# A name without its `$`, with a property of what it stands for.
+BARE = re.compile(r"[A-Za-z_]\w*\.[A-Za-z_]")
 VERB = re.compile(rf"{THING}:\w+.*", re.DOTALL)
 WORD = re.compile(r"[@.]?([A-Za-z]+)(?:\s+(.*))?", re.DOTALL)
 
@@ -57,7 +59,7 @@ def meant(text: str, words: Collection[str], read: Read) -> Line:
     """What a line says. `words` are those of the shell.
 
     A line of other prompts is read as the line of the shell that does the same: a property as `get` or `set`, a word without its `\\` as that
-    word, `x = 5` as `$x = 5`. An object or a name alone is a line of the kind `alone`. `Failed`: an object of a chain can't be read.
+    word, `x = 5` as `$x = 5`, `x.name` as `$x.name`. An object or a name alone is a line of the kind `alone`. `Failed`: an object of a chain can't be read.
     """
     line = read_line(text)
     if line.kind == "value":
@@ -78,6 +80,8 @@ def of_expression(text: str, read: Read) -> Optional[Line]:
     given = ASSIGNED.fullmatch(text)
     if given:
         return meant(f"${given[1]} = {given[2]}", (), read)
+    if BARE.match(text) and PROPERTY.fullmatch(f"${text}"):
+        return of_expression(f"${text}", read)
     return None
 
 
@@ -117,6 +121,12 @@ def advice(text: str) -> str:
     if first.startswith("@") and first[1:] in COMMANDS:
         return f"{first} is a command of LambdaMOO; here it is {COMMANDS[first[1:]]}"
     return expression_advice(text) or hint(text)
+
+
+def quotes_advice(text: str) -> str:
+    """That texts are in double quotes, for a call with a single one outside of them; or nothing."""
+    is_there = any(kind == "other" and "'" in piece for kind, piece in pieces(text))
+    return '; a text is in double quotes, as "Inn"' if is_there else ""
 
 
 def expression_advice(text: str) -> str:

@@ -29,6 +29,7 @@ from moolib.lines import Line, counted, did_you_mean, filled, names_in, read_lin
 from moolib.values import written
 
 DEEPEST = 20
+WHO = ("$me", "$player")
 RunWord = Callable[["Session", str, str], None]
 
 
@@ -154,12 +155,16 @@ class Session:
             raise Failed(f"{name} has no value{did_you_mean(name, known)}")
 
     def values(self, wanted: Iterable[str]) -> Mapping[str, str]:
-        """The names with their values. Of the wanted ones that the session hasn't, `$room` is the property `room` of #0, as in LambdaMOO."""
+        """The names with their values. Of the wanted ones that the session hasn't, `$room` is the property `room` of #0, as in LambdaMOO.
+
+        If #0 has no such property, `$me` and `$player` are the programmer who calls.
+        """
         lacking = sorted(set(wanted) - set(self.names))
         if not lacking:
             return self.names
         answers = self.world.each([f"get(#0, {written(name[1:])})" for name in lacking])
-        return {**{name: answer.text for name, answer in zip(lacking, answers) if answer.is_good}, **self.names}
+        own = {name: f"#{self.who}" for name in WHO if self.door.can_name}
+        return {**own, **{name: answer.text for name, answer in zip(lacking, answers) if answer.is_good}, **self.names}
 
     def values_for(self, items: list[Item]) -> Mapping[str, str]:
         """The names with their values for a batch, whose calls may use the answers of calls before them."""
