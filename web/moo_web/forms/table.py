@@ -7,6 +7,7 @@ from __future__ import annotations
 
 import dataclasses
 from typing import NamedTuple
+from urllib.parse import quote
 
 from moolib.batches import Item
 from moolib.values import NoValue, Obj, Value, read, written
@@ -91,6 +92,10 @@ class TableForm(EntriesForm):
     def cells(self) -> dict[str, Entry]:
         """The entries by the keys of their fields."""
         return {entry.field.key: entry for entry in self.entries}
+
+    def page_path(self, page: int) -> str:
+        """The address of a page of the children, with the same columns."""
+        return url_for("class", number=self.number, page=page, **{f"p.{quote(name)}": "on" for name in self.columns})
 
     def differing(self, typed: Typed, names: Names, me: Me) -> Differing:
         """The calls for the rows that were changed and for the new ones, and the mistakes."""
