@@ -102,7 +102,7 @@ class Matching:
         return place if place in self.left else None
 
     def doubt_order(self) -> None:
-        """A verb that has another place among the others was deleted and added, or others were renamed."""
+        """A verb that has a later place, or another one among the others, was deleted and added, or others were renamed."""
         for place, was in self.places.items():
-            if any((other < place) != (others < was) for other, others in self.places.items() if other != place):
+            if place > was or any((other < place) != (others < was) for other, others in self.places.items() if other != place):
                 self.doubts.setdefault(place, MOVED)
