@@ -6,7 +6,6 @@ from collections.abc import Callable, Mapping
 
 from moo_web.app import Reply
 from moo_web.forms.entries import Differing, key_of, sum_of_typed, typed_with
-from moo_web.forms.exits import EXITS
 from moo_web.forms.forms import Field, Form, Typed, object_value
 from moo_web.forms.handlers import TROUBLES, FormPages, FormResult, me_of
 from moo_web.forms.input import Mistyped
@@ -132,9 +131,9 @@ class ObjectPages(EntriesPages):
         """What the address says for the fields of a new object: its name and place, properties by their names, and `from`, to which it leads."""
         keys = {"name": "name", "place": "place"} | {field.label: field.key for field in form.fields if field.key.startswith("p")}
         found = {keys[name]: text for name, text in visit.fields.items() if name in keys}
-        start = visit.fields.get("from", "")
-        if start.isascii() and start.isdigit() and int(start[:10]) in visit.world.things and key_of("p", EXITS) in form.keys:
-            found.setdefault(key_of("p", EXITS), f": {NamesOf(visit.world).short(int(start[:10]))}")
+        start, exits = visit.fields.get("from", ""), key_of("p", visit.pages.sight_names.exits)
+        if start.isascii() and start.isdigit() and int(start[:10]) in visit.world.things and exits in form.keys:
+            found.setdefault(exits, f": {NamesOf(visit.world).short(int(start[:10]))}")
         return found
 
 
