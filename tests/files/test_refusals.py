@@ -123,7 +123,9 @@ class Refusals(ProgramTest):
                 shutil.copy(f"world.db{end}", f"killed.db{end}")
             connection.execute("ROLLBACK")
         self.told_alone("killed.db", "moo: killed.db: another program left killed.db-journal (open it once by sqlite3)\n")
-        self.case("SQLite has the rows of before", tables_of("killed.db"), self.before)
+        with closing(sqlite3.connect("killed.db")) as connection:
+            connection.execute("SELECT count(*) FROM sqlite_schema").fetchall()
+        self.case("SQLite has brought back the rows of before", tables_of("killed.db"), self.before)
         self.case("then it is opened", ended("check", "killed.db"), (0, "ok seq 0 objects 4\n", ""))
 
     def test_a_file_in_use(self):
