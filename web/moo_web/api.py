@@ -20,6 +20,7 @@ from moo_web.interface.interface import ROUTES
 from moo_web.interface.openapi import description
 from moo_web.journal.writer import Busy, Writer
 from moo_web.paths import Path
+from moo_web.people.audit import TOKEN_REFUSED
 from moo_web.people.limits import Rate, network_of
 from moo_web.people.people import People, Person
 from moo_web.world.door import Answer, Door, Unreachable, batch_body, packed, said_by
@@ -100,6 +101,8 @@ class Api:
         secret = token_of(request)
         person = self.people.of_token(secret) if secret else None
         if not person:
+            if secret:
+                self.people.audit(TOKEN_REFUSED, address=request.address)
             return NO_TOKEN
         if not self.of_tokens.take(secret):
             return TOO_MANY

@@ -7,11 +7,9 @@ of this journal's past any more, since an older copy was restored there, is foun
 
 from __future__ import annotations
 
-import contextlib
 import os
 import re
 import signal
-import socket
 import time
 from pathlib import Path
 from typing import Any, Callable
@@ -20,7 +18,7 @@ from moo_web.journal.applying import Ended, WorldFile
 from moo_web.journal.receiving import Receiver
 from moo_web.journal.segments import Accepted, Outcomes
 from moo_web.journal.tail import LinesGone, Tail
-from moo_web.programs import Failed, only_ours
+from moo_web.programs import Failed, notify, only_ours
 
 PAUSE = 0.1
 SAY_EVERY = 1.0
@@ -222,15 +220,6 @@ class Past:
         """What is said if the world isn't of the journal's past."""
         told = f"{self.world.file} was brought up {how}: take a copy of what is served there now"
         return f"{told}. If it is one, remove {self.mark.path}"
-
-
-def notify(text: str) -> None:
-    """Tells systemd something, if it wants to know (sd_notify(3))."""
-    address = os.environ.get("NOTIFY_SOCKET", "")
-    if address:
-        with contextlib.suppress(OSError), socket.socket(socket.AF_UNIX, socket.SOCK_DGRAM) as peer:
-            peer.connect("\0" + address[1:] if address.startswith("@") else address)
-            peer.send(text.encode())
 
 
 def follow(folder: Path, file: str, command: str | None, program: str, tell: Callable[[str], None]) -> None:

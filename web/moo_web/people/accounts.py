@@ -8,6 +8,7 @@ import sqlite3
 import sys
 from pathlib import Path
 
+from moo_web.people.audit import audit_to_system
 from moo_web.people.checking import checked
 from moo_web.people.people import People, Wrong
 from moo_web.programs import PEOPLE_FILE, Failed, only_ours, own_folder, port_number
@@ -124,7 +125,9 @@ def main() -> None:
     said = read_words(sys.argv[1:])
     only_ours()
     try:
-        run(said, People(file_of(said)))
+        people = People(file_of(said))
+        people.audit = audit_to_system("moo-people")
+        run(said, people)
     except (Wrong, Failed, OSError, sqlite3.Error) as error:
         sys.exit(f"moo-people: {error}")
     except KeyboardInterrupt:

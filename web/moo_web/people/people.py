@@ -17,6 +17,7 @@ from pathlib import Path
 from typing import Any, Callable, Iterator, NamedTuple
 
 from moo_web.people import passwords
+from moo_web.people.audit import SIGN_IN_FAILED, SIGN_IN_REFUSED, SIGNED_IN, Audit, no_audit
 from moo_web.people.limits import BackOff, Rate, network_of
 
 VERSION = 1
@@ -103,6 +104,8 @@ class People:
 
     def __init__(self, path: Path, clock: Callable[[], float] = time.time, steady: Callable[[], float] = time.monotonic) -> None:
         self.path, self.clock = path, clock
+        # Is told what is done, for the log.
+        self.audit: Audit = no_audit
         self.lock = threading.RLock()
         self.pair_waits, self.place_waits = BackOff(clock=steady), BackOff(free=20, clock=steady)
         self.strangers = Rate(STRANGERS_A_SECOND, STRANGERS_AT_ONCE, steady)
@@ -155,6 +158,7 @@ class People:
             if self.row("SELECT 1 FROM person WHERE name = ?", name):
                 raise Wrong(f"there is somebody of the name {name} already")
             self.base.execute("INSERT INTO person VALUES (?, ?, ?, 0, ?)", (name, number, kept, self.clock()))
+        self.audit("account made", name=name, number=number)
 
     def set_password(self, name: str, password: str) -> None:
         """A new password, which ends the person's sessions. `Wrong`: nobody has the name, or it can't be a password."""
@@ -163,6 +167,7 @@ class People:
             self.must_be(name)
             self.base.execute("UPDATE person SET password = ? WHERE name = ?", (kept, name))
             self.base.execute("DELETE FROM session WHERE name = ?", (name,))
+        self.audit("password changed", name=name)
 
     def disable(self, name: str) -> None:
         """Keeps a person out, and ends the sessions and tokens. `Wrong`: nobody has the name."""
@@ -171,12 +176,14 @@ class People:
             self.base.execute("UPDATE person SET is_disabled = 1 WHERE name = ?", (name,))
             self.base.execute("DELETE FROM session WHERE name = ?", (name,))
             self.base.execute("DELETE FROM token WHERE name = ?", (name,))
+        self.audit("account disabled", name=name)
 
     def enable(self, name: str) -> None:
         """Lets a person in again, with the old password. `Wrong`: nobody has the name."""
         with self.change():
             self.must_be(name)
             self.base.execute("UPDATE person SET is_disabled = 0 WHERE name = ?", (name,))
+        self.audit("account enabled", name=name)
 
     def may_come_in(self, name: str) -> bool:
         """Whether somebody has this name and isn't disabled."""
@@ -206,6 +213,7 @@ class People:
             if self.row("SELECT is_disabled FROM person WHERE name = ?", name)[0]:
                 raise Wrong(f"{name} is disabled")
             self.base.execute("INSERT INTO token VALUES (?, ?, ?)", (hash_of(secret), name, self.clock()))
+        self.audit("token made", name=name)
         return secret
 
     def end_tokens(self, name: str) -> None:
@@ -213,6 +221,7 @@ class People:
         with self.change():
             self.must_be(name)
             self.base.execute("DELETE FROM token WHERE name = ?", (name,))
+        self.audit("tokens ended", name=name)
 
     def of_token(self, secret: str) -> Person | None:
         """Whose token this is, if anybody's."""
@@ -225,6 +234,19 @@ class People:
     # Sessions
 
     def sign_in(self, name: str, password: str, address: str) -> SignedIn:
+        """A new session, or as `tried` has it. The log is told of either."""
+        try:
+            signed = self.tried(name, password, address)
+        except WrongPassword:
+            self.audit(SIGN_IN_FAILED, address=address, name=name)
+            raise
+        except TooMany:
+            self.audit(SIGN_IN_REFUSED, address=address)
+            raise
+        self.audit(SIGNED_IN, address=address, name=signed.session.person.name)
+        return signed
+
+    def tried(self, name: str, password: str, address: str) -> SignedIn:
         """A new session. `WrongPassword`, `TooMany`, `Crowded`: there is none.
 
         Who fails waits, by the name and the address together, and by the address. With a name that many strangers try, those wait who come
@@ -306,8 +328,12 @@ class People:
 
     def sign_out(self, secret: str) -> None:
         """Ends a session."""
+        kept = hash_of(secret)
         with self.change():
-            self.base.execute("DELETE FROM session WHERE hash = ?", (hash_of(secret),))
+            found = self.row("SELECT name FROM session WHERE hash = ?", kept)
+            self.base.execute("DELETE FROM session WHERE hash = ?", (kept,))
+        if found:
+            self.audit("signed out", name=found[0])
 
 
 def hash_of_password(password: str) -> str:
