@@ -4,15 +4,20 @@ import contextlib
 import json
 import os
 import re
+import shutil
 import signal
 import socket
+import subprocess
+import sys
 import threading
 import time
 import unittest
 
-from tests.support.operating import SECONDS
+from tests.support import processes
+from tests.support.operating import SECONDS, TOOLS
+from tests.support.program import TOP
 from tests.support.service import free_port
-from tests.support.web import Front, ask, program, use_web
+from tests.support.web import WEB, Front, ask, use_web
 from tests.web.test_serving import ServingTest
 
 use_web()
@@ -191,13 +196,78 @@ class Metrics(StatusTest):
 
     def test_a_standby_that_fetches_the_journal(self):
         front = self.started()
-        for _ in range(3):
+
+        def write():
             self.assertEqual(ask(front.port, "POST", "/api/batch", BATCH, self.token)[0], 200)
-        (self.folder / "standby-192.0.2.1").write_text('{"seq":2,"t":1000.5}\n')
+
+        for have in ([], [[1, 0, 0, ""]]):
+            write()
+            if have:
+                have = [self.first_line()]
+            self.send(have)
+            samples = self.samples()
+            self.assertEqual((samples["moo_standbys"], samples["moo_standby_lag_batches"]), (1, 0))
+            self.assertLess(samples["moo_standby_silent_seconds"], SECONDS)
+        write()
+        self.assertEqual(self.samples()["moo_standby_lag_batches"], 1)
+        # Another one was lost long ago, and of a third the line isn't whole.
+        (self.folder / "standby-192.0.2.1").write_text('{"seq":1,"t":1000.5}\n')
         (self.folder / "standby-192.0.2.2").write_text('{"seq":3,"t":')
         samples = self.samples()
-        self.assertEqual((samples["moo_standbys"], samples["moo_standby_lag_batches"]), (1, 1))
+        self.assertEqual((samples["moo_standbys"], samples["moo_standby_lag_batches"]), (2, 2))
         self.assertGreater(samples["moo_standby_silent_seconds"], 1_000_000)
+
+    def first_line(self):
+        """The first line of the journal, as a standby says that it has it."""
+        line = (self.folder / "journal-0").read_bytes().splitlines(keepends=True)[0]
+        return [1, 0, len(line), line[:64].decode()]
+
+    def send(self, have):
+        """moo-send, as ssh runs it, until a standby that had these lines has all."""
+        words, env = [str(WEB / "moo-send"), str(self.folder)], {**os.environ, "SSH_CLIENT": "2001:db8::5 4711 22"}
+        process = processes.start(words, env=env, stdin=subprocess.PIPE, stdout=subprocess.PIPE)
+        process.stdin.write(json.dumps({"version": 1, "have": have, "people": ""}).encode() + b"\n")
+        process.stdin.flush()
+        said = {}
+        while said.get("k") != "now":
+            said = json.loads(process.stdout.readline())
+            process.stdout.read(said.get("length", 0))
+        self.until((self.folder / "standby-2001_db8__5").exists)
+        process.kill()
+        process.communicate()
+
+
+class Monitoring(StatusTest):
+    """The files for Prometheus and Grafana."""
+
+    FOLDER = TOP / "packaging/web/examples/prometheus"
+
+    def names(self):
+        """The names of metrics that the front and moo-watch give, as they are asked for."""
+        self.started("--metrics", self.room / "left.prom")
+        words = [TOOLS / "moo-watch", "--world", self.room / "world.db", "--copies", self.room, "--metrics", self.room / "left.prom"]
+        subprocess.run([sys.executable, *map(str, words), str(self.moo.port)], check=True, stdout=subprocess.DEVNULL, timeout=SECONDS)
+        kinds, _ = read_metrics(self.status("/metrics")[1])
+        of_histograms = [f"{name}_{part}" for name, kind in kinds.items() if kind == "histogram" for part in ("bucket", "sum", "count")]
+        return {name for name, kind in kinds.items() if kind != "histogram"}.union(of_histograms)
+
+    def test_each_metric_that_is_asked_for_is_there(self):
+        dashboard = json.loads((self.FOLDER / "dashboard.json").read_text())
+        asked = [target["expr"] for panel in dashboard["panels"] for target in panel["targets"]]
+        rules = re.findall(r"^ +expr: (.*)$", (self.FOLDER / "alerts.yml").read_text(), re.M)
+        self.assertGreater(min(len(asked), len(rules)), 10)
+        used = {name for text in (*asked, *rules) for name in re.findall(r"\b(?:moo|process)_\w+", re.sub(r'"[^"]*"', "", text))}
+        self.assertEqual(used - self.names(), set())
+
+    @unittest.skipUnless(shutil.which("promtool"), "promtool is missing: apt-get install prometheus")
+    def test_prometheus_takes_the_rules_and_the_metrics(self):
+        rules = subprocess.run(["promtool", "check", "rules", self.FOLDER / "alerts.yml"], capture_output=True, text=True, check=False)
+        self.assertEqual(rules.returncode, 0, rules.stdout + rules.stderr)
+        front = self.started()
+        ask(front.port, "POST", "/api/batch", BATCH, self.token)
+        text = self.status("/metrics")[1]
+        checked = subprocess.run(["promtool", "check", "metrics"], input=text, capture_output=True, text=True, check=False)
+        self.assertEqual((checked.returncode, checked.stderr), (0, ""))
 
 
 class Activity(StatusTest):

@@ -63,7 +63,10 @@ def auditing(tell: Teller, count: Callable[[str], None]) -> Audit:
     def audit(event: str, **said: object) -> None:
         by = present().person
         line = audit_line(event, **said, by=by if by != said.get("name") else "")
-        (tell if event in REFUSALS else tell.always)(line)
+        if event in REFUSALS:
+            tell(line)
+        else:
+            tell.always(line)
         count(event)
 
     return audit

@@ -5,16 +5,20 @@ A file `standby-ADDRESS` has a line of JSON, `{"seq":1302,"t":1764417600.0}`: up
 
 from __future__ import annotations
 
+import contextlib
 import json
 import os
 import time
 from pathlib import Path
-from typing import NamedTuple
+from typing import TYPE_CHECKING, NamedTuple
 
-from moo_web.journal.writer import Writer
 from moo_web.status.metrics import Gauge, Metric
 
-PREFIX = "standby-"
+if TYPE_CHECKING:
+    from moo_web.journal.writer import Writer
+
+PREFIX, NEW = "standby-", ".new"
+NOTE_EVERY = 1.0
 
 
 class Standby(NamedTuple):
@@ -24,28 +28,34 @@ class Standby(NamedTuple):
     t: float
 
 
-def own_file(folder: Path) -> Path:
-    """The file for the standby that this process serves, by the address from which ssh lets it in."""
-    address = os.environ.get("SSH_CLIENT", "").partition(" ")[0]
-    return folder / (PREFIX + "".join(letter if letter.isalnum() or letter in ".-" else "_" for letter in address or "here"))
+class Note:
+    """The file of the standby that this process serves, by the address from which ssh lets it in. Without ssh there is none."""
 
+    def __init__(self, folder: Path) -> None:
+        address = os.environ.get("SSH_CLIENT", "").partition(" ")[0]
+        name = PREFIX + "".join(letter if letter.isalnum() or letter in ".-" else "_" for letter in address)
+        self.path = folder / name if address else None
+        self.noted = 0.0
 
-def note(path: Path, seq: int) -> None:
-    """Notes that all up to this number was sent, whole."""
-    new = path.with_name(f"{path.name}.new")
-    new.write_text(json.dumps({"seq": seq, "t": round(time.time(), 3)}, separators=(",", ":")) + "\n")
-    new.replace(path)
+    def put(self, seq: int) -> None:
+        """Notes, at most once a second, that all up to this number was sent. If there is no room for it the standby goes on all the same."""
+        now = time.time()
+        if self.path and not 0 <= now - self.noted < NOTE_EVERY:
+            self.noted = now
+            with contextlib.suppress(OSError):
+                new = self.path.with_name(f"{self.path.name}{NEW}")
+                new.write_text(json.dumps({"seq": seq, "t": round(now, 3)}, separators=(",", ":")) + "\n")
+                new.replace(self.path)
 
 
 def standbys(folder: Path) -> list[Standby]:
     """All standbys that are known."""
     found = []
-    for path in folder.glob(f"{PREFIX}*"):
+    for path in (path for path in folder.glob(f"{PREFIX}*") if not path.name.endswith(NEW)):
         try:
             said = json.loads(path.read_text())
             found.append(Standby(int(said["seq"]), float(said["t"])))
         except (OSError, ValueError, KeyError, TypeError):
-            # It is being written.
             continue
     return found
 
