@@ -200,11 +200,9 @@ class Metrics(StatusTest):
         def write():
             self.assertEqual(ask(front.port, "POST", "/api/batch", BATCH, self.token)[0], 200)
 
-        for have in ([], [[1, 0, 0, ""]]):
+        for seq in (1, 2):
             write()
-            if have:
-                have = [self.first_line()]
-            self.send(have)
+            self.send([self.first_line()] if seq == 2 else [], seq)
             samples = self.samples()
             self.assertEqual((samples["moo_standbys"], samples["moo_standby_lag_batches"]), (1, 0))
             self.assertLess(samples["moo_standby_silent_seconds"], SECONDS)
@@ -222,8 +220,8 @@ class Metrics(StatusTest):
         line = (self.folder / "journal-0").read_bytes().splitlines(keepends=True)[0]
         return [1, 0, len(line), line[:64].decode()]
 
-    def send(self, have):
-        """moo-send, as ssh runs it, until a standby that had these lines has all."""
+    def send(self, have, seq):
+        """moo-send, as ssh runs it, until a standby that had these lines has all up to this number."""
         words, env = [str(WEB / "moo-send"), str(self.folder)], {**os.environ, "SSH_CLIENT": "2001:db8::5 4711 22"}
         process = processes.start(words, env=env, stdin=subprocess.PIPE, stdout=subprocess.PIPE)
         process.stdin.write(json.dumps({"version": 1, "have": have, "people": ""}).encode() + b"\n")
@@ -232,7 +230,8 @@ class Metrics(StatusTest):
         while said.get("k") != "now":
             said = json.loads(process.stdout.readline())
             process.stdout.read(said.get("length", 0))
-        self.until((self.folder / "standby-2001_db8__5").exists)
+        noted = self.folder / "standby-2001_db8__5"
+        self.until(lambda: noted.exists() and json.loads(noted.read_text())["seq"] == seq)
         process.kill()
         process.communicate()
 
@@ -323,10 +322,15 @@ class AccessLog(ServingTest):
         ask(front.port, "GET", "/api/seq", token=self.token)
         self.assertEqual(len(self.lines(log)), 1)
 
-    def test_without_a_log_a_hangup_is_harmless(self):
-        front = self.front()
+    def test_without_a_log(self):
+        """A unit is reloaded without harm, and a front at a terminal ends with that."""
+        front = self.front(env={"NOTIFY_SOCKET": str(self.room / "nobody")})
         front.process.send_signal(signal.SIGHUP)
         self.assertEqual(ask(front.port, "GET", "/api/seq", token=self.token), (200, {"seq": 0}))
+        front.kill()
+        front = self.front()
+        front.process.send_signal(signal.SIGHUP)
+        self.assertEqual(front.end(), -signal.SIGHUP)
 
     def test_a_disk_that_is_full(self):
         front = self.front("--access-log", "/dev/full")

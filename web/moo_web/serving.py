@@ -227,7 +227,7 @@ def serve(said: argparse.Namespace) -> None:
         threading.Thread(target=front.pages.warm, name="warm", daemon=True).start()
     threading.Thread(target=front.history.keep_up, args=(tell,), name="history", daemon=True).start()
     front.readiness.is_started = True
-    print(f"listening http://127.0.0.1:{front.server.effective_port}/", flush=True)
+    print(f"listening http://127.0.0.1:{getattr(front.server, 'effective_port', said.port)}/", flush=True)
     notify(f"READY=1\nSTATUS={front.state()}")
     try:
         front.server.run()

@@ -31,7 +31,7 @@ class AccessLog:
 
     def opened(self) -> int:
         """The file, open."""
-        return os.open(self.path, os.O_WRONLY | os.O_APPEND | os.O_CREAT, 0o640)
+        return os.open(self.path, os.O_WRONLY | os.O_APPEND | os.O_CREAT, 0o600)
 
     def open_anew(self) -> None:
         """Has the file opened anew before the next line. A handler of a signal may ask for it."""
@@ -57,5 +57,10 @@ class AccessLog:
 
 
 def open_anew_at_hangup(log: AccessLog | None) -> None:
-    """Has a log opened anew whenever SIGHUP comes. Without a log that signal does nothing."""
-    signal.signal(signal.SIGHUP, lambda number, frame: log.open_anew() if log else None)
+    """Has a log opened anew whenever SIGHUP comes. Without a log a unit's front goes on, since `systemctl reload` sends it to all of them; one
+    at a terminal ends with that, as ever.
+    """
+    if log:
+        signal.signal(signal.SIGHUP, lambda number, frame: log.open_anew())
+    elif os.environ.get("NOTIFY_SOCKET"):
+        signal.signal(signal.SIGHUP, signal.SIG_IGN)
