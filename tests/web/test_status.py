@@ -3,15 +3,18 @@
 import contextlib
 import json
 import os
+import pathlib
 import re
 import shutil
 import signal
 import socket
 import subprocess
 import sys
+import tempfile
 import threading
 import time
 import unittest
+from unittest import mock
 
 from tests.support import processes
 from tests.support.operating import SECONDS, TOOLS
@@ -22,6 +25,7 @@ from tests.web.test_serving import ServingTest
 
 use_web()
 
+from moo_web.status import process  # noqa: E402
 from moo_web.status.metrics import Counter, Gauge, Histogram, text_of  # noqa: E402
 
 BATCH, REFUSED = {"calls": ["create(#1)"]}, {"calls": ["create(#99)"]}
@@ -80,6 +84,22 @@ class Text(unittest.TestCase):
             counter.add(str(who))
         _, samples = read_metrics(text_of([counter]))
         self.assertEqual((len(samples), sum(samples.values())), (1001, 3000))
+
+
+class Process(unittest.TestCase):
+    def test_the_bound_of_memory(self):
+        """The least of a unit's and of those above it; none, if it isn't in a group that has one."""
+        with tempfile.TemporaryDirectory() as room:
+            top = pathlib.Path(room)
+            (top / "system.slice/moo.service").mkdir(parents=True)
+            with mock.patch.object(process, "GROUPS", top), mock.patch.object(process, "OWN_GROUP", top / "own"):
+                self.assertEqual(process.bound_of_memory(), float("inf"))
+                (top / "own").write_text("0::/system.slice/moo.service\n")
+                self.assertEqual(process.bound_of_memory(), float("inf"))
+                for unit, above, bound in (("max", "max", float("inf")), ("2000", "max", 2000), ("2000", "1500", 1500)):
+                    (top / "system.slice/moo.service/memory.max").write_text(f"{unit}\n")
+                    (top / "system.slice/memory.max").write_text(f"{above}\n")
+                    self.assertEqual(process.bound_of_memory(), bound)
 
 
 class StatusTest(ServingTest):

@@ -26,7 +26,9 @@ TEXT = "text/plain; charset=utf-8"
 class Status:
     """The application of the status port. `metrics` are those of the front, and `more` gives others as text."""
 
-    def __init__(self, readiness: Readiness, activity: Activity, metrics: Iterable[Metric], more: Callable[[], str], tell: Callable[[str], None]) -> None:
+    def __init__(
+        self, readiness: Readiness, activity: Activity, metrics: Iterable[Metric], more: Callable[[], str], tell: Callable[[str], None]
+    ) -> None:  # fmt: skip
         self.readiness, self.activity, self.more = readiness, activity, more
         self.metrics = list(metrics)
         self.app = App(tell)

@@ -10,7 +10,7 @@ from pathlib import Path
 
 from moo_web.status.metrics import Gauge, Metric, Total
 
-GROUPS = Path("/sys/fs/cgroup")
+GROUPS, OWN_GROUP = Path("/sys/fs/cgroup"), Path("/proc/self/cgroup")
 STARTED_AT = time.time()
 
 
@@ -23,7 +23,7 @@ def bound_of_memory() -> float:
     """How many bytes it may have, by its control group and those above; infinite without a bound, or if that can't be read."""
     bound = math.inf
     try:
-        path = next(line.partition("::")[2] for line in Path("/proc/self/cgroup").read_text().splitlines() if line.startswith("0::"))
+        path = next(line.partition("::")[2] for line in OWN_GROUP.read_text().splitlines() if line.startswith("0::"))
         group = GROUPS / path.lstrip("/")
         for each in [group, *group.parents]:
             if GROUPS not in (each, *each.parents) or not (each / "memory.max").exists():
