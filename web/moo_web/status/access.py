@@ -61,6 +61,7 @@ def open_anew_at_hangup(log: AccessLog | None) -> None:
     at a terminal ends with that, as ever.
     """
     if log:
-        signal.signal(signal.SIGHUP, lambda number, frame: log.open_anew())
+        open_anew = log.open_anew
+        signal.signal(signal.SIGHUP, lambda number, frame: open_anew())
     elif os.environ.get("NOTIFY_SOCKET"):
         signal.signal(signal.SIGHUP, signal.SIG_IGN)
