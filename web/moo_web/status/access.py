@@ -23,7 +23,8 @@ class AccessLog:
     def __init__(self, path: Path, tell: Callable[[str], None]) -> None:
         self.path, self.tell = path, tell
         self.lock = threading.Lock()
-        self.is_old = False
+        # From here to the first line may be long, and systemd reloads no front that starts: the file may be moved meanwhile.
+        self.is_old = True
         try:
             self.file = self.opened()
         except OSError as error:
