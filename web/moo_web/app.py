@@ -120,8 +120,8 @@ class Route(NamedTuple):
     handler: Handler
 
 
-class Watch:
-    """Who watches what is answered. This one doesn't look."""
+class Observer:
+    """Who observes what is answered. This one doesn't look."""
 
     def begin(self, request: Request) -> None:
         """A request is being answered, by this thread."""
@@ -136,8 +136,8 @@ class Watch:
 class App:
     """The application. `tell` is given what went wrong, for an operator."""
 
-    def __init__(self, tell: Callable[[str], None], shares: Shares | None = None, watch: Watch = Watch()) -> None:
-        self.tell, self.shares, self.watch = tell, shares, watch
+    def __init__(self, tell: Callable[[str], None], shares: Shares | None = None, observer: Observer = Observer()) -> None:
+        self.tell, self.shares, self.observer = tell, shares, observer
         self.routes: list[Route] = []
         self.guards: list[tuple[str, Guard]] = []
         # Whose secrets have come lately.
@@ -193,7 +193,7 @@ class App:
             self.names.clear()
         self.names[secret] = person.name
         PRESENT.set(present()._replace(person=person.name))
-        self.watch.know(person)
+        self.observer.know(person)
         if self.shares:
             self.shares.must_have(present(), person, TIME)
 
@@ -227,9 +227,9 @@ class App:
 
     def __call__(self, environ: Environ, start: Callable[..., object]) -> Iterable[bytes]:
         request = Request(environ)
-        self.watch.begin(request)
+        self.observer.begin(request)
         reply = self.reply(request)
-        self.watch.end(request, reply)
+        self.observer.end(request, reply)
         given = {name for name, _ in reply.lines}
         lines = [("Content-Type", reply.kind), *(line for line in ALWAYS if line[0] not in given), *reply.lines]
         if reply.file is None and reply.status != 304:

@@ -156,7 +156,7 @@ class Front:
         self.app = App(tell, self.shares)
         log = AccessLog(said.access_log, tell) if said.access_log else None
         open_anew_at_hangup(log)
-        self.app.watch = self.activity = Activity(self.meters, self.app.route_of, log)
+        self.app.observer = self.activity = Activity(self.meters, self.app.route_of, log)
         self.app.add_guard("", Hosts(self.app, said.host).guard)
         self.api = Api(self.app, self.door, self.writer, self.people, said.rate)
         self.history = History(folder, second)

@@ -25,7 +25,7 @@ from moo_web.journal.segments import SUM_LENGTH, Damaged, Segment
 from moo_web.journal.tail import LinesGone, Tail
 from moo_web.people.keeping import people_in, state_of
 from moo_web.programs import Failed
-from moo_web.status.standbys import Note
+from moo_web.status.standbys import Progress
 
 VERSION = 1
 PAUSE = 0.05
@@ -177,12 +177,12 @@ def frame_of(segment: Segment, at: int, text: bytes) -> Frame:
 def send(folder: Path) -> None:
     """Serves one request, until the other side goes."""
     sender = Sender(folder, read_request(sys.stdin.buffer.readline()))
-    note = Note(folder)
+    progress = Progress(folder)
     for head, text in sender.frames(False):
         sys.stdout.buffer.write(json.dumps(head, separators=(",", ":")).encode() + b"\n" + text)
         sys.stdout.buffer.flush()
         if head["k"] == "now":
-            note.put(sender.seq)
+            progress.put(sender.seq)
 
 
 def bring_up(folder: Path, target: str) -> None:

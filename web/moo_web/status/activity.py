@@ -8,7 +8,7 @@ import time
 from http import HTTPStatus
 from typing import Callable, NamedTuple
 
-from moo_web.app import FOR_PROGRAMS, JSON, Reply, Request, Watch
+from moo_web.app import FOR_PROGRAMS, JSON, Observer, Reply, Request
 from moo_web.people.people import Person
 from moo_web.programs import utc
 from moo_web.status.access import AccessLog
@@ -28,8 +28,8 @@ class Answering(NamedTuple):
     since: float
 
 
-class Activity(Watch):
-    """Watches the requests of an application. `route_of` gives the address of a request's route."""
+class Activity(Observer):
+    """Observes the requests of an application. `route_of` gives the address of a request's route."""
 
     def __init__(self, meters: Meters, route_of: Callable[[Request], str], log: AccessLog | None) -> None:
         self.meters, self.route_of, self.log = meters, route_of, log

@@ -28,7 +28,7 @@ class Standby(NamedTuple):
     t: float
 
 
-class Note:
+class Progress:
     """The file of the standby that this process serves, by the address from which ssh lets it in. Without ssh there is none."""
 
     def __init__(self, folder: Path) -> None:
