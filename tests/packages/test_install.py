@@ -355,7 +355,7 @@ class Units(InFolder):
         for unit in ("moo-backup@", "moo-check@", "moo-watch@", "moo-offsite@", "moo-web@", "moo-copy@", "moo-follow@", "moo-keep@"):
             with self.subTest(unit):
                 self.assertIn("\nOnFailure=moo-tell@%n.service\n", (self.units / f"{unit}.service").read_text())
-        for unit in ("moo-backup@", "moo-watch@", "moo-offsite@", "moo-keep@"):
+        for unit in ("moo-backup@", "moo-check@", "moo-watch@", "moo-offsite@", "moo-copy@", "moo-keep@"):
             with self.subTest(well=unit):
                 self.assertRegex((self.units / f"{unit}.service").read_text(), r"\nOnSuccess=(.* )?moo-well@%n\.service\n")
         # Only after trouble was told there is something to do.

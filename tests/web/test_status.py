@@ -26,6 +26,7 @@ from tests.web.test_serving import ServingTest
 use_web()
 
 from moo_web.status import process  # noqa: E402
+from moo_web.status.gauges import KEPT_FILE, TRIED_FILE  # noqa: E402
 from moo_web.status.metrics import Counter, Gauge, Histogram, text_of  # noqa: E402
 
 BATCH, REFUSED = {"calls": ["create(#1)"]}, {"calls": ["create(#99)"]}
@@ -277,6 +278,13 @@ class Monitoring(StatusTest):
         self.assertGreater(min(len(asked), len(rules)), 10)
         used = {name for text in (*asked, *rules) for name in re.findall(r"\b(?:moo|process)_\w+", re.sub(r'"[^"]*"', "", text))}
         self.assertEqual(used - self.names(), set())
+
+    def test_units_leave_the_moments_of_copies(self):
+        for unit, name in (("moo-keep@", KEPT_FILE), ("moo-copy@", TRIED_FILE)):
+            with self.subTest(unit):
+                text = (TOP / f"packaging/web/{unit}.service").read_text()
+                self.assertIn(f"\nExecStartPost=/bin/touch /var/lib/moo-web/%i/{name}\n", text)
+                self.assertRegex(text, r"(?m)^ReadWritePaths=.* /var/lib/moo-web/%i$")
 
     @unittest.skipUnless(shutil.which("promtool"), "promtool is missing: apt-get install prometheus")
     def test_prometheus_takes_the_rules_and_the_metrics(self):

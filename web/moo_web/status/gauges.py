@@ -17,8 +17,8 @@ from moo_web.traffic.places import PLACES, Places
 # A line of the file of moo-watch.
 WATCHED_LINE = re.compile(r'# (HELP|TYPE) moo_\w+ .*|moo_\w+(\{\w+="[^"\\]*"\})? [-+.\w]+')
 LONGEST_WATCHED = 1 << 16
-# When moo-keep has copied the journal last is the moment of this file beside it.
-KEPT_FILE = "kept"
+# Files beside the journal, by whose moments moo-keep@ and moo-copy@ say when they copied the journal and the world last.
+KEPT_FILE, TRIED_FILE = "kept", "tried"
 
 
 def of_world(writer: Writer, readiness: Readiness, full: Path | None) -> list[Metric]:
@@ -39,10 +39,12 @@ def of_journal(folders: list[Path]) -> list[Metric]:
         return {str(place): free_bytes(folder) for place, folder in enumerate(folders, 1)}
 
     copied = "When moo-keep has copied the journal last, in seconds since 1970; 0: never."
+    tried = "When moo-copy has made a copy of the world from the journal last, in seconds since 1970; 0: never."
     return [
         Gauge("moo_journal_bytes", "Bytes of the journal, in one folder.", lambda: bytes_of_journal(folders[0])),
         Gauge("moo_journal_disk_free_bytes", "Bytes that are free on the disk of each folder of the journal.", free, "folder"),
         Gauge("moo_journal_copy_timestamp_seconds", copied, lambda: moment_of(folders[0] / KEPT_FILE)),
+        Gauge("moo_tried_copy_timestamp_seconds", tried, lambda: moment_of(folders[0] / TRIED_FILE)),
     ]
 
 
