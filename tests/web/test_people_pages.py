@@ -73,7 +73,8 @@ class SomebodyNew(PeopleTest):
         self.assertEqual(self.logged(), [
             f'account made: name="dora" number={number} by="wizard"', 'link made: name="dora" by="wizard"', 'link used: name="dora"',
         ])  # fmt: skip
-        self.assertEqual(self.audited[-1], 'signed in: address=192.0.2.9 name="dora"')
+        # By the link, and then with the password.
+        self.assertEqual(sum(line.startswith("signed in: ") and 'name="dora"' in line for line in self.audited), 2)
 
     def test_a_preview_changes_nothing_and_may_be_done(self):
         wizard = self.somebody("wizard")
