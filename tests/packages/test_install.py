@@ -48,6 +48,7 @@ INSTALLED = {
     "lib/systemd/system/moo-tell@.service": 0o644,
     "lib/systemd/system/moo-watch@.service": 0o644,
     "lib/systemd/system/moo-watch@.timer": 0o644,
+    "lib/systemd/system/moo-well@.service": 0o644,
     "lib/sysusers.d/moo.conf": 0o644,
     "lib/tmpfiles.d/moo.conf": 0o644,
     "share/bash-completion/completions/moo": 0o644,
@@ -81,7 +82,10 @@ INSTALLED_WEB = {
     "lib/sysusers.d/moo-web.conf": 0o644,
     "lib/tmpfiles.d/moo-web.conf": 0o644,
     "share/doc/moo-web/examples/Caddyfile": 0o644,
+    "share/doc/moo-web/examples/logrotate.conf": 0o644,
     "share/doc/moo-web/examples/nginx.conf": 0o644,
+    **{f"share/doc/moo-web/examples/fail2ban/{name}.conf": 0o644 for name in ("filter", "jail")},
+    **{f"share/doc/moo-web/examples/prometheus/{name}": 0o644 for name in ("alerts.yml", "dashboard.json", "prometheus.yml")},
     **{f"share/doc/moo-web/examples/programs/{name}": 0o644 for name in ("game.py", "inn.mjs", "inn.pl", "inn.py", "inn.sh")},
     **{
         f"lib/moo-web/moo_web/{path.relative_to(MODULES)}": 0o644
@@ -267,23 +271,106 @@ class Units(InFolder):
                 self.assertRegex(unit.read_text(), r"(?m)^User=moo(-web)?$")
                 self.assertNotRegex(unit.read_text(), r"(?m)^Exec\w*=[^/]")
 
+    def tell(self, *words, **env):
+        """How moo-tell ends with these words, and what it printed."""
+        done = subprocess.run(
+            [self.prefix / "lib/moo/moo-tell", *words], env={**os.environ, **env}, stdout=subprocess.PIPE, stderr=subprocess.PIPE, text=True,
+            timeout=SECONDS,
+        )  # fmt: skip
+        return done.returncode, done.stdout, done.stderr
+
     def test_a_failure_is_told(self):
         """The line goes to the log, and to the command that the settings name."""
         for command, told in (("", ""), (f"cat >{self.room}/told", "the unit moo-backup@world.service of ")):
-            done = subprocess.run(
-                [self.prefix / "lib/moo/moo-tell", "moo-backup@world.service"], env={**os.environ, "TELL": command}, stdout=subprocess.PIPE,
-                text=True
-            )
-            self.assertEqual(done.returncode, 0)
-            self.assertRegex(done.stdout, r"^<3>the unit moo-backup@world\.service of \S+ failed: ")
+            status, printed, _ = self.tell("moo-backup@world.service", TELL=command)
+            self.assertEqual(status, 0)
+            self.assertRegex(printed, r"^<3>the unit moo-backup@world\.service of \S+ failed: ")
             self.assertIn(told, (self.room / "told").read_text() if command else "")
-        done = subprocess.run([self.prefix / "lib/moo/moo-tell"], stderr=subprocess.PIPE, text=True)
-        self.assertEqual((done.returncode, done.stderr), (2, "usage: moo-tell UNIT\n"))
+        for words in ((), ("--well",), ("a", "b"), ("a/b",)):
+            self.assertEqual(self.tell(*words), (2, "", "usage: moo-tell [--well] UNIT\n"))
+
+    def reasons(self):
+        """Settings with which what is in the file `reason` plays the log of the run that failed, and a folder keeps what was told."""
+        (self.room / "bin").mkdir()
+        (self.room / "bin/journalctl").write_text(f"#!/bin/sh\ncat {self.room}/reason\n")
+        (self.room / "bin/journalctl").chmod(0o755)
+        (self.room / "kept").mkdir()
+        path = f"{self.room}/bin:{os.environ['PATH']}"
+        return {"PATH": path, "MONITOR_INVOCATION_ID": "1", "RUNTIME_DIRECTORY": f"{self.room}/kept", "TELL": f"cat >>{self.room}/told"}
+
+    def told(self):
+        """What was told since this was asked last, without the name of the machine."""
+        file = self.room / "told"
+        text = file.read_text() if file.exists() else ""
+        file.unlink(missing_ok=True)
+        return text.replace(f" of {os.uname().nodename} ", " ")
+
+    def test_another_trouble_is_told_again_and_that_all_is_well(self):
+        env, unit = self.reasons(), "moo-watch@world.service"
+        failed, well = f"the unit {unit} failed: ", f"the unit {unit} is well again\n"
+        steps = (
+            (("--well",), "", ""),
+            ((), "it takes 30 of 40 MB: full", f"{failed}it takes 30 of 40 MB: full\n"),
+            ((), "it takes 31 of 40 MB: full", ""),
+            ((), "no answer: \x1b[31mrefused", f"{failed}no answer: [31mrefused\n"),
+            (("--well",), "", well),
+            (("--well",), "", ""),
+            ((), "no answer: refused", f"{failed}no answer: refused\n"),
+        )
+        for words, reason, told in steps:
+            (self.room / "reason").write_text(f"an older line\n{reason}\n")
+            with self.subTest(words=words, reason=reason):
+                self.assertEqual(self.tell(*words, unit, **env)[0], 0)
+                self.assertEqual(self.told(), told)
+        # Of another unit nothing was told yet.
+        self.assertEqual(self.tell("moo-keep@world.service", **env)[0], 0)
+        self.assertEqual(self.told(), "the unit moo-keep@world.service failed: no answer: refused\n")
+        # After an hour the same is told again, and what is over by now isn't told.
+        file = self.room / "kept" / unit
+        trouble, moment = json.loads(file.read_text())
+        file.write_text(json.dumps([trouble, moment - 3601]))
+        self.assertEqual(self.tell(unit, **env, MONITOR_SERVICE_RESULT="success")[0], 0)
+        self.assertEqual(self.told(), "")
+        self.assertEqual(self.tell(unit, **env, MONITOR_SERVICE_RESULT="exit-code")[0], 0)
+        self.assertEqual(self.told(), f"{failed}no answer: refused\n")
+
+    def test_what_could_not_be_told_is_told_when_it_is_run_again(self):
+        env, unit = self.reasons(), "moo-watch@world.service"
+        (self.room / "reason").write_text("no answer\n")
+        self.assertEqual(self.tell(unit, **{**env, "TELL": "exit 7"})[0], 7)
+        self.assertEqual(self.tell(unit, **env)[0], 0)
+        self.assertEqual(self.told(), f"the unit {unit} failed: no answer\n")
+        text = (self.units / "moo-tell@.service").read_text()
+        self.assertIn("\nRestart=on-failure\n", text)
+
+    def test_what_comes_and_goes_is_not_told_for_ever(self):
+        env, unit, count = self.reasons(), "moo-watch@world.service", 0
+        for number in range(12):
+            (self.room / "reason").write_text("trouble " + number * "x")
+            self.tell(unit, **env)
+            count += self.told() != ""
+        self.assertEqual(count, 10)
 
     def test_each_failure_has_its_teller(self):
         for unit in ("moo-backup@", "moo-check@", "moo-watch@", "moo-offsite@", "moo-web@", "moo-copy@", "moo-follow@", "moo-keep@"):
             with self.subTest(unit):
                 self.assertIn("\nOnFailure=moo-tell@%n.service\n", (self.units / f"{unit}.service").read_text())
+        for unit in ("moo-backup@", "moo-check@", "moo-watch@", "moo-offsite@", "moo-copy@", "moo-keep@"):
+            with self.subTest(well=unit):
+                self.assertRegex((self.units / f"{unit}.service").read_text(), r"\nOnSuccess=(.* )?moo-well@%n\.service\n")
+        # Only after trouble was told there is something to do.
+        self.assertIn("\nConditionPathExists=/run/moo-tell/%i\n", (self.units / "moo-well@.service").read_text())
+
+    def test_systemd_watches_the_front(self):
+        front = (self.units / "moo-web@.service").read_text()
+        self.assertRegex(front, r"(?m)^Type=notify$")
+        self.assertRegex(front, r"(?m)^WatchdogSec=\d+$")
+        watch = (self.prefix / "lib/moo-web/alone/moo-watch.conf").read_text()
+        port = re.search(r"\bSTATUS=(\d+)", front)[1]
+        self.assertRegex(front, r"(?m)^ExecStart=.* --status-port \$\{STATUS\} ")
+        self.assertIn(f"\nEnvironment=STATUS={port}\n", watch)
+        base = re.search(r"(?m)^ExecStart=(.*)$", (self.units / "moo-watch@.service").read_text())[1]
+        self.assertEqual(re.search(r"(?m)^ExecStart=(/.*)$", watch)[1], base.replace(" ${PORT} ", " --front ${STATUS} ${PORT} "))
 
     def test_the_command_that_brings_copies_away(self):
         """It is run whole by the shell, and isn't run if the settings name none. systemd would split `$OFFSITE`, in quotes too."""
@@ -382,7 +469,8 @@ class Units(InFolder):
         line = re.search(f"^{key}=(.*)$", text, re.M)[1].replace("%i", "world")
         for name, value in values.items():
             line = line.replace("${" + name + "}", str(value))
-        return line.replace("/var/lib/moo", str(self.room)).replace("/var/backups/moo", f"{self.room}/copies")
+        line = line.replace("/var/lib/moo", str(self.room)).replace("/var/backups/moo", f"{self.room}/copies")
+        return line.replace("/run/moo/", f"{self.room}/")
 
     def test_the_commands_of_the_service(self):
         ran(self.prefix / "bin/moo", "init", self.room / "world.db")

@@ -1,19 +1,23 @@
 """tools/moo-watch: a file that is gone, and answers of other programs. What the unit runs is in test_install."""
 
 import http.server
+import os
 import pathlib
 import re
 import resource
 import shutil
+import socket
+import stat
 import subprocess
 import sys
 import tempfile
 import threading
 import time
 import unittest
+import unittest.mock
 import urllib.request
 
-from tests.support.operating import KeptService, SECONDS, TOOLS, make_world
+from tests.support.operating import KeptService, SECONDS, TOOLS, make_world, tool
 
 FIRST = "batch as #3\ncreate(#1)\nend\n"
 
@@ -90,6 +94,79 @@ class File(Watch):
         shutil.copy(self.file, self.room / "other.db")
         (self.room / "other.db").rename(self.file)
         self.assert_wrong(f"the service has another file open than {self.file}: ", "--world", self.file, port)
+
+
+class Front(Watch):
+    """A front beside the service, played by another program, at whose status port it is asked whether it is ready."""
+
+    def setUp(self) -> None:
+        super().setUp()
+        make_world(self.file, FIRST)
+        self.service = KeptService(self.file)
+        self.addCleanup(self.service.stop)
+        self.server = http.server.HTTPServer(("127.0.0.1", 0), Stranger)
+        self.addCleanup(self.server.server_close)
+        self.addCleanup(self.server.shutdown)
+        threading.Thread(target=self.server.serve_forever, daemon=True).start()
+
+    def test_a_front_that_is_ready(self) -> None:
+        Stranger.status, Stranger.body = 200, b"ok"
+        self.assertEqual(self.watch("--front", self.server.server_port, self.service.port), (0, "seq 1\n", ""))
+
+    def test_a_front_whose_disk_is_full(self) -> None:
+        Stranger.status, Stranger.body = 503, b"no batch is taken: /srv/journal: No space left on device\n"
+        self.assert_wrong(
+            "moo-watch: the front isn't ready: no batch is taken: /srv/journal: No space left on device\n",
+            "--wait", "0.5", "--front", self.server.server_port, self.service.port,
+        )  # fmt: skip
+
+    def test_a_front_that_is_gone(self) -> None:
+        with socket.create_server(("127.0.0.1", 0)) as other:
+            port = other.getsockname()[1]
+        self.assert_wrong(f"it doesn't answer at its status port {port}", "--wait", "0.5", "--front", port, self.service.port)
+
+
+class Left(Watch):
+    """What is left for Prometheus."""
+
+    def metrics(self) -> dict[str, float]:
+        """What is in the file."""
+        lines = (self.room / "left.prom").read_text().splitlines()
+        return {name: float(value) for name, value in (line.split(" ") for line in lines if not line.startswith("#"))}
+
+    def test_what_was_seen(self) -> None:
+        make_world(self.file, FIRST)
+        service = KeptService(self.file)
+        self.addCleanup(service.stop)
+        copies = self.room / "copies"
+        now = time.time()
+        for name, moment in (("world.db-20261126T130000.000000Z-seq1", now - 500), ("world.db-20301126T130000.000000Z-seq1", now + 5000)):
+            (copies / name).mkdir(parents=True)
+            (copies / name / "SHA256SUMS").touch()
+            os.utime(copies / name / "SHA256SUMS", (moment, moment))
+        words = ("--world", self.file, "--copies", copies, "--metrics", self.room / "left.prom", service.port)
+        self.assertEqual(self.watch(*words), (0, "seq 1\n", ""))
+        self.assertEqual(stat.S_IMODE((self.room / "left.prom").stat().st_mode), 0o644)
+        found = self.metrics()
+        self.assertEqual(found["moo_watch_well"], 1)
+        self.assertAlmostEqual(found["moo_world_copy_timestamp_seconds"], now - 500, delta=1)
+        self.assertGreaterEqual(found["moo_watch_timestamp_seconds"], int(now))
+        self.assertGreater(found["moo_memory_bytes"], 1 << 20)
+        self.assertEqual(found["moo_memory_bound_bytes"], float("inf"))
+        self.assertEqual(found["moo_world_bytes"], sum(path.stat().st_size for path in self.room.glob("world.db*")))
+        service.stop()
+        self.assertEqual(self.watch("--wait", "0.1", *words)[0], 1)
+        self.assertEqual(self.metrics()["moo_watch_well"], 0)
+
+    def test_a_disk_with_little_room(self) -> None:
+        watch = tool("moo-watch")
+        with unittest.mock.patch.object(watch.os, "statvfs") as found:
+            found.return_value = unittest.mock.Mock(f_bavail=3 << 10, f_frsize=1 << 20, f_blocks=100 << 10)
+            watch.test_disk(self.room)
+            for free, size in ((900, 100 << 10), (4, 100)):
+                found.return_value = unittest.mock.Mock(f_bavail=free, f_frsize=1 << 20, f_blocks=size)
+                with self.assertRaisesRegex(watch.Failure, f"is nearly full: {free} of {size} MB are free"):
+                    watch.test_disk(self.room)
 
 
 class Memory(Watch):

@@ -102,7 +102,7 @@ class OfPeople(Scene):
             ada.open("/you")
             ada.sees("Sign in")
             said = self.front.said()
-            self.assertIn(": wizard removed ada, #5\n", said)
+            self.assertIn('moo-web: account removed: name="ada" number=5 by="wizard"\n', said)
             self.assertNotIn(PASSWORD, said)
 
     def test_all(self):

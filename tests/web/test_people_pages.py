@@ -5,6 +5,7 @@ import unittest
 import urllib.parse
 from unittest import mock
 
+from tests.support.audits import audited
 from tests.support.forms import Checked, FormsTest
 from tests.support.reader import in_process
 from tests.support.web import PASSWORD, use_web
@@ -33,9 +34,13 @@ class PeopleTest(FormsTest):
         self.assertTrue(found, page.text[:900])
         return found[1].removeprefix("http://localhost")
 
+    def setUp(self):
+        super().setUp()
+        self.audited = audited(self.people)
+
     def logged(self):
-        """What the log has of people, without the moments."""
-        return [re.sub(r"^people: [\d:T.+-]+: ", "", line) for line in self.told if line.startswith("people: ")]
+        """What the log has of people, but for who came in and who left."""
+        return [line for line in self.audited if not line.startswith(("signed in: ", "signed out: "))]
 
     def deed(self, wizard, name, key, **typed):
         """Does something to a person, by its page."""
@@ -65,7 +70,11 @@ class SomebodyNew(PeopleTest):
         self.has(dora.get(self.link_on(page)), "Choose a password", "You are dora here", status=200)
         self.has(dora.send("Keep it, and come in", new=NEW, again=NEW), f"Signed in as dora, dora #{number}", status=200)
         self.assertEqual(self.people.sign_in("dora", NEW, "192.0.2.9").session.person, Person("dora", number))
-        self.assertEqual(self.logged(), [f"wizard made the account dora, #{number}, with a link for a password", "dora set a password by a link"])
+        self.assertEqual(self.logged(), [
+            f'account made: name="dora" number={number} by="wizard"', 'link made: name="dora" by="wizard"', 'link used: name="dora"',
+        ])  # fmt: skip
+        # By the link, and then with the password.
+        self.assertEqual(sum(line.startswith("signed in: ") and 'name="dora"' in line for line in self.audited), 2)
 
     def test_a_preview_changes_nothing_and_may_be_done(self):
         wizard = self.somebody("wizard")
@@ -177,7 +186,7 @@ class ALink(PeopleTest):
         self.has(other.send("Keep it, and come in", new="another one", again="another one"), "This link doesn’t work", status=404)
         self.has(other.get(self.link), "This link doesn’t work", status=404)
         self.assertTrue(self.people.sign_in("ada", NEW, "192.0.2.9"))
-        self.assertEqual(self.logged(), ["wizard made a link for a password of ada", "ada set a password by a link"])
+        self.assertEqual(self.logged(), ['link made: name="ada" by="wizard"', 'link used: name="ada"'])
 
     def test_it_ends_after_three_days(self):
         self.has(self.wizard.get("/people/ada"), "waits to be used until")
@@ -205,7 +214,7 @@ class ALink(PeopleTest):
 
     def test_no_secret_is_told(self):
         self.nobody().get(self.link)
-        self.assertNotIn(self.link.partition("=")[2], "\n".join(self.told))
+        self.assertNotIn(self.link.partition("=")[2], "\n".join([*self.told, *self.audited]))
         self.assertNotIn(self.link.partition("=")[2], self.wizard.get("/people/ada").html)
 
 
@@ -219,7 +228,7 @@ class WhatIsDone(PeopleTest):
         self.assertEqual((ada.get("/").status, self.people.of_token(token), self.people.may_come_in("ada")), (401, None, False))
         self.has(wizard.send("Let in again"), "may come in again", status=200)
         self.assertEqual(self.people.sign_in("ada", PASSWORD, "192.0.2.9").session.person, Person("ada", 4))
-        self.assertEqual(self.logged(), ["wizard disabled ada", "wizard let ada in again"])
+        self.assertEqual(self.logged()[1:], ['account disabled: name="ada" by="wizard"', 'account enabled: name="ada" by="wizard"'])
 
     def test_somebody_is_removed(self):
         wizard = self.somebody("wizard")
@@ -228,7 +237,7 @@ class WhatIsDone(PeopleTest):
         self.has(wizard.send("Do it"), "The account is gone.", status=200)
         self.assertIsNone(self.people.one("ada"))
         self.assertEqual(wizard.get("/people/ada").status, 404)
-        self.assertEqual(self.logged(), ["wizard removed ada, #4"])
+        self.assertEqual(self.logged(), ['account removed: name="ada" number=4 by="wizard"'])
 
     def test_somebody_gets_another_object(self):
         wizard = self.somebody("wizard")
@@ -245,7 +254,7 @@ class WhatIsDone(PeopleTest):
         page = wizard.send("Preview", number="Ada")
         self.has(page, "2 objects are named “Ada”. Choose one:", status=422)
         self.assertIn("/people/ada/renumber?number=%234", page.links)
-        self.assertEqual(self.logged(), ["wizard gave ada the object #5 in place of #4"])
+        self.assertEqual(self.logged(), ['account renumbered: name="ada" number=5 before=4 by="wizard"'])
 
     def test_what_has_changed_since_is_shown_first(self):
         wizard = self.somebody("wizard")
@@ -318,7 +327,10 @@ class OnesOwn(PeopleTest):
         self.assertEqual(round((self.people.tokens.of("ada")[0].until - self.now) / 86400), 90)
         self.has(ada.send("End the token the bot"), "It has ended.")
         self.assertIsNone(self.people.of_token(token))
-        self.assertEqual(self.logged(), ["ada made the token 'the bot' of ada, for reading alone", "ada ended the token 'the bot' of ada"])
+        of_ada = [line for line in self.logged() if 'name="ada"' in line]
+        self.assertEqual(of_ada, [
+            'token made: name="ada" label="the bot" days=90 read_only="yes"', 'token ended: name="ada" label="the bot"',
+        ])  # fmt: skip
         self.assertEqual(self.people.one("bram").tokens, 1)
 
     def test_one_that_never_ends_and_one_that_has(self):
@@ -358,7 +370,7 @@ class OnesOwn(PeopleTest):
         wizard.get("/people/ada")
         self.has(wizard.send("End the session from 192.0.2.1"), "It has ended.", status=200)
         self.assertEqual(ada.get("/").status, 401)
-        self.assertEqual(self.logged(), ["ada ended a session of ada", "wizard ended a session of ada"])
+        self.assertEqual(self.logged(), ['session ended: name="ada"', 'session ended: name="ada" by="wizard"'])
 
 
 class InTheLog(WithFront):
@@ -373,9 +385,9 @@ class InTheLog(WithFront):
             self.has(wizard.send("Let in again"), "may come in again", status=200)
         self.has(wizard.send("A link for a password"), "Give ada this link", status=200)
         secret = re.search(r"key=([\w-]+)", wizard.page.html)[1]
-        lines = [line for line in self.front.said().splitlines() if line.startswith("moo-web: people: ")]
-        done = [re.sub(r"^moo-web: people: \S+: ", "", line) for line in lines]
-        self.assertEqual(done, ["wizard disabled ada", "wizard let ada in again"] * 2 + ["wizard made a link for a password of ada"])
+        done = [line for line in self.front.said().splitlines() if line.endswith(' name="ada" by="wizard"')]
+        twice = ['moo-web: account disabled: name="ada" by="wizard"', 'moo-web: account enabled: name="ada" by="wizard"'] * 2
+        self.assertEqual(done, [*twice, 'moo-web: link made: name="ada" by="wizard"'])
         self.assertNotIn(secret, self.front.said())
 
 

@@ -20,6 +20,7 @@ from moo_web.interface.interface import ROUTES
 from moo_web.interface.openapi import description
 from moo_web.journal.writer import Busy, Writer
 from moo_web.paths import Path
+from moo_web.people.audit import TOKEN_REFUSED
 from moo_web.people.limits import Rate, network_of
 from moo_web.people.people import People
 from moo_web.people.person import Person
@@ -103,6 +104,8 @@ class Api:
         secret = token_of(request)
         bearer = self.people.tokens.bearer(secret) if secret else None
         if not bearer:
+            if secret:
+                self.people.audit(TOKEN_REFUSED, address=request.address)
             return NO_TOKEN
         if not self.of_tokens.take(secret):
             return TOO_MANY

@@ -67,6 +67,8 @@ class Request:
         self.visitor = Visitor(network_of(self.address), is_gone=environ.get(IS_GONE, never))
         # Whom a guard has found, for the route.
         self.person: object = None
+        # The address of the route that fits, as it was added, and the word for the refusal if it is refused.
+        self.route, self.refusal = "", ""
         self.sent: dict[str, str] | None = None
 
     def line(self, name: str) -> str:
@@ -118,11 +120,24 @@ class Route(NamedTuple):
     handler: Handler
 
 
+class Observer:
+    """Who observes what is answered. This one doesn't look."""
+
+    def begin(self, request: Request) -> None:
+        """A request is being answered, by this thread."""
+
+    def know(self, person: Person) -> None:
+        """The request that this thread answers is this person's."""
+
+    def end(self, request: Request, reply: Reply) -> None:
+        """Its answer was made."""
+
+
 class App:
     """The application. `tell` is given what went wrong, for an operator."""
 
-    def __init__(self, tell: Callable[[str], None], shares: Shares | None = None) -> None:
-        self.tell, self.shares = tell, shares
+    def __init__(self, tell: Callable[[str], None], shares: Shares | None = None, observer: Observer = Observer()) -> None:
+        self.tell, self.shares, self.observer = tell, shares, observer
         self.routes: list[Route] = []
         self.guards: list[tuple[str, Guard]] = []
         # Whose secrets have come lately.
@@ -143,7 +158,9 @@ class App:
         if request.environ.get(REFUSED) or request.visitor.is_gone():
             return self.failed(request, 503, error="busy")
         with visiting(request.visitor):
-            return self.tried(request)
+            reply = self.tried(request)
+            request.visitor = present()
+            return reply
 
     def tried(self, request: Request) -> Reply:
         """What the guards and the route answer, or what went wrong."""
@@ -176,15 +193,21 @@ class App:
             self.names.clear()
         self.names[secret] = person.name
         PRESENT.set(present()._replace(person=person.name))
+        self.observer.know(person)
         if self.shares:
             self.shares.must_have(present(), person, TIME)
 
     def failed(self, request: Request, status: int, *lines: tuple[str, str], **parts: object) -> Reply:
         """An answer that isn't what was asked for: JSON for programs, and a page for people if there are pages."""
+        request.refusal = str(parts.get("error", ""))
         reply = in_json(status, *lines, **parts)
         if self.for_people is None or request.path.startswith(FOR_PROGRAMS):
             return reply
         return self.for_people(request, reply, parts)
+
+    def route_of(self, request: Request) -> str:
+        """The address of the first route that fits a request's path, as it was added; nothing, if none does."""
+        return request.route or next((path.text for _, path, _ in self.routes if path.read(request.path) is not None), "")
 
     def routed(self, request: Request) -> Reply:
         """The answer of the route that fits."""
@@ -194,6 +217,7 @@ class App:
         for method, path, handler in self.routes:
             parts = path.read(request.path)
             if parts is not None and method == wanted:
+                request.route = path.text
                 return handler(request, *parts)
             if parts is not None:
                 methods.append(method)
@@ -202,7 +226,10 @@ class App:
         return self.failed(request, 404, error="not found")
 
     def __call__(self, environ: Environ, start: Callable[..., object]) -> Iterable[bytes]:
-        reply = self.reply(Request(environ))
+        request = Request(environ)
+        self.observer.begin(request)
+        reply = self.reply(request)
+        self.observer.end(request, reply)
         given = {name for name, _ in reply.lines}
         lines = [("Content-Type", reply.kind), *(line for line in ALWAYS if line[0] not in given), *reply.lines]
         if reply.file is None and reply.status != 304:

@@ -3,7 +3,10 @@
 from __future__ import annotations
 
 import argparse
+import contextlib
+import datetime
 import os
+import socket
 import sys
 import threading
 import time
@@ -31,7 +34,11 @@ class Teller:
             if len(self.told) > 1000:
                 self.told.clear()
             self.told[text] = now
-            print(f"{self.program}: {text}", file=sys.stderr, flush=True)
+            self.always(text)
+
+    def always(self, text: str) -> None:
+        """Writes a line whether it was written before or not."""
+        print(f"{self.program}: {text}", file=sys.stderr, flush=True)
 
 
 def own_folder(text: str) -> Path:
@@ -66,3 +73,18 @@ def port_number(text: str) -> int:
     if not text.isascii() or not text.isdigit() or not 0 <= int(text) <= 65535:
         raise argparse.ArgumentTypeError(f"{text!r} isn't a port")
     return int(text)
+
+
+def utc(moment: float) -> str:
+    """A moment, of seconds since 1970, as `2026-11-29T12:00:00.000Z`."""
+    told = datetime.datetime.fromtimestamp(moment, datetime.timezone.utc).isoformat(timespec="milliseconds")
+    return told.replace("+00:00", "Z")
+
+
+def notify(text: str) -> None:
+    """Tells systemd something, if it wants to know (sd_notify(3))."""
+    address = os.environ.get("NOTIFY_SOCKET", "")
+    if address:
+        with contextlib.suppress(OSError), socket.socket(socket.AF_UNIX, socket.SOCK_DGRAM) as peer:
+            peer.connect("\0" + address[1:] if address.startswith("@") else address)
+            peer.send(text.encode())

@@ -10,7 +10,7 @@ import sys
 import threading
 import time
 from pathlib import Path
-from typing import Any
+from typing import TYPE_CHECKING, Any
 
 from moo_web.api import Api, token_of
 from moo_web.app import App, Reply, Request
@@ -18,13 +18,20 @@ from moo_web.journal.history import History
 from moo_web.journal.journal import Broken, InUse, Journal, NoRoom
 from moo_web.journal.segments import Damaged
 from moo_web.journal.writer import Writer
+from moo_web.people.audit import auditing
 from moo_web.people.growth import DAILY_BYTES, Growth
 from moo_web.people.keeping import Keeper
 from moo_web.people.file import Wrong
 from moo_web.people.people import People
 from moo_web.people.person import Person
 from moo_web.people.sessions import secret_of
-from moo_web.programs import PEOPLE_FILE, Failed, Teller, only_ours, own_folder, port_number
+from moo_web.programs import PEOPLE_FILE, Failed, Teller, notify, only_ours, own_folder, port_number
+from moo_web.status import port, process, standbys
+from moo_web.status.access import AccessLog, open_anew_at_hangup
+from moo_web.status.activity import Activity
+from moo_web.status.heart import Heart
+from moo_web.status.meters import Meters
+from moo_web.status.readiness import Readiness
 from moo_web.traffic.hosts import BY_SOCKET, Hosts, host_name
 from moo_web.traffic.places import Places
 from moo_web.traffic.shares import DEFAULT_SHARE, Shares, share_of
@@ -33,6 +40,9 @@ from moo_web.traffic.visitors import Visitor
 from moo_web.traffic.ways import given_socket, own_socket, socket_at
 from moo_web.traffic.writing import Counted
 from moo_web.world.door import Door, Unreachable, batch_body
+
+if TYPE_CHECKING:
+    from moo_web.traffic.connections import Room
 
 PORT = 8088
 RATE = 100.0
@@ -49,7 +59,7 @@ NO_PAGES = "there are no pages, since python3-jinja2 is missing: apt-get install
 
 USAGE = (
     "moo-web FOLDER --moo-port M [--port P] [--journal FOLDER2] [--proxy ADDRESS | --proxy-socket PATH] [--host NAME].. [--share S,R,B]"
-    " [--daily-bytes N] [--full FILE] [--description NAME] [--exits NAME] [--rebase]"
+    " [--daily-bytes N] [--full FILE] [--description NAME] [--exits NAME] [--status-port P2] [--access-log FILE] [--metrics FILE] [--rebase]"
 )
 MORE = """
 It needs a world that `moo serve FILE M` keeps, and that nobody else writes to. FOLDER has the accounts and the journal. It prints
@@ -79,6 +89,11 @@ def read_words(words: list[str]) -> argparse.Namespace:
     parser.add_argument("--description", metavar="NAME", default="description", help=told)
     told = 'the name of the property that has the exits of a place, such as {{"west", #7}} (exits)'
     parser.add_argument("--exits", metavar="NAME", default="exits", help=told)
+    told = "the port of this machine that tells how the front is: /health, /ready, /metrics, /activity; 0 is a free one"
+    parser.add_argument("--status-port", metavar="P2", type=port_number, help=told)
+    told = "a line of JSON for each request is appended to this file, which is opened anew after SIGHUP"
+    parser.add_argument("--access-log", metavar="FILE", type=Path, help=told)
+    parser.add_argument("--metrics", metavar="FILE", type=Path, help="the file in which moo-watch leaves its metrics: /metrics shows them too")
     parser.add_argument("--segment", metavar="BYTES", type=int, default=SEGMENT_BYTES, help="the size of a file of the journal (64 MiB)")
     return parser.parse_args(words)
 
@@ -125,18 +140,6 @@ def whose_of(app: App, channel: Any) -> Visitor:
     return request.visitor._replace(person=app.names.get(token_of(request) or secret_of(request), ""))
 
 
-def make_server(app: App, said: argparse.Namespace) -> Any:
-    """The server, which listens already. `Failed`: it can't."""
-    need_server()
-    from moo_web.traffic.connections import Room, Way, listen
-
-    ways = [Way(given_socket() or own_socket(said.port), said.proxy)]
-    if said.proxy_socket:
-        # The port is the last, so that the server knows it.
-        ways.insert(0, Way(socket_at(said.proxy_socket), BY_SOCKET))
-    return listen(app, ways, Room(), Places(lambda channel: whose_of(app, channel)))
-
-
 class Front:
     """All parts of a front, put together."""
 
@@ -146,21 +149,65 @@ class Front:
         if second is not None and os.path.samefile(folder, second):
             raise Failed("FOLDER and FOLDER2 are the same folder")
         self.journal = Journal(folder, second, tell, said.segment)
-        self.people = People(folder / PEOPLE_FILE)
+        self.people, self.meters = People(folder / PEOPLE_FILE), Meters()
+        self.people.audit = auditing(tell, self.meters.audited.add)
         if second is not None:
             keeper = Keeper(folder, second, tell)
             keeper.keep()
             keeper.start()
         self.shares = Shares(said.share, self.is_wizard)
-        self.door = Door(said.moo_port, turnstile=Turnstile(self.shares.spend))
+        self.journal.note_sync = self.meters.sync_seconds.take
+        self.door = Door(said.moo_port, turnstile=Turnstile(self.shares.spend), note=self.meters.asked)
         self.writer = Writer(self.door, self.journal, tell)
         self.writer.bound = Growth(self.door, said.daily_bytes, said.full).test
         self.app = App(tell, self.shares)
+        log = AccessLog(said.access_log, tell) if said.access_log else None
+        open_anew_at_hangup(log)
+        self.app.observer = self.activity = Activity(self.meters, self.app.route_of, log)
         self.app.add_guard("", Hosts(self.app, said.host).guard)
         self.api = Api(self.app, self.door, self.writer, self.people, said.rate)
         self.history = History(folder, second)
         self.pages = add_pages(self.app, self.people, self.writer, self.history, said, tell)
         self.writer.watch = Counted(self.shares, self.people.may_come_in, lambda: self.pages.index.kept if self.pages else None)
+        self.places = Places(lambda channel: whose_of(self.app, channel))
+        self.readiness = Readiness(self.writer, [folder] if second is None else [folder, second])
+        # The server, once it listens.
+        self.server: Any = None
+
+    def listen(self, said: argparse.Namespace, room: Room) -> None:
+        """Has the server listen. `Failed`: it can't."""
+        from moo_web.traffic.connections import Way, listen
+
+        ways = [Way(given_socket(said.status_port) or own_socket(said.port), said.proxy)]
+        if said.proxy_socket:
+            # The port is the last, so that the server knows it.
+            ways.insert(0, Way(socket_at(said.proxy_socket), BY_SOCKET))
+        self.server = listen(self.app, ways, room, self.places, Heart(self.writer, self.places, self.state).beat)
+
+    def state(self) -> str:
+        """How the front is, in a line for systemd."""
+        from moo_web.traffic.connections import open_connections
+
+        stopped = "; writing has stopped" if self.writer.stopped else ""
+        return f"seq {self.writer.seq}, {open_connections(self.server)} connections{stopped}"
+
+    def serve_status(self, said: argparse.Namespace, room: Room, tell: Teller) -> None:
+        """Serves the status port. `Failed`: it can't be had."""
+        from moo_web.status import gauges
+        from moo_web.traffic.connections import open_connections
+
+        folders = self.readiness.folders
+        metrics = [
+            *gauges.of_world(self.writer, self.readiness, said.full),
+            *self.meters.all(),
+            *gauges.of_journal(folders),
+            *standbys.metrics(folders[0], self.writer),
+            *gauges.of_traffic(lambda: open_connections(self.server) if self.server else 0, room, self.places, self.api.followers),
+            *process.metrics(),
+        ]
+        status = port.Status(self.readiness, self.activity, metrics, lambda: gauges.watched(said.metrics), tell)
+        own = port.serve(status.app, port.sockets_at(said.status_port))
+        tell(f"the status port is http://127.0.0.1:{own}/")
 
     def is_wizard(self, person: Person) -> bool:
         """Whether somebody's object is a wizard. If that isn't told soon, it isn't."""
@@ -176,17 +223,23 @@ def serve(said: argparse.Namespace) -> None:
     only_ours()
     tell = Teller("moo-web")
     need_server()
-    front = Front(said, tell)
+    from moo_web.traffic.connections import Room
+
+    front, room = Front(said, tell), Room()
+    if said.status_port is not None:
+        front.serve_status(said, room, tell)
     front.writer.start(said.rebase)
-    server = make_server(front.app, said)
+    front.listen(said, room)
     if front.pages:
         threading.Thread(target=front.pages.warm, name="warm", daemon=True).start()
     threading.Thread(target=front.history.keep_up, args=(tell,), name="history", daemon=True).start()
-    port = server.effective_port if hasattr(server, "effective_port") else said.port
-    print(f"listening http://127.0.0.1:{port}/", flush=True)
+    front.readiness.is_started = True
+    print(f"listening http://127.0.0.1:{getattr(front.server, 'effective_port', said.port)}/", flush=True)
+    notify(f"READY=1\nSTATUS={front.state()}")
     try:
-        server.run()
+        front.server.run()
     finally:
+        notify("STOPPING=1")
         if said.proxy_socket:
             said.proxy_socket.unlink(missing_ok=True)
         front.writer.end(END_SECONDS)

@@ -27,7 +27,6 @@ from moo_web.pages.pages import Visit
 from moo_web.pages.sign import sentence
 from moo_web.paths import url_for
 from moo_web.people.file import Wrong
-from moo_web.people.log import PeopleLog
 from moo_web.people.people import People
 from moo_web.world.door import Unreachable
 from moo_web.world.things import Thing
@@ -60,11 +59,9 @@ class NewcomerPages(FormPages):
 
     template = "pages/people.html"
 
-    def __init__(
-        self, previews: Previews, recent: Recent, people: People, log: PeopleLog, show: Callable[[Visit, str, str], Reply]
-    ) -> None:  # fmt: skip
+    def __init__(self, previews: Previews, recent: Recent, people: People, show: Callable[[Visit, str, str], Reply]) -> None:
         super().__init__(previews, recent)
-        self.people, self.log, self.show_person = people, log, show
+        self.people, self.show_person = people, show
 
     def all(self, visit: Visit) -> Reply:
         """Everybody, and the form."""
@@ -157,7 +154,6 @@ class NewcomerPages(FormPages):
             # Somebody has taken the name meanwhile. The object is there, and isn't made again.
             typed = {"account": name, "what": "there", "object": f"#{number}"}
             return self.wrong(visit, typed, "account", Mistake(sentence(str(wrong))))
-        self.log(visit.name, f"made the account {name}, #{number}, with a link for a password")
         return self.show_person(visit, name, secret)
 
     def path(self, form: Form) -> str:

@@ -4,7 +4,6 @@ from __future__ import annotations
 
 import collections
 import contextlib
-import datetime
 import threading
 from typing import Any, Callable, ContextManager
 
@@ -13,6 +12,7 @@ from moo_web.interface.bodies import wants
 from moo_web.interface.feed import About, Feed, Gone, NotYet
 from moo_web.journal.writer import Busy
 from moo_web.people.person import Person
+from moo_web.programs import utc
 from moo_web.traffic.visitors import present, visiting
 from moo_web.world.door import packed
 
@@ -132,8 +132,7 @@ def body_of(at: int, some: list[About], has_batches: bool) -> bytes:
 def shown(one: About) -> dict[str, Any]:
     """A batch, as wizards see it."""
     accepted = one.accepted
-    moment = datetime.datetime.fromtimestamp(accepted.t, datetime.timezone.utc).isoformat(timespec="milliseconds")
     return {
-        "answers": accepted.answers, "as": f"#{accepted.programmer}", "at": moment.replace("+00:00", "Z"), "calls": accepted.calls,
+        "answers": accepted.answers, "as": f"#{accepted.programmer}", "at": utc(accepted.t), "calls": accepted.calls,
         "seq": accepted.seq, "who": accepted.who,
     }  # fmt: skip

@@ -14,7 +14,6 @@ import argparse
 import contextlib
 import os
 import signal
-import socket
 import time
 from pathlib import Path
 from typing import Callable, Iterator
@@ -27,7 +26,7 @@ from moo_web.journal.bringing import Bringing
 from moo_web.journal.marks import Mark, place_beside
 from moo_web.journal.receiving import Receiver
 from moo_web.journal.tail import LinesGone, Tail
-from moo_web.programs import Failed, only_ours
+from moo_web.programs import Failed, notify, only_ours
 
 PAUSE = 0.1
 SAY_EVERY = 1.0
@@ -209,15 +208,6 @@ class Past:
         for line in self.tail.lines():
             if self.bringing.take(line):
                 yield
-
-
-def notify(text: str) -> None:
-    """Tells systemd something, if it wants to know (sd_notify(3))."""
-    address = os.environ.get("NOTIFY_SOCKET", "")
-    if address:
-        with contextlib.suppress(OSError), socket.socket(socket.AF_UNIX, socket.SOCK_DGRAM) as peer:
-            peer.connect("\0" + address[1:] if address.startswith("@") else address)
-            peer.send(text.encode())
 
 
 def follow(said: argparse.Namespace, program: str, tell: Callable[[str], None]) -> None:

@@ -9,6 +9,7 @@ import concurrent.futures
 import contextlib
 import fcntl
 import os
+import time
 from pathlib import Path
 from typing import Any, Callable
 
@@ -111,6 +112,8 @@ class Journal:
         # Which history of the world this is: another one begins whenever the journal is begun anew.
         self.branch = FIRST_SUM
         self.is_broken = self.is_old = False
+        # Is given the seconds that each sync takes.
+        self.note_sync: Callable[[float], None] = lambda seconds: None
         self.syncing = concurrent.futures.ThreadPoolExecutor(1, "second-disk")
         try:
             for each in [folder] if second is None else [folder, second]:
@@ -197,6 +200,7 @@ class Journal:
 
     def sync(self) -> None:
         """Sees to it that what was written is on the disks, which work at once. `Broken`: one of them failed."""
+        began = time.monotonic()
         others = [self.syncing.submit(os.fdatasync, place.file) for place in self.places[1:]]
         try:
             try:
@@ -210,6 +214,7 @@ class Journal:
                 for place in self.places:
                     place.cut()
             raise Broken(f"the journal can't be brought onto the disk: {error.strerror}") from error
+        self.note_sync(time.monotonic() - began)
 
     def take_back(self, error: OSError) -> None:
         """Cuts off what was written of a line, in every folder."""

@@ -25,6 +25,7 @@ from moo_web.journal.segments import SUM_LENGTH, Damaged, Segment
 from moo_web.journal.tail import LinesGone, Tail
 from moo_web.people.keeping import people_in, state_of
 from moo_web.programs import Failed
+from moo_web.status.standbys import Progress
 
 VERSION = 1
 PAUSE = 0.05
@@ -73,11 +74,16 @@ def read_request(text: bytes) -> CopyRequest:
     return request
 
 
+# Which key of a line has the number of the world, by its kind.
+NUMBERS = {"base": "seq", "intent": "at", "done": "seq", "void": "at", "gap": "journal"}
+
+
 class Sender:
-    """Sends what one other side lacks."""
+    """Sends what one other side lacks. `seq` is the number of the world up to which that has it."""
 
     def __init__(self, folder: Path, request: CopyRequest) -> None:
         self.folder, self.request = folder, request
+        self.seq = 0
         self.tail = Tail(folder)
         self.people_sum, self.people_state = request.people, (0, 0)
 
@@ -111,6 +117,9 @@ class Sender:
             if segment and is_there(segment, place):
                 self.tail.enter(segment)
                 self.tail.start, self.tail.end, self.tail.sum = place.start, place.end, place.sum
+                with open(segment.path, "rb") as file:
+                    file.seek(place.start + SUM_LENGTH + 1)
+                    self.seq = number_in(json.loads(file.read(place.end - file.tell())))
                 return place
         return None
 
@@ -129,6 +138,7 @@ class Sender:
             kept.append(text)
             size += len(text)
         if segment:
+            self.seq = number_in(line.said())
             yield frame_of(segment, first, b"".join(kept))
 
     def people(self) -> Iterator[Frame]:
@@ -142,6 +152,11 @@ class Sender:
         if text and sum_ != self.people_sum:
             self.people_sum = sum_
             yield {"k": "people", "length": len(text)}, text
+
+
+def number_in(said: dict[str, Any]) -> int:
+    """The number of the world that a line of a journal has."""
+    return int(said[NUMBERS[said["k"]]])
 
 
 def is_there(segment: Segment, place: Place) -> bool:
@@ -161,10 +176,13 @@ def frame_of(segment: Segment, at: int, text: bytes) -> Frame:
 
 def send(folder: Path) -> None:
     """Serves one request, until the other side goes."""
-    request = read_request(sys.stdin.buffer.readline())
-    for head, text in Sender(folder, request).frames(False):
+    sender = Sender(folder, read_request(sys.stdin.buffer.readline()))
+    progress = Progress(folder)
+    for head, text in sender.frames(False):
         sys.stdout.buffer.write(json.dumps(head, separators=(",", ":")).encode() + b"\n" + text)
         sys.stdout.buffer.flush()
+        if head["k"] == "now":
+            progress.put(sender.seq)
 
 
 def bring_up(folder: Path, target: str) -> None:

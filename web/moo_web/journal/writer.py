@@ -142,6 +142,8 @@ class Writer:
         # What is asked before a batch that would be accepted: its person, programmer, calls and answers. `TooMuch`: it isn't sent.
         self.bound: Callable[[str, int, list[str], list[str]], None] = lambda who, programmer, calls, answers: None
         self.is_ended = False
+        # Why the last batch wasn't taken, and the moment of that; nothing, once one is taken.
+        self.trouble, self.troubled_at = "", 0.0
         self.watch = Free()
         self.thread = threading.Thread(target=self.run, name="writer", daemon=True)
 
@@ -345,9 +347,11 @@ class Writer:
             if self.journal.is_full:
                 self.journal.begin(self.seq, self.moment(), "full")
             self.journal.append(intent, True)
+            self.trouble = ""
             return True
         except NoRoom as error:
-            self.tell(f"no batch is taken: {error}")
+            self.trouble, self.troubled_at = f"no batch is taken: {error}", time.monotonic()
+            self.tell(self.trouble)
             job.uncommit()
             job.fail(Busy())
         except Broken as error:

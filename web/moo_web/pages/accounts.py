@@ -20,7 +20,6 @@ from moo_web.pages.pages import Visit
 from moo_web.paths import url_for
 from moo_web.people.file import Wrong
 from moo_web.people.links import LINK_SECONDS
-from moo_web.people.log import PeopleLog
 from moo_web.people.people import Listed, People
 from moo_web.traffic.hosts import LOCAL, name_in
 from moo_web.world.asking import Moved
@@ -48,8 +47,8 @@ class Deed(NamedTuple):
 class AccountPages:
     """What these pages do."""
 
-    def __init__(self, people: People, log: PeopleLog) -> None:
-        self.people, self.log = people, log
+    def __init__(self, people: People) -> None:
+        self.people = people
 
     def show(self, visit: Visit, name: str, secret: str = "", status: int = 200) -> Reply:
         """The page of a person, with the link for a password whose secret this is."""
@@ -98,14 +97,11 @@ class AccountPages:
     def at_once(self, visit: Visit, one: Listed, key: str) -> Reply:
         """Lets a person in again, makes a link for a password, or ends a session or a token."""
         if key == "link":
-            secret = self.people.links.make(one.name)
-            self.log(visit.name, f"made a link for a password of {one.name}")
-            return self.show(visit, one.name, secret)
+            return self.show(visit, one.name, self.people.links.make(one.name))
         if key == "enable":
             self.people.enable(one.name)
-            self.log(visit.name, f"let {one.name} in again")
             return visit.go(url_for("person", name=one.name), "enabled")
-        end_one(self.people, self.log, visit, one.name)
+        end_one(self.people, visit, one.name)
         return visit.go(url_for("person", name=one.name), "ended")
 
     def done(self, visit: Visit, one: Listed, key: str, typed: str) -> Reply:
@@ -115,14 +111,11 @@ class AccountPages:
             return self.deed_page(visit, one.name, key, typed, MOVED)
         if key == "disable":
             self.people.disable(one.name)
-            self.log(visit.name, f"disabled {one.name}")
             return visit.go(url_for("person", name=one.name), "disabled")
         if key == "remove":
             self.people.remove(one.name)
-            self.log(visit.name, f"removed {one.name}, #{one.number}")
             return visit.go(url_for("people"), "removed")
         self.people.renumber(one.name, deed.number)
-        self.log(visit.name, f"gave {one.name} the object #{deed.number} in place of #{one.number}")
         return visit.go(url_for("person", name=one.name), "renumbered")
 
     def deed(self, visit: Visit, one: Listed, key: str, typed: str) -> Deed:

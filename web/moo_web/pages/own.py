@@ -9,7 +9,6 @@ from moo_web.pages.sign import CROWDED, SHORTEST_PASSWORD, new_password, sentenc
 from moo_web.paths import url_for
 from moo_web.people import sessions
 from moo_web.people.file import Wrong
-from moo_web.people.log import PeopleLog
 from moo_web.people.people import Crowded, People, TooMany, WrongPassword
 from moo_web.people.secret import mark_of
 from moo_web.people.tokens import LONGEST_LABEL, Terms
@@ -22,8 +21,8 @@ USUAL_DAYS = 90
 class OwnPages:
     """What this page does."""
 
-    def __init__(self, people: People, log: PeopleLog) -> None:
-        self.people, self.log = people, log
+    def __init__(self, people: People) -> None:
+        self.people = people
 
     def show(self, visit: Visit, wrong: str = "", status: int = 200, made: str = "") -> Reply:
         """The page, with what is wrong, or with a token that was made."""
@@ -50,7 +49,6 @@ class OwnPages:
             return self.show(visit, CROWDED, 503)
         except Wrong as wrong:
             return self.show(visit, sentence(str(wrong)), 400)
-        self.log(visit.name, "changed their password")
         return went(url_for("in", said="password"), sessions.no_cookie())
 
     def set_zone(self, visit: Visit) -> Reply:
@@ -72,18 +70,15 @@ class OwnPages:
             made = self.people.tokens.make(visit.name, terms, is_only=True)
         except Wrong as wrong:
             return self.show(visit, sentence(str(wrong)), 400)
-        self.log(visit.name, f"made the token {label!r} of {visit.name}{', for reading alone' if terms.is_read_only else ''}")
         return self.show(visit, made=made)
 
     def end(self, visit: Visit) -> Reply:
         """Ends one of the person's sessions or tokens."""
-        end_one(self.people, self.log, visit, visit.name)
+        end_one(self.people, visit, visit.name)
         return visit.go(url_for("you"), "ended")
 
 
-def end_one(people: People, log: PeopleLog, visit: Visit, name: str) -> None:
+def end_one(people: People, visit: Visit, name: str) -> None:
     """Ends the session or the token of a person that a form names. One that has ended already is left as it is."""
-    if token := people.tokens.end_one(name, visit.form.get("token", "")):
-        log(visit.name, f"ended the token {token.label!r} of {name}")
-    if people.end_session(name, visit.form.get("session", "")):
-        log(visit.name, f"ended a session of {name}")
+    people.tokens.end_one(name, visit.form.get("token", ""))
+    people.end_session(name, visit.form.get("session", ""))

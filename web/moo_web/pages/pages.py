@@ -312,6 +312,7 @@ class Pages:
     def error(self, request: Request, reply: Reply, parts: dict[str, Any]) -> Reply:
         """The page for an answer that isn't a good one."""
         word, why = parts.get("error"), str(parts.get("why", ""))
+        request.refusal = str(word)
         title, text = ERROR_TEXTS.get(str(word), ERROR_TEXTS["internal"])
         session = None
         with contextlib.suppress(sqlite3.Error):

@@ -7,7 +7,6 @@ from moo_web.pages.pages import LONGEST_KEPT, Pages, Visit, went
 from moo_web.paths import url_for
 from moo_web.people import sessions
 from moo_web.people.file import Wrong
-from moo_web.people.log import PeopleLog
 from moo_web.people.people import Crowded, People, TooMany, WrongPassword
 
 SHORTEST_PASSWORD = 8
@@ -19,8 +18,8 @@ CROWDED = "Too many people sign in at this moment. Try again."
 class Sign:
     """What these pages do."""
 
-    def __init__(self, pages: Pages, people: People, log: PeopleLog) -> None:
-        self.pages, self.people, self.log = pages, people, log
+    def __init__(self, pages: Pages, people: People) -> None:
+        self.pages, self.people = pages, people
 
     def form(self, request: Request) -> Reply:
         """The page to sign in."""
@@ -77,7 +76,6 @@ class Sign:
         signed = self.people.enter(name, request.address) if name else None
         if name is None or signed is None:
             return self.link_page(request, secret)
-        self.log(name, "set a password by a link")
         self.people.sign_out(sessions.secret_of(request))
         return went(url_for("home"), sessions.new_cookie(signed.secret))
 

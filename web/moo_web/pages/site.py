@@ -22,7 +22,6 @@ from moo_web.pages.own import OwnPages
 from moo_web.pages.pages import Pages
 from moo_web.world.properties import SightNames
 from moo_web.pages.sign import Sign
-from moo_web.people.log import PeopleLog
 from moo_web.people.people import People
 from moo_web.world.asking import Asker
 from moo_web.world.definers import Definers
@@ -38,19 +37,18 @@ def make_pages(
     pages = Pages(app, people, index, asker, history, rate)
     pages.sight_names = names
     pages.open("GET", "programs", lambda request: programs.page(pages, request))
-    log = PeopleLog(app.tell, people.clock)
-    add_pages_to_sign_in(pages, people, log)
+    add_pages_to_sign_in(pages, people)
     add_pages_to_read(pages, history, Definers(index, asker), names)
     recent = Recent(writer, history)
     previews = Previews(Questions(writer.door), writer, recent)
     add_pages_to_change(pages, previews, recent, history)
-    add_pages_of_people(pages, people, log, previews, recent)
+    add_pages_of_people(pages, people, previews, recent)
     return pages
 
 
-def add_pages_to_sign_in(pages: Pages, people: People, log: PeopleLog) -> None:
+def add_pages_to_sign_in(pages: Pages, people: People) -> None:
     """The pages to sign in and out, and a person's own."""
-    sign, own = Sign(pages, people, log), OwnPages(people, log)
+    sign, own = Sign(pages, people), OwnPages(people)
     pages.open("GET", "in", sign.form)
     pages.open("POST", "in", sign.sign_in)
     pages.open("GET", "link", sign.link)
@@ -63,10 +61,10 @@ def add_pages_to_sign_in(pages: Pages, people: People, log: PeopleLog) -> None:
     pages.post("end", own.end)
 
 
-def add_pages_of_people(pages: Pages, people: People, log: PeopleLog, previews: Previews, recent: Recent) -> None:
+def add_pages_of_people(pages: Pages, people: People, previews: Previews, recent: Recent) -> None:
     """The pages by which wizards see people, let them in and keep them out."""
-    accounts = AccountPages(people, log)
-    newcomers = NewcomerPages(previews, recent, people, log, accounts.show)
+    accounts = AccountPages(people)
+    newcomers = NewcomerPages(previews, recent, people, accounts.show)
     pages.get("people", newcomers.all)
     pages.post("people", newcomers.add, is_kept=True)
     pages.get("person", accounts.show)

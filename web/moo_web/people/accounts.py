@@ -10,6 +10,7 @@ import sys
 from pathlib import Path
 from typing import Callable
 
+from moo_web.people.audit import audit_to_system
 from moo_web.people.checking import checked
 from moo_web.people.file import Wrong
 from moo_web.people.people import People
@@ -180,7 +181,9 @@ def main() -> None:
     said = read_words(sys.argv[1:])
     only_ours()
     try:
-        COMMANDS[said.command](People(file_of(said)), said)
+        people = People(file_of(said))
+        people.audit = audit_to_system("moo-people")
+        COMMANDS[said.command](people, said)
     except (Wrong, Failed, OSError, sqlite3.Error) as error:
         sys.exit(f"moo-people: {error}")
     except KeyboardInterrupt:

@@ -10,6 +10,8 @@ import time
 from pathlib import Path
 from typing import Any, Callable, Iterator
 
+from moo_web.people.audit import Audit, no_audit
+
 # What makes each version of the file of the one before it. The first makes it of nothing.
 STEPS = (
     """
@@ -42,6 +44,8 @@ class PeopleFile:
 
     def __init__(self, path: Path, clock: Callable[[], float] = time.time) -> None:
         self.path, self.clock = path, clock
+        # Is told what is done, for the log.
+        self.audit: Audit = no_audit
         self.lock = threading.RLock()
         os.close(os.open(path, os.O_RDWR | os.O_CREAT, 0o600))
         self.base = sqlite3.connect(path, timeout=10, isolation_level=None, check_same_thread=False)

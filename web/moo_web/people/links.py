@@ -28,7 +28,9 @@ class Links:
             self.file.must_be(name)
             if self.file.row("SELECT is_disabled FROM person WHERE name = ?", name)[0]:
                 raise Wrong(f"{name} is disabled")
-            return self.made(name)
+            secret = self.made(name)
+        self.file.audit("link made", name=name)
+        return secret
 
     def made(self, name: str) -> str:
         """The same, within a transaction of the caller's, of somebody who is there."""
@@ -54,6 +56,8 @@ class Links:
             name = self.whose(secret)
             if name is not None:
                 self.set_password(name, kept)
+        if name is not None:
+            self.file.audit("link used", name=name)
         return name
 
     def set_password(self, name: str, kept: str) -> None:

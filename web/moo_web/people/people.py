@@ -12,6 +12,7 @@ from pathlib import Path
 from typing import Callable, NamedTuple
 
 from moo_web.people import passwords
+from moo_web.people.audit import SIGN_IN_FAILED, SIGN_IN_REFUSED, SIGNED_IN
 from moo_web.people.file import PeopleFile, Wrong
 from moo_web.people.limits import BackOff, Rate, network_of
 from moo_web.people.links import Links
@@ -118,6 +119,7 @@ class People(PeopleFile):
         kept = passwords.kept_of(password)
         with self.change():
             self.insert(name, number, kept)
+        self.audit("account made", name=name, number=number)
 
     def add_by_link(self, name: str, number: int) -> str:
         """A new person without a password, and the secret of the link by which they set one. `Wrong`: as `add` has it."""
@@ -125,7 +127,10 @@ class People(PeopleFile):
         test_number(number)
         with self.change():
             self.insert(name, number, passwords.NONE)
-            return self.links.made(name)
+            secret = self.links.made(name)
+        self.audit("account made", name=name, number=number)
+        self.audit("link made", name=name)
+        return secret
 
     def insert(self, name: str, number: int, kept: str) -> None:
         """A new person, within a transaction. `Wrong`: as `test_new` has it."""
@@ -140,6 +145,7 @@ class People(PeopleFile):
         with self.change():
             self.must_be(name)
             self.links.set_password(name, kept)
+        self.audit("password changed", name=name)
 
     def renumber(self, name: str, number: int) -> None:
         """Another object, as which the person acts from now on, by the sessions and tokens that are there too.
@@ -148,8 +154,15 @@ class People(PeopleFile):
         """
         test_number(number)
         with self.change():
-            self.must_be(name)
+            before = self.number_of(name)
             self.base.execute("UPDATE person SET number = ? WHERE name = ?", (number, name))
+        self.audit("account renumbered", name=name, number=number, before=before)
+
+    def number_of(self, name: str) -> int:
+        """The object of a person. `Wrong`: nobody has the name."""
+        self.must_be(name)
+        number: int = self.row("SELECT number FROM person WHERE name = ?", name)[0]
+        return number
 
     def disable(self, name: str) -> None:
         """Keeps a person out, and ends the sessions, the tokens and the link. `Wrong`: nobody has the name."""
@@ -157,19 +170,22 @@ class People(PeopleFile):
             self.must_be(name)
             self.base.execute("UPDATE person SET is_disabled = 1 WHERE name = ?", (name,))
             self.forget(name, "session", "token", "link")
+        self.audit("account disabled", name=name)
 
     def enable(self, name: str) -> None:
         """Lets a person in again, with the old password. `Wrong`: nobody has the name."""
         with self.change():
             self.must_be(name)
             self.base.execute("UPDATE person SET is_disabled = 0 WHERE name = ?", (name,))
+        self.audit("account enabled", name=name)
 
     def remove(self, name: str) -> None:
         """Removes a person with all that is kept of them. The name may be given again. `Wrong`: nobody has it."""
         with self.change():
-            self.must_be(name)
+            number = self.number_of(name)
             self.base.execute("DELETE FROM person WHERE name = ?", (name,))
             self.forget(name, *KEPT)
+        self.audit("account removed", name=name, number=number)
 
     def forget(self, name: str, *tables: str) -> None:
         """Removes what these tables have of a person, within a transaction."""
@@ -213,6 +229,19 @@ class People(PeopleFile):
     # Sessions
 
     def sign_in(self, name: str, password: str, address: str) -> SignedIn:
+        """A new session, or as `tried` has it. The log is told of either."""
+        try:
+            signed = self.tried(name, password, address)
+        except WrongPassword:
+            self.audit(SIGN_IN_FAILED, address=address, name=name)
+            raise
+        except TooMany:
+            self.audit(SIGN_IN_REFUSED, address=address)
+            raise
+        self.audit(SIGNED_IN, address=address, name=signed.session.person.name)
+        return signed
+
+    def tried(self, name: str, password: str, address: str) -> SignedIn:
         """A new session. `WrongPassword`, `TooMany`, `Crowded`: there is none.
 
         Who fails waits, by the name and the address together, and by the address. With a name that many strangers try, those wait who come
@@ -283,7 +312,10 @@ class People(PeopleFile):
         """A new session of a person who needn't be asked for a password. None: nobody has the name, or they are disabled."""
         with self.change():
             found = self.row("SELECT name, number FROM person WHERE name = ? AND NOT is_disabled", name)
-            return self.session_for(Person(*found), network_of(address)) if found else None
+            signed = self.session_for(Person(*found), network_of(address)) if found else None
+        if signed:
+            self.audit(SIGNED_IN, address=address, name=signed.session.person.name)
+        return signed
 
     def session(self, secret: str) -> Session | None:
         """The session of a cookie's secret. It ends 12 hours after its last use, and 7 days after it began."""
@@ -302,8 +334,12 @@ class People(PeopleFile):
 
     def sign_out(self, secret: str) -> None:
         """Ends a session."""
+        kept = hash_of(secret)
         with self.change():
-            self.base.execute("DELETE FROM session WHERE hash = ?", (hash_of(secret),))
+            found = self.row("SELECT name FROM session WHERE hash = ?", kept)
+            self.base.execute("DELETE FROM session WHERE hash = ?", (kept,))
+        if found:
+            self.audit("signed out", name=found[0])
 
     def sessions_of(self, name: str) -> list[ListedSession]:
         """The sessions of a person that haven't ended, the one that was used last first. `Wrong`: nobody has the name."""
@@ -319,4 +355,7 @@ class People(PeopleFile):
     def end_session(self, name: str, mark: str) -> bool:
         """Ends the session of a person that this mark names. False: there is no such session any more."""
         with self.change():
-            return self.base.execute(f"DELETE FROM session WHERE name = ? AND {MARK} = ?", (name, mark)).rowcount > 0
+            is_ended = self.base.execute(f"DELETE FROM session WHERE name = ? AND {MARK} = ?", (name, mark)).rowcount > 0
+        if is_ended:
+            self.audit("session ended", name=name)
+        return is_ended

@@ -88,6 +88,7 @@ class Tokens:
                 "INSERT INTO token (hash, name, made, label, until, is_read_only) VALUES (?, ?, ?, ?, ?, ?)",
                 (hash_of(secret), name, now, terms.label, until, terms.is_read_only),
             )
+        file.audit("token made", name=name, label=terms.label, days=terms.days, read_only="yes" if terms.is_read_only else "")
         return secret
 
     def bearer(self, secret: str) -> Bearer | None:
@@ -118,6 +119,7 @@ class Tokens:
         with self.file.change():
             self.file.must_be(name)
             self.file.base.execute("DELETE FROM token WHERE name = ?", (name,))
+        self.file.audit("tokens ended", name=name)
 
     def end(self, name: str, label: str) -> None:
         """Ends the tokens of a person that have this label. `Wrong`: nobody has the name, or there is none."""
@@ -125,6 +127,7 @@ class Tokens:
             self.file.must_be(name)
             if not self.file.base.execute("DELETE FROM token WHERE name = ? AND label = ?", (name, label)).rowcount:
                 raise Wrong(f"{name} has no token with the label {label!r}")
+        self.file.audit("tokens ended", name=name, label=label)
 
     def end_one(self, name: str, mark: str) -> Token | None:
         """Ends the token of a person that this mark names, and gives it. None: there is no such token any more."""
@@ -132,4 +135,6 @@ class Tokens:
             found = next((one for one in self.of(name) if one.mark == mark), None)
             if found:
                 self.file.base.execute(f"DELETE FROM token WHERE name = ? AND {MARK} = ?", (name, mark))
+        if found:
+            self.file.audit("token ended", name=name, label=found.label)
         return found

@@ -14,7 +14,7 @@ import socket
 import threading
 import time
 from collections.abc import Iterable
-from typing import Any, NamedTuple
+from typing import Any, Callable, NamedTuple
 
 from waitress.adjustments import Adjustments
 from waitress.buffers import ReadOnlyFileBasedBuffer
@@ -214,9 +214,12 @@ class Patient:
     """What lets slow and silent peers go, for servers."""
 
     active_channels: dict[int, Channel]
+    # What is called about once a second, as long as the loop turns.
+    beat: Callable[[], None]
 
     def maintenance(self, now: float) -> None:
         """Closes each connection whose peer is late, or that is let go. A peer that reads nothing can't be written to, so this waits for none."""
+        self.beat()
         for channel in list(self.active_channels.values()):
             if channel.will_close or channel.is_late(now):
                 channel.will_close = True
@@ -247,8 +250,17 @@ class Way(NamedTuple):
         )  # fmt: skip
 
 
-def listen(app: Any, ways: Iterable[Way], room: Room, places: Places) -> Any:
-    """The server at these sockets. It knows the port of the last."""
+def open_connections(server: Any) -> int:
+    """How many connections a server has."""
+    return sum(isinstance(one, Channel) for one in list(server._map.values()))
+
+
+def do_nothing() -> None:
+    """What a loop does if nobody wants to know that it turns."""
+
+
+def listen(app: Any, ways: Iterable[Way], room: Room, places: Places, beat: Callable[[], None] = do_nothing) -> Any:
+    """The server at these sockets. It knows the port of the last. While its loop turns, `beat` is called about once a second."""
     channel = type("Channel", (Channel,), {"room": room})
     shared: dict[int, Any] = {}
     server: Any = None
@@ -257,5 +269,5 @@ def listen(app: Any, ways: Iterable[Way], room: Room, places: Places) -> Any:
         kind = UnixServer if own.family == socket.AF_UNIX else TcpServer
         where = (own.family, own.type, own.proto, own.getsockname())
         server = kind(app, shared, True, own, dispatcher=places, adj=way.adjustments(), bind_socket=False, sockinfo=where)
-        server.channel_class = channel
+        server.channel_class, server.beat = channel, beat
     return server

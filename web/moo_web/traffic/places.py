@@ -41,6 +41,8 @@ class Places:
         # How many places an address has, and how many one of its persons. `idle` are those that nobody has.
         self.taken: dict[tuple[str, ...], int] = {}
         self.idle, self.is_over = 0, False
+        # When a request has got a place, or given it back, last.
+        self.moved_at = time.monotonic()
         # Whose request the present thread answers, and whether it has given its place away.
         self.own = threading.local()
         for number in range(count):
@@ -99,6 +101,7 @@ class Places:
                 waiter = self.line.take(self.may_enter)
                 if waiter:
                     del self.waiters[waiter]
+                    self.moved_at = time.monotonic()
                     for key in keys_of(waiter.visitor):
                         self.taken[key] = self.taken.get(key, 0) + 1
                 if self.waiters:
@@ -119,6 +122,7 @@ class Places:
     def leave(self, visitor: Visitor) -> None:
         """Gives a place back. The thread that had it takes the next request, so none else need know."""
         with self.lock:
+            self.moved_at = time.monotonic()
             for key in keys_of(visitor):
                 self.taken[key] -= 1
                 if not self.taken[key]:

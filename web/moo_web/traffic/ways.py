@@ -2,6 +2,7 @@
 
 from __future__ import annotations
 
+import functools
 import os
 import socket
 import stat
@@ -13,11 +14,16 @@ FIRST_SOCKET = 3
 PROXY_MODE = 0o660
 
 
-def given_socket() -> socket.socket | None:
-    """The listening socket that systemd gives, if it does."""
-    if os.environ.get("LISTEN_PID") == str(os.getpid()) and os.environ.get("LISTEN_FDS"):
-        return socket.socket(fileno=FIRST_SOCKET)
-    return None
+@functools.lru_cache(maxsize=None)
+def given_sockets() -> list[socket.socket]:
+    """The listening sockets that systemd gives. They are kept: one that isn't would be closed."""
+    count = int(os.environ.get("LISTEN_FDS") or 0) if os.environ.get("LISTEN_PID") == str(os.getpid()) else 0
+    return [socket.socket(fileno=FIRST_SOCKET + place) for place in range(count)]
+
+
+def given_socket(status_port: int | None = None) -> socket.socket | None:
+    """That of them for people, if there is one: the first that isn't the status port."""
+    return next((one for one in given_sockets() if one.getsockname()[1] != status_port), None)
 
 
 def own_socket(port: int) -> socket.socket:

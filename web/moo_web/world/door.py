@@ -6,6 +6,7 @@ A request that changes nothing is sent again until an answer comes (`Door.asked`
 from __future__ import annotations
 
 import time
+from typing import IO, Callable
 
 from moolib.errors import TooLong, Unreachable
 from moolib.service import WAIT, Answer, Service, batch_body, packed
@@ -15,6 +16,13 @@ from moo_web.traffic.turns import Turnstile
 __all__ = ["Answer", "Door", "TooLong", "Unreachable", "batch_body", "packed", "said_by"]
 # A longer answer isn't taken, but for a dump.
 LONGEST_ANSWER = 1 << 24
+
+# Is given each request that was sent to moo: its target, how many seconds it took, and the answer, if one came.
+Note = Callable[[str, float, "Answer | None"], None]
+
+
+def no_note(target: str, seconds: float, answer: Answer | None) -> None:
+    """Takes note of nothing."""
 
 
 def said_by(status: int, **parts: object) -> Answer:
@@ -28,17 +36,33 @@ class Door(Service):
 
     is_bounded = True
 
-    def __init__(self, port: int, wait: float = WAIT, turnstile: Turnstile | None = None) -> None:
+    def __init__(self, port: int, wait: float = WAIT, turnstile: Turnstile | None = None, note: Note = no_note) -> None:
         super().__init__(port, wait=wait, longest=LONGEST_ANSWER)
-        self.turnstile = turnstile
+        self.turnstile, self.note = turnstile, note
 
     def sent(self, method: str, route: str, body: bytes | None = None, wait: float | None = None) -> Answer:
         """The answer to one request, whatever it says. With a turnstile it has its turn first, or `NobodyWaits`."""
         if self.turnstile is None:
-            return super().sent(method, route, body, wait)
+            return self.timed(method, route, body, wait)
         end = time.monotonic() + (self.wait if wait is None else wait)
         with self.turnstile.turn(end):
-            return super().sent(method, route, body, max(0.0, end - time.monotonic()))
+            return self.timed(method, route, body, max(0.0, end - time.monotonic()))
+
+    def timed(self, method: str, route: str, body: bytes | None, wait: float | None) -> Answer:
+        """The same at once, of which note is taken."""
+        began, answer = time.monotonic(), None
+        try:
+            answer = super().sent(method, route, body, wait)
+            return answer
+        finally:
+            self.note(route, time.monotonic() - began, answer)
+
+    def copied(self, route: str, file: IO[bytes]) -> Answer | None:
+        """As a service has it, of which note is taken too."""
+        began = time.monotonic()
+        refusal = super().copied(route, file)
+        self.note(route, time.monotonic() - began, refusal or said_by(200))
+        return refusal
 
     def asked(self, method: str, path: str, body: bytes | None, end: float) -> Answer:
         """The answer to a request that changes nothing. It is sent again until one comes, or until the moment `end` of the monotonic clock.
