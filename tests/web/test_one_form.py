@@ -124,6 +124,13 @@ class Editing(OneFormTest):
         self.has(ada.send("Do it"), "Others have changed the world", 'taste now: "sour"', status=409)
         self.is_done(ada.send("Do it"))
 
+    def test_what_was_typed_for_a_property_that_is_gone_is_told(self):
+        ada = self.somebody("ada")
+        ada.get("/edit/10")
+        self.write("wizard", 'delete_property(#9, "taste")')
+        self.has(ada.send("Preview", name="pear", **{TASTE: "sweet"}), "isn’t there any more", "“sweet”", "Nothing was sent.", status=409)
+        self.has(ada.send("Preview"), "This would be done", "is called “pear”", status=200)
+
     def test_a_button_that_is_pressed_twice_acts_once(self):
         ada = self.somebody("ada")
         for path, typed in (("/edit/10", {"name": "pear"}), ("/edit/new?parent=9", {"name": "plum"})):

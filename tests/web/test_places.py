@@ -111,7 +111,7 @@ class Objects(PlaceTest):
         self.assertEqual(tidied(answer), "")
         for words in (
             "a kind of generic room #4", "The Square #5 Lime trees stand round a fountain. It is dry.", "Exits east The Inn south The Cellar",
-            "Go there Describe Rename Move Make something in it More", "Owner Wizard #3", "Accepts Root Class #1",
+            "Go there Edit Describe Rename Move Make something in it More", "Owner Wizard #3", "Accepts Root Class #1",
         ):  # fmt: skip
             with self.subTest(words=words):
                 self.assertIn(words, answer.text)
@@ -152,7 +152,7 @@ class Objects(PlaceTest):
 class OtherNames(PlaceTest):
     def test_the_operator_names_the_properties(self):
         from moo_web.journal.history import History
-        from moo_web.pages.sight import SightNames
+        from moo_web.world.properties import SightNames
         from moo_web.pages.site import make_pages
 
         self.app.routes.clear()

@@ -51,6 +51,7 @@ OLD_PROGRAM = Kind("old", "programs from an older format version, written unchan
 BY_NAMES = Kind("arguments", "programs given by their names to a verb of other arguments")
 BY_PLACE = Kind("place", "programs given by their place to a verb of other names")
 TWINS = Kind("twins", "programs given by their order to one of several verbs of the same names and arguments")
+NAMESAKES = Kind("twins", "programs given by their arguments to one of several verbs of the same names, of which some have changed")
 MOVED = Kind("order", "programs given by their names to a verb that has another place among the object's verbs")
 
 

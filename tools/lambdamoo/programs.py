@@ -8,7 +8,7 @@ from __future__ import annotations
 from collections.abc import Callable, Hashable
 from typing import NamedTuple, Optional
 
-from lambdamoo.losses import BY_NAMES, BY_PLACE, MOVED, TWINS, Kind
+from lambdamoo.losses import BY_NAMES, BY_PLACE, MOVED, NAMESAKES, TWINS, Kind
 
 # The bits of a verb's number above its rights: its direct and indirect objects.
 ARGUMENTS_SHIFT = 4
@@ -76,6 +76,13 @@ class Matching:
             wanted = self.now[place][:2]
             if any([header[:2] for header in verbs].count(wanted) > 1 for verbs in (self.before, self.now)):
                 self.doubts[place] = TWINS
+            elif self.have_changed(wanted[0]):
+                self.doubts[place] = NAMESAKES
+
+    def have_changed(self, names: str) -> bool:
+        """Whether there are several verbs of these names, and their arguments aren't those that they were."""
+        before, now = (sorted(header.arguments for header in verbs if header.names == names) for verbs in (self.before, self.now))
+        return before != now and max(len(before), len(now)) > 1
 
     def match_by_place(self) -> None:
         """Matches a verb that is left with one that may have been at its place, since verbs never change their order."""
@@ -95,7 +102,7 @@ class Matching:
         return place if place in self.left else None
 
     def doubt_order(self) -> None:
-        """A verb that has another place among the others was deleted and added, or others were renamed."""
+        """A verb that has a later place, or another one among the others, was deleted and added, or others were renamed."""
         for place, was in self.places.items():
-            if any((other < place) != (others < was) for other, others in self.places.items() if other != place):
+            if place > was or any((other < place) != (others < was) for other, others in self.places.items() if other != place):
                 self.doubts.setdefault(place, MOVED)

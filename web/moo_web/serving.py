@@ -118,7 +118,7 @@ def add_pages(app: App, people: People, writer: Writer, history: History, said: 
     """Puts the pages into the application, and gives them. Without Debian's python3-jinja2 there are none, and that is told."""
     sys.path.append(DEBIANS_MODULES)
     try:
-        from moo_web.pages.sight import SightNames
+        from moo_web.world.properties import SightNames
         from moo_web.pages.site import make_pages
     except ModuleNotFoundError as error:
         if error.name not in ("jinja2", "markupsafe"):

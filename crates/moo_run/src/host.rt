@@ -28,7 +28,7 @@ pub trait BatchFiles {
 
 /// What a host says of the file of a world on standard error.
 pub trait Advice {
-    /// Says why a file can't be opened, or is no database that is read here, if the host finds the reason; whether it did.
+    /// Says why the file of a path can't be opened or read as a database, if the host finds the reason; whether it did.
     fn explains(&self, path: &str) -> bool;
 
     /// Says that the pages of a file don't have the size at which a batch is fastest, if they don't.

@@ -40,7 +40,7 @@ pub(crate) fn read_front(rt: &HostRuntime, path: &str) -> Option<FileFront> {
     }
 }
 
-/// Whether a rollback journal lies beside the file of a path.
+/// Whether there is a rollback journal beside the file of a path.
 pub(crate) fn has_journal(rt: &HostRuntime, path: &str) -> bool {
     match format!(in rt.alloc(); "{path}-journal") {
         Ok(journal) => fs::metadata(rt, journal.as_str()).is_ok_and(|data| data.len() > 0),

@@ -19,8 +19,6 @@ from moo_web.forms.entries import Entry
 from moo_web.forms.forms import Ambiguous, Me, Names, Typed, filled_lines, object_value
 from moo_web.forms.input import Mistyped, clipped, test_letters
 
-# The property of a room that has its exits.
-EXITS = "exits"
 PAIRS = (
     ("north", "south"), ("east", "west"), ("northeast", "southwest"), ("northwest", "southeast"), ("up", "down"), ("in", "out"),
     ("enter", "leave"), ("n", "s"), ("e", "w"), ("ne", "sw"), ("nw", "se"), ("u", "d"),
@@ -123,7 +121,7 @@ class ExitsEntry(Entry):
                 there[one.to] = self.with_back(one, there.get(one.to))
             except Mistyped as mistyped:
                 raise Mistyped(f"Line {number}: {mistyped.reason}") from None
-        return [f"set(#{to}, {written(EXITS)}, {exits_value(some, self.subject)})" for to, some in there.items() if some != self.exits_of(to)]
+        return [f"set(#{to}, {written(self.field.label)}, {exits_value(some, self.subject)})" for to, some in there.items() if some != self.exits_of(to)]
 
     def with_back(self, one: Exit, there: list[Exit] | None) -> list[Exit]:
         """The exits of the place to which an exit leads, with the way back. `Mistyped`: there can't be one."""

@@ -5,13 +5,12 @@ from __future__ import annotations
 from collections.abc import Callable, Mapping
 
 from moo_web.app import Reply
-from moo_web.forms.entries import Differing, key_of, typed_with
-from moo_web.forms.exits import EXITS
-from moo_web.forms.forms import Form, object_value
+from moo_web.forms.entries import Differing, key_of, sum_of_typed, typed_with
+from moo_web.forms.forms import Field, Form, Typed, object_value
 from moo_web.forms.handlers import TROUBLES, FormPages, FormResult, me_of
 from moo_web.forms.input import Mistyped
 from moo_web.forms.table import NEW_ROWS, rows_in, table_form
-from moo_web.forms.views import NamesOf, chosen_of, default_of
+from moo_web.forms.views import NamesOf, by_field, chosen_of, default_of
 from moo_web.forms.whole import EntriesForm, edit_form, new_form
 from moo_web.journal.recent import Seen
 from moo_web.pages.pages import TRIES, Visit
@@ -19,6 +18,21 @@ from moo_web.world.asking import Moved
 from moo_web.world.door import Unreachable
 
 MOST_CLASSES = 200
+GONE = (
+    "Something that you changed isn’t there any more, or isn’t yours to write any more. What you typed for it: “{}”. Nothing was sent. "
+    "The rest is still here: look at it, and go on."
+)
+
+
+def unknown_texts(form: EntriesForm, typed: Typed) -> list[str]:
+    """What was typed in fields that were changed and that the form doesn't have any more."""
+    found = []
+    for key, part in by_field(typed).items():
+        was = part.get(f"{key}.was", "")
+        # A mark has 0 or 1 there, and no text.
+        if key not in form.keys and len(was) > 1 and was != sum_of_typed(Field(key, "", ""), part):
+            found.append(part.get(key, ""))
+    return found
 
 
 class EntriesPages(FormPages):
@@ -62,6 +76,8 @@ class EntriesPages(FormPages):
     def decided(self, visit: Visit, form: EntriesForm, typed: dict[str, str], found: Differing, go: str) -> Reply:
         """The page for what was changed: its mistakes, that it is nothing, or its preview. What was sent before may be there by now."""
         typed = typed_with(form.entries, typed)
+        if gone := unknown_texts(form, visit.form):
+            return self.page(visit, form, typed, found.mistakes, FormResult(trouble=GONE.format("”, “".join(gone)), status=409))
         if found.mistakes:
             return self.page(visit, form, typed, found.mistakes, FormResult(status=422))
         if not found.items and not (go in ("apply", "petition") and Seen.read(visit.form)):
@@ -115,9 +131,9 @@ class ObjectPages(EntriesPages):
         """What the address says for the fields of a new object: its name and place, properties by their names, and `from`, to which it leads."""
         keys = {"name": "name", "place": "place"} | {field.label: field.key for field in form.fields if field.key.startswith("p")}
         found = {keys[name]: text for name, text in visit.fields.items() if name in keys}
-        start = visit.fields.get("from", "")
-        if start.isascii() and start.isdigit() and int(start[:10]) in visit.world.things and key_of("p", EXITS) in form.keys:
-            found.setdefault(key_of("p", EXITS), f": {NamesOf(visit.world).short(int(start[:10]))}")
+        start, exits = visit.fields.get("from", ""), key_of("p", visit.pages.sight_names.exits)
+        if start.isascii() and start.isdigit() and int(start[:10]) in visit.world.things and exits in form.keys:
+            found.setdefault(exits, f": {NamesOf(visit.world).short(int(start[:10]))}")
         return found
 
 

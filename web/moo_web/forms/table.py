@@ -7,6 +7,7 @@ from __future__ import annotations
 
 import dataclasses
 from typing import NamedTuple
+from urllib.parse import quote
 
 from moolib.batches import Item
 from moolib.values import NoValue, Obj, Value, read, written
@@ -16,7 +17,7 @@ from moo_web.forms.exits import exits_in
 from moo_web.forms.forms import Field, Me, Mistake, Names, Typed, object_value, value_of_kind
 from moo_web.forms.input import Mistyped, typed_as
 from moo_web.forms.views import NamesOf
-from moo_web.forms.whole import EntriesForm, form_of, may_write, pairs_on, setting
+from moo_web.forms.whole import EntriesForm, form_of, is_exits, may_write, pairs_on, setting
 from moo_web.pages.lists import part_of
 from moo_web.pages.pages import Visit
 from moo_web.paths import url_for
@@ -92,6 +93,10 @@ class TableForm(EntriesForm):
         """The entries by the keys of their fields."""
         return {entry.field.key: entry for entry in self.entries}
 
+    def page_path(self, page: int) -> str:
+        """The address of a page of the children, with the same columns."""
+        return url_for("class", number=self.number, page=page, **{f"p.{quote(name)}": "on" for name in self.columns})
+
     def differing(self, typed: Typed, names: Names, me: Me) -> Differing:
         """The calls for the rows that were changed and for the new ones, and the mistakes."""
         made = {row.name for row in self.new} | {cell.field.key for row in self.new for cell in row.cells}
@@ -142,7 +147,7 @@ def columns_on(visit: Visit, number: int) -> list[Property]:
     pairs = pairs_on(visit, number)[:MOST_OFFERED]
     visit.answers(property_calls(number, pairs, [above.number for above in visit.world.chain(number)]))
     found = [one for one in properties_of(visit, number, pairs) if may_write(visit, one, is_new=True)]
-    return [one for one in found if not (one.name.lower() == "exits" and exits_in(one.value) is not None)]
+    return [one for one in found if not (is_exits(visit, one) and exits_in(one.value) is not None)]
 
 
 def names_in(asked: Typed, all_names: list[str]) -> list[str]:

@@ -10,7 +10,7 @@ from moolib.batches import Item
 from moolib.values import Obj, written
 
 from moo_web.forms.entries import Differing, Entry, differing, key_of
-from moo_web.forms.exits import EXITS, HINT, Exit, ExitsEntry, exits_in, exits_text
+from moo_web.forms.exits import HINT, Exit, ExitsEntry, exits_in, exits_text
 from moo_web.forms.forms import Field, Form, Me, Names, Typed
 from moo_web.forms.views import NamesOf, typed_now
 from moo_web.pages.lists import part_of
@@ -19,9 +19,6 @@ from moo_web.paths import url_for
 from moo_web.world.properties import Property, PropertyNames, names_on, properties_of, property_calls
 from moo_web.world.things import NOTHING, Thing
 
-# The properties that come first, and are asked for even if their names may not be listed.
-DESCRIPTION = "description"
-FIRST = (DESCRIPTION, EXITS)
 # So many properties are in one form.
 MOST = 60
 NEW = "$new"
@@ -68,7 +65,7 @@ def edit_form(visit: Visit, number: int, page: str) -> EntriesForm:
     of_properties = [property_entry(visit, it, one, number) for one in found]
     own = own_entries(visit, thing, it) if part.number == 1 else []
     form = EntriesForm(
-        "edit", f"Edit {visit.short(number)}", EDITED, (), (), entries=in_order([*own, *of_properties]), path=url_for("edit", number=number),
+        "edit", f"Edit {visit.short(number)}", EDITED, (), (), entries=in_order(visit, [*own, *of_properties]), path=url_for("edit", number=number),
         number=number, part=part.number, parts=part.pages,
     )  # fmt: skip
     return form_of(form, Field("page", "Page", "hidden", default=str(part.number)))
@@ -80,7 +77,7 @@ def new_form(visit: Visit, parent: int) -> EntriesForm:
     visit.answers(property_calls(parent, list(part.items), [above.number for above in visit.world.chain(parent)]))
     found = [one for one in properties_of(visit, parent, list(part.items)) if may_write(visit, one, is_new=True)]
     made = Thing(NOTHING, "", visit.number, parent, NOTHING, 0)
-    entries = in_order([*own_entries(visit, made, NEW), *(property_entry(visit, NEW, one, NOTHING) for one in found)])
+    entries = in_order(visit, [*own_entries(visit, made, NEW), *(property_entry(visit, NEW, one, NOTHING) for one in found)])
     form = EntriesForm(
         "new", f"A new object under {visit.short(parent)}", MADE_NEW, (), (), entries=entries, path=url_for("new"), number=parent,
         first=(Item(f"create(#{parent})", NEW),), parts=part.pages,
@@ -92,8 +89,18 @@ def pairs_on(visit: Visit, number: int) -> list[tuple[int, str]]:
     """The properties on an object, each with its definer: the usual ones first, even if their names may not be listed."""
     names: PropertyNames = names_on(visit, number)
     known = {name.lower(): (definer, name) for definer, name in names.pairs}
-    first = [known.pop(name, (NOTHING, name)) for name in FIRST if name in known or names.hidden]
+    first = [known.pop(name, (NOTHING, name)) for name in first_names(visit) if name in known or names.hidden]
     return [*first, *known.values()]
+
+
+def first_names(visit: Visit) -> tuple[str, ...]:
+    """The properties that come first, in small letters, and are asked for even if their names may not be listed: a description and exits."""
+    return tuple(name.lower() for name in visit.pages.sight_names)
+
+
+def is_exits(visit: Visit, one: Property) -> bool:
+    """Whether a property is the one that has the exits of a room."""
+    return one.name.lower() == visit.pages.sight_names.exits.lower()
 
 
 def may_write(visit: Visit, one: Property, is_new: bool = False) -> bool:
@@ -133,8 +140,8 @@ def property_entry(visit: Visit, it: str, one: Property, number: int) -> Entry:
     short = NamesOf(visit.world).short
     is_own = one.source == number
     hint = "" if is_own or one.source is None else f"As {short(one.source)} has it, until you change it."
-    key, section = key_of("p", one.name), "" if one.name.lower() in FIRST else OTHERS
-    exits = exits_in(one.value) if one.name.lower() == EXITS else None
+    key, section = key_of("p", one.name), "" if one.name.lower() in first_names(visit) else OTHERS
+    exits = exits_in(one.value) if is_exits(visit, one) else None
     if exits is not None:
         return exits_entry(visit, it, key, one, exits)
     field = Field(key, one.name, "value", hint, section=section)
@@ -157,12 +164,13 @@ def exits_entry(visit: Visit, it: str, key: str, one: Property, exits: list[Exit
 
 def exits_of(visit: Visit, number: int) -> Union[list[Exit], None]:
     """The exits of a place, as far as the person may read them."""
-    (value,) = visit.answers([f"get(#{number}, {written(EXITS)})"])
+    (value,) = visit.answers([f"get(#{number}, {written(visit.pages.sight_names.exits)})"])
     return exits_in(value)
 
 
-def in_order(entries: list[Entry]) -> tuple[Entry, ...]:
+def in_order(visit: Visit, entries: list[Entry]) -> tuple[Entry, ...]:
     """The entries in the order of the page: the name, what it looks like, its exits, its place, other properties, marks."""
     sections = ["", OTHERS, MARKED]
-    first = {"name": 0, key_of("p", DESCRIPTION): 1, key_of("p", EXITS): 2, "place": 3}
+    names = visit.pages.sight_names
+    first = {"name": 0, key_of("p", names.description): 1, key_of("p", names.exits): 2, "place": 3}
     return tuple(sorted(entries, key=lambda entry: (sections.index(entry.field.section), first.get(entry.field.key, 4))))

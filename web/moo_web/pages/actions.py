@@ -5,7 +5,7 @@ from __future__ import annotations
 from typing import NamedTuple
 
 from moo_web.pages.pages import Visit
-from moo_web.pages.sight import SightNames
+from moo_web.world.properties import SightNames
 from moo_web.paths import form_for, url_for
 
 

@@ -12,7 +12,7 @@ from typing import NamedTuple, Optional
 from moolib.values import written
 
 from moo_web.pages.pages import Visit
-from moo_web.pages.sight import DESTINATION, MOST_EXITS, Exit, SightNames, exits_in, leading
+from moo_web.pages.sight import DESTINATION, MOST_EXITS, Exit, exits_in, leading
 
 # So many places are drawn.
 MOST_PLACES = 60

@@ -12,7 +12,7 @@ from moo_web.pages.joined import pictured, walked
 from moo_web.pages.lists import part_of
 from moo_web.pages.pages import Visit
 from moo_web.pages.picture import drawn
-from moo_web.pages.sight import SightNames
+from moo_web.world.properties import SightNames
 from moo_web.paths import url_for
 from moo_web.world.things import NOTHING
 from moo_web.world.trees import tree

@@ -34,6 +34,7 @@ from moo_web.people.people import People, Session
 from moo_web.world.asking import Asker, Moved
 from moo_web.world.door import Unreachable
 from moo_web.world.index import Index
+from moo_web.world.properties import SightNames
 from moo_web.world.things import World
 
 HERE = Path(__file__).parents[1]
@@ -176,6 +177,8 @@ class Pages:
         self.names: set[str] = set()
         # The addresses of the forms that change a property or a verb, by `property` and `verb`.
         self.changes = {"property": url_for("form", key="set"), "verb": url_for("form", key="verb-rights")}
+        # The properties that say what is seen at a place.
+        self.sight_names = SightNames()
         loader = jinja2.FileSystemLoader(HERE / "templates")
         self.templates = jinja2.Environment(
             loader=loader, autoescape=True, undefined=jinja2.StrictUndefined, trim_blocks=True, lstrip_blocks=True, auto_reload=False

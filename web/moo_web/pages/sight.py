@@ -13,18 +13,12 @@ from moolib.values import Obj, written
 
 from moo_web.pages.pages import Visit
 from moo_web.world.asking import Refusal
+from moo_web.world.properties import SightNames
 
 DESTINATION = "dest"
 # So much of a description is shown, and so many exits, people and things.
 LONGEST_DESCRIPTION = 4000
 MOST_EXITS, MOST_HERE = 60, 24
-
-
-class SightNames(NamedTuple):
-    """The names of the properties that say what somebody sees."""
-
-    description: str = "description"
-    exits: str = "exits"
 
 
 class Exit(NamedTuple):

@@ -20,7 +20,7 @@ from moo_web.pages.accounts import AccountPages
 from moo_web.pages.differences import differences
 from moo_web.pages.own import OwnPages
 from moo_web.pages.pages import Pages
-from moo_web.pages.sight import SightNames
+from moo_web.world.properties import SightNames
 from moo_web.pages.sign import Sign
 from moo_web.people.people import People
 from moo_web.world.asking import Asker
@@ -35,6 +35,7 @@ def make_pages(
     index, asker = Index(writer.door, lambda: writer.stopped is not None), Asker(writer.door)
     writer.listeners.append(index.take)
     pages = Pages(app, people, index, asker, history, rate)
+    pages.sight_names = names
     pages.open("GET", "programs", lambda request: programs.page(pages, request))
     add_pages_to_sign_in(pages, people)
     add_pages_to_read(pages, history, Definers(index, asker), names)

@@ -15,6 +15,13 @@ if TYPE_CHECKING:
 MOST = 200
 
 
+class SightNames(NamedTuple):
+    """The names of the properties that say what somebody sees."""
+
+    description: str = "description"
+    exits: str = "exits"
+
+
 class Property(NamedTuple):
     """A property on an object. `definer` is the object that defines it; -1, if the person may not list what that one defines.
 
