@@ -253,6 +253,9 @@ class Shapes(BrowserTest):
         driver = self.browser()
         self.sign_in(driver)
         driver.get(self.home + "/")
+        browse = driver.find_element(By.CSS_SELECTOR, "details.browse")
+        if browse.get_attribute("open") is None:
+            browse.find_element(By.TAG_NAME, "summary").send_keys(" ")
         hall = driver.find_element(By.CSS_SELECTOR, "section[aria-labelledby=places] > .tree > li:last-child > details")
         for is_open in (True, False, True):
             self.wait(lambda is_open=is_open: (hall.get_attribute("open") is not None) == is_open)

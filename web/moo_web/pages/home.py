@@ -9,6 +9,7 @@ from moo_web.journal.history import Batches, History
 from moo_web.pages.batches import Telling, without_unreadable
 from moo_web.pages.pages import Visit
 from moo_web.pages.sight import sight_calls, sight_of
+from moo_web.world.properties import SightNames
 from moo_web.world.things import NOTHING, World
 from moo_web.world.trees import Node, tree
 

@@ -13,6 +13,7 @@ from moolib.values import written
 
 from moo_web.pages.pages import Visit
 from moo_web.pages.sight import DESTINATION, MOST_EXITS, Exit, exits_in, leading
+from moo_web.world.properties import SightNames
 
 # So many places are drawn.
 MOST_PLACES = 60

@@ -17,7 +17,7 @@ from moo_web.pages.lists import part_of
 from moo_web.pages.pages import Visit
 from moo_web.pages.sight import sight_calls, sight_of
 from moo_web.world.asking import Refusal
-from moo_web.world.properties import MOST, Property, grouped, names_calls, names_on, properties_of, property_calls
+from moo_web.world.properties import MOST, Property, SightNames, grouped, names_calls, names_on, properties_of, property_calls
 from moo_web.world.things import NOTHING
 
 # So many of the objects under one, and in one, are on its page.
