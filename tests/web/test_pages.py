@@ -68,7 +68,9 @@ class Everybody(SiteTest):
                     self.assertEqual(answer.status, self.wanted(who, path))
                     if answer.read:
                         self.assertEqual(tidied(answer), "")
-                        self.check(answer)
+                        # The page of people is a form, which the browser may keep for itself.
+                        is_form = path == "/people" and who == "wizard"
+                        self.check(answer, "private, no-cache" if is_form else "no-store")
         self.assertEqual(self.told[1:], [])
 
     def wanted(self, who, path):
@@ -85,12 +87,12 @@ class Everybody(SiteTest):
             return 200
         return 403 if path == "/people" and who != "wizard" else 200
 
-    def check(self, answer):
-        """What holds on every page."""
+    def check(self, answer, kept):
+        """What holds on every page; `kept` is what a browser may keep of this one."""
         policy = answer.head["Content-Security-Policy"]
         self.assertIn("default-src 'none'", policy)
         self.assertNotIn("unsafe", policy)
-        self.assertEqual(answer.head["Cache-Control"], "no-store")
+        self.assertEqual(answer.head["Cache-Control"], kept)
         tags = [tag for tag, _ in answer.read.elements]
         self.assertNotIn("script", tags)
         self.assertNotIn("style", tags)
