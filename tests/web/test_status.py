@@ -26,7 +26,6 @@ from tests.web.test_serving import ServingTest
 use_web()
 
 from moo_web.status import process  # noqa: E402
-from moo_web.status.gauges import KEPT_FILE, TRIED_FILE  # noqa: E402
 from moo_web.status.metrics import Counter, Gauge, Histogram, text_of  # noqa: E402
 
 BATCH, REFUSED = {"calls": ["create(#1)"]}, {"calls": ["create(#99)"]}
@@ -280,6 +279,9 @@ class Monitoring(StatusTest):
         self.assertEqual(used - self.names(), set())
 
     def test_units_leave_the_moments_of_copies(self):
+        sys.path.append("/usr/lib/python3/dist-packages")
+        from moo_web.status.gauges import KEPT_FILE, TRIED_FILE
+
         for unit, name in (("moo-keep@", KEPT_FILE), ("moo-copy@", TRIED_FILE)):
             with self.subTest(unit):
                 text = (TOP / f"packaging/web/{unit}.service").read_text()
