@@ -116,7 +116,8 @@ def branch_sum(text: str) -> str:
 def moment(text: str) -> float:
     """A moment in seconds since 1970."""
     try:
-        read = datetime.datetime.fromisoformat(text)
+        # Python before 3.11 knows no Z.
+        read = datetime.datetime.fromisoformat(text[:-1] + "+00:00" if text[-1:] in ("Z", "z") else text)
     except ValueError:
         raise argparse.ArgumentTypeError(f"{text!r} isn't a moment, as 2026-11-27T12:00:00 or 2026-11-27T12:00:00+01:00") from None
     return (read if read.tzinfo else read.replace(tzinfo=datetime.timezone.utc)).timestamp()
