@@ -171,11 +171,11 @@ class NewcomerPages(FormPages):
     def without(self, visit: Visit) -> list[Thing]:
         """The players that have no account."""
         numbers = {one.number for one in self.people.all()}
-        return [thing for thing in visit.world.things.values() if thing.has("player") and thing.number not in numbers]
+        return [visit.world.things[one] for one in visit.world.with_bit("player") if one not in numbers]
 
 
 def usual_parent(visit: Visit) -> int:
     """The parent that most players have who aren't wizards; the root, if there are none."""
-    players = [thing for thing in visit.world.things.values() if thing.has("player") and not thing.has("wizard")]
-    found = collections.Counter(thing.parent for thing in players if thing.parent >= 0).most_common(1)
+    players = [visit.world.things[one] for one in visit.world.with_bit("player")]
+    found = collections.Counter(thing.parent for thing in players if thing.parent >= 0 and not thing.has("wizard")).most_common(1)
     return found[0][0] if found else 1
