@@ -122,7 +122,8 @@ class ObjectPages(EntriesPages):
 
     def classes(self, visit: Visit, wrong: str) -> Reply:
         """The classes of which the person may make objects, to choose one."""
-        things = [thing for thing in visit.world.things.values() if thing.has("f") or thing.owner == visit.number]
+        numbers = {*visit.world.with_bit("f"), *visit.world.owned.get(visit.number, ())}
+        things = [visit.world.things[one] for one in numbers]
         things.sort(key=lambda thing: (not thing.has("f"), thing.name.lower(), thing.number))
         return visit.page("forms/classes.html", 422 if wrong else 200, classes=things[:MOST_CLASSES], more=len(things) - MOST_CLASSES, wrong=wrong)
 
