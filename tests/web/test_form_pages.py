@@ -21,6 +21,8 @@ class Forms(FormsTest):
                 labels = set(re.findall(r'<label[^>]* for="([^"]+)"', wizard.page.html))
                 fields = set(re.findall(r'<(?:input|textarea|select) id="(f-[^"]+)"(?! name="[^"]*" type="checkbox")', wizard.page.html))
                 self.assertLessEqual(fields - labels, set(), "each field has a label")
+        self.has(page, "‘Its children as a table’, under ‘More’ on the page of the class", status=200)
+        self.assertIn("/edit/new", page.links)
         self.assertNotIn("Quotas", self.somebody("ada").get("/do").text)
         self.assertEqual(wizard.get("/do/nothing").status, 404)
 

@@ -308,6 +308,13 @@ class Making(OneFormTest):
         self.assertEqual(self.answered("parent(#11)"), "#5")
         self.has(ada.get("/done/2"), "Made: The Inn #11")
 
+    def test_a_room_without_exits_can_be_led_to(self):
+        self.write("ada", 'set(#6, "exits", {})')
+        ada = self.somebody("ada")
+        self.assertIn("/edit/new?parent=5&from=6", ada.get("/o/6").links)
+        for number, what in ((5, "the class of rooms, whose parent has no exits"), (9, "a class of things"), (10, "a thing")):
+            self.assertFalse([link for link in ada.get(f"/o/{number}").links if link.startswith("/edit/new") and "from=" in link], what)
+
     def test_without_a_parent_the_classes_are_shown(self):
         ada = self.somebody("ada")
         self.has(ada.get("/edit/new"), "generic room #5", "generic thing #9", status=200)

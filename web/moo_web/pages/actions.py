@@ -4,6 +4,8 @@ from __future__ import annotations
 
 from typing import NamedTuple
 
+from moolib.values import written
+
 from moo_web.pages.pages import Visit
 from moo_web.world.properties import SightNames
 from moo_web.paths import form_for, url_for
@@ -26,11 +28,17 @@ def buttons(visit: Visit, number: int, names: SightNames) -> list[Action]:
     ]  # fmt: skip
 
 
-def more(visit: Visit, number: int, is_room: bool) -> list[Action]:
-    """All else. A room is an object with exits."""
+def room_calls(visit: Visit, number: int, names: SightNames) -> list[str]:
+    """What is asked for whether an object is a room, of which another can be made: it has a list of exits, and so has its parent."""
+    return [f"get(#{one}, {written(names.exits)})" for one in (number, visit.world.things[number].parent) if one >= 0]
+
+
+def more(visit: Visit, number: int, names: SightNames) -> list[Action]:
+    """All else. A room may have no exits yet."""
     parent = visit.world.things[number].parent
+    is_room = parent >= 0 and all(isinstance(exits, list) for exits in visit.answers(room_calls(visit, number, names)))
     leads_here = url_for("new", parent=parent, **{"from": number})
-    rooms = [Action("Make a room that leads here", leads_here)] if is_room and parent >= 0 else []
+    rooms = [Action("Make a room that leads here", leads_here)] if is_room else []
     for_wizards = [Action("Player and wizard", form_for("powers", number)), Action("Quota", form_for("quota", number))]
     return [
         Action("Set a property", form_for("set", number)), Action("Add a property", form_for("add-property", number)),

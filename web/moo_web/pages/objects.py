@@ -9,7 +9,7 @@ from moolib.values import written
 
 from moo_web.app import Reply
 from moo_web.journal.history import History
-from moo_web.pages.actions import buttons, more, way_to
+from moo_web.pages.actions import buttons, more, room_calls, way_to
 from moo_web.pages.accepting import accept_calls, accepting
 from moo_web.pages.batches import Telling, in_time
 from moo_web.pages.home import lately
@@ -56,7 +56,10 @@ def object_page(visit: Visit, history: History, sight_names: SightNames, one: in
     world = visit.world
     chain = [above.number for above in world.chain(one)]
     # All that the page asks is asked in two requests: what there is, and then all of that.
-    visit.answers([*names_calls(chain), *(f"verbs(#{each})" for each in chain), *accept_calls(chain), *sight_calls(sight_names, one)])
+    visit.answers([
+        *names_calls(chain), *(f"verbs(#{each})" for each in chain), *accept_calls(chain), *sight_calls(sight_names, one),
+        *room_calls(visit, one, sight_names),
+    ])  # fmt: skip
     names = names_on(visit, one)
     part = part_of(names.pairs, visit.fields.get("page", ""), MOST)
     visit.answers([*property_calls(one, list(part.items), chain), *verb_calls(one, visit.answers([f"verbs(#{one})"])[0])])
@@ -69,7 +72,7 @@ def object_page(visit: Visit, history: History, sight_names: SightNames, one: in
         groups=grouped([each for each in told if each.is_shown], [], chain), unread=[each.name for each in told if not each.is_shown],
         unlisted=names.hidden, verbs=verbs, inherited=inherited, lately=lately(visit, history, one), accepts=accepts,
         owned=len(world.owned.get(one, ())), line=lambda batch: Telling(visit, history, batch).line(one),
-        buttons=buttons(visit, one, sight_names), more=more(visit, one, bool(sight.exits)), way=way_to(visit, one, bool(accepts.numbers)),
+        buttons=buttons(visit, one, sight_names), more=more(visit, one, sight_names), way=way_to(visit, one, bool(accepts.numbers)),
     )  # fmt: skip
 
 
