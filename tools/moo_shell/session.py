@@ -12,6 +12,7 @@ from typing import Optional
 
 from moo_shell.batches import Batches, Done, Refused
 from moo_shell.door import Door
+from moo_shell.elsewhere import of_lambdamoo
 from moo_shell.files import read_lines, write_whole
 from moo_shell.going import going, is_asked_first
 from moo_shell.manual import Manual
@@ -140,7 +141,8 @@ class Session:
     def test_call(self, text: str) -> None:
         """Fails if a line has no name of a call with a bracket after it, and says what may be meant."""
         if not call_name(text):
-            self.test_names(text)
+            if not of_lambdamoo(text):
+                self.test_names(text)
             shown = text if len(text) <= 80 else text[:78] + ".."
             raise Failed(f"malformed: {shown} isn't a call: {advice(text)}")
         if is_open(text):
@@ -318,6 +320,8 @@ class Session:
 
     def number(self, text: str) -> int:
         """The number of an object that is written as `#5`, `5` or `$name`, or by its own name, which may be in quotes."""
+        if text.strip().lower() in ("me", "player"):
+            text = f"${text.strip().lower()}"
         value = filled(text.strip(), self.values(names_in(text)))
         found = re.fullmatch(r"#?(-?\d+)", value)
         if found:
