@@ -149,7 +149,11 @@ class Lines(Typed):
         shell.until("  ..> ")
         shell.interrupt("\n#3> ")
         self.case("Ctrl-C drops it", self.done(shell, "\\seq"), ["2"])
-        self.leave(shell)
+        self.done(shell, "create(", "  ..> ")
+        self.case("\\r drops it", self.done(shell, "\\r"), ["the unfinished line is dropped"])
+        self.done(shell, "create(", "  ..> ")
+        shell.line("\\q")
+        self.case("\\q drops it and ends", shell.end(), 0)
 
     def test_words_of_other_prompts(self) -> None:
         shell = self.shell(EDITOR="sed -i s/dull/bright/")
