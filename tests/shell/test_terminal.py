@@ -157,6 +157,8 @@ class Lines(Typed):
 
     def test_words_of_other_prompts(self) -> None:
         shell = self.shell(EDITOR="sed -i s/dull/bright/")
+        told = self.done(shell, '$me.smell = "salt"')[0]
+        self.case("a property that isn't there", '; add_property($me, "smell", VALUE, {#3, "rc"}) adds it' in told, True)
         self.done(shell, '#5.description = "dull"')
         self.case("an editor", "0  accepted 3" in self.done(shell, "\\e"), True)
         self.case("what it left is done", self.done(shell, "#5.description"), ['"bright"'])

@@ -288,7 +288,7 @@ class Session:
         self.run([*items[: call - 1], item, *items[call:]], who, at)
 
     def with_help(self, refused: Refused, items: list[Item]) -> Refused:
-        """A refusal, with the name of a property that is like the one that isn't there."""
+        """A refusal, with the name of a property that is like the one that isn't there; at a prompt else with the call that adds it."""
         if refused.error != "E_PROPNF" or "did you mean" in refused.reason or not 0 < refused.call <= len(items):
             return refused
         text = items[refused.call - 1].text
@@ -298,7 +298,10 @@ class Session:
             # An object that the batch was to make isn't there.
             with contextlib.suppress(Failed):
                 known.update(self.world.properties(self.number(found[1])))
-            refused.reason += did_you_mean(found[2], sorted(known))
+            like = did_you_mean(found[2], sorted(known))
+            if not like and call_name(text) == "set" and not self.is_script:
+                like = f'; add_property({found[1]}, "{found[2]}", VALUE, {{#{self.who}, "rc"}}) adds it'
+            refused.reason += like
         return refused
 
     def write_answers(self, items: list[Item], done: Done, is_accepted: bool) -> None:
