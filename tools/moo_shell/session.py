@@ -299,7 +299,7 @@ class Session:
             with contextlib.suppress(Failed):
                 known.update(self.world.properties(self.number(found[1])))
             like = did_you_mean(found[2], sorted(known))
-            if not like and call_name(text) == "set" and not self.is_script:
+            if not like and call_name(text) == "set" and self.door.can_name and not self.is_script:
                 like = f'; add_property({found[1]}, "{found[2]}", VALUE, {{#{self.who}, "rc"}}) adds it'
             refused.reason += like
         return refused
