@@ -166,7 +166,11 @@ class Session:
             return self.names
         answers = self.world.each([f"get(#0, {written(name[1:])})" for name in lacking])
         own = {name: f"#{self.who}" for name in WHO if self.door.can_name}
-        return {**own, **{name: answer.text for name, answer in zip(lacking, answers) if answer.is_good}, **self.names}
+        found = {name: answer.text for name, answer in zip(lacking, answers) if answer.is_good}
+        unknown = [] if self.door.can_name else sorted({*lacking} & {*WHO} - {*found})
+        if unknown:
+            raise Failed(f"{unknown[0]} has no value: the front knows by the token who calls; {unknown[0]} = #5 gives it one")
+        return {**own, **found, **self.names}
 
     def values_for(self, items: list[Item]) -> Mapping[str, str]:
         """The names with their values for a batch, whose calls may use the answers of calls before them."""
