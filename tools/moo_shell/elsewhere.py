@@ -88,7 +88,7 @@ PSQL = {
 
 
 def of_lambdamoo(text: str) -> str:
-    """What to write for a command of LambdaMOO, with the object that it names; or nothing, if it is none."""
+    """What to write for a command of LambdaMOO, with its object. Another line gives an empty text."""
     found = re.fullmatch(r"@([A-Za-z]+)(?:\s+(.*))?", text.strip(), re.DOTALL)
     word, given = (found[1].lower(), (found[2] or "").strip()) if found else ("", "")
     if word in WITHOUT_VERBS:
@@ -111,6 +111,6 @@ def filled(read: re.Match[str]) -> dict[str, str]:
 
 
 def of_sql(text: str) -> str:
-    """What to write for a statement of SQL; or nothing, if it is none."""
+    """What to write for a statement of SQL. Another line gives an empty text."""
     first = text.split(None, 1)[0].lower() if text.strip() else ""
     return f"moo has no SQL; {SQL[first]}" if first in SQL and len(text.split()) > 1 else ""

@@ -207,7 +207,7 @@ class Prompt:
     def lines(self) -> list[str]:
         """A line that is typed, with those on which it goes on. What is pasted may be several too.
 
-        Where a line goes on, `\\r` drops it, and `\\q` drops it and ends the shell.
+        An unfinished line is dropped by `\\r`. `\\q` ends the shell too.
         """
         lines = re.split(r"\r\n|\n|\r", self.typed(self.text()))
         while goes_on(lines):
