@@ -67,6 +67,8 @@ class AtAFront(RoomTest):
             self.assertEqual(came.status, 1)
             self.assertIn("the front knows by the token who calls", came.complaint)
         self.assertIn("it is forbidden there", self.shell("ada", "\\dump\n").complaint)
+        self.assertIn("$me = #5 gives it one", self.shell("ada", "me\n").complaint)
+        self.assertEqual(self.shell("ada", "$me = #5\n$me.name\n"), Ended(0, '"Ada"\n', ""))
 
     def test_a_petition(self) -> None:
         self.assertEqual(self.shell("ada", 'petition({{"set", #4, "size", 2}})\n').written, "1\n")

@@ -12,7 +12,7 @@ from tests.support import TOOLS
 from tests.support.cases import ProgramTest
 from tests.support.program import MOO, TOP
 
-from moo_shell import files, helping, looks, manual, meant, prompt, statements
+from moo_shell import commands, elsewhere, files, helping, looks, manual, meant, prompt, statements
 from moolib import calls, lines
 from moo_shell.commands import COMMANDS_BY_HELP
 from moolib.lines import Line
@@ -115,6 +115,8 @@ class Parts(ProgramTest):
             ("show(#2)", Line("call", "show(#2)")),
             ("commit", Line("end")),
             ("ROLLBACK", Line("command", word="abandon")),
+            ("me", Line("alone", "$me")),
+            ("player", Line("alone", "$player")),
         )
         for text, wanted in cases:
             self.case(f"what {text} means", meant.meant(text, ("show", "tree"), answers.__getitem__), wanted)
@@ -126,15 +128,33 @@ class Parts(ProgramTest):
             ("begin here", "`begin` stands alone on its line"),
             ("batch as 3", "`batch as #3` begins a batch of #3"),
             ("#4:look_self()", "moo keeps verbs and runs none"),
-            ("@recycle #4", "@recycle is a command of LambdaMOO; here it is recycle(#5)"),
+            ("@recycle #4", "@recycle is a command of LambdaMOO; here it is recycle(#4)"),
+            ("@recycle Lamp", "@recycle is a command of LambdaMOO; here it is recycle(#5)"),
+            ('@create $thing named "Lamp"', '@create is a command of LambdaMOO; here it is $new = create($thing); $new.name = "Lamp"'),
+            ("@describe me as A tall wizard.", '@describe is a command of LambdaMOO; here it is $me.description = "A tall wizard."'),
+            ("@set #5.light to 3", "@set is a command of LambdaMOO; here it is #5.light = 3"),
+            ("@prop #5.light 0 rc", '@prop is a command of LambdaMOO; here it is add_property(#5, "light", 0, {#3, "rc"})'),
+            ("@chmod #5.light rw", '@chmod is a command of LambdaMOO; here it is set_property_info(#5, "light", {#3, "rw"})'),
+            ("@verb #5:look this none none", '@verb is a command of LambdaMOO; here it is add_verb(#5, {#3, "rxd", "look"}, {"this", "none", "none"})'),
+            ("@go #5", "@go is a command of LambdaMOO; here it is move($me, #5)"),
+            ("@list #5:look", "@list is a command of LambdaMOO; moo keeps verbs and runs none"),
+            ("1 + 1", "moo reckons nothing: a line is a call, or a property as #5.name"),
             ("#4.light + 1", 'a property is read by get(#4, "light")'),
-            ("look", brackets),
+            ("look", "\\places shows what is where, and #3.location is the place of #3"),
             ("create #1", brackets),
+            ("nothing", brackets),
         )
         for text, wanted in cases:
             self.case(f"the advice of {text}", meant.advice(text), wanted)
         for text in ("#4", "{1, 2}"):
             self.case(f"the expression {text}", meant.expression_advice(text), "")
+
+    def test_the_examples_of_advice(self) -> None:
+        """The calls of the examples are calls of moo, or words of the shell."""
+        known = set(manual.manual_of(MOO).calls)
+        told = [example for _, example, _ in elsewhere.CALLS.values()] + [*elsewhere.SENTENCES.values(), *elsewhere.SQL.values(), *elsewhere.PSQL.values()]
+        self.case("calls", {name for text in told for name in re.findall(r"\b([a-z_]+)\(", text)} - known, set())
+        self.case("words", {word for text in told for word in re.findall(r"\\(\w+)", text)} - set(commands.COMMANDS), set())
 
     def test_calls_that_are_being_typed(self) -> None:
         cases = (

@@ -253,8 +253,10 @@ class Scripts(OnWorld):
         text = '$a = create(#1)\n$a.name = "The Inn"\n#4.name\n$a.owner.name\nx = 5\nx\n$x\n\\seq\n'
         self.case("properties and names", run_script(text), Ended(0, '$a = #4\n0\n"The Inn"\n"Wizard"\n5\n5\n2\n', ""))
         shown = run_script("\\show #4\n").written
-        for line in ("#4", "show #4", "\\show The Inn", "\\show inn", "@show #4", "$a = #4\n$a", "\\d #4;"):
+        for line in ("#4", "show #4", "\\show The Inn", "\\show inn", "@show #4", "$a = #4\n$a", "\\d #4;", "\\d+ #4"):
             self.case(f"{line} shows it", run_script(f"{line}\n").written, shown)
+        self.case("oneself", run_script("@show me\n").written, run_script("\\show #3\n").written)
+        self.case("oneself alone", run_script("me\n").written, run_script("\\show #3\n").written)
         self.told("a name of two", run_script("\\show room\n$b = create(#1)\n$b.name = \"Room\"\n\\show r\n"), 4, "r may be #1")
 
     def test_the_examples(self) -> None:
@@ -366,7 +368,10 @@ class Mistakes(OnWorld):
             ("#4.location.name", ['get(#-1, "name"): E_INVIND']),
             ('$lamp = "light', ['"light isn\'t a value: a text without its closing "']),
             ("lamp = create(#77)", ["create(#77): E_PERM"]),
-            ("@recycle #4", ["malformed: @recycle #4 isn't a call: ", "recycle(#5)"]),
+            ("@recycle #4", ["malformed: @recycle #4 isn't a call: ", "recycle(#4)"]),
+            ("@create $box named Lamp", ["malformed: @create $box named Lamp isn't a call: ", "$new = create($box)"]),
+            ("select name from #4", ["moo has no SQL; #5.name reads a property"]),
+            ("\\du", ["\\du isn't a word of the shell: players() lists the players"]),
             ("\\show", ["which object? #5 is one"]),
             ("begin\nwood", ["malformed: wood isn't a call: "]),
             ("\\shwo #4", ["\\shwo isn't a word of the shell (did you mean \\show?)"]),

@@ -149,10 +149,16 @@ class Lines(Typed):
         shell.until("  ..> ")
         shell.interrupt("\n#3> ")
         self.case("Ctrl-C drops it", self.done(shell, "\\seq"), ["2"])
-        self.leave(shell)
+        self.done(shell, "create(", "  ..> ")
+        self.case("\\r drops it", self.done(shell, "\\r"), ["the unfinished line is dropped"])
+        self.done(shell, "create(", "  ..> ")
+        shell.line("\\q")
+        self.case("\\q drops it and ends", shell.end(), 0)
 
     def test_words_of_other_prompts(self) -> None:
         shell = self.shell(EDITOR="sed -i s/dull/bright/")
+        told = self.done(shell, '$me.smell = "salt"')[0]
+        self.case("a property that isn't there", '; add_property($me, "smell", VALUE, {#3, "rc"}) adds it' in told, True)
         self.done(shell, '#5.description = "dull"')
         self.case("an editor", "0  accepted 3" in self.done(shell, "\\e"), True)
         self.case("what it left is done", self.done(shell, "#5.description"), ['"bright"'])

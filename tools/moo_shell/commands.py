@@ -10,6 +10,7 @@ from typing import Optional
 from moo_shell import looks
 from moo_shell.batches import Refused
 from moo_shell.editing import edit
+from moo_shell.elsewhere import PSQL
 from moo_shell.files import write_new
 from moo_shell.meant import meant
 from moo_shell.helping import ASIDE, TOPICS, fitted, help_on, overview
@@ -273,7 +274,7 @@ COMMANDS = {
 # Words of other prompts.
 ALIASES = {
     "exit": "quit", "q": "quit", "h": "help", "?": "help", "edit": "e", "output": "o", "out": "o", "i": "include", "ir": "include",
-    "d": "show", "dt": "classes", "p": "list", "print": "list", "r": "abandon", "reset": "abandon",
+    "d": "show", "d+": "show", "dt": "classes", "dt+": "classes", "p": "list", "print": "list", "r": "abandon", "reset": "abandon",
 }  # fmt: skip
 COMMANDS_BY_HELP = {name: (command.given, command.does) for name, command in COMMANDS.items()}
 
@@ -282,6 +283,8 @@ def run_command(session: Session, word: str, text: str) -> None:
     """Does a `\\` word with what it is given."""
     word = ALIASES.get(word, word)
     if word not in COMMANDS:
+        if word in PSQL:
+            raise Failed(f"\\{word} isn't a word of the shell: {PSQL[word]}")
         like = did_you_mean("\\" + word, ["\\" + name for name in COMMANDS])
         raise Failed(f"\\{word} isn't a word of the shell{like}; \\help lists them")
     COMMANDS[word].run(session, text)

@@ -6,6 +6,7 @@ import re
 from collections.abc import Callable, Collection
 from typing import Optional
 
+from moo_shell.elsewhere import COMMANDS, NO_VERBS, of_lambdamoo, of_sql
 from moolib.calls import call_name
 from moolib.lines import Line, hint, pieces, read_line
 from moolib.values import written
@@ -25,34 +26,8 @@ WORD = re.compile(r"[@.]?([A-Za-z]+)(?:\s+(.*))?", re.DOTALL)
 # Words of other prompts that end a batch or drop it, and the word of the shell for each.
 BATCH_WORDS = {"commit": "end", "rollback": "abandon", "abort": "abandon"}
 SHOWING = ("look", "examine", "exam", "display")
-# What to write for a command of LambdaMOO.
-COMMANDS = {
-    "create": "$thing = create(#1), with the parent's number in the brackets",
-    "dig": "$room = create(CLASS), and then set($room, \"exits\", ..) if the class has exits",
-    "recycle": "recycle(#5)",
-    "chparent": "chparent(#5, #6)",
-    "move": "move(#5, #6)",
-    "rename": '#5.name = "Inn"',
-    "describe": '#5.description = "A tavern."',
-    "set": "#5.name = VALUE",
-    "property": 'add_property(#5, "light", 0, {#3, "rc"})',
-    "prop": 'add_property(#5, "light", 0, {#3, "rc"})',
-    "rmprop": 'delete_property(#5, "light")',
-    "rmproperty": 'delete_property(#5, "light")',
-    "verb": 'add_verb(#5, {#3, "rxd", "look"}, {"this", "none", "none"})',
-    "rmverb": 'delete_verb(#5, "look")',
-    "chmod": 'set_property_info(#5, "light", {#3, "rc"})',
-    "chown": "#5.owner = #3",
-    "audit": "\\find WORD, or \\tree",
-    "kids": "\\tree #5",
-    "parents": "\\show #5",
-    "contents": "\\places #5",
-    "locations": "\\show #5",
-    "dump": "\\dump FILE",
-    "who": "\\places, since nobody is connected to a world of moo",
-    "program": "moo keeps verbs and runs none",
-    "list": "moo keeps verbs and runs none",
-}
+HERE = ("look", "here", "l")
+ME = ("me", "player")
 
 
 def meant(text: str, words: Collection[str], read: Read) -> Line:
@@ -74,6 +49,8 @@ def of_expression(text: str, read: Read) -> Optional[Line]:
     """The line that an object, a name, a property or an assignment is; None if the text is none of them."""
     if ALONE.fullmatch(text):
         return Line("alone", text)
+    if text.lower() in ME:
+        return Line("alone", f"${text.lower()}")
     found = PROPERTY.fullmatch(text)
     if found:
         return Line("call", property_call(found, read))
@@ -118,9 +95,9 @@ def advice(text: str) -> str:
         return f"`{first}` stands alone on its line"
     if first == "batch":
         return "`batch as #3` begins a batch of #3"
-    if first.startswith("@") and first[1:] in COMMANDS:
-        return f"{first} is a command of LambdaMOO; here it is {COMMANDS[first[1:]]}"
-    return expression_advice(text) or hint(text)
+    if text.lower() in HERE:
+        return "\\places shows what is where, and #3.location is the place of #3"
+    return of_lambdamoo(text) or of_sql(text) or expression_advice(text) or hint(text)
 
 
 def quotes_advice(text: str) -> str:
@@ -132,6 +109,8 @@ def quotes_advice(text: str) -> str:
 def expression_advice(text: str) -> str:
     """What to write for an expression of LambdaMOO that is more than a property; or nothing."""
     if VERB.fullmatch(text):
-        return "moo keeps verbs and runs none"
+        return NO_VERBS
+    if re.match(r"return\b|-?\d+\s*[-+*/]", text):
+        return "moo reckons nothing: a line is a call, or a property as #5.name"
     found = re.match(rf"({THING})\.([A-Za-z_]\w*)", text)
     return f'a property is read by get({found[1]}, "{found[2]}")' if found else ""

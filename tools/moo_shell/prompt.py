@@ -29,6 +29,8 @@ LONGEST_HISTORY = 2000
 OF_FILES = ("include", "dump", "names", "o")
 # The prompt for a line on which a call goes on.
 GOING_ON = "  ..> "
+# Lines that drop one that goes on, as in psql: those of the first group end the shell too.
+LEAVING = re.compile(r"(\\(?:q|quit|exit))|\\(?:r|reset|abandon)", re.IGNORECASE)
 
 
 def history_file() -> Path:
@@ -203,10 +205,18 @@ class Prompt:
         return f"\001{BOLD}\002{words}\001{PLAIN}\002" if readline else words
 
     def lines(self) -> list[str]:
-        """A line that is typed, with those on which it goes on. What is pasted may be several too."""
+        """A line that is typed, with those on which it goes on. What is pasted may be several too.
+
+        An unfinished line is dropped by `\\r`. `\\q` ends the shell too.
+        """
         lines = re.split(r"\r\n|\n|\r", self.typed(self.text()))
         while goes_on(lines):
-            lines += re.split(r"\r\n|\n|\r", self.typed(self.shown(GOING_ON)))
+            more = self.typed(self.shown(GOING_ON))
+            left = LEAVING.fullmatch(more.strip())
+            if left:
+                self.session.output.note("the unfinished line is dropped")
+                return ["\\quit"] if left[1] else []
+            lines += re.split(r"\r\n|\n|\r", more)
         return lines
 
     def line(self) -> None:

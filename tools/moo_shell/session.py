@@ -12,6 +12,7 @@ from typing import Optional
 
 from moo_shell.batches import Batches, Done, Refused
 from moo_shell.door import Door
+from moo_shell.elsewhere import of_lambdamoo
 from moo_shell.files import read_lines, write_whole
 from moo_shell.going import going, is_asked_first
 from moo_shell.manual import Manual
@@ -140,7 +141,8 @@ class Session:
     def test_call(self, text: str) -> None:
         """Fails if a line has no name of a call with a bracket after it, and says what may be meant."""
         if not call_name(text):
-            self.test_names(text)
+            if not of_lambdamoo(text):
+                self.test_names(text)
             shown = text if len(text) <= 80 else text[:78] + ".."
             raise Failed(f"malformed: {shown} isn't a call: {advice(text)}")
         if is_open(text):
@@ -164,7 +166,11 @@ class Session:
             return self.names
         answers = self.world.each([f"get(#0, {written(name[1:])})" for name in lacking])
         own = {name: f"#{self.who}" for name in WHO if self.door.can_name}
-        return {**own, **{name: answer.text for name, answer in zip(lacking, answers) if answer.is_good}, **self.names}
+        found = {name: answer.text for name, answer in zip(lacking, answers) if answer.is_good}
+        unknown = [] if self.door.can_name else sorted({*lacking} & {*WHO} - {*found})
+        if unknown:
+            raise Failed(f"{unknown[0]} has no value: the front knows by the token who calls; {unknown[0]} = #5 gives it one")
+        return {**own, **found, **self.names}
 
     def values_for(self, items: list[Item]) -> Mapping[str, str]:
         """The names with their values for a batch, whose calls may use the answers of calls before them."""
@@ -286,7 +292,7 @@ class Session:
         self.run([*items[: call - 1], item, *items[call:]], who, at)
 
     def with_help(self, refused: Refused, items: list[Item]) -> Refused:
-        """A refusal, with the name of a property that is like the one that isn't there."""
+        """A refusal, with the name of a property that is like the one that isn't there; at a prompt else with the call that adds it."""
         if refused.error != "E_PROPNF" or "did you mean" in refused.reason or not 0 < refused.call <= len(items):
             return refused
         text = items[refused.call - 1].text
@@ -296,7 +302,10 @@ class Session:
             # An object that the batch was to make isn't there.
             with contextlib.suppress(Failed):
                 known.update(self.world.properties(self.number(found[1])))
-            refused.reason += did_you_mean(found[2], sorted(known))
+            like = did_you_mean(found[2], sorted(known))
+            if not like and call_name(text) == "set" and self.door.can_name and not self.is_script:
+                like = f'; add_property({found[1]}, "{found[2]}", VALUE, {{#{self.who}, "rc"}}) adds it'
+            refused.reason += like
         return refused
 
     def write_answers(self, items: list[Item], done: Done, is_accepted: bool) -> None:
@@ -318,6 +327,8 @@ class Session:
 
     def number(self, text: str) -> int:
         """The number of an object that is written as `#5`, `5` or `$name`, or by its own name, which may be in quotes."""
+        if text.strip().lower() in ("me", "player"):
+            text = f"${text.strip().lower()}"
         value = filled(text.strip(), self.values(names_in(text)))
         found = re.fullmatch(r"#?(-?\d+)", value)
         if found:
