@@ -201,7 +201,7 @@ class Buckets(unittest.TestCase):
 
     def test_rows(self):
         """A chain of three with 5 at its end; a call that changes a class counts for all under it."""
-        world = World(1, {}, {1: (2,), 2: (3,), 3: (4, 5, 6, 7, 8)}, {})
+        world = World(1, {}, {1: (2,), 2: (3,), 3: (4, 5, 6, 7, 8)}, {}, {}, {})
         for calls, rows in (
             (["create(#1)", "get(#2, \"name\")"], 2), (['add_property(#1, "a", 0, {#3, ""})'], 8), (["chparent(#3, #1)"] * 2, 12),
             (['set(#1, "name", "x")', "nonsense", 'delete_property(#8, "a")'], 3), (['add_property(#3, "a", 0, {#3, ""})'] * 200_000, MOST_ROWS),
