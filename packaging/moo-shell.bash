@@ -9,10 +9,10 @@ _moo_shell()
             mapfile -t COMPREPLY < <(compgen -f -- "$word")
             return
             ;;
-        --port | --web | --as | -c | --call | --from-line) return ;;
+        -p | --port | --web | --as | -c | --call | --from-line) return ;;
     esac
     case $word in
-        -*) mapfile -t COMPREPLY < <(compgen -W "--port --web --token --as --file -f --call -c --single --from-line --dry-run --quiet -q --names --moo --help" -- "$word") ;;
+        -*) mapfile -t COMPREPLY < <(compgen -W "--port -p --web --token --as --file -f --call -c --single -1 --from-line --dry-run --quiet -q --names --moo --help" -- "$word") ;;
         *) mapfile -t COMPREPLY < <(compgen -f -- "$word") ;;
     esac
 }

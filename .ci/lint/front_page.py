@@ -55,9 +55,9 @@ def broken_links() -> Iterator[str]:
 
 
 def without_readers() -> list[str]:
-    """The pages that don't begin with whom they are for. The two that are for everybody who runs a world say what they have."""
+    """The pages that don't begin with whom they are for. The one that is for everybody who runs a world says what it has."""
     begins = {page.name: page.read_text().split("\n\n")[1] for page in TOP.glob("docs/*.md")}
-    return [name for name, first in begins.items() if not first.startswith("For ") and name not in ("OPERATING.md", "WEB.md")]
+    return [name for name, first in begins.items() if not first.startswith("For ") and name != "OPERATING.md"]
 
 
 def refused() -> Iterator[tuple[str, object]]:

@@ -11,7 +11,7 @@ import subprocess
 import time
 from pathlib import Path
 
-from rehearsing.page import TOP, here, is_wrong
+from rehearsing.page import COMMANDS, TOP, here, is_wrong
 
 SECONDS = 600
 MIRROR = "http://deb.debian.org/debian"
@@ -36,9 +36,9 @@ def group_for(name: str) -> Path | None:
 class Machine:
     """A new machine. `other` plays another machine, with the sources and with copies. `disk2` is a disk that outlives it."""
 
-    def __init__(self, folder: Path, name: str) -> None:
+    def __init__(self, folder: Path, name: str, disk2: str = "disk2") -> None:
         self.root, self.name, self.log = folder / name, name, folder / f"{name}.log"
-        self.other, self.disk2 = folder / "other", folder / "disk2"
+        self.other, self.disk2 = folder / "other", folder / disk2
         self.first: int | None = None
         shutil.rmtree(self.root, ignore_errors=True)
         subprocess.run(["cp", "--archive", folder / "base", self.root], check=True)
@@ -84,6 +84,7 @@ class Machine:
 
     def run(self, lines: list[str], is_good: bool = True, text: str = "") -> str:
         """What lines of a shell print. `text` is their standard input."""
+        COMMANDS.take(lines)
         with open(self.log, "ab") as log:
             done = subprocess.run(
                 self.words(lines), env=HOME, input=text, stdout=subprocess.PIPE, stderr=log, text=True, timeout=SECONDS, check=False
@@ -121,7 +122,7 @@ def make_base(folder: Path) -> None:
         (folder / "unfinished/etc/dpkg/dpkg.cfg.d/fast").write_text("force-unsafe-io\n")
         (folder / "unfinished/etc/machine-id").write_text("")
         (folder / "unfinished").rename(folder / "base")
-    for name in ("other", "disk2"):
+    for name in ("other", "disk2", "disk3"):
         shutil.rmtree(folder / name, ignore_errors=True)
         (folder / name).mkdir()
     subprocess.run(["git", "clone", "--quiet", "--bare", TOP, folder / "other/sources.git"], check=True)

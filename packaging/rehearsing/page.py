@@ -39,9 +39,16 @@ BLOCKS = {
     "end the standby": ("Drills", "systemctl disable --now moo-follow@world"),
     "become the world": ("Drills", "install -o moo -g moo -m 600 /var/lib/moo-web/world/standby.db "),
     "noon": ("Drills", "install -d -m 700 /srv/again"),
+    "spoiled standby": ("Drills", "systemctl stop moo-follow@world"),
+    "both are gone": ("Drills", "rsync -a --chown=moo-web:moo-web"),
+    "at each boot": ("Drills", "systemctl enable moo@world moo-web@world.socket"),
+    "disks": ("Drills", "df -h "),
+    "look now": ("Drills", "systemctl start moo-watch@world"),
+    "bound of a start": ("Limits, and what to do about them", "[Service]"),
     "go on from noon": ("Drills", "systemctl stop moo-web@world.socket moo-web@world moo@world"),
     "somebody left": ("Drills", "runuser -u moo-web -- moo-people"),
     "upgrade": ("Upgrade", "make deb"),
+    "from 1.0.0": ("Upgrade", "systemctl enable --now moo-check"),
     "upgrade both": ("Upgrade", "apt-get install --reinstall"),
 }
 
@@ -63,6 +70,21 @@ def page() -> list[tuple[str, list[str]]]:
         if is_inside:
             blocks[-1][1].append(line[4:])
     return blocks
+
+
+class Commands:
+    """How many lines of the page have been run."""
+
+    def __init__(self) -> None:
+        self.lines = {line for _, lines in page() for line in lines}
+        self.count = 0
+
+    def take(self, lines: list[str]) -> None:
+        """Counts those of these lines that are the page's."""
+        self.count += sum(line in self.lines for line in lines)
+
+
+COMMANDS = Commands()
 
 
 def block(name: str) -> list[str]:
@@ -103,7 +125,7 @@ def with_copy(lines: list[str], copy: Path) -> list[str]:
 
 @contextlib.contextmanager
 def step(name: str) -> Iterator[None]:
-    """A step, whose name and seconds are printed when it is done."""
-    began = time.monotonic()
+    """A step. When it is done its name, its seconds, and how many of the page's lines were run as they are, are printed."""
+    began, before = time.monotonic(), COMMANDS.count
     yield
-    print(f"ok {name}: {time.monotonic() - began:.0f} s", flush=True)
+    print(f"ok {name}: {time.monotonic() - began:.0f} s, {COMMANDS.count - before} commands of the page", flush=True)

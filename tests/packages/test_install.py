@@ -427,7 +427,7 @@ class Units(InFolder):
 
     def test_what_a_run_may_take(self):
         text = (self.units / "moo@.service").read_text()
-        self.assertRegex(text, r"(?m)^LimitAS=8G$")
+        self.assertRegex(text, r"(?m)^LimitAS=16G$")
         self.assertRegex(text, r"(?m)^Environment=.*\bRUN_BYTES=4294967296\b")
         self.assertNotRegex(text, r"(?m)^ExecStartPre=", "a start takes no more than opening")
         self.assertRegex(text, r"(?m)^LimitCORE=0$")

@@ -67,8 +67,11 @@ class AtAFront(RoomTest):
             self.assertEqual(came.status, 1)
             self.assertIn("the front knows by the token who calls", came.complaint)
         self.assertIn("it is forbidden there", self.shell("ada", "\\dump\n").complaint)
-        self.assertIn("$me = #5 gives it one", self.shell("ada", "me\n").complaint)
-        self.assertEqual(self.shell("ada", "$me = #5\n$me.name\n"), Ended(0, '"Ada"\n', ""))
+        for name, number in (("ada", 5), ("wizard", 3)):
+            self.assertEqual(self.shell(name, "me.name\n\\seq\n"), Ended(0, self.shell(name, f"#{number}.name\n\\seq\n").written, ""))
+        came = self.shell("ada", "@create #4 named Box\n@rename $new to Chest\n")
+        self.assertEqual(came.written, "$new = #6\n0\n0\n")
+        self.assertEqual(self.shell("ada", "#6.name\n\\owned\npetitions()\n"), Ended(0, '"Chest"\n#5 "Ada"\n#6 "Chest"\n{}\n', ""))
 
     def test_a_petition(self) -> None:
         self.assertEqual(self.shell("ada", 'petition({{"set", #4, "size", 2}})\n').written, "1\n")

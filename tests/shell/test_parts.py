@@ -12,7 +12,7 @@ from tests.support import TOOLS
 from tests.support.cases import ProgramTest
 from tests.support.program import MOO, TOP
 
-from moo_shell import commands, elsewhere, files, helping, looks, manual, meant, prompt, statements
+from moo_shell import building, commands, elsewhere, files, helping, looks, manual, meant, prompt, statements, told
 from moolib import calls, lines
 from moo_shell.commands import COMMANDS_BY_HELP
 from moolib.lines import Line
@@ -27,6 +27,9 @@ class Parts(ProgramTest):
             ("  // words", Line("empty")),
             ("create(#1)", Line("call", text="create(#1)")),
             ("  create(#1) // words\r", Line("call", text="create(#1)")),
+            ("create(#1) -- words", Line("call", text="create(#1)")),
+            ('set(#4, "name", "a -- b") --', Line("call", text='set(#4, "name", "a -- b")')),
+            ("set(#4, -5)", Line("call", text="set(#4, -5)")),
             ('set(#4, "name", "a // b \\" // c") // d', Line("call", text='set(#4, "name", "a // b \\" // c")')),
             ("$hall=create(#1)", Line("call", text="create(#1)", name="$hall")),
             ("$hall = #5", Line("value", text="#5", name="$hall")),
@@ -85,6 +88,7 @@ class Parts(ProgramTest):
             ("\\show #5;\n\\find a;b(\ninclude a;b", [("\\show #5", 1, 1), ("\\find a;b(", 2, 1), ("include a;b", 3, 1)]),
             ("\\ask create(\n#1)", [("\\ask create( #1)", 1, 1)]),
             ("create(#1", [("create(#1", 1, 1)]),
+            ("@describe here as A bar; \"warm // (\nend", [("@describe here as A bar; \"warm // (", 1, 1), ("end", 2, 1)]),
         )
         for text, wanted in cases:
             found = [(each.text, each.line, each.part) for each in statements.statements(text.split("\n"))]
@@ -116,45 +120,129 @@ class Parts(ProgramTest):
             ("commit", Line("end")),
             ("ROLLBACK", Line("command", word="abandon")),
             ("me", Line("alone", "$me")),
+            ("look", Line("alone", "$here")),
+            ("look at #2", Line("command", "#2", word="show")),
+            ("here.name", Line("call", 'get($here, "name")')),
+            ("show #5.name", Line("call", 'get(#5, "name")')),
+            ("eval #5.name", Line("call", 'get(#5, "name")')),
+            ("inventory", Line("command", "$me", word="places")),
             ("player", Line("alone", "$player")),
         )
         for text, wanted in cases:
             self.case(f"what {text} means", meant.meant(text, ("show", "tree"), answers.__getitem__), wanted)
 
+    def test_commands_of_lambdamoo(self) -> None:
+        """They are the calls that do the same."""
+        answers = {
+            'get($here, "exits")': '{{"east", #9}}', 'get(#9, "exits")': "{}", "parent($here)": "#6",
+            'property_info(#5, "light")': '{#3, "rc"}', 'verb_info(#5, "look")': '{#4, "rd", "l*ook"}', 'verb_args(#5, "look")': '{"this", "none", "none"}',
+        }  # fmt: skip
+        known = building.Known(lambda text: {"me": "$me", "here": "$here", "Lamp": "#5"}.get(text, text), answers.__getitem__)
+        cases = (
+            ("@create #1", ["$new = create(#1)"]),
+            ('@create $thing named "Lamp"', ["$new = create($thing)", '$new.name = "Lamp"']),
+            ("@create #1 called Lamp:lamp,brass lamp", ["$new = create(#1)", '$new.name = "Lamp"', '$new.aliases = {"Lamp", "lamp", "brass lamp"}']),
+            ('@create #1 named "Bar, Inn"', ["$new = create(#1)", '$new.name = "Bar, Inn"']),
+            ("@recycle Lamp", ["recycle(#5)"]),
+            ("@describe me as A tall wizard.", ['$me.description = "A tall wizard."']),
+            ('@describe here as "Say \\"hi\\"."', ['$here.description = "Say \\"hi\\"."']),
+            ('@describe here as 6" of snow; cold', ['$here.description = "6\\" of snow; cold"']),
+            ("@rename Lamp to Torch", ['#5.name = "Torch"']),
+            ("@rename #5.light to dark", ['set_property_info(#5, "light", {#3, "rc", "dark"})']),
+            ("@rename #5:look to peer", ['set_verb_info(#5, "look", {#4, "rd", "peer"})']),
+            ("@move Lamp to here", ["move(#5, $here)"]),
+            ("@move me here", ["move($me, $here)"]),
+            ("@go #7", ["move($me, #7)"]),
+            ("@chparent #5 #6", ["chparent(#5, #6)"]),
+            ("@set #5.light to 3", ["#5.light = 3"]),
+            ("@prop #5.light", ['add_property(#5, "light", 0, {$me, "rc"})']),
+            ('@property #5.light "very dim" r #3', ['add_property(#5, "light", "very dim", {#3, "r"})']),
+            ('@property #5.light {1, 2} ""', ['add_property(#5, "light", {1, 2}, {$me, ""})']),
+            ("@rmprop #5.light", ['delete_property(#5, "light")']),
+            ("@clearp #5.light", ['clear_property(#5, "light")']),
+            ("@chmod #5.light r", ['set_property_info(#5, "light", {#3, "r"})']),
+            ("@chmod #5.light +w", ['set_property_info(#5, "light", {#3, "rcw"})']),
+            ("@chmod #5.light !c", ['set_property_info(#5, "light", {#3, "r"})']),
+            ("@chmod #5:look +x", ['set_verb_info(#5, "look", {#4, "rdx", "l*ook"})']),
+            ("@chmod Lamp +rf", ["#5.r = 1", "#5.f = 1"]),
+            ("@chmod Lamp r", ["#5.r = 1", "#5.w = 0", "#5.f = 0"]),
+            ("@chown Lamp to me", ["#5.owner = $me"]),
+            ("@chown #5.light #7", ['set_property_info(#5, "light", {#7, "rc"})']),
+            ("@verb #5:look", ['add_verb(#5, {$me, "rd", "look"}, {"none", "none", "none"}) // moo keeps this header and runs no verb']),
+            ('@verb #5:"l*ook get" this none this', [f'add_verb(#5, {{$me, "rxd", "l*ook get"}}, {{"this", "none", "this"}}) {building.HEADERS}']),
+            ("@verb #5:look any with this rd #3", [f'add_verb(#5, {{#3, "rd", "look"}}, {{"any", "with", "this"}}) {building.HEADERS}']),
+            ("@rmverb #5:look", ['delete_verb(#5, "look")']),
+            ("@args #5:look any", ['set_verb_args(#5, "look", {"any", "none", "none"})']),
+            ("@list #5:look without parentheses", ['verb_info(#5, "look")', f'verb_args(#5, "look") {building.HEADERS}']),
+            ("@show #5.light", ["#5.light"]),
+            ("@display Lamp.", ["\\show #5"]),
+            ("@kids #1", ["\\tree #1"]),
+            ("@audit", ["\\owned $me"]),
+            ("@quota me", ["$me.ownership_quota"]),
+            ("@quota #8 is public 5", ["#8.ownership_quota = 5"]),
+            ("@dig Attic", ["$new = create(#6)", '$new.name = "Attic"']),
+            ("@dig up,u|down to The Attic", [
+                "$new = create(#6)", '$new.name = "The Attic"', '$here.exits = {{"east", #9}, {"up", $new}, {"u", $new}}', '$new.exits = {{"down", $here}}',
+            ]),
+            ("@dig west|east to #9", ['$here.exits = {{"east", #9}, {"west", #9}}', '#9.exits = {{"east", $here}}']),
+            ("create(#1)", []),
+            ("@foo", []),
+        )  # fmt: skip
+        for text, wanted in cases:
+            self.case(f"what {text} does", building.building_lines(text, known), wanted)
+        for text in ("@chmod", "@rename Lamp", "@property #5.light dim", "@dig east to #9", "@list"):
+            with self.assertRaises(Failed, msg=text):
+                building.building_lines(text, known)
+
     def test_advice(self) -> None:
         """What can't be done is told in a sentence."""
-        brackets = "a call has its name and its values in brackets, as create(#1); \\help lists the calls"
         cases = (
             ("begin here", "`begin` stands alone on its line"),
             ("batch as 3", "`batch as #3` begins a batch of #3"),
-            ("#4:look_self()", "moo keeps verbs and runs none"),
-            ("@recycle #4", "@recycle is a command of LambdaMOO; here it is recycle(#4)"),
-            ("@recycle Lamp", "@recycle is a command of LambdaMOO; here it is recycle(#5)"),
-            ('@create $thing named "Lamp"', '@create is a command of LambdaMOO; here it is $new = create($thing); $new.name = "Lamp"'),
-            ("@describe me as A tall wizard.", '@describe is a command of LambdaMOO; here it is $me.description = "A tall wizard."'),
-            ("@set #5.light to 3", "@set is a command of LambdaMOO; here it is #5.light = 3"),
-            ("@prop #5.light 0 rc", '@prop is a command of LambdaMOO; here it is add_property(#5, "light", 0, {#3, "rc"})'),
-            ("@chmod #5.light rw", '@chmod is a command of LambdaMOO; here it is set_property_info(#5, "light", {#3, "rw"})'),
-            ("@verb #5:look this none none", '@verb is a command of LambdaMOO; here it is add_verb(#5, {#3, "rxd", "look"}, {"this", "none", "none"})'),
-            ("@go #5", "@go is a command of LambdaMOO; here it is move($me, #5)"),
-            ("@list #5:look", "@list is a command of LambdaMOO; moo keeps verbs and runs none"),
+            ("#4:look_self()", elsewhere.NO_VERBS),
+            ('player:tell("hi")', elsewhere.NO_VERBS),
+            ("@program #5:look", f"@program is LambdaMOO's; here {elsewhere.NO_VERBS}"),
+            ("@foo #5", "@foo isn't one of the commands of LambdaMOO that the shell does: \\help lambdamoo lists them"),
+            ("say hello", elsewhere.PLAYED),
+            ('"hello', elsewhere.PLAYED),
+            ("north", elsewhere.PLAYED),
             ("1 + 1", "moo reckons nothing: a line is a call, or a property as #5.name"),
             ("#4.light + 1", 'a property is read by get(#4, "light")'),
-            ("look", "\\places shows what is where, and #3.location is the place of #3"),
-            ("create #1", brackets),
-            ("nothing", brackets),
+            (":x", "a name is written $x, and nobody plays at this prompt"),
+            ("/* words */", "a comment begins with // and ends with its line"),
+            ("select", f"moo has no SQL; {elsewhere.SQL['select']}"),
+            ("create table inn (a int)", f"moo has no SQL; {elsewhere.KINDS['create']}"),
+            ("create #1", ""),
+            ("nothing", ""),
         )
         for text, wanted in cases:
             self.case(f"the advice of {text}", meant.advice(text), wanted)
         for text in ("#4", "{1, 2}"):
             self.case(f"the expression {text}", meant.expression_advice(text), "")
+        for word, begins in (("x", "\\show #5"), ("dv+", "\\show #5"), ("df", "\\help calls"), ("dus", "\\show #5"), ("nosuch", "")):
+            self.case(f"the advice of \\{word}", elsewhere.of_psql(word)[: len(begins)] if begins else elsewhere.of_psql(word), begins)
+        for options, begins in ((["-A"], "-A: answers of a script are bare"), (["-Ubob"], "-U: --as N"), (["--attempt"], "")):
+            self.case(f"the advice of {options}", elsewhere.of_options(options)[: len(begins) or 9], begins)
 
     def test_the_examples_of_advice(self) -> None:
-        """The calls of the examples are calls of moo, or words of the shell."""
-        known = set(manual.manual_of(MOO).calls)
-        told = [example for _, example, _ in elsewhere.CALLS.values()] + [*elsewhere.SENTENCES.values(), *elsewhere.SQL.values(), *elsewhere.PSQL.values()]
-        self.case("calls", {name for text in told for name in re.findall(r"\b([a-z_]+)\(", text)} - known, set())
-        self.case("words", {word for text in told for word in re.findall(r"\\(\w+)", text)} - set(commands.COMMANDS), set())
+        """The calls of the examples are calls of moo, or words of the shell; each command of help has a form that is read."""
+        lists = {"property_info": '{#3, "r"}', "verb_info": '{#3, "r", "look"}', "verb_args": '{"this", "none", "none"}', "parent": "#6", "get": "{}"}
+        known = building.Known(lambda text: text, lambda call: lists[call.partition("(")[0]])
+        done = [line for command in building.COMMANDS.values() for line in building.building_lines(command.example, known)]
+        shown = [*elsewhere.SENTENCES.values(), *elsewhere.SQL.values(), *elsewhere.PSQL.values(), elsewhere.PLAYED, *done]
+        calls = set(manual.manual_of(MOO).calls)
+        self.case("calls", {name for text in shown for name in re.findall(r"\b([a-z_]+)\(", text)} - calls, set())
+        self.case("words", {word for text in shown for word in re.findall(r"\\(\w+)", text)} - {*commands.COMMANDS, *commands.ALIASES}, set())
+
+    def test_a_command_that_gets_answers(self) -> None:
+        """If it has ended, that is told once, and answers are shown again."""
+        output = told.Output()
+        output.send_to("|true")
+        assert output.command
+        output.command.wait()
+        with self.assertRaises(Failed):
+            output.show("lost")
+        self.case("standard output again", (output.file, output.command), (None, None))
 
     def test_calls_that_are_being_typed(self) -> None:
         cases = (

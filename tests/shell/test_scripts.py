@@ -259,6 +259,32 @@ class Scripts(OnWorld):
         self.case("oneself alone", run_script("me\n").written, run_script("\\show #3\n").written)
         self.told("a name of two", run_script("\\show room\n$b = create(#1)\n$b.name = \"Room\"\n\\show r\n"), 4, "r may be #1")
 
+    def test_commands_of_lambdamoo(self) -> None:
+        """They are done, in a batch if they are several calls."""
+        text = "@create #1 named Lamp\n@move Lamp to #2\n@move me to #2\n@describe here as Dull.\n\\seq\n"
+        self.told("up to the first that is refused", run_script(text), 4, 'refused: set(#2, "description", "Dull."): E_PROPNF')
+        self.case("names", run_script("@rename Lamp to Torch\n#4.name\nhere.name\n"), Ended(0, '0\n"Torch"\n"The First Room"\n', ""))
+        self.world_is("one batch makes and names", 4, 5)
+        self.case("what somebody owns", run_script("@audit\n").written.splitlines()[-1], '#4 "Torch"  in #2 "The First Room"')
+        came = run_script("@create #1 named a,b\n")
+        self.told("all or nothing", came, 1, 'E_PROPNF, #5 has no property "aliases"')
+        self.world_is("nothing is made", 4, 5)
+        came = run_script("begin\n@create #1 named Box\n@move $new to here\nend\n")
+        self.case("in a batch", came, Ended(0, "$new = #5\n0\n0\n", ""))
+        self.case("the header of a verb", run_script("@verb #4:look\n@list #4:look\n").written, '0\n{#3, "rd", "look"}\n{"none", "none", "none"}\n')
+        self.told("who is nowhere", run_script("move(#3, #-1)\nlook\n"), 2, "you are nowhere: move($me, #5) goes to a place")
+
+    def test_words_of_psql(self) -> None:
+        text = "\\set x 5\n$x\n\\echo x is $x \"$x\" -- told\n5\n\\! echo there\n\\o |tr a-z A-Z\n#3.name\n\\o\n#3.name -- who\n"
+        self.case("they are done", run_script(text), Ended(0, '5\nx is 5 "$x" -- told\n5\nthere\n"WIZARD"\n"Wizard"\n', ""))
+        self.case("the world", run_script("\\conninfo\n").written, 'the service of world.db: number 0, as #3 "Wizard", a wizard\n')
+        self.case("\\d alone", run_script("\\d\n").written, run_script("\\classes\n").written)
+        self.case("no file has the name of a command", [each for each in os.listdir() if "|" in each], [])
+        came = run_shell("-1", "-c", "create(#1)", "-c", "create(#77)", "world.db")
+        self.case("-1 is one batch", (came.status, came.complaint.splitlines()[-1]), (1, "moo-shell: nothing was changed"))
+        self.case("-A says why not", "answers of a script are bare already" in run_shell("-A", "world.db").complaint, True)
+        self.case("a copy runs no command", run_shell("--dry-run", "-c", "\\! echo there", "world.db").written.splitlines()[0] != "there", True)
+
     def test_the_examples(self) -> None:
         """The numbers are those of the comments: three classes, ten rooms, a lamp, two builders with quotas 2 and 1, a hut and a boat."""
         village = str(TOP / "examples/village.moo")
@@ -357,7 +383,8 @@ class Mistakes(OnWorld):
             ("set_accept(#4, {1, 2)", ["malformed: "]),
             ('set(#4, "name, 3)', ["malformed: "]),
             ('set(#4, "name", "Café")', ["malformed: ", "'é'"]),
-            ("set(#4, 'name', 3)", ["malformed: "]),
+            ("set(#4, 'name', 3)", ["malformed: ", "a text is in double quotes"]),
+            ('get(#4, /* it */ "name")', ["malformed: ", "a comment begins with //"]),
             ("END", ["`end` without `begin`"]),
             ("show #77", ["#77 isn't an object"]),
             ("#77", ["#77 isn't an object"]),
@@ -368,8 +395,11 @@ class Mistakes(OnWorld):
             ("#4.location.name", ['get(#-1, "name"): E_INVIND']),
             ('$lamp = "light', ['"light isn\'t a value: a text without its closing "']),
             ("lamp = create(#77)", ["create(#77): E_PERM"]),
-            ("@recycle #4", ["malformed: @recycle #4 isn't a call: ", "recycle(#4)"]),
-            ("@create $box named Lamp", ["malformed: @create $box named Lamp isn't a call: ", "$new = create($box)"]),
+            ("@recycle #77", ["refused: recycle(#77): E_INVARG"]),
+            ("@create $box named Lamp", ["$box has no value"]),
+            ("@rename #4 to Caf\u00e9", ["'\u00e9' is a letter that worlds don't hold"]),
+            ("@chmod #4", ["@chmod is written as @chmod #5.light +r"]),
+            ("@program #4:look", ["moo keeps the headers of verbs and runs none"]),
             ("select name from #4", ["moo has no SQL; #5.name reads a property"]),
             ("\\du", ["\\du isn't a word of the shell: players() lists the players"]),
             ("\\show", ["which object? #5 is one"]),

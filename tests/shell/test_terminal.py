@@ -157,10 +157,11 @@ class Lines(Typed):
 
     def test_words_of_other_prompts(self) -> None:
         shell = self.shell(EDITOR="sed -i s/dull/bright/")
+        self.case("a command is shown as its calls", self.done(shell, "@chmod #4.weight +w"), ['set_property_info(#4, "weight", {#3, "rw"})', "0  accepted 2"])
         told = self.done(shell, '$me.smell = "salt"')[0]
         self.case("a property that isn't there", '; add_property($me, "smell", VALUE, {#3, "rc"}) adds it' in told, True)
         self.done(shell, '#5.description = "dull"')
-        self.case("an editor", "0  accepted 3" in self.done(shell, "\\e"), True)
+        self.case("an editor", "0  accepted 4" in self.done(shell, "\\e"), True)
         self.case("what it left is done", self.done(shell, "#5.description"), ['"bright"'])
         self.case("nothing else", self.done(shell, "\\e")[0], "nothing was changed in it, and nothing is done")
         self.case("again and again", self.done(shell, "\\watch i=0 c=2 #5.weight")[1::2], ["1", "1"])
@@ -211,6 +212,8 @@ class Completion(Typed):
             ("\\ask cre", "\\ask create("),
             ("$x = max_", "$x = max_object("),
             ("\\peti", "\\petitions"),
+            ("@desc", "@describe"),
+            ("\\help lam", "\\help lambdamoo"),
             ("$lan", "$lantern"),
             ("recycle($lan", "recycle($lantern"),
             ('get(#4, "desc', 'get(#4, "description"'),

@@ -17,13 +17,14 @@ CANNOT_LISTEN = "moo: cannot listen\n"
 
 
 class Service:
-    """`PROGRAM serve FILE PORT COUNT`, from its first line on. With None in place of the count, that is left out."""
+    """`PROGRAM serve FILE PORT COUNT`, from its first line on. With None in place of the count, that is left out, and so are ticks."""
 
     def __init__(
         self, program: str, file: str, count: Optional[int], port: Optional[int] = None, folder: Optional[str] = None,
-        env: Optional[dict[str, str]] = None,
+        env: Optional[dict[str, str]] = None, ticks: Optional[int] = None,
     ) -> None:  # fmt: skip
         self.port, self.told = port or free_port(), ""
+        self.ticks = [] if ticks is None else ["--ticks", str(ticks)]
         self.begin(program, file, count, folder, env)
         # Another program may have taken the port just now.
         while self.first == CANNOT_LISTEN and not port:
@@ -33,7 +34,7 @@ class Service:
 
     def begin(self, program: str, file: str, count: Optional[int], folder: Optional[str], env: Optional[dict[str, str]]) -> None:
         """Starts it, and hears its first line."""
-        words = [program, "serve", file, str(self.port), *([] if count is None else [str(count)])]
+        words = [program, "serve", file, str(self.port), *([] if count is None else [str(count)]), *self.ticks]
         self.process = start(words, cwd=folder, stdout=subprocess.PIPE, stderr=subprocess.PIPE, env=env)
         assert self.process.stdout
         self.first = line_of(self.process.stdout)

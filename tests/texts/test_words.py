@@ -11,7 +11,7 @@ from tests.support.worlds import accepted, make, run, text_of
 COMMANDS = ["init", "apply", "rehearse", "ask", "dump", "load", "check", "serve"]
 REPLIES = "accepted refused full stale malformed truncated nomemory fault closed".split()
 REASONS = "E_PERM E_INVARG E_INVIND E_PROPNF E_VERBNF E_ARGS E_TYPE E_QUOTA E_RECMOVE E_NACC".split()
-LONGEST_LINE = 109
+LONGEST_LINE = 110
 
 
 def calls_of_the_manual():
@@ -56,6 +56,12 @@ class Words(ProgramTest):
             self.says(f"{port} is no port", 2, f"'{port}' for '<PORT>'", "serve", "world.db", port, "1")
         for count in ("1000001", "x"):
             self.says(f"{count} is no count", 2, f"'{count}' for '[COUNT]'", "serve", "world.db", "8080", count)
+        for ticks in ("999", "4294967296", "x"):
+            self.says(f"{ticks} is no number of ticks", 2, f"'{ticks}' for '--ticks <ticks>'", "serve", "--ticks", ticks, "world.db", "8080")
+        self.says("ticks have a number", 2, "--ticks", "serve", "world.db", "8080", "--ticks")
+        self.says("a batch on the command line has no ticks", 2, "--ticks", "apply", "--ticks", "1000", "world.db", "-")
+        for words in (["--ticks", "1000", "world.db", "8080"], ["world.db", "8080", "--ticks", "4294967295"]):
+            self.says(f"ticks come anywhere: {words}", 1, "moo: store fault", "serve", *words)
         self.says("a word that isn't UTF-8", 2, "moo: usage", "check", b"\xff")
         self.says("a word that is none", 2, "sing", "sing")
         self.says("a word too many", 2, "more", "check", "world.db", "more")

@@ -314,7 +314,7 @@ class Broken(unittest.TestCase):
             self.assertEqual(file.read(), b"seq\n1\n")
             refusal = service.copied("/dump", file)
             self.assertEqual(refusal.error if refusal else "", "nomemory")
-            with self.assertRaises(Unreachable):
+            with self.assertRaises(LostAnswer):
                 service.copied("/dump", file)
 
 

@@ -176,7 +176,7 @@ class Rights(Api_):
         self.assertEqual(text[:6], b"seq 1\n")
 
     def test_the_dump_comes_in_pieces(self):
-        self.door.copied = lambda path, file: file.write(b"seq 1\n" * 1000) and None
+        self.door.copied = lambda path, file, end: file.write(b"seq 1\n" * 1000) and None
         text = self.called.bytes("GET", "/api/dump", HTTP_AUTHORIZATION=f"Bearer {self.tokens['wizard']}")
         self.assertEqual((self.called.status, self.called.head["Content-Length"], text), (200, "6000", b"seq 1\n" * 1000))
         self.post("wizard", "/api/batch", {"calls": ["set_player_flag(#3, 0)", 'set(#3, "wizard", 0)']})

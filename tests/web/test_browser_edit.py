@@ -5,15 +5,13 @@ joined both ways, describes it again, and makes ten things in it with a value ea
 import unittest
 
 from tests.support.operating import KeptService, make_world
-from tests.web import test_browser_forms as browser_forms
+from tests.support.scenes import Scene, WithTheKeyboard, kinds_of
 from tests.web.test_class_table import new
 from tests.web.test_one_form import DESCRIPTION, EXITS, WORLD
 
 
-class WithTheKeyboardAlone(browser_forms.Scene):
-    """At 320 pixels, without a mouse, on a world with rooms, their exits, and a class of things."""
-
-    width, by_keys = 320, True
+class Building(Scene):
+    """The scenes, on a world with rooms, their exits, and a class of things."""
 
     def setUp(self):
         super().setUp()
@@ -97,6 +95,8 @@ class WithTheKeyboardAlone(browser_forms.Scene):
     def test_all(self):
         self.play(self.a_room_and_ten_things)
 
+
+load_tests = kinds_of(Building, WithTheKeyboard)
 
 if __name__ == "__main__":
     unittest.main()

@@ -4,154 +4,15 @@ A builder makes a room, a class and ten things of it; a resident petitions; a wi
 explained and mended; two people change one object at once. It is left out if there is no browser.
 """
 
-import contextlib
 import re
 import unittest
 
-from tests.support import browser
-from tests.support.operating import SECONDS
+from tests.support.scenes import Scene, WithTheKeyboard, WithTheMouse, kinds_of
 from tests.support.web import PASSWORD
-from tests.web.test_form_stops import WithFront
-
-MOST_TABS = 200
 
 
-class Person:
-    """Somebody at a browser. With `by_keys` no mouse is used: the way to each thing is the tabulator."""
-
-    def __init__(self, test, name, width, by_keys):
-        self.test, self.name, self.by_keys, self.width = test, name, by_keys, width
-        self.driver = browser.browser(width)
-        self.driver.set_page_load_timeout(SECONDS)
-        self.open("/in")
-        self.fill("name", name)
-        self.fill("password", PASSWORD)
-        self.press("Sign in")
-        test.assertIn(f"Signed in as {name}", self.text())
-
-    # What is seen
-
-    def text(self):
-        """What is to be read on the page."""
-        self.fits()
-        return " ".join(self.driver.find_element("tag name", "body").text.split())
-
-    def fits(self):
-        """No page is wider than the window."""
-        size = self.driver.execute_cdp_cmd("Page.getLayoutMetrics", {})["cssContentSize"]
-        self.test.assertLessEqual(size["width"], self.width, self.driver.current_url)
-
-    def sees(self, *words):
-        text = self.text()
-        for each in words:
-            self.test.assertIn(each, text)
-
-    def has_focus_in(self, field):
-        """A field has the focus, which it gets when the page is drawn."""
-        from selenium.webdriver.support.wait import WebDriverWait
-
-        WebDriverWait(self.driver, SECONDS).until(
-            lambda driver: driver.switch_to.active_element.get_attribute("id") == field, f"the focus isn't in {field}"
-        )
-
-    # What is done
-
-    def open(self, path):
-        """Types an address."""
-        self.driver.get(f"http://127.0.0.1:{self.test.front.port}{path}")
-        self.fits()
-
-    def reach(self, element):
-        """Goes to an element, by the tabulator alone if there is no mouse."""
-        for _ in range(MOST_TABS):
-            if not self.by_keys or self.driver.switch_to.active_element == element:
-                return element
-            self.keys("\ue004")
-        raise AssertionError(f"the tabulator doesn't come to {element.get_attribute('outerHTML')[:200]}")
-
-    def keys(self, keys):
-        """Types keys, wherever the focus is."""
-        from selenium.webdriver.common.action_chains import ActionChains
-
-        ActionChains(self.driver).send_keys(keys).perform()
-
-    def all_of_it(self):
-        """Marks all that is in a field, by Control and A."""
-        from selenium.webdriver.common.action_chains import ActionChains
-
-        ActionChains(self.driver).key_down("\ue009").send_keys("a").key_up("\ue009").perform()
-
-    def act_on(self, element, key):
-        """Clicks on an element, or goes to it and types a key."""
-        self.reach(element)
-        if self.by_keys:
-            self.keys(key)
-        else:
-            element.click()
-
-    def fill(self, field, text):
-        """Types a text into a field in the place of what is there."""
-        element = self.reach(self.driver.find_element("id", field))
-        if not self.by_keys:
-            element.click()
-        self.all_of_it()
-        self.keys("\ue003" + text)
-
-    def tick(self, name, value=None):
-        """Ticks a box, or one of several choices."""
-        found = [each for each in self.driver.find_elements("name", name) if value is None or each.get_attribute("value") == value]
-        self.act_on(found[0], " ")
-        self.test.assertTrue(found[0].is_selected())
-
-    def unfold(self):
-        """Opens the part of a form that is folded."""
-        self.act_on(self.driver.find_element("css selector", "#edit summary"), "\ue007")
-
-    def press(self, words):
-        """Presses the button with these words. The page that comes is another one."""
-        buttons = [each for each in self.driver.find_elements("css selector", "button:not(.hidden)") if " ".join(each.text.split()) == words]
-        self.test.assertTrue(buttons, f"no button {words!r} in {self.text()[:800]}")
-        self.leave(buttons[0])
-
-    def follow(self, words):
-        """Follows the link with these words."""
-        links = [each for each in self.driver.find_elements("tag name", "a") if " ".join(each.text.split()) == words]
-        self.test.assertTrue(links, f"no link {words!r}")
-        self.leave(links[0])
-
-    def leave(self, element):
-        """Acts on an element by which another page comes, and waits for that."""
-        from selenium.webdriver.support.wait import WebDriverWait
-
-        page = self.driver.find_element("tag name", "html")
-        self.act_on(element, "\ue007")
-        WebDriverWait(self.driver, SECONDS).until(lambda driver: browser.is_gone(page))
-        self.fits()
-
-
-class Scene(WithFront):
+class Forms(Scene):
     """What is done, for each way to do it."""
-
-    width, by_keys = 1000, False
-
-    @classmethod
-    def setUpClass(cls):
-        if cls is Scene:
-            raise unittest.SkipTest("its two kinds run")
-        if why := browser.lacking():
-            raise unittest.SkipTest(why)
-
-    @contextlib.contextmanager
-    def at(self, *names):
-        """People at their browsers."""
-        people = []
-        try:
-            for name in names:
-                people.append(Person(self, name, self.width, self.by_keys))
-            yield people
-        finally:
-            for person in people:
-                person.driver.quit()
 
     def a_builder(self):
         with self.at("ada") as (ada,):
@@ -266,42 +127,13 @@ class Scene(WithFront):
             ada.press("Do it")
             ada.sees("Lamp #8 is called “Oil lamp”.")
 
-    def play(self, scene):
-        """Plays a scene on a new world; once more, if the driver of the browser fails and not the page."""
-        from selenium.common.exceptions import WebDriverException
-
-        for is_last in (False, True):
-            self.tearDown()
-            self.doCleanups()
-            self.setUp()
-            try:
-                scene()
-                return
-            except WebDriverException as error:
-                if is_last:
-                    raise
-                print(f"the driver of the browser failed, so the scene is played once more: {error.msg}")
-
     def test_all(self):
         for scene in (self.a_builder, self.a_refusal_is_mended, self.petitions, self.two_at_once, self.a_session_that_is_over):
             with self.subTest(scene=re.sub("_", " ", scene.__name__)):
                 self.play(scene)
 
 
-class WithTheMouse(Scene):
-    """In a wide window."""
-
-
-class WithTheKeyboardAlone(Scene):
-    """At 320 pixels, without a mouse."""
-
-    width, by_keys = 320, True
-
-
-def load_tests(loader, tests, pattern):
-    """Only the two kinds: the tests of the pages are another module's."""
-    return unittest.TestSuite([loader.loadTestsFromTestCase(each) for each in (WithTheMouse, WithTheKeyboardAlone)])
-
+load_tests = kinds_of(Forms, WithTheMouse, WithTheKeyboard)
 
 if __name__ == "__main__":
     unittest.main()

@@ -4,11 +4,10 @@ for a picture of each page."""
 
 import os
 import pathlib
-import unittest
 
 from tests.support import browser
+from tests.support.scenes import Person, Scene, WithTheKeyboard, WithTheMouse, kinds_of
 from tests.support.web import PASSWORD
-from tests.web.test_browser_forms import Person, Scene
 
 PICTURES = os.environ.get("PICTURES")
 NEW = "a new password"
@@ -111,16 +110,4 @@ class OfPeople(Scene):
                 self.play(scene)
 
 
-class WithTheMouse(OfPeople):
-    """In a wide window."""
-
-
-class WithTheKeyboard(OfPeople):
-    """At 320 pixels, without a mouse."""
-
-    width, by_keys = 320, True
-
-
-def load_tests(loader, tests, pattern):
-    """Only the two kinds: the scenes are another module's."""
-    return unittest.TestSuite([loader.loadTestsFromTestCase(each) for each in (WithTheMouse, WithTheKeyboard)])
+load_tests = kinds_of(OfPeople, WithTheMouse, WithTheKeyboard)

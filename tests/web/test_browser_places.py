@@ -7,15 +7,18 @@ import unittest
 
 from tests.support import browser
 from tests.support.operating import KeptService, make_world
+from tests.support.scenes import Person
 from tests.support.web import Front, RoomTest, add_person
 from tests.web.test_browser import contrast, once_more
-from tests.web.test_browser_forms import Person
 from tests.web.test_places import WORLD
 
 LEAST_HEIGHT = 24
 # A resident's first page at 390 pixels, in pixels.
 MOST_HEIGHT = 1200
-PATHS = ("/", "/o/5", "/o/6", "/o/10", "/map/exits", "/map/places", "/map/parents", "/history", "/do", "/do/set?object=5", "/find?q=the", "/you")
+PATHS = (
+    "/", "/o/5", "/o/6", "/o/10", "/map/exits", "/map/places", "/map/parents", "/history", "/do", "/do/set?object=5", "/find?q=the", "/you",
+    "/do/move?object=%2310&place=%235&go=preview", "/edit/5", "/edit/new?parent=4&from=5", "/class/4", "/batch",
+)  # fmt: skip
 # Run by the driver, and not by the page: the links and buttons that are shown and lower than a finger needs, by their words.
 LOW = f"""const of = one => [...one.getClientRects()].map(each => Math.round(10 * each.height) / 10);
 return [...document.querySelectorAll("a, button, summary")]
@@ -76,9 +79,8 @@ class Walks(PlaceTest):
             here = ada.driver.find_element("css selector", "h1 a").text
             ada.follow("west, w The Square" if here == "The Inn" else "east The Inn")
             ada.follow("Go there")
-            ada.press("Preview")
             ada.press("Do it")
-            ada.open("/")
+            ada.follow("You are in The Square" if here == "The Inn" else "You are in The Inn")
             ada.sees("You are in The Square" if here == "The Inn" else "You are in The Inn")
 
     @once_more

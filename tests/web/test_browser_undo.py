@@ -2,11 +2,10 @@
 that is undone, and the way back to a preview. `PICTURES` in the environment is a folder for a picture of each page."""
 
 import os
-import unittest
 
 from tests.support.forms import WORLD
 from tests.support.operating import KeptService, make_world
-from tests.web.test_browser_forms import Scene
+from tests.support.scenes import OnATelephone, Scene, WithTheMouse, kinds_of
 from tests.web.test_losses import APPLES, LOST
 
 PICTURES = os.environ.get("PICTURES")
@@ -110,16 +109,4 @@ class Undoing(Scene):
                 self.play(scene)
 
 
-class WithTheMouse(Undoing):
-    """In a wide window."""
-
-
-class OnATelephone(Undoing):
-    """At 390 pixels."""
-
-    width = 390
-
-
-def load_tests(loader, tests, pattern):
-    """Only the two kinds: the scenes are another module's."""
-    return unittest.TestSuite([loader.loadTestsFromTestCase(each) for each in (WithTheMouse, OnATelephone)])
+load_tests = kinds_of(Undoing, WithTheMouse, OnATelephone)

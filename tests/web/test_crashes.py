@@ -28,7 +28,8 @@ from moo_web.journal import journal as journal_module  # noqa: E402
 from moo_web.journal import writer as writer_module  # noqa: E402
 from moo_web.journal.journal import Journal  # noqa: E402
 from moo_web.journal.segments import Accepted, accepted_in  # noqa: E402
-from moo_web.journal.writer import Busy, Job, Writer  # noqa: E402
+from moo_web.journal.jobs import Busy, Job  # noqa: E402
+from moo_web.journal.writer import Writer  # noqa: E402
 
 STOPS = int(os.environ.get("STOPS", 2000))
 STOPS_OF_A_WORLD = 100

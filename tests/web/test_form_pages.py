@@ -8,6 +8,8 @@ import urllib.parse
 from tests.support.forms import FormsTest
 from tests.support.web import PASSWORD
 
+from moolib.calls import NAMES
+
 
 class Forms(FormsTest):
     def test_each_form_is_shown_and_linked_to(self):
@@ -56,6 +58,14 @@ class Forms(FormsTest):
                 ada.get(path)
                 got = ada.typed()
                 self.assertEqual({key: got.get(key) for key in fields}, fields)
+
+    def test_the_name_of_an_object_is_beside_its_number(self):
+        ada = self.somebody("ada")
+        self.has(ada.get("/do/move?object=%238"), "Lamp #8", "The First Room #2")
+        for typed, is_named in (("#7", True), (" #7 ", True), ("nowhere", False), ("#99", False), ("Generic Room", False)):
+            with self.subTest(typed=typed):
+                page = ada.send("Preview", place=typed)
+                self.assertEqual('<span class="named" id="f-place-named">Generic Room #7</span>' in page.html, is_named)
 
     def test_a_change_from_its_preview_to_its_end(self):
         ada = self.somebody("ada")
@@ -195,6 +205,21 @@ class Mistakes(FormsTest):
         page = bram.send("Preview", place="#2")
         self.has(page, "This would be done", status=200)
 
+    def test_a_property_that_isnt_there_can_be_added(self):
+        ada = self.somebody("ada")
+        ada.get("/o/8")
+        self.assertIn("/do/add-property?object=%238&name=description", ada.page.links, "it has no description, and none to inherit")
+        self.write("wizard", 'add_property(#7, "description", "", {#3, "rc"})')
+        self.assertIn("/do/set?object=%237&name=description", ada.get("/o/7").links)
+        ada.get("/do/set?object=%238&name=colour")
+        self.has(ada.send("Preview", value="a pale green"), "The object has no property of that name.", status=409)
+        (way,) = [link for link in ada.page.links if link.startswith("/do/add-property")]
+        ada.get(way)
+        self.assertEqual({key: ada.typed()[key] for key in ("name", "value", "value.kind")}, {"name": "colour", "value": "a pale green", "value.kind": "text"})
+        self.has(ada.send("Preview"), "This would be done", status=200)
+        self.is_done(ada.send("Do it"))
+        self.assertEqual(self.answered('get(#8, "colour")'), '"a pale green"')
+
     def test_markup_that_is_typed_stays_text(self):
         ada = self.somebody("ada")
         ada.get("/do/rename?object=%238")
@@ -202,6 +227,55 @@ class Mistakes(FormsTest):
         self.assertNotIn("<b onclick", page.html)
         self.is_done(ada.send("Do it"))
         self.assertNotIn("<b onclick", ada.page.html + ada.get("/do/rename?object=%238").html)
+
+
+class Editor(FormsTest):
+    def test_names_are_taken_where_numbers_are(self):
+        self.write("wizard", 'set(#2, "name", "The Inn")', "create(#7)", 'set(#9, "name", "Attic (old)")')
+        ada = self.somebody("ada")
+        ada.get("/batch")
+        page = ada.send("Preview", text='$inn = the inn\n$new = create(Generic Thing)\nset($new, "name", "move(The Inn)") // für Bram\n'
+                                        "move($new, $inn)\nmove(Lamp #8, nowhere)\nvalid(Attic (old))")  # fmt: skip
+        for call in ("create(Generic Thing #6 )", 'set(#10, "name", "move(The Inn)")', "move(#10, The Inn #2 )", "valid(Attic (old) #9 )"):
+            self.has(page, call, status=200)
+        self.is_done(ada.send("Do it"))
+        self.assertEqual([self.answered(f'get(#{number}, "location")') for number in (8, 10)], ["#-1", "#2"])
+
+    def test_all_calls_are_listed(self):
+        page = self.somebody("ada").get("/batch")
+        listed = re.findall(r"<li><code>(\w+)\(", page.html)
+        self.assertEqual(set(listed), NAMES)
+
+    def test_a_wrong_name_says_where(self):
+        ada = self.somebody("ada")
+        for text, words in (
+            ("max_object()\n  move(Lmp, #2)", "Line 2: Letter 8: No object is named “Lmp”."),
+            ("$x = {1, The Attic}", "Line 1: Letter 10: No object is named “The Attic”."),
+            ('set(#8, name, "Inn")', "Line 1: Letter 9: No object is named “name”."),
+            ("move(Ada #5, #2)", "Line 1: Letter 6: #5 isn’t named “Ada”."),
+            ("sing", "Line 1: A call has its name and its values in brackets, as create(#1)."),
+        ):
+            with self.subTest(text):
+                ada.get("/batch")
+                self.has(ada.send("Preview", text=text), words, status=422)
+
+    def test_one_of_several_is_chosen(self):
+        self.write("ada", "create(#6)", 'set(#9, "name", "Lamp")')
+        ada = self.somebody("ada")
+        ada.get("/batch")
+        page = ada.send("Preview", text='max_object()\nset(Lamp, "name", "Oil lamp") // the second')
+        self.has(page, "Line 2: Letter 5: 2 objects are named “Lamp”.", status=422)
+        whole = 'max_object()\nset(#9, "name", "Oil lamp") // the second'
+        self.has(ada.send("Preview", **{"text.choice": whole}), "Lamp #9 is called “Oil lamp”.", status=200)
+        self.assertEqual(ada.typed()["text"].replace("\r", ""), whole)
+
+    def test_plain_letters_of_one_line(self):
+        ada = self.somebody("ada")
+        ada.get("/batch")
+        page = ada.send("Preview", text='$a = create(#6) // für mich\nset($a, "name", "Café")\nset($a, "weight", 2)')
+        self.has(page, "Line 2: “é”", status=422)
+        ada.send("Use the plain letters")
+        self.assertEqual(ada.typed()["text"].splitlines()[:2], ["$a = create(#6) // für mich", 'set($a, "name", "Cafe")'])
 
 
 class Together(FormsTest):

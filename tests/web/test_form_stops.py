@@ -1,59 +1,10 @@
 """Forms over stops of the front and of moo, which are processes: nothing that was typed is lost, and nothing is done twice."""
 
-import functools
 import http.client
-import pathlib
-import shutil
-import tempfile
 import unittest
 
-from tests.support.forms import WORLD
-from tests.support.operating import KeptService, make_world
-from tests.support.reader import Reader, over_http
-from tests.support.web import Front, RoomTest, add_person
-
-
-@functools.cache
-def people_file():
-    """The accounts of three people, which are made once."""
-    folder = pathlib.Path(tempfile.mkdtemp())
-    for name, number in (("wizard", 3), ("ada", 4), ("bram", 5)):
-        add_person(folder, name, number)
-    return folder / "people.db"
-
-
-class WithFront(RoomTest):
-    """A world, its front as a process, and three people who are signed in when they are wanted."""
-
-    def setUp(self):
-        super().setUp()
-        make_world(self.room / "world.db", WORLD)
-        self.moo = KeptService(self.room / "world.db")
-        self.addCleanup(lambda: self.moo.stop())
-        (self.room / "front").mkdir()
-        shutil.copy(people_file(), self.room / "front")
-        self.front = self.start()
-
-    def start(self, port=None):
-        front = Front(self.room / "front", self.moo.port, "--rate", "10000", port=port)
-        self.assertTrue(front.is_listening(), front.said())
-        return front
-
-    def start_again(self):
-        """Kills the front, and starts another one at its port."""
-        self.front.kill()
-        self.front = self.start(self.front.port)
-
-    def reader(self, name):
-        reader = Reader(over_http(self.front.port), name)
-        self.assertEqual(reader.page.status, 200, reader.page.text)
-        return reader
-
-    def has(self, page, *words, status):
-        """The page says all these words, and has this status."""
-        for each in words:
-            self.assertIn(each, page.text)
-        self.assertEqual(page.status, status)
+from tests.support.operating import KeptService
+from tests.support.with_front import WithFront
 
 
 class Stops(WithFront):

@@ -1,6 +1,6 @@
 """A builder fills a world, under bounds as those of its units but smaller: it goes on serving reads, refuses growth, and starts again.
 
-The bound of a start is twice that of a run, as in packaging/moo@.service. `moo-watch`, which its timer runs each minute, looks more often.
+The bound of a start is four times that of a run, as in packaging/moo@.service. `moo-watch`, which its timer runs each minute, looks more often.
 """
 
 from __future__ import annotations
@@ -20,7 +20,7 @@ from tests.support.service import free_port
 from tests.support.web import Front, RoomTest, add_person
 
 RUN_BYTES = 40 << 20
-START_BYTES = 2 * RUN_BYTES
+START_BYTES = 4 * RUN_BYTES
 MOST_BATCHES = 300
 WORLD = "batch as #3\ncreate(#1, #-1)\nset_player_flag(#4, 1)\ncreate(#1, #4)\nset(#5, \"f\", 1)\nend\n"
 LONG = '"' + "x" * 60_000 + '"'

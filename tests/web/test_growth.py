@@ -2,6 +2,7 @@
 
 import json
 import unittest
+from unittest.mock import patch
 
 from tests.support.forms import FormsTest
 from tests.support.pages import Reader
@@ -10,11 +11,20 @@ from tests.support.web import use_web
 use_web()
 
 from moo_web.people.growth import DAILY_BYTES, DAY, MOST_PETITION_BYTES, Growth  # noqa: E402
-from moo_web.journal.writer import TooMuch  # noqa: E402
+from moo_web.journal.jobs import TooMuch  # noqa: E402
+from moo_web.journal.journal import NoRoom  # noqa: E402
+from moo_web.journal.segments import Accepted  # noqa: E402
 
 LONG = '"' + "x" * 65_000 + '"'
 # As one fills the list of a wizard: a petition of 260 kB.
 LONG_PETITION = 'petition({{"set", #5, "name", {' + ",".join([LONG] * 4) + "}}})"
+
+
+def add(growth, who, number, length):
+    """Tests a batch of so many bytes, its one answer among them, and counts it."""
+    calls = ["x" * (length - 1)]
+    growth.test(who, number, calls)
+    growth.take(Accepted(1, 0.0, who, number, calls, {"answers": ["0"]}))
 
 
 class GrowthTest(FormsTest):
@@ -22,7 +32,9 @@ class GrowthTest(FormsTest):
 
     def setUp(self):
         super().setUp()
-        self.writer.bound = Growth(self.door, full=self.room / "full", clock=self.clock).test
+        growth = Growth(self.door, full=self.room / "full", clock=self.clock)
+        self.writer.bound = growth.test
+        self.writer.listeners.append(growth.take)
         self.tokens = {name: self.people.make_token(name) for name in self.numbers}
 
     def batch(self, who, *calls):
@@ -135,25 +147,38 @@ class OfBytes(GrowthTest):
             self.assertEqual(self.batch("bram", *[f'set(#3, "name", {LONG})'] * 15)[1]["error"], "E_PERM")
         self.assertEqual(self.batch("bram", "max_object()")[0], 200)
 
+    def test_what_is_not_sent_costs_nothing(self):
+        """It would be accepted, but its intent can't be put on the disk."""
+        large = [f'add_property(#5, "z{number}", {LONG}, {{#5, "rw"}})' for number in range(15)]
+        with patch.object(self.journal, "append", side_effect=NoRoom("No space left on device")):
+            self.assertEqual([self.batch("bram", *large)[:2] for _ in range(20)], [(503, {"error": "busy"})] * 20)
+        self.assertEqual(self.batch("bram", *large)[0], 200)
+
+    def test_long_answers_that_are_not_kept_cost_nothing(self):
+        self.assertEqual(self.batch("bram", f'add_property(#5, "long", {LONG}, {{#5, "rw"}})')[0], 200)
+        for _ in range(10):
+            status, said, _ = self.batch("bram", *['get(#5, "long")'] * 30)
+            self.assertEqual((status, len(said["answers"])), (200, 30))
+
     def test_it_comes_back_in_a_day(self):
         growth = Growth(self.door, 1000, clock=self.clock)
-        growth.test("bram", 5, ["x" * 5000], ["0"])
+        add(growth, "bram", 5, 5000)
         with self.assertRaises(TooMuch) as raised:
-            growth.test("Bram", 5, ["x"], ["0"])
+            add(growth, "Bram", 5, 1)
         self.assertAlmostEqual(raised.exception.seconds, 4 * DAY, delta=200)
         self.now += 5 * DAY
-        growth.test("bram", 5, ["x"], ["0"])
+        add(growth, "bram", 5, 1)
         self.now += 10 * DAY
-        growth.test("bram", 5, ["x" * 999], [])
-        growth.test("bram", 5, ["x"], ["0"])
-        self.assertRaises(TooMuch, growth.test, "bram", 5, ["x"], ["0"])
+        add(growth, "bram", 5, 999)
+        add(growth, "bram", 5, 1)
+        self.assertRaises(TooMuch, add, growth, "bram", 5, 1)
 
     def test_wizards_may_add_ten_times_as_many(self):
         growth = Growth(self.door, 1000, clock=self.clock)
         for count, who, number in ((1, "ada", 4), (11, "wizard", 3)):
             for _ in range(count):
-                growth.test(who, number, ["x" * 1000], [])
-            self.assertRaises(TooMuch, growth.test, who, number, ["x"], [])
+                add(growth, who, number, 1000)
+            self.assertRaises(TooMuch, add, growth, who, number, 1)
 
 
 class OfAWorldThatIsFull(GrowthTest):

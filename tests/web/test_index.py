@@ -51,7 +51,7 @@ class IndexTest(PagesTest):
         for bit in ("player", "wizard", "f"):
             self.assertEqual(list(world.with_bit(bit)), [number for number in sorted(objects) if objects[number][bit]])
         named = sorted((said["name"].lower(), number) for number, said in objects.items())
-        self.assertEqual(list(zip(world.names.folded, world.names.numbers)), named)
+        self.assertEqual([(name, number) for _, name, number in world.names.hits("")], named)
         for links, key in ((world.children, "parent"), (world.contents, "location"), (world.owned, "owner")):
             wanted = {}
             for number in sorted(objects):
@@ -179,6 +179,17 @@ class Elsewhere(IndexTest):
         began = time.monotonic()
         self.assertIn(4, self.check().things)
         self.assertLess(time.monotonic() - began, 30)
+
+    def test_a_page_that_asks_nothing_of_the_world(self):
+        """It takes the world that was known last, and then sees whether it is the present one."""
+        reader = self.reader("wizard")
+        self.write("wizard", 'create(#-1)', 'set(#4, "name", "fourth")')
+        self.assertIn("fourth", reader.get("/roots").text)
+        self.asked.clear()
+        self.assertIn("fourth", reader.get("/roots").text)
+        self.assertEqual(self.asked, ["/seq"])
+        self.door.sent("POST", "/batch", b'{"as":"#3","calls":["set(#4, \\"name\\", \\"renamed\\")"]}')
+        self.assertIn("renamed", reader.get("/roots").text)
 
     def test_a_number_between_two_that_were_told(self):
         """All is read again, since nobody told what it changed."""

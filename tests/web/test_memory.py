@@ -252,6 +252,17 @@ class Undoes(World):
         self.assertEqual(self.dump().splitlines()[2:], before)
 
 
+    def test_what_the_batch_made_is_recycled_and_not_put_back_first(self):
+        before = self.dump().splitlines()[2:]
+        batch = self.write(WIZARD, [
+            "create(#5)", 'set(#8, "name", "box")', 'set(#8, "taste", 1)', "set_accept(#8, {#1})", "move(#7, #8)", "move(#8, #6)",
+            'set(#6, "taste", 1)', 'set(#8, "owner", #4)',
+        ])  # fmt: skip
+        self.assertEqual(undone(batch).lines, ['set(#8, "owner", #3)', 'set(#6, "taste", 6)', "move(#7, #6)", "recycle(#8)"])
+        self.undo(WIZARD, batch)
+        self.assertEqual(self.dump().splitlines()[2:], before)
+
+
 class Versions(World):
     """A journal of the first version goes on in segments of the second, and both replay."""
 

@@ -295,7 +295,7 @@ class Making(OneFormTest):
         pages = [ada.get("/o/6")]
         link = next(link for link in ada.page.links if link.startswith("/edit/new") and "from=6" in link)
         pages.append(ada.get(link))
-        self.assertEqual(ada.typed()[EXITS], ": The Square #6")
+        self.assertEqual(ada.typed()[EXITS], "north: The Square #6", "south of it nothing is yet")
         pages.append(ada.send("Preview", name="The Inn", **{DESCRIPTION: "It smells of beer.", EXITS: "east: The Square #6"}))
         self.has(ada.page, "This would be done", "The new object #11 is called “The Inn”.", status=200)
         pages.append(ada.send("Do it"))

@@ -316,15 +316,20 @@ class Looks(SiteTest):
     def test_the_world(self):
         text = self.reader("ada").get("/").text
         for wanted in (
-            "You are in The Hall #7", "Who is here Ada #4", "What is here Ada's chest #8", "Waiting for you Nothing.", "Yours 3 objects",
+            "You are in The Hall #7", "Who is here Ada #4 (you)", "What is here Ada's chest #8", "Waiting for you Nothing.", "Yours 3 objects",
             "10 objects, 3 players, 3 batches", "Newest small box #9 Ada's chest #8", "You have done nothing here yet.",
         ):  # fmt: skip
             with self.subTest(wanted=wanted):
                 self.assertIn(wanted, text)
-        self.write("wizard", 'add_property(#4, "ownership_quota", 7, {#4, "r"})')
+        self.assertIn("Make something", text)
+        self.write("wizard", 'add_property(#4, "ownership_quota", 0, {#4, "r"})')
+        text = self.reader("ada").get("/").text
+        self.assertIn("You may make no more objects: your quota is used up. Ask for a higher one", text)
+        self.assertNotIn("Make something", text)
+        self.write("wizard", 'set(#4, "ownership_quota", 7)')
         self.write("ada", 'set(#9, "size", 4)', "max_object()")
         text = self.reader("ada").get("/").text
-        for wanted in ("You may make 7 more objects.", "ada The property “size” of small box #9 becomes 4. and 1 more"):
+        for wanted in ("You may make 7 more objects.", "ada The property “size” of small box #9 becomes 4. And 1 more."):
             with self.subTest(wanted=wanted):
                 self.assertIn(wanted, text)
 

@@ -9,7 +9,7 @@ from tests.support.audits import audited
 from tests.support.forms import Checked, FormsTest
 from tests.support.reader import in_process
 from tests.support.web import PASSWORD, use_web
-from tests.web.test_form_stops import WithFront
+from tests.support.with_front import WithFront
 
 use_web()
 
@@ -88,6 +88,15 @@ class SomebodyNew(PeopleTest):
         wizard.page = preview
         self.has(wizard.send("Do it"), "This was done already", status=200)
         self.assertEqual(self.answered("max_object()"), "#9")
+
+    def test_somebody_new_begins_where_the_wizard_is_or_elsewhere(self):
+        self.write("wizard", "move(#3, #7)")
+        wizard = self.somebody("wizard")
+        for account, place, where in (("dora", None, "#7"), ("emil", "The First Room", "#2"), ("fay", "", "#-1")):
+            wizard.get("/people")
+            self.assertEqual(wizard.typed("Add")["place"], "#7")
+            wizard.send("Add", account=account, **({} if place is None else {"place": place}))
+            self.assertEqual(self.answered(f'get(#{self.people.one(account).number}, "location")'), where, wizard.page.text[:500])
 
     def test_an_added_one_isnt_added_again(self):
         """As a page that is loaded again, or a button that is pressed twice."""

@@ -1,7 +1,9 @@
 """What is seen at a place: its description, its exits in each shape that they have, who is there; the first page; the map of exits."""
 
+import time
 import unittest
 
+from tests.support.operating import SECONDS
 from tests.support.pages import PagesTest, tidied
 from tests.support.web import use_web
 
@@ -63,7 +65,7 @@ class Home(PlaceTest):
         self.assertEqual((answer.read.title, tidied(answer)), ("You are in The Inn · moo", ""))
         for words in (
             "You are in The Inn #6", "There is nothing special here.", "Exits west, w The Square down The Cellar up The Loft",
-            "Who is here Ada #10", "What is here mug #11", "Waiting for you Nothing.",
+            "Who is here Ada #10 (you)", "What is here mug #11", "Waiting for you Nothing.",
         ):  # fmt: skip
             with self.subTest(words=words):
                 self.assertIn(words, answer.text)
@@ -115,10 +117,28 @@ class Objects(PlaceTest):
         ):  # fmt: skip
             with self.subTest(words=words):
                 self.assertIn(words, answer.text)
-        self.assertIn("/do/move?object=%2310&place=%235", answer.read.links)
+        self.assertIn("/do/move?object=%2310&place=%235&go=preview", answer.read.links)
         self.assertNotIn("Go there", self.reader("ada").get("/o/6").text, "she is there")
         self.assertNotIn("Go there", self.reader("ada").get("/o/13").text, "it is a player")
         self.assertNotIn("Go there", self.reader("ada").get("/o/11").text, "it accepts nothing")
+
+    def test_a_walk_is_three_pages(self):
+        """The place, the preview to which 'Go there' leads, and what was done, from which one goes on in the place."""
+        ada = self.reader("ada")
+        shown = ada.get(next(link for link in ada.get("/o/5").read.links if link.startswith("/do/move") and "go=" in link))
+        self.assertIn("This would be done Ada #10 goes into The Square #5.", shown.text)
+        self.assertNotIn("The Square", ada.get("/").read.title, "the address does nothing by itself")
+        fields = next(form["fields"] for form in shown.read.forms if "seen.at" in form["fields"])
+        done = ada.get(ada.post("/do/move", {**fields, "go": "apply"}).head["Location"])
+        self.assertIn("You are in The Square Change something else", done.text)
+        self.assertIn("You are in The Square", ada.get("/").read.title)
+        self.write("ada", "move(#11, #5)")
+        self.assertIn("Back to mug", ada.get("/done/3").text)
+
+    def test_no_address_does_what_it_says(self):
+        for go in ("apply", "petition", "ask"):
+            self.reader("ada").get(f"/do/move?object=%2310&place=%235&go={go}")
+            self.assertEqual(self.door.asked("GET", "/seq", None, time.monotonic() + SECONDS).said["seq"], 1)
 
     def test_an_exit_that_is_an_object(self):
         """As LambdaCore has them: its name, and the place in its property `dest`; without that, or rights to it, the object itself."""

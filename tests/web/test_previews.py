@@ -22,7 +22,8 @@ from moo_web.journal.journal import Journal  # noqa: E402
 from moo_web.journal.history import History  # noqa: E402
 from moo_web.journal.recent import Recent, Seen  # noqa: E402
 from moo_web.journal.tables import sum_of  # noqa: E402
-from moo_web.journal.writer import Unknown, Writer  # noqa: E402
+from moo_web.journal.jobs import Unknown  # noqa: E402
+from moo_web.journal.writer import Writer  # noqa: E402
 from moo_web.people.person import Person  # noqa: E402
 from moo_web.world.door import Door  # noqa: E402
 

@@ -263,7 +263,7 @@ class Failures(SessionsTest):
         self.assertIn("a secret of the front", self.told[-1])
 
     def test_unknown_and_gap(self):
-        from moo_web.journal.writer import Stopped, Unknown
+        from moo_web.journal.jobs import Stopped, Unknown
 
         for path, failure, title, told in (
             ("/unknown", Unknown(41), "Not decided yet · moo", "on its way for number 41"),

@@ -1,25 +1,31 @@
 """What a person and an address may use: turns at moo, its time, and what is written; peers that are gone, and people who are disabled."""
 
 import contextlib
+import io
 import json
 import signal
 import socket
 import threading
 import time
 import unittest
+from concurrent.futures import ThreadPoolExecutor
+from unittest.mock import patch
 
+from tests.support.front import StandIn
 from tests.support.operating import SECONDS, KeptService, make_world
 from tests.support.web import Front, RoomTest, add_person, ask, program, use_web
 
 use_web()
 
-from moolib.errors import LostAnswer, NoService, TooLong  # noqa: E402
+from moolib.errors import LostAnswer, NoService, TooLong, Unreachable  # noqa: E402
+from moolib.service import Service  # noqa: E402
 
 from moo_web.people.person import Person  # noqa: E402
 from moo_web.traffic.shares import BUCKET_MINUTES, OF_ADDRESS, OF_WIZARD, TIME, WRITING, Share, Shares, Spent, share_of  # noqa: E402
 from moo_web.traffic.turns import NobodyWaits, Queue, Turnstile  # noqa: E402
 from moo_web.traffic.visitors import NOBODY, Visitor, present, visiting  # noqa: E402
 from moo_web.traffic.writing import MOST_ROWS, rows_of  # noqa: E402
+from moo_web.world.door import Door  # noqa: E402
 from moo_web.world.things import World  # noqa: E402
 
 ADA, BEN = Visitor("192.0.2.1", "ada"), Visitor("192.0.2.1", "ben")
@@ -118,12 +124,51 @@ class Turnstiles(unittest.TestCase):
         self.work(BEN, 0.1)
         self.assertEqual([person for person, _ in self.spent], ["ada", "ada", "ada", "ben"])
 
-
     def test_an_answer_that_is_too_long_counts(self):
         self.work(ADA, 0.1, TooLong("over 16 MiB"))
         self.work(BEN)
         self.assertEqual([person for person, _ in self.spent], ["ada", "ben"])
         self.assertGreater(self.spent[0][1], 0.09)
+
+
+class DumpsInTurn(unittest.TestCase):
+    """A dump of a service that plays moo's, by a door with a turnstile."""
+
+    def setUp(self):
+        self.moo = StandIn(0, dump="seq 0\n")
+        self.addCleanup(self.moo.close)
+        self.spent = []
+        self.turnstile = Turnstile(lambda visitor, seconds: self.spent.append(visitor.person))
+        self.door = Door(self.moo.port, turnstile=self.turnstile)
+
+    def copied(self, visitor, seconds):
+        """The dump that a visitor gets who waits for so long, or the exception that comes in its place."""
+        with visiting(visitor), io.BytesIO() as file:
+            try:
+                refusal = self.door.copied("/dump", file, time.monotonic() + seconds)
+            except (NobodyWaits, Unreachable) as error:
+                return type(error)
+            return refusal or file.getvalue()
+
+    def test_it_waits_for_its_turn(self):
+        with ThreadPoolExecutor() as threads:
+            with visiting(BEN), self.turnstile.turn(time.monotonic() + SECONDS):
+                late = threads.submit(self.copied, ADA, SECONDS)
+                self.assertEqual(self.copied(CLEO, 0.3), Unreachable)
+                self.assertEqual(self.moo.seen, [])
+            self.assertEqual(late.result(SECONDS), b"seq 0\n")
+        self.assertEqual((self.moo.seen, self.spent), (["/dump"], ["ben", "ada"]))
+
+    def test_of_who_is_gone_none_is_made(self):
+        self.assertEqual(self.copied(ADA._replace(is_gone=lambda: True), SECONDS), NobodyWaits)
+        self.assertEqual((self.moo.seen, self.spent), ([], []))
+
+    def test_the_time_of_one_that_does_not_come_whole_is_the_visitors(self):
+        with patch.object(Service, "copied", side_effect=LostAnswer("the answer was cut off")):
+            self.assertEqual(self.copied(ADA, SECONDS), Unreachable)
+        self.copied(BEN, SECONDS)
+        self.copied(BEN, SECONDS)
+        self.assertEqual(self.spent, ["ada", "ada", "ben"])
 
 
 class Buckets(unittest.TestCase):

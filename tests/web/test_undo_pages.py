@@ -3,7 +3,7 @@
 from unittest import mock
 
 from tests.support.forms import FormsTest
-from tests.web.test_form_stops import WithFront
+from tests.support.with_front import WithFront
 from tests.web.test_losses import APPLES
 
 from moo_web.forms.undo import with_known_names

@@ -21,7 +21,8 @@ from moo_client import LostAnswer, NoService  # noqa: E402
 from moo_web.journal import writer as writer_module  # noqa: E402
 from moo_web.journal.journal import Journal, NoRoom  # noqa: E402
 from moo_web.journal.segments import Accepted, accepted_in  # noqa: E402
-from moo_web.journal.writer import Barred, Busy, Stopped, Unknown, Writer  # noqa: E402
+from moo_web.journal.jobs import Barred, Busy, Stopped, Unknown  # noqa: E402
+from moo_web.journal.writer import Writer  # noqa: E402
 from moo_web.traffic.turns import NobodyWaits  # noqa: E402
 from moo_web.traffic.writing import Free  # noqa: E402
 from moo_web.world.door import Door, TooLong, said_by  # noqa: E402
@@ -343,7 +344,7 @@ class Strangers(WriterTest):
                 (self.folder / "journal-0").unlink()
 
     def test_a_stranger_who_takes_the_very_number_is_believed_ours(self):
-        """docs/WEB.md says so: the front has to be the only writer."""
+        """docs/JOURNAL.md says so: the front has to be the only writer."""
         self.begin("taken", "stranger")
         self.assertEqual(self.write("make").said, {"answers": ["#9"], "seq": 1})
         self.assertEqual(self.world.acted, [("stranger",)])

@@ -9,7 +9,7 @@ from typing import Optional
 from moo_shell.door import PATIENCE, Door
 from moo_shell.losing import told_losses
 from moo_shell.manual import Manual
-from moo_shell.meant import quotes_advice
+from moo_shell.meant import signs_advice
 from moolib import errors
 from moolib.batches import LONGEST_BATCH, Item, local_names, resolved, written_calls
 from moolib.calls import call_name
@@ -153,7 +153,7 @@ class Batches:
             why += "; a comment begins with //"
         if strange_letter(text) and strange_letter(text) not in why:
             why += f": '{strange_letter(text)}'"
-        why += quotes_advice(text) if answer.error == "malformed" else ""
+        why += signs_advice(text) if answer.error == "malformed" else ""
         kind = answer.error if answer.error in ("malformed", "full") else "refused"
         return Refused(f"{kind}: {why}", call, answer.error, item.place if item else None)
 

@@ -3,14 +3,17 @@
 from __future__ import annotations
 
 import dataclasses
+import os
+import subprocess
+import sys
 from collections.abc import Callable
 from pathlib import Path
 from typing import Optional
 
-from moo_shell import looks
+from moo_shell import including, looks
 from moo_shell.batches import Refused
 from moo_shell.editing import edit
-from moo_shell.elsewhere import PSQL
+from moo_shell.elsewhere import of_psql
 from moo_shell.files import write_new
 from moo_shell.meant import meant
 from moo_shell.helping import ASIDE, TOPICS, fitted, help_on, overview
@@ -20,7 +23,7 @@ from moo_shell.session import Session
 from moo_shell.watching import watch
 from moolib.batches import Item
 from moolib.errors import Failed
-from moolib.lines import counted, did_you_mean, unquoted
+from moolib.lines import Line, counted, did_you_mean, filled, names_in, unquoted
 
 
 @dataclasses.dataclass(frozen=True)
@@ -62,6 +65,42 @@ def find(session: Session, text: str) -> None:
     session.output.show(found or f"no name has {unquoted(text)}")
 
 
+def owned(session: Session, text: str) -> None:
+    """The objects of an owner."""
+    number = session.number(text or "me")
+    session.output.show(looks.owned(session.world.things(), number) or f"#{number} owns nothing")
+
+
+def echo(session: Session, text: str) -> None:
+    """A text, with the values of names outside of quotes."""
+    session.output.show(unquoted(filled(text, session.values(names_in(text)))))
+
+
+def conninfo(session: Session, _: str) -> None:
+    """Which world this is, its number, and who calls."""
+    session.output.show(f"{session.door.where()}: number {session.door.seq()}, {session.find_programmer()}")
+
+
+def set_name(session: Session, text: str) -> None:
+    """A name for a value, as psql writes it: `\\set x 5`."""
+    name, _, value = text.partition(" ")
+    if not value.strip():
+        names(session, "")
+        return
+    if name in SETTINGS:
+        raise Failed(SETTINGS[name])
+    session.take_value(Line("value", value.strip(), f"${name.lstrip('$')}"))
+
+
+def system(session: Session, text: str) -> None:
+    """A command of the system, or a shell of it."""
+    if session.is_copy:
+        session.output.note("it isn't run: this is a copy of the world")
+        return
+    sys.stdout.flush()
+    subprocess.run(["sh", "-c", text] if text else [os.environ.get("SHELL", "sh")])
+
+
 def classes(session: Session, text: str) -> None:
     """The objects that others are under."""
     session.output.show(looks.classes(session.world.things(), unquoted(text)) or f"no class has {unquoted(text)} in its name")
@@ -86,7 +125,7 @@ def output(session: Session, text: str) -> None:
         session.output.note(f"{text} isn't written: this is a copy of the world")
         return
     try:
-        session.output.send_to(Path(unquoted(text)).expanduser() if text else None)
+        session.output.send_to(text)
     except OSError as error:
         raise Failed(f"{text}: {error.strerror}") from None
 
@@ -199,12 +238,13 @@ def dump_of(session: Session) -> str:
 
 def include(session: Session, text: str) -> None:
     """The lines of another file."""
-    session.include(unquoted(text))
+    including.include(session, unquoted(text))
 
 
 def show_help(session: Session, text: str) -> None:
     """The overview, or what help says about a word."""
-    told = help_on(session.manual, COMMANDS_BY_HELP, text) if text else overview(session.manual, COMMANDS_BY_HELP)
+    is_all = text.lower() in ("", "commands", "options", "variables")
+    told = overview(session.manual, COMMANDS_BY_HELP) if is_all else help_on(session.manual, COMMANDS_BY_HELP, text)
     session.output.show(fitted(told, session.output.width()))
 
 
@@ -251,6 +291,7 @@ COMMANDS = {
     "tree": Command("[#1]", "the objects by their parents", tree),
     "places": Command("[#2]", "the objects by where they are", places),
     "find": Command("WORD", "the objects with a word in their names", find),
+    "owned": Command("[#3]", "the objects of an owner, or one's own", owned),
     "classes": Command("[WORD]", "the objects that others are under, and how many are under each", classes),
     "history": Command("#5", "through a front: the last batches that named an object, or made it", show_history),
     "petitions": Command("", "the petitions: all of them for a wizard, else one's own", petitions),
@@ -265,26 +306,37 @@ COMMANDS = {
     "abandon": Command("", "drops the open batch; so does Ctrl-C", abandon),
     "fix": Command("CALL", "sends the batch that was refused again, with CALL in the place of the refused call", fix),
     "e": Command("", "the open batch, the refused one or the last call in an editor; it is done when that ends", edit),
-    "o": Command("[FILE]", "answers go to the end of FILE from now on; without FILE they are shown again", output),
+    "o": Command("[FILE]", "answers go to the end of FILE from now on, or with |COMMAND to a command; without FILE they are shown again", output),
+    "echo": Command("TEXT", "writes a text; names outside of quotes are their values", echo),
     "watch": Command("[i=2] [c=N] [LINE]", "does a line that only reads every 2 seconds, N times or until Ctrl-C", watch),
+    "conninfo": Command("", "which world this is, its number, and who calls", conninfo),
+    "!": Command("[COMMAND]", "runs a command of the system, or a shell of it", system),
     "timing": Command("[on|off]", "tells how long each line takes", timing),
     "help": Command("[WORD]", f"this, or help on a call, an error, or one of: {', '.join([*TOPICS, *ASIDE])}", show_help),
     "quit": Command("", "ends the shell; so does Ctrl-D", leave),
 }
+# What psql sets, and how it is here.
+SETTINGS = {
+    "AUTOCOMMIT": "a call is a batch of its own, and `begin` opens one of several",
+    "ON_ERROR_STOP": "a script always stops at the first line that is refused",
+}
 # Words of other prompts.
 ALIASES = {
     "exit": "quit", "q": "quit", "h": "help", "?": "help", "edit": "e", "output": "o", "out": "o", "i": "include", "ir": "include",
-    "d": "show", "d+": "show", "dt": "classes", "dt+": "classes", "p": "list", "print": "list", "r": "abandon", "reset": "abandon",
+    "d": "show", "d+": "show", "dt": "classes", "dt+": "classes", "dn": "classes", "l": "conninfo", "l+": "conninfo", "p": "list", "print": "list", "r": "abandon", "reset": "abandon",
 }  # fmt: skip
 COMMANDS_BY_HELP = {name: (command.given, command.does) for name, command in COMMANDS.items()}
 
 
 def run_command(session: Session, word: str, text: str) -> None:
     """Does a `\\` word with what it is given."""
-    word = ALIASES.get(word, word)
+    if word == "set":
+        set_name(session, text)
+        return
+    word = ALIASES.get(word, word) if text or word not in ("d", "d+") else "classes"
     if word not in COMMANDS:
-        if word in PSQL:
-            raise Failed(f"\\{word} isn't a word of the shell: {PSQL[word]}")
+        if of_psql(word):
+            raise Failed(f"\\{word} isn't a word of the shell: {of_psql(word)}")
         like = did_you_mean("\\" + word, ["\\" + name for name in COMMANDS])
         raise Failed(f"\\{word} isn't a word of the shell{like}; \\help lists them")
     COMMANDS[word].run(session, text)

@@ -44,6 +44,8 @@ class Door(Service):
         return Failed(f"{self.where()} isn't one of moo: another program answers there")
 
     def ended_by(self, answer: Answer, count: Optional[int] = None) -> Answer:
+        if answer.is_too_much:
+            raise Failed(f"this is too much for one request: {answer.why}")
         if answer.status not in DECIDED and answer.error not in AGAIN:
             raise Failed(TROUBLES.get(answer.error, f"{self.where()} answers {answer.status} {answer.error}"))
         try:

@@ -1,63 +1,36 @@
-"""What to write for a line of LambdaMOO or of SQL, and for a `\\` word of psql."""
+"""What to write for a line of LambdaMOO or of SQL, and for a `\\` word or an option of psql, that the shell hasn't."""
 
 from __future__ import annotations
 
 import re
 
-from moolib.values import written
+from moo_shell.building import COMMANDS, command_of
 
-THING = r"(?P<thing>\$[A-Za-z_]\w*|#-?\d+|me)"
-PROPERTY = rf"{THING}\.(?P<property>\w+)"
-VERB = rf"{THING}:(?P<verb>[\w*]+)"
-TO = r"\s+to\s+(?P<other>\$[A-Za-z_]\w*|#-?\d+|me)"
-TEXT = r'\s+(?:as|to|named|called)\s+"?(?P<text>[^"]*)"?'
-NO_VERBS = "moo keeps verbs and runs none"
-RENAMED = (rf"{THING}{TEXT}", '#5.name = "Inn"', "{thing}.name = {text}")
-DESCRIBED = (rf"{THING}{TEXT}", '#5.description = "A tavern."', "{thing}.description = {text}")
-ADDED = (rf"{PROPERTY}.*", 'add_property(#5, "light", 0, {#3, "rc"})', 'add_property({thing}, "{property}", 0, {{#3, "rc"}})')
-GONE = (PROPERTY, 'delete_property(#5, "light")', 'delete_property({thing}, "{property}")')
-MOVED = (rf"{THING}{TO}", "move(#5, #6)", "move({thing}, {other})")
-WENT = (THING, "move($me, #6)", "move($me, {thing})")
-GIVEN = (rf"{PROPERTY}\s+to\s+(?P<value>\S.*)", "#5.name = VALUE", "{thing}.{property} = {value}")
-# What to write for a command of LambdaMOO: the form of what it is given, an example, and the same for a command of that form.
-CALLS = {
-    "create": (rf"{THING}{TEXT}", "$thing = create(#1), with the parent's number in the brackets", "$new = create({thing}); $new.name = {text}"),
-    "recycle": (THING, "recycle(#5)", "recycle({thing})"),
-    "chparent": (rf"{THING}{TO}", "chparent(#5, #6)", "chparent({thing}, {other})"),
-    "move": MOVED,
-    "teleport": MOVED,
-    "go": WENT,
-    "goto": WENT,
-    "join": WENT,
-    "rename": RENAMED,
-    "describe": DESCRIBED,
-    "desc": DESCRIBED,
-    "set": GIVEN,
-    "setprop": GIVEN,
-    "property": ADDED,
-    "prop": ADDED,
-    "rmprop": GONE,
-    "rmproperty": GONE,
-    "verb": (rf"{VERB}.*", 'add_verb(#5, {#3, "rxd", "look"}, {"this", "none", "none"})',
-             'add_verb({thing}, {{#3, "rxd", "{verb}"}}, {{"this", "none", "none"}})'),
-    "rmverb": (VERB, 'delete_verb(#5, "look")', 'delete_verb({thing}, "{verb}")'),
-    "chmod": (rf"{PROPERTY}\s+(?P<perms>\w*)", 'set_property_info(#5, "light", {#3, "rc"})',
-              'set_property_info({thing}, "{property}", {{#3, "{perms}"}})'),
-    "chown": (rf"{THING}{TO}", "#5.owner = #3", "{thing}.owner = {other}"),
-    "kids": (THING, "\\tree #5", "\\tree {thing}"),
-    "parents": (THING, "\\show #5", "\\show {thing}"),
-    "contents": (THING, "\\places #5", "\\places {thing}"),
-    "locations": (THING, "\\show #5", "\\show {thing}"),
-    "edit": (PROPERTY, "#5.description = \"A tavern.\"", "{thing}.{property} = VALUE"),
-}  # fmt: skip
+NO_VERBS = "moo keeps the headers of verbs and runs none: the game is a program beside it"
+PLAYED = "nobody plays at this prompt: move(#5, $me) takes a thing, move($me, #7) goes to a place, and a program of yours lets people play"
+# What to write for a command of LambdaMOO that isn't done.
 SENTENCES = {
-    "dig": "$room = create(CLASS), and then set($room, \"exits\", ..) if the class has exits",
-    "audit": "\\find WORD, or \\tree",
-    "dump": "\\dump FILE",
-    "who": "\\places, since nobody is connected to a world of moo",
+    "program": NO_VERBS,
+    "copy": NO_VERBS,
+    "who": "nobody is connected to a world of moo; players() lists the players, and \\places shows where they are",
+    "password": "accounts are the front's: /people there, or moo-people",
+    "newplayer": "set_player_flag(#5, 1) makes #5 a player; an account is made by the front, at /people, or by moo-people",
+    "addalias": '#5.aliases = {"lamp", "light"} sets them, if the class has that property',
+    "lock": "set_accept(#7, {#5}) says what a place takes: #5 and what is under it",
+    "edit": '#5.description = "Dull." sets a property, and \\e edits that line',
+    "exits": "here.exits tells them, and @dig north|south to #7 makes them, if the class has that property",
+    "shutdown": "who runs the service ends it; what was answered is on the disk",
+    "mail": "there is no mail; petition({{\"set\", #5, \"f\", 1}}) asks a wizard to do something",
 }
-WITHOUT_VERBS = ("program", "list", "verbs")
-COMMANDS = {*CALLS, *SENTENCES, *WITHOUT_VERBS}
+SAME = {
+    "make-player": "newplayer", "rmalias": "addalias", "unlock": "lock", "notedit": "edit", "ways": "exits", "entrances": "exits",
+    "add-exit": "exits", "addexit": "exits", "dump-database": "shutdown", "gripe": "mail", "send": "mail", "news": "mail",
+}  # fmt: skip
+# Words and signs with which people play a game.
+PLAYING = re.compile(
+    r"(?:say|emote|page|whisper|get|take|drop|put|give|wear|open|close|home|go|walk|north|south|east|west|up|down|[nsewud])(?:\s.*)?|[\":]\w[^\"]*",
+    re.IGNORECASE | re.DOTALL,
+)
 
 # What to write for a statement of SQL.
 SQL = {
@@ -66,51 +39,110 @@ SQL = {
     "update": '#5.name = "Inn" sets a property',
     "delete": "recycle(#5) takes an object away",
     "drop": "recycle(#5) takes an object away",
+    "truncate": "recycle(#5) takes an object away",
     "alter": 'add_property(#5, "light", 0, {#3, "rc"}) adds a property',
     "explain": "\\ask CALL tells what a call would answer",
     "savepoint": "\\undo drops the last call of the open batch",
+    "release": "`end` sends the open batch",
     "start": "`begin` opens a batch, and `end` sends it",
+    "with": "\\find WORD finds objects by their names",
+    "values": "a value alone on a line is shown",
+    "revoke": 'set_property_info(#5, "light", {#3, ""}) says who may read a property',
+    "copy": "\\dump FILE writes the whole world, and \\i FILE does the calls of a file",
+    "vacuum": "after the service has ended, `sqlite3 FILE VACUUM` makes the file smaller",
+    "analyze": "nothing has to be done for speed",
 }
-# What to write for a `\` word of psql.
+# Words that are SQL only with one of these after them.
+WITH_KIND = re.compile(r"(create|grant|table|set|show)\s+(?:table|view|index|schema|database|role|user|select|insert|update|all|\w+\s+to)\b.*", re.I | re.S)
+KINDS = {
+    "create": "an object made under another is what a row of a table is: $thing = create(#1)",
+    "grant": 'set_property_info(#5, "light", {#3, "r"}) says who may read a property',
+}
+
+ONE_WAY = "answers are shown one way; without a terminal they are bare, one on a line"
+NO_BRANCHES = "a script has no branches: a program with tools/moo_client.py has"
+SHOWN = "\\show #5 shows an object, and \\classes lists those that others are under"
+# What to write for a `\\` word of psql.
 PSQL = {
-    "l": "a shell has one world, and \\seq tells its number",
     "c": "another world is for another moo-shell, and \\as N names another programmer",
     "connect": "another world is for another moo-shell, and \\as N names another programmer",
     "du": "players() lists the players",
     "df": "\\help calls lists the calls",
+    "dp": "\\show #5 tells the perms of each property",
+    "z": "\\show #5 tells the perms of each property",
+    "dv": SHOWN,
+    "di": SHOWN,
+    "x": "\\show #5 always has a line for each property",
     "s": "the arrow keys and Ctrl-R find earlier lines",
-    "set": "$x = 5 gives a name to a value",
+    "unset": "a name can get another value: $x = 5",
     "g": "a line is done at Enter",
+    "gx": "a line is done at Enter",
+    "gset": "$x = CALL gives the answer a name",
+    "gexec": "\\include FILE does the lines of a file",
     "w": "\\e writes the open batch in an editor",
-    "copy": "\\dump FILE writes the whole world",
-    "!": "Ctrl-Z leaves the shell for a while, and fg comes back",
+    "copy": "\\dump FILE writes the whole world, and \\i FILE does the calls of a file",
+    "pset": f"{ONE_WAY}; PAGER=cat moo-shell has no pager",
+    "a": ONE_WAY,
+    "t": ONE_WAY,
+    "f": ONE_WAY,
+    "encoding": "texts are printing ASCII and tabs",
+    "errverbose": "\\help E_PERM tells what an error means",
+    "if": NO_BRANCHES,
+    "elif": NO_BRANCHES,
+    "else": NO_BRANCHES,
+    "endif": NO_BRANCHES,
+    "prompt": "$x = 5 gives a name to a value",
+    "getenv": "$x = 5 gives a name to a value",
+    "cd": "paths begin at the folder in which the shell began",
+    "password": "accounts are the front's: /people there, or moo-people",
+    "sf": NO_VERBS,
+    "ef": NO_VERBS,
+    "warn": "\\echo TEXT writes a line",
+    "qecho": "\\echo TEXT writes a line, to the file of \\o too",
+}
+BARE = "answers of a script are bare already"
+# What to write for an option of psql.
+OPTIONS = {
+    "-A": BARE,
+    "-t": BARE,
+    "-X": "there is no file of settings",
+    "-d": "the world is FILE, without a letter before it",
+    "-U": "--as N names who calls",
+    "-W": "--token FILE has the token for --web",
+    "-w": "--token FILE has the token for --web",
+    "-l": "a shell has one world",
+    "-o": "\\o FILE writes answers to a file, or > FILE after the command",
+    "-v": "-c '$x = 5' before the other words gives a name to a value",
+    "-e": "standard error names the line that is refused",
+    "-a": "standard error names the line that is refused",
 }
 
 
 def of_lambdamoo(text: str) -> str:
-    """What to write for a command of LambdaMOO, with its object. Another line gives an empty text."""
-    found = re.fullmatch(r"@([A-Za-z]+)(?:\s+(.*))?", text.strip(), re.DOTALL)
-    word, given = (found[1].lower(), (found[2] or "").strip()) if found else ("", "")
-    if word in WITHOUT_VERBS:
-        return f"@{word} is a command of LambdaMOO; {NO_VERBS}"
-    if word in SENTENCES:
-        return f"@{word} is a command of LambdaMOO; here it is {SENTENCES[word]}"
-    if word not in CALLS:
-        return ""
-    form, example, same = CALLS[word]
-    read = re.fullmatch(form, given, re.IGNORECASE | re.DOTALL)
-    return f"@{word} is a command of LambdaMOO; here it is {same.format(**filled(read)) if read else example}"
-
-
-def filled(read: re.Match[str]) -> dict[str, str]:
-    """What a command names, as the shell writes it: `me` is `$me`, and a text is in quotes."""
-    said = {name: "$me" if value.lower() == "me" else value for name, value in read.groupdict().items()}
-    if "text" in said:
-        said["text"] = written(said["text"])
-    return said
+    """What to write for a command of LambdaMOO, or a line of who plays. Another line gives an empty text."""
+    word, _ = command_of(text)
+    if not word:
+        return PLAYED if PLAYING.fullmatch(text.strip()) else ""
+    told = SENTENCES.get(SAME.get(word, word))
+    if told:
+        return f"@{word} is LambdaMOO's; here {told}"
+    return "" if word in COMMANDS else f"@{word} isn't one of the commands of LambdaMOO that the shell does: \\help lambdamoo lists them"
 
 
 def of_sql(text: str) -> str:
     """What to write for a statement of SQL. Another line gives an empty text."""
     first = text.split(None, 1)[0].lower() if text.strip() else ""
-    return f"moo has no SQL; {SQL[first]}" if first in SQL and len(text.split()) > 1 else ""
+    with_kind = WITH_KIND.fullmatch(text)
+    told = KINDS.get(with_kind[1].lower(), "\\help lists what there is") if with_kind else SQL.get(first, "")
+    return f"moo has no SQL; {told}" if told else ""
+
+
+def of_psql(word: str) -> str:
+    """What to write for a `\\` word of psql, with or without its `+` or `S`. Another word gives an empty text."""
+    return PSQL.get(word) or PSQL.get(word.rstrip("+")) or (SHOWN if re.fullmatch(r"d[a-z]{1,3}[+]?", word) else "")
+
+
+def of_options(words: list[str]) -> str:
+    """What to write for the first of some options that is psql's. Others give an empty text."""
+    found = next((word[:2] for word in words if word[:2] in OPTIONS and not word.startswith("--")), "")
+    return f"{found}: {OPTIONS[found]}" if found else ""

@@ -7,6 +7,8 @@ import textwrap
 from collections.abc import Iterator, Mapping
 from typing import Optional
 
+from moo_shell.building import help_on_commands
+from moo_shell.elsewhere import of_lambdamoo, of_sql
 from moo_shell.manual import Manual
 from moolib.errors import Failed
 from moolib.lines import did_you_mean
@@ -23,7 +25,8 @@ A line is
   $price = 12           a name for a value
   begin .. end          the calls between them are one batch: all act, or none
   include FILE          the lines of a file
-  // words              a comment, also after a call
+  // words, -- words    a comment, also after a call
+  @describe #5 as ..    a command of LambdaMOO: \\help lambdamoo
 A call goes on over several lines until it is closed; `;` parts several calls.
   \\WORD                 one of these words:"""
 
@@ -98,6 +101,13 @@ Who may not do something asks a wizard for it. The calls are written as lists:
 \\petitions shows them with their numbers, `\\ask grant(1)` tries what a grant
 would do, and `grant(1)` or `decline(1)` ends one.""",
 }
+TOPICS["lambdamoo"] = f"""\
+Commands of LambdaMOO are done by the calls that do the same. The prompt shows
+them first. `me` is who calls, `here` is the place of that, and an object may
+be named by its number, its name, or $name. `;` and `eval` before a line mean
+nothing. No verb runs: moo keeps their headers alone.
+
+{help_on_commands()}"""
 ASIDE = {"rights": "PERMS", "values": "Values", "calls": "Calls", "errors": "Why a call"}
 
 
@@ -118,7 +128,7 @@ def overview(manual: Manual, commands: Mapping[str, tuple[str, str]]) -> str:
 def help_on(manual: Manual, commands: Mapping[str, tuple[str, str]], word: str) -> str:
     """What `\\help WORD` says."""
     word = word.strip().lstrip("\\").rstrip("()").strip()
-    found = []
+    found = [told for told in (help_on_commands(word), of_lambdamoo(word), of_sql(word)) if told]
     if word.lower() in commands:
         given, does = commands[word.lower()]
         found.append(f"  \\{f'{word.lower()} {given}'.strip()}   {does}")

@@ -134,6 +134,16 @@ def indented(roots: list[int], below: Mapping[int, list[int]], text: Callable[[i
     return lines
 
 
+def owned(things: Things, owner: int) -> str:
+    """The objects of an owner, and where each is."""
+    return "\n".join(placed(things[number], things) for number in sorted(things) if things[number].owner == owner)
+
+
+def placed(thing: Thing, things: Things) -> str:
+    """An object with its name, and where it is."""
+    return f"{titled(thing)}{f'  in {named(thing.location, things)}' if thing.location >= 0 else ''}"
+
+
 def groups(things: Things, field_name: str) -> dict[int, list[int]]:
     """The objects by their parent, or by their location; ascending."""
     found: dict[int, list[int]] = {}
@@ -187,12 +197,7 @@ def places(things: Things, number: Optional[int] = None) -> str:
 
 def found(things: Things, word: str) -> str:
     """The objects with a word in their name, in any case, and where each is."""
-    lines = []
-    for number in sorted(things):
-        thing = things[number]
-        if word.lower() in thing.name.lower():
-            lines.append(f"{named(number, things)}{f'  in {named(thing.location, things)}' if thing.location >= 0 else ''}")
-    return "\n".join(lines)
+    return "\n".join(placed(things[number], things) for number in sorted(things) if word.lower() in things[number].name.lower())
 
 
 def shown_petitions(petitions: list[tuple[int, int, list[str]]], things: Things) -> str:

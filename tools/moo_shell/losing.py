@@ -7,7 +7,7 @@ from typing import Any, NamedTuple, Optional
 
 from moo_shell.door import Door
 from moolib.calls import Call, calls_in, read_or_none
-from moolib.draft import first_calls
+from moolib.slots import first_calls
 from moolib.facts import Facts, Overseer, TooMuch, wizard_in
 from moolib.losses import Losses, may_lose
 from moolib.service import Answer, Said

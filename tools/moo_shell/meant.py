@@ -6,9 +6,9 @@ import re
 from collections.abc import Callable, Collection
 from typing import Optional
 
-from moo_shell.elsewhere import COMMANDS, NO_VERBS, of_lambdamoo, of_sql
+from moo_shell.elsewhere import NO_VERBS, of_lambdamoo, of_sql
 from moolib.calls import call_name
-from moolib.lines import Line, hint, pieces, read_line
+from moolib.lines import Line, pieces, read_line
 from moolib.values import written
 
 # What a reading call answers, as it is written.
@@ -20,14 +20,17 @@ PROPERTY = re.compile(rf"({THING})((?:\.[A-Za-z_]\w*)+)(?:\s*=(?!=)\s*(\S.*))?",
 ASSIGNED = re.compile(r"([A-Za-z_]\w*)\s*=(?!=)\s*(\S.*)", re.DOTALL)
 # A name without its `$`, with a property of what it stands for.
 BARE = re.compile(r"[A-Za-z_]\w*\.[A-Za-z_]")
-VERB = re.compile(rf"{THING}:\w+.*", re.DOTALL)
+VERB = re.compile(rf"(?:{THING}|[A-Za-z_]\w*):\w+.*", re.DOTALL)
+# What LambdaMOO is asked to reckon.
+EVALUATED = re.compile(r"(?:eval|return)\s+(.*)", re.IGNORECASE | re.DOTALL)
 WORD = re.compile(r"[@.]?([A-Za-z]+)(?:\s+(.*))?", re.DOTALL)
 
 # Words of other prompts that end a batch or drop it, and the word of the shell for each.
 BATCH_WORDS = {"commit": "end", "rollback": "abandon", "abort": "abandon"}
 SHOWING = ("look", "examine", "exam", "display")
-HERE = ("look", "here", "l")
-ME = ("me", "player")
+# Words that stand alone, and the name for what they show.
+ALONE_WORDS = {"me": "$me", "player": "$player", "here": "$here", "look": "$here", "l": "$here"}
+CARRIED = ("inventory", "inv", "i")
 
 
 def meant(text: str, words: Collection[str], read: Read) -> Line:
@@ -42,15 +45,20 @@ def meant(text: str, words: Collection[str], read: Read) -> Line:
         return Line("call", property_call(found, read), line.name) if found and not found[3] else line
     if line.kind != "call" or line.name or call_name(line.text):
         return line
-    return of_expression(line.text, read) or of_word(line.text, words) or line
+    reckoned = EVALUATED.fullmatch(line.text)
+    if reckoned and not reckoned[1].startswith("="):
+        return meant(reckoned[1], words, read)
+    return of_expression(line.text, read) or of_word(line.text, words, read) or line
 
 
 def of_expression(text: str, read: Read) -> Optional[Line]:
     """The line that an object, a name, a property or an assignment is; None if the text is none of them."""
     if ALONE.fullmatch(text):
         return Line("alone", text)
-    if text.lower() in ME:
-        return Line("alone", f"${text.lower()}")
+    if text.lower() in ALONE_WORDS:
+        return Line("alone", ALONE_WORDS[text.lower()])
+    if text.lower() in CARRIED:
+        return Line("command", "$me", word="places")
     found = PROPERTY.fullmatch(text)
     if found:
         return Line("call", property_call(found, read))
@@ -74,43 +82,50 @@ def property_call(found: re.Match[str], read: Read) -> str:
     return f"set({thing}, {written(name)}, {given})"
 
 
-def of_word(text: str, words: Collection[str]) -> Optional[Line]:
+def of_word(text: str, words: Collection[str], read: Read) -> Optional[Line]:
     """The word of the shell that a line is without its `\\`; None if it isn't one."""
     found = WORD.fullmatch(text)
     if not found:
         return None
     word, given = found[1].lower(), found[2] or ""
     if word in SHOWING and given:
-        word = "show"
+        word, given = "show", re.sub(r"^at\s+", "", given)
+    if word == "show":
+        given = given.rstrip(".,:; ")
+        asked = of_expression(given, read)
+        if asked and asked.kind == "call" and call_name(asked.text) == "get":
+            return asked
     if word in BATCH_WORDS and not given:
         return Line("end") if BATCH_WORDS[word] == "end" else Line("command", word=BATCH_WORDS[word])
-    is_named = len(word) > 1 and word in words and not (text.startswith("@") and word in COMMANDS)
-    return Line("command", given, word=word) if is_named else None
+    return Line("command", given, word=word) if len(word) > 1 and word in words else None
 
 
 def advice(text: str) -> str:
-    """What to write for a line that isn't a call and can't be done as it is."""
+    """What to write for a line that isn't a call and can't be done as it is; or nothing."""
     first = text.partition(" ")[0].lower()
     if first in ("begin", "end"):
         return f"`{first}` stands alone on its line"
     if first == "batch":
         return "`batch as #3` begins a batch of #3"
-    if text.lower() in HERE:
-        return "\\places shows what is where, and #3.location is the place of #3"
-    return of_lambdamoo(text) or of_sql(text) or expression_advice(text) or hint(text)
+    if re.fullmatch(r":[A-Za-z]\w*", text):
+        return f"a name is written ${text[1:]}, and nobody plays at this prompt"
+    return of_lambdamoo(text) or of_sql(text) or expression_advice(text)
 
 
-def quotes_advice(text: str) -> str:
-    """That texts are in double quotes, for a call with a single one outside of them; or nothing."""
-    is_there = any(kind == "other" and "'" in piece for kind, piece in pieces(text))
-    return '; a text is in double quotes, as "Inn"' if is_there else ""
+def signs_advice(text: str) -> str:
+    """That texts are in double quotes, for a call with a single one outside of them, and how comments begin, for one with `/*`; or nothing."""
+    outside = "".join(piece for kind, piece in pieces(text) if kind == "other")
+    quotes = '; a text is in double quotes, as "Inn"' if "'" in outside else ""
+    return quotes + ("; a comment begins with // and ends with its line" if "/*" in outside else "")
 
 
 def expression_advice(text: str) -> str:
     """What to write for an expression of LambdaMOO that is more than a property; or nothing."""
     if VERB.fullmatch(text):
         return NO_VERBS
-    if re.match(r"return\b|-?\d+\s*[-+*/]", text):
+    if re.match(r"-?\d+\s*[-+*/]", text):
         return "moo reckons nothing: a line is a call, or a property as #5.name"
+    if "/*" in text:
+        return "a comment begins with // and ends with its line"
     found = re.match(rf"({THING})\.([A-Za-z_]\w*)", text)
     return f'a property is read by get({found[1]}, "{found[2]}")' if found else ""

@@ -8,8 +8,10 @@ import signal
 from pathlib import Path
 from typing import Optional
 
+from moo_shell import building
 from moo_shell.batches import Refused
 from moo_shell.commands import COMMANDS
+from moo_shell.helping import TOPICS
 from moo_shell.session import Session
 from moo_shell.statements import goes_on, statements
 from moo_shell.told import BOLD, PLAIN
@@ -60,11 +62,13 @@ class Completion:
         start = before.strip()
         if not start and word.startswith("\\"):
             return [f"\\{name} " for name in COMMANDS if name.startswith(word[1:].lower())]
+        if not start and word.startswith("@"):
+            return [f"@{name} " for name in building.COMMANDS if name.startswith(word[1:].lower())]
         command = re.fullmatch(r"\\(\w+)|(include)", start)
         if command and (command[1] or command[2]) in OF_FILES:
             return offered_files(word)
         if command and command[1] == "help":
-            known = [*COMMANDS, *self.session.manual.calls, *self.session.manual.reasons]
+            known = [*COMMANDS, *TOPICS, *self.session.manual.calls, *self.session.manual.reasons]
             return sorted(each for each in known if each.startswith(word))
         if word.startswith("$"):
             return sorted(name for name in self.all_names() if name.startswith(word))

@@ -9,6 +9,7 @@ from typing import NamedTuple, Optional
 
 from moo_shell.batches import Unsure
 from moo_shell.files import lines_of, write_whole
+from moo_shell.including import run_file, run_lines
 from moo_shell.naming import names_in_file, text_of_names
 from moo_shell.resuming import Start, file_of_stop, how_to_go_on
 from moo_shell.session import Session
@@ -39,11 +40,11 @@ class Script(NamedTuple):
     def run(self, session: Session) -> None:
         """Does its lines."""
         if not self.file:
-            session.run_lines(GIVEN, self.text.splitlines())
+            run_lines(session, GIVEN, self.text.splitlines())
         elif self.file == "-":
-            session.run_lines(STANDARD_INPUT, lines_of(sys.stdin.buffer.read(), STANDARD_INPUT))
+            run_lines(session, STANDARD_INPUT, lines_of(sys.stdin.buffer.read(), STANDARD_INPUT))
         else:
-            session.run_file(Path(self.file), self.file)
+            run_file(session, Path(self.file), self.file)
 
 
 def run_scripts(session: Session, scripts: list[Script], is_single: bool) -> None:

@@ -11,26 +11,26 @@ from pathlib import Path
 from typing import Optional
 
 from moo_shell.batches import Batches, Done, Refused
+from moo_shell.building import Known, building_lines
 from moo_shell.door import Door
-from moo_shell.elsewhere import of_lambdamoo
-from moo_shell.files import read_lines, write_whole
+from moo_shell.files import write_whole
 from moo_shell.going import going, is_asked_first
+from moo_shell.including import include
 from moo_shell.manual import Manual
 from moo_shell.meant import advice, expression_advice, meant
 from moo_shell.naming import is_value, names_in_file, text_of_names
-from moo_shell.resuming import Passing, Start
-from moo_shell.statements import Statement, is_open, parted, statements
+from moo_shell.resuming import Passing
+from moo_shell.statements import is_open, parted
 from moo_shell.told import Output
 from moo_shell.watching import only_looks
 from moo_shell.world import BUILT_IN, World
 from moolib.batches import Item
 from moolib.calls import LONGEST_CALL, READING, call_name
 from moolib.errors import Failed
-from moolib.lines import Line, counted, did_you_mean, filled, names_in, read_line, unfinished, unquoted
+from moolib.lines import Line, counted, did_you_mean, filled, hint, names_in, unfinished, unquoted
 from moolib.values import written
 
-DEEPEST = 20
-WHO = ("$me", "$player")
+WHO, HERE = ("$me", "$player"), "$here"
 RunWord = Callable[["Session", str, str], None]
 
 
@@ -93,6 +93,10 @@ class Session:
 
     def do_part(self, text: str) -> None:
         """Does a call or a word."""
+        same = building_lines(text, Known(self.named, self.read))
+        if same:
+            self.do_same(same)
+            return
         began, had_timing = time.monotonic(), self.has_timing
         line = meant(text, self.words, self.read)
         self.do_line(line)
@@ -103,10 +107,36 @@ class Session:
         if had_timing and self.has_timing and line.kind != "empty":
             self.output.note(f"{(time.monotonic() - began) * 1000:.1f} ms")
 
+    def do_same(self, lines: list[str]) -> None:
+        """Does the lines that a command of LambdaMOO is, which a prompt shows first. Several calls are one batch."""
+        if not self.is_script:
+            self.output.note("; ".join(lines))
+        if len(lines) == 1 or self.open is not None:
+            for line in lines:
+                self.do_part(line)
+            return
+        self.begin(Line("begin"))
+        try:
+            for line in lines:
+                self.do_part(line)
+        except Failed:
+            self.abandon()
+            raise
+        self.end()
+
+    def named(self, text: str) -> str:
+        """An object, as people name it, as a call names it: `me` is `$me`, and an object's own name is its number."""
+        text = unquoted(text)
+        if text.lower() in ("me", "here", "player"):
+            return f"${text.lower()}"
+        return text if re.fullmatch(r"#-?\d+|\$\w+", text) else f"#{self.number(text)}"
+
     def do_line(self, line: Line) -> None:
         """Does what a line says."""
         if line.kind == "call" and f"${line.text}" in self.names:
             self.show_alone(f"${line.text}")
+        elif line.kind == "call" and not line.name and not call_name(line.text) and is_value(line.text):
+            self.output.show(line.text)
         elif line.kind == "call":
             self.take_call(Item(line.text, line.name, self.place))
         elif line.kind == "value":
@@ -118,7 +148,7 @@ class Session:
         elif line.kind == "end":
             self.end()
         elif line.kind == "include":
-            self.include(line.text)
+            include(self, line.text)
         elif line.kind == "command":
             self.run_word(self, line.word, line.text)
 
@@ -141,10 +171,12 @@ class Session:
     def test_call(self, text: str) -> None:
         """Fails if a line has no name of a call with a bracket after it, and says what may be meant."""
         if not call_name(text):
-            if not of_lambdamoo(text):
-                self.test_names(text)
+            told = advice(text)
+            if told:
+                raise Failed(told)
+            self.test_names(text)
             shown = text if len(text) <= 80 else text[:78] + ".."
-            raise Failed(f"malformed: {shown} isn't a call: {advice(text)}")
+            raise Failed(f"malformed: {shown} isn't a call: {hint(text)}")
         if is_open(text):
             raise Failed(f"malformed: {text}: {unfinished(text)}")
 
@@ -159,18 +191,27 @@ class Session:
     def values(self, wanted: Iterable[str]) -> Mapping[str, str]:
         """The names with their values. Of the wanted ones that the session hasn't, `$room` is the property `room` of #0, as in LambdaMOO.
 
-        If #0 has no such property, `$me` and `$player` are the programmer who calls.
+        If #0 has no such property, `$me` and `$player` are the programmer who calls, and `$here` is the place of that.
         """
         lacking = sorted(set(wanted) - set(self.names))
         if not lacking:
             return self.names
         answers = self.world.each([f"get(#0, {written(name[1:])})" for name in lacking])
-        own = {name: f"#{self.who}" for name in WHO if self.door.can_name}
         found = {name: answer.text for name, answer in zip(lacking, answers) if answer.is_good}
-        unknown = [] if self.door.can_name else sorted({*lacking} & {*WHO} - {*found})
-        if unknown:
-            raise Failed(f"{unknown[0]} has no value: the front knows by the token who calls; {unknown[0]} = #5 gives it one")
-        return {**own, **found, **self.names}
+        return {**self.own_names({*lacking} - {*found}), **found, **self.names}
+
+    def own_names(self, wanted: set[str]) -> dict[str, str]:
+        """Those of the wanted names that stand for who calls, and for the place of that."""
+        if not wanted & {*WHO, HERE}:
+            return {}
+        who = self.world.caller()
+        own = {name: f"#{who}" for name in WHO}
+        if HERE in wanted:
+            (place,) = self.world.each([f'get(#{who}, "location")'])
+            if place.text == "#-1":
+                raise Failed("you are nowhere: move($me, #5) goes to a place")
+            own[HERE] = place.text
+        return own
 
     def values_for(self, items: list[Item]) -> Mapping[str, str]:
         """The names with their values for a batch, whose calls may use the answers of calls before them."""
@@ -327,7 +368,7 @@ class Session:
 
     def number(self, text: str) -> int:
         """The number of an object that is written as `#5`, `5` or `$name`, or by its own name, which may be in quotes."""
-        if text.strip().lower() in ("me", "player"):
+        if text.strip().lower() in ("me", "player", "here"):
             text = f"${text.strip().lower()}"
         value = filled(text.strip(), self.values(names_in(text)))
         found = re.fullmatch(r"#?(-?\d+)", value)
@@ -336,67 +377,6 @@ class Session:
         if not value:
             raise Failed("which object? #5 is one, or a name such as $hall that stands for one")
         return self.world.number_named(unquoted(value))
-
-    def include(self, name: str) -> None:
-        """Does the lines of another file, whose name is read from the folder of the present one."""
-        if self.open is not None and not self.is_single:
-            raise Failed("a batch is open: `include` is outside of batches")
-        if not name:
-            raise Failed("include FILE: which file?")
-        path = Path(name).expanduser()
-        self.run_file(self.folders[-1] / path if self.folders else path, name if not self.folders else None)
-
-    def run_file(self, path: Path, shown: Optional[str] = None) -> None:
-        """Does the lines of a file up to the first failure, which then has its place."""
-        if len(self.folders) >= DEEPEST:
-            raise Failed(f"{path}: files include each other {DEEPEST} deep")
-        lines = read_lines(path)
-        self.folders.append(path.parent)
-        try:
-            self.run_lines(shown or str(path), lines)
-        finally:
-            self.folders.pop()
-
-    def run_lines(self, name: str, lines: list[str]) -> None:
-        """Does lines up to the first failure, which then has its place. A batch that begins in them has to end in them."""
-        before, was_script = self.place, self.is_script
-        self.is_script = True
-        start, began = self.passing.begin(), Start(1)
-        try:
-            for statement in statements(lines):
-                self.place = (name, statement.line)
-                if self.open is None:
-                    began = Start(statement.line, statement.part)
-                try:
-                    self.do_from(start, statement)
-                except Failed as failed:
-                    failed.place = failed.place or self.place
-                    self.stopped_at.insert(0, str(began))
-                    raise
-                if self.is_over:
-                    return
-            self.test_end(name, start, len(lines))
-        finally:
-            if not self.is_single:
-                self.abandon()
-            self.place, self.is_script = before, was_script
-
-    def do_from(self, start: Start, statement: Statement) -> None:
-        """Does a statement, if it isn't before the place at which its file begins."""
-        here = Start(statement.line, statement.part)
-        if here < start:
-            self.passing.pass_over(self, start, statement)
-            return
-        if here.line == start.line:
-            self.passing.test_include(read_line(statement.text).kind, here)
-        self.do_part(statement.text)
-
-    def test_end(self, name: str, start: Start, count: int) -> None:
-        """Fails if lines have ended before their first one, or in a batch."""
-        if start.line > max(count, 1):
-            raise Failed(f"--from-line {start}: the file has {counted(count, 'line')}", (name, max(count, 1)))
-        if self.open is not None and not self.is_single:
-            raise Failed("the file ends inside a batch: `end` is missing", (name, max(count, 1)))
 
     def keep_names(self, file: Path) -> None:
         """Keeps the names in a file from now on; those that are in it are taken in, and the session's own are stronger."""
@@ -417,11 +397,10 @@ class Session:
 
     def find_programmer(self) -> str:
         """Who calls, in words, for the first line of a prompt."""
-        if not self.door.can_name:
-            return "as the person of the token"
         try:
-            said = self.world.built_in(self.who)
+            who = self.world.caller()
+            said = self.world.built_in(who)
         except Failed:
-            return f"as #{self.who}, which isn't an object: \\as N names another programmer"
+            return f"as #{self.who}, which isn't an object: \\as N names another programmer" if self.door.can_name else "as the person of the token"
         kind = "a wizard" if said["wizard"] else "a player" if said["player"] else "not a player"
-        return f'as #{self.who} "{said["name"]}", {kind}'
+        return f'as #{who} "{said["name"]}", {kind}'

@@ -1,7 +1,6 @@
 """Lines put together and cut apart: a call may go on over several lines, and a line may hold several calls.
 
-A line goes on on the next one while a bracket in it is open. `;` ends a call. A line that begins with `//`, `--` or `#` and a blank is a
-comment; after a call only `//` begins one.
+A line goes on on the next one while a bracket in it is open. `;` ends a call. A line that begins with `#` and a blank is a comment.
 """
 
 from __future__ import annotations
@@ -12,7 +11,7 @@ from typing import NamedTuple
 
 from moolib.lines import BLANKS, pieces, without_comment
 
-COMMENT = re.compile(r"(?:--|#)(?:\s|$)")
+COMMENT = re.compile(r"#(?:\s|$)")
 # Words of the shell that are given a call, which may go on on the next line.
 CALLING = re.compile(r"\\(?:ask|fix|watch)\b", re.IGNORECASE)
 OPENING = {")": "(", "}": "{"}
@@ -28,9 +27,11 @@ class Statement(NamedTuple):
 
 
 def is_word(text: str) -> bool:
-    """Whether a line is a word of the shell with a file, or another text, in which `;` and brackets mean nothing."""
+    """Whether a line is a word of the shell, or a command of LambdaMOO, with a text in which `;` and brackets mean nothing."""
     stripped = text.lstrip(BLANKS)
-    return re.match(r"include\s", stripped, re.IGNORECASE) is not None or (stripped.startswith("\\") and not CALLING.match(stripped))
+    if re.match(r"include\s", stripped, re.IGNORECASE) or stripped.startswith("@"):
+        return True
+    return stripped.startswith("\\") and not CALLING.match(stripped)
 
 
 def signs_of(text: str) -> Iterator[str]:

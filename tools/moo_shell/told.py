@@ -2,12 +2,16 @@
 
 from __future__ import annotations
 
+import contextlib
 import os
 import shutil
 import subprocess
 import sys
 from pathlib import Path
 from typing import IO, Optional
+
+from moolib.errors import Failed
+from moolib.lines import unquoted
 
 RED, DIM, BOLD, PLAIN = "\x1b[31m", "\x1b[2m", "\x1b[1m", "\x1b[0m"
 PAGER = ("less", "-FRX")
@@ -20,6 +24,7 @@ class Output:
         self.is_quiet = is_quiet
         self.has_pager = False
         self.file: Optional[IO[str]] = None
+        self.command: Optional[subprocess.Popen[str]] = None
         self.look_at_stream()
 
     def look_at_stream(self) -> None:
@@ -27,16 +32,31 @@ class Output:
         self.is_terminal = self.file is None and sys.stdout.isatty()
         self.has_colours = self.is_terminal and "NO_COLOR" not in os.environ and os.environ.get("TERM", "dumb") != "dumb"
 
-    def send_to(self, path: Optional[Path]) -> None:
-        """Sends answers to the end of a file from now on, or with None to standard output again."""
+    def send_to(self, name: str) -> None:
+        """Sends answers to the end of a file from now on, with `|` before the name to a command, or with no name to standard output again."""
         if self.file is not None:
-            self.file.close()
-        self.file = None if path is None else path.open("a")
+            with contextlib.suppress(BrokenPipeError):
+                self.file.close()
+        if self.command is not None:
+            self.command.wait()
+        self.file = self.command = None
+        if name.startswith("|"):
+            sys.stdout.flush()
+            self.command = subprocess.Popen(["sh", "-c", name[1:]], stdin=subprocess.PIPE, text=True)
+            self.file = self.command.stdin
+        elif name:
+            self.file = Path(unquoted(name)).expanduser().open("a")
         self.look_at_stream()
 
     def write(self, text: str) -> None:
-        """Writes a line of an answer."""
-        print(text, file=self.file or sys.stdout, flush=self.is_terminal or self.file is not None)
+        """Writes a line of an answer. `Failed`: the command that gets the answers has ended."""
+        try:
+            print(text, file=self.file or sys.stdout, flush=self.is_terminal or self.file is not None)
+        except BrokenPipeError:
+            if self.command is None:
+                raise
+            self.send_to("")
+            raise Failed("the command that got the answers has ended: they are shown again") from None
 
     def dim(self, text: str) -> str:
         """A text of less weight, if there are colours."""

@@ -15,6 +15,7 @@ from typing import NoReturn, Optional
 from moo_shell.batches import Unsure
 from moo_shell.commands import COMMANDS, dump_of, run_command
 from moo_shell.door import Door, Front
+from moo_shell.elsewhere import of_options
 from moo_shell.files import copy_world, load_copy
 from moo_shell.manual import manual_of
 from moo_shell.prompt import Prompt
@@ -41,7 +42,7 @@ def read_words(words: list[str]) -> argparse.Namespace:
         description="A prompt for a world of moo, and a reader of scripts. \\help at the prompt tells the rest.",
     )
     parser.add_argument("world", metavar="FILE", nargs="?", help="the database file; the shell runs a service of its own on it")
-    parser.add_argument("--port", type=int, metavar="PORT", help="a service that runs on this machine already")
+    parser.add_argument("-p", "--port", type=int, metavar="PORT", help="a service that runs on this machine already")
     parser.add_argument("--web", metavar="URL", help="a front of moo; the token is that of --token, MOO_TOKEN, or asked for")
     parser.add_argument("--token", metavar="FILE", type=Path, help="the file that holds the token for --web")
     parser.add_argument("--as", dest="who", metavar="N", help="the number of the programmer who calls (3)")
@@ -51,13 +52,15 @@ def read_words(words: list[str]) -> argparse.Namespace:
     parser.add_argument(
         "-f", "--file", dest="scripts", metavar="SCRIPT", action="append", type=Script.of_file, help="do the lines of SCRIPT and end"
     )
-    parser.add_argument("--single", action="store_true", help="make one batch of all: all of it acts, or none")
+    parser.add_argument("-1", "--single", action="store_true", help="make one batch of all: all of it acts, or none")
     parser.add_argument("--from-line", dest="starts", metavar="N", type=starts_of, help="begin at line N of the first SCRIPT")
     parser.add_argument("--dry-run", action="store_true", help="do all on a copy, say what it would make, and change nothing")
     parser.add_argument("-q", "--quiet", action="store_true", help="write no answers of calls")
     parser.add_argument("--names", metavar="FILE", type=Path, help="keep the names in FILE")
     parser.add_argument("--moo", metavar="PROGRAM", help="the program moo, which serves FILE and gives help")
-    said = parser.parse_args(words)
+    said, others = parser.parse_known_args(words)
+    if others:
+        parser.error(of_options(others) or f"unrecognized arguments: {' '.join(others)}")
     given = [each for each in (said.world, said.port, said.web) if each is not None]
     if len(given) != 1:
         parser.error("one of FILE, --port PORT and --web URL is wanted")
@@ -129,6 +132,7 @@ def run(said: argparse.Namespace) -> None:
         is_typed = not said.scripts and sys.stdin.isatty()
         door = opened(stack, said, program)
         output = Output(said.quiet)
+        stack.callback(output.send_to, "")
         session = Session(door, manual_of(program), output, run_command, COMMANDS, is_script=not is_typed, is_copy=said.dry_run)
         session.world.who = said.who
         if said.names:

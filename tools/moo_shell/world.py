@@ -85,6 +85,19 @@ class World:
         self.door = door
         self.who = 3
         self.has_objects: Optional[bool] = None
+        self.person: Optional[int] = None
+
+    def caller(self) -> int:
+        """The number of who calls. A front knows it by the token: there a petition is tried, which isn't made, and names who makes it."""
+        if self.door.can_name:
+            return self.who
+        if self.person is None:
+            reply = self.door.ask(self.who, ['petition({{"valid", #0}})', "petitions()"], None)
+            if not reply.is_good:
+                raise Failed("$me has no value: the front doesn't say who calls; $me = #5 gives it one")
+            made, petitions = map(Said, reply.said["answers"])
+            self.person = next(who.number for number, who, _ in petitions.value if number == made.value)
+        return self.person
 
     def each(self, calls: list[str]) -> list[Said]:
         """What each call alone would answer. The calls have to be reading ones."""

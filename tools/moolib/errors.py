@@ -215,6 +215,7 @@ WORDS = {
     "malformed": "This can’t be read as a call.",
     "too large": "It is too long: make two batches of it.",
     "nomemory": "moo had no memory left for it. Nothing changed.",
+    "too much": "This is too much for one request: make several of it, one after another.",
     "create E_PERM": "The parent isn’t fertile and isn’t yours, or the owner isn’t you.",
     "create E_QUOTA": "The quota is used up: no more objects may be made for this owner. A wizard can raise it.",
     "chparent E_PERM": "Only its owner may give it another parent, and that has to be fertile or the owner’s.",
@@ -247,6 +248,11 @@ TROUBLES = {
     "nomemory": "the service's memory ran out, and nothing changed",
     "closed": "the service's store has failed: it has to be started again, and nothing changed",
 }
+
+
+def is_too_much(error: str, why: str) -> bool:
+    """Whether a service ended one request because that was too much work for one (`moo serve --ticks`): its memory isn't short."""
+    return error == "nomemory" and "--ticks" in why
 
 
 def words_for(call: str, error: str) -> str:

@@ -1,7 +1,7 @@
 """The lines that people write, taken apart: comments, names, calls. Nothing is run here.
 
 A line is a call, `$name = CALL`, `$name = VALUE`, `begin`, `end`, `batch as #N`, `include FILE`, or a `\\` word with what it is given.
-A comment begins with `//` and goes to the end of the line. In a text `"..."` neither a comment nor a name begins.
+A comment begins with `//`, or with `--` and a blank, and goes to the end of the line. In a text `"..."` neither a comment nor a name begins.
 """
 
 from __future__ import annotations
@@ -15,7 +15,7 @@ from typing import Optional
 from moolib.calls import call_name
 from moolib.errors import Failed
 
-PIECE = re.compile(r'(?P<text>"(?:[^"\\]|\\.)*(?:"|\\?$))|(?P<comment>//.*)|(?P<name>\$[A-Za-z_]\w*)|(?P<other>[^"$/]+|.)', re.DOTALL)
+PIECE = re.compile(r'(?P<text>"(?:[^"\\]|\\.)*(?:"|\\?$))|(?P<comment>//.*|--(?:\s.*)?$)|(?P<name>\$[A-Za-z_]\w*)|(?P<other>[^"$/-]+|.)', re.DOTALL)
 ASSIGNMENT = re.compile(r"(\$[A-Za-z_]\w*)\s*=\s*(.*)", re.DOTALL)
 HEADER = re.compile(r"batch\s+as\s+(#-?\d+|\$\w+)(?:\s+at\s+(\d+))?", re.IGNORECASE)
 BLANKS = " \t\r\n\f\v"

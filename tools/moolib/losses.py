@@ -13,7 +13,8 @@ from collections.abc import Iterable, Iterator
 from typing import NamedTuple
 
 from moolib.calls import Call, call_name, read_or_none
-from moolib.draft import MARKS, QUOTA, SETTABLE, Draft, first_calls
+from moolib.draft import QUOTA, Draft
+from moolib.slots import MARKS, SETTABLE, first_calls
 from moolib.facts import Facts, TooMuch
 from moolib.values import Obj, Value, written
 

@@ -42,8 +42,9 @@ def replaced(text: str, found: Found, number: str) -> str:
 
 def numbered(text: str, find: Callable[[Found], str]) -> str:
     """The text with the number of each name in its place. What `find` raises is raised."""
-    for found in reversed(names_of_objects(text)):
-        text = replaced(text, found, find(found))
+    numbers = [(found, find(found)) for found in names_of_objects(text)]
+    for found, number in reversed(numbers):
+        text = replaced(text, found, number)
     return text
 
 

@@ -24,5 +24,5 @@ def raise_refusal(answer: Answer, before: int = 0) -> NoReturn:
     if error in REFUSALS:
         raise REFUSALS[error](answer.call - before if answer.call else None, why)
     if error == "nomemory":
-        raise NoMemory("the service's memory ran out")
+        raise NoMemory(why or "the service's memory ran out")
     raise OF_FRONTS.get(error, BadRequest)(f"{answer.status}: {error}", why)

@@ -17,7 +17,7 @@ import time
 from collections.abc import Mapping
 from typing import IO, Any, NamedTuple, Optional, Union
 
-from moolib.errors import TROUBLES, Failed, LostAnswer, MooError, NoService, Stranger, Unreachable, Unsure
+from moolib.errors import TROUBLES, Failed, LostAnswer, MooError, NoService, Stranger, Unreachable, Unsure, is_too_much
 from moolib.exchange import Exchange
 from moolib.shapes import is_of_calls, is_of_moo
 from moolib.values import read
@@ -62,6 +62,11 @@ class Answer(NamedTuple):
     def why(self) -> str:
         """The service's sentence for a refusal; empty if it gives none."""
         return str(self.said.get("why") or "")
+
+    @property
+    def is_too_much(self) -> bool:
+        """Whether the request was ended since it was too much work for one."""
+        return is_too_much(self.error, self.why)
 
     @property
     def is_missing(self) -> bool:
@@ -205,18 +210,15 @@ class Service:
         return answer
 
     def copied(self, route: str, file: IO[bytes]) -> Optional[Answer]:
-        """Writes the body of a good answer to a file, in pieces. Another answer is given back. `Unreachable`: none came whole."""
-        try:
-            with self.opened("GET", route, None, None) as exchange:
-                status, pieces = exchange.begun()
-                if status != 200:
-                    body = b"".join(pieces)
-                    return Answer(status, body, object_in(body))
-                for piece in pieces:
-                    file.write(piece)
-                return None
-        except (NoService, LostAnswer) as error:
-            raise Unreachable(str(error)) from error
+        """Writes the body of a good answer to a file, in pieces. Another answer is given back. `NoService`, `LostAnswer`: none came whole."""
+        with self.opened("GET", route, None, None) as exchange:
+            status, pieces = exchange.begun()
+            if status != 200:
+                body = b"".join(pieces)
+                return Answer(status, body, object_in(body))
+            for piece in pieces:
+                file.write(piece)
+            return None
 
     # Until an answer comes
 

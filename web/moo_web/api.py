@@ -1,4 +1,4 @@
-"""The interface for programs, `/api/..`: moo's requests for the person whose token comes with them. docs/WEB.md has its words."""
+"""The interface for programs, `/api/..`: moo's requests for the person whose token comes with them. docs/HTTP.md has its words."""
 
 from __future__ import annotations
 
@@ -18,7 +18,8 @@ from moo_web.interface.feed import Feed
 from moo_web.interface.followers import Followers
 from moo_web.interface.interface import ROUTES
 from moo_web.interface.openapi import description
-from moo_web.journal.writer import Busy, Writer
+from moo_web.journal.jobs import Busy
+from moo_web.journal.writer import Writer
 from moo_web.paths import Path
 from moo_web.people.audit import TOKEN_REFUSED
 from moo_web.people.limits import Rate, network_of
@@ -203,11 +204,12 @@ class Api:
         """The dump, for wizards. It is put into a file first, so that moo doesn't wait for a slow reader."""
         if not self.is_wizard(person_of(request)):
             return FORBIDDEN
+        end = time.monotonic() + READING
         if not self.dumps.acquire(timeout=READING):
             raise Busy
         file = DumpFile(self.dumps)
         try:
-            refusal = self.door.copied("/dump", file)
+            refusal = self.door.copied("/dump", file, end)
         except BaseException:
             file.close()
             raise

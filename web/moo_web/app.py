@@ -17,7 +17,7 @@ from typing import IO, Any, Callable, Iterable, NamedTuple
 from moolib.service import LONGEST_BODY
 
 from moo_web.journal.history import StillRead
-from moo_web.journal.writer import Barred, Busy, Stopped, TooMuch, Unknown
+from moo_web.journal.jobs import Barred, Busy, Stopped, TooMuch, Unknown
 from moo_web.paths import Path
 from moo_web.people.limits import MOST_NAMES, network_of
 from moo_web.people.person import Person

@@ -159,7 +159,9 @@ class Front:
         self.journal.note_sync = self.meters.sync_seconds.take
         self.door = Door(said.moo_port, turnstile=Turnstile(self.shares.spend), note=self.meters.asked)
         self.writer = Writer(self.door, self.journal, tell)
-        self.writer.bound = Growth(self.door, said.daily_bytes, said.full).test
+        growth = Growth(self.door, said.daily_bytes, said.full)
+        self.writer.bound = growth.test
+        self.writer.listeners.append(growth.take)
         self.app = App(tell, self.shares)
         log = AccessLog(said.access_log, tell) if said.access_log else None
         open_anew_at_hangup(log)

@@ -6,3 +6,5 @@ pub mod InTurn
 pub mod TrueInTurn
 pub mod Chosen
 pub mod AtCheck
+pub mod Nesting
+pub mod Ticking

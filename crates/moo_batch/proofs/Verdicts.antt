@@ -39,7 +39,7 @@ good-with_seq n t h = record {
 -- the verdict on a batch whose calls stopped
 module _ (base : Maps) (b : Batch) (after : State) (ran : Ran) (verdict : Verdict) (judged : judge (state_of base) b ≡ verdict_of base.head.seq ran) (none : IsVerdict base b OutOfMemory) where
   pub stopped-so : (stop : Stop) → ((refusal : Refusal) → stop ≡ refused_at refusal → verdict ≡ Refused refusal.call (error_of refusal.reason)) → ((call : ℕ) → stop ≡ full_at call → verdict ≡ Full call)
-      → (stop ≡ no_memory → verdict ≡ OutOfMemory) → ComeTo ran after (Err stop) → IsVerdict base b verdict
+      → ((call : ℕ) → stop ≡ no_memory call → verdict ≡ OutOfMemory) → ComeTo ran after (Err stop) → IsVerdict base b verdict
   stopped-so (refused_at refusal) refused full memory comes = subst (IsVerdict base b) (sym (refused refusal refl)) (judged ∙ ap (verdict_of base.head.seq) comes)
   stopped-so (full_at call) refused full memory comes = subst (IsVerdict base b) (sym (full call refl)) (judged ∙ ap (verdict_of base.head.seq) comes)
-  stopped-so no_memory refused full memory comes = subst (IsVerdict base b) (sym (memory refl)) none
+  stopped-so (no_memory call) refused full memory comes = subst (IsVerdict base b) (sym (memory call refl)) none

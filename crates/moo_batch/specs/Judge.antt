@@ -21,13 +21,13 @@ abbrev pub ComeTo : model.Ran → State → Result (List Value) Stop → Type 0
 ComeTo ran after (Ok answers) = ran ≡ model.Through answers after
 ComeTo ran after (Err (refused_at refusal)) = ran ≡ model.FailedAt refusal.call (error_of refusal.reason)
 ComeTo ran after (Err (full_at call)) = ran ≡ model.FullAt call
-ComeTo ran after (Err no_memory) = ⊤
+ComeTo ran after (Err (no_memory call)) = ⊤
 
 -- at a check that fails the rows are good ones, unless it is one of a call that a granted petition holds
 abbrev pub IsGoodAt : Maps → Stop → Type 0
 IsGoodAt maps (refused_at refusal) = refusal.held ≡ None → IsGood maps
 IsGoodAt maps (full_at call) = ⊤
-IsGoodAt maps no_memory = ⊤
+IsGoodAt maps (no_memory call) = ⊤
 
 -- what done calls keep: the rows are good ones, no batch is counted yet, and each call kept numbers
 pub record HaveKept (p : ObjNo) (calls : List Call) (old new : Held) : Type 0 where

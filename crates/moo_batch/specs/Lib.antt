@@ -2,3 +2,4 @@ pub mod Judge
 pub mod Outcomes
 pub mod Checks
 pub mod Telling
+pub mod Ticks

@@ -1,6 +1,6 @@
 //! `grant`.
 
-ghost use Rattle.std.specs.Prelude.{◌≡◌, ◌≤◌, true, length, OnOk, IfErr};
+ghost use Rattle.std.specs.Prelude.{◌≡◌, ◌≤◌, true, false, length, OnOk, IfErr};
 ghost use Rattle.std.specs.List.{list_all};
 ghost use Rattle.moo_world.specs.Arguments.{fits};
 ghost use Rattle.moo_world.specs.Between.{GrantLeads};
@@ -34,6 +34,7 @@ fn held_step<R: Rows>(
 ) -> Result<Value, Fault>
     requires good { IsGood (R.held rows.old).maps }
     requires fit { fits held.now ≡ true }
+    requires leave { (R.held rows.old).base.is_spent ≡ false }
     ensures comes { ComesTo (held_step (world_in (R.held rows.old)) wizard held.now) (R.held rows.old) (R.held rows.new) result }
     ensures kept { OnOk result (Keeps (R.held rows.old) (R.held rows.new)) }
     ensures told { IsTold (R.held rows.old).maps wizard (about_held wizard held.now) result }
@@ -54,7 +55,8 @@ fn held_at(place: u32, fault: Fault) -> Fault
     }
 }
 
-/// The calls that a petition holds, one after another, up to the first that isn't done: those before it have changed the rows then.
+/// The calls that a petition holds, one after another, up to the first that isn't done: those before it have changed the rows then. None
+/// is made once the rows say that no more are to be made.
 fn held_steps<R: Rows>(
     rows: &mut R,
     alloc: Global,
@@ -70,6 +72,9 @@ fn held_steps<R: Rows>(
 {
     let mut place: u32 = 0;
     for held in helds {
+        if !rows.may_call() {
+            return Err(Fault::OutOfMemory);
+        }
         match held_step(rows, alloc, wizard, held) {
             Ok(_done) => {}
             Err(fault) => return Err(held_at(place, fault)),

@@ -1,21 +1,26 @@
 //! What a batch comes to.
 
-ghost use Rattle.std.specs.Prelude.{◌≡◌, ◌+◌, ◌<◌, ◌≤◌, ℕ, length, OnOk, IfErr};
+ghost use Rattle.std.specs.Prelude.{◌≡◌, ◌+◌, ◌<◌, ◌≤◌, ℕ, Some, true, false, length, OnOk, IfErr};
 ghost use Rattle.moo_batch.specs.declared.witness.Refusal.{Refusal};
 ghost use Rattle.moo_calls_shared.specs.Reasons.{error_of};
 ghost use Rattle.moo_rows.specs.Maps.{Maps};
 ghost use Rattle.moo_memory.specs.Changes.{AreChanges};
 ghost use Rattle.moo_world.specs.Rows.{IsGood};
+ghost use Rattle.moo_world.specs.Between.{CallKeepsNumbers};
 ghost use Rattle.moo_world.specs.Judge.{is_due, run_calls};
-ghost use Rattle.moo_batch.specs.Outcomes.{state_in};
+ghost use Rattle.moo_world.specs.Names.{is_grant};
+ghost use Rattle.moo_world.specs.Requests.{batch_call};
+ghost use Rattle.moo_batch.specs.Outcomes.{state_in, KeepsGoodRows, Reaches, StaysAtCheck};
+ghost use Rattle.moo_batch.specs.Ticks.{TakesOne, TakesTicks};
 ghost use Rattle.moo_batch.specs.Judge.{ComeTo, HaveKept, IsGoodAt, IsVerdict};
 
+use crate::charging::ticks_of;
 use crate::stepping::step;
 use crate::witness::{Refusal, Witness};
 use moo_calls_shared::Fault;
-use moo_memory::{ChangeList, Changes, Draft};
+use moo_memory::{ChangeList, Changes, Draft, ENDLESS};
 use moo_rows::{Head, Rows};
-use moo_value::{Code, ObjNo};
+use moo_value::{Code, ObjNo, Value};
 use moo_world::{Answers, Batch, Call};
 use std::alloc::Global;
 
@@ -27,7 +32,7 @@ pub const LAST_SEQ: u64 = 9223372036854775807;
 enum Stop {
     Refused(Refusal),
     Full { call: u32 },
-    OutOfMemory,
+    OutOfMemory { call: u32 },
 }
 
 /// What a batch comes to. Only an accepted one changes anything.
@@ -45,8 +50,33 @@ pub enum Verdict {
     OutOfMemory,
 }
 
-/// Does calls, one after another, up to the first that isn't done. The rows are then those after the calls before it, or half changed by
-/// that call, and the caller drops them.
+/// One call, on rows which haven't said that no more calls are to be made.
+fn step_on<R: Rows>(
+    rows: &mut R,
+    alloc: Global,
+    programmer: ObjNo,
+    call: &Call,
+) -> Result<Value, Fault>
+    requires good { IsGood (R.held rows.old).maps }
+    requires leave { (R.held rows.old).base.is_spent ≡ false }
+    ensures reaches { Reaches (batch_call (state_in (R.held rows.old)) programmer call.now) (R.held rows.new) result }
+    ensures check { IfErr result (StaysAtCheck (R.held rows.old) (R.held rows.new)) }
+    ensures kept { OnOk result (KeepsGoodRows (CallKeepsNumbers (is_grant call.now.name) programmer call.now.args) (R.held rows.old)
+        (R.held rows.new)) }
+{
+    step(rows, alloc, programmer, call)
+}
+
+/// Counts what an answer costs; whether one more call may be made.
+fn may_follow<R: Rows>(rows: &mut R, answer: &Value) -> bool
+    ensures { result ≡ true → R.held rows.new ≡ R.held rows.old }
+{
+    rows.spend(ticks_of(answer));
+    rows.may_call()
+}
+
+/// Does calls, one after another, up to the first that isn't done, or at which ticks are spent. The rows are then those after the calls
+/// before it, or changed or half changed by that call, and the caller drops them.
 fn run_calls<R: Rows>(
     rows: &mut R,
     alloc: Global,
@@ -55,6 +85,7 @@ fn run_calls<R: Rows>(
 ) -> Result<Answers, Stop>
     requires good { IsGood (R.held rows.old).maps }
     requires few { length calls.now ≤ 1000 }
+    requires leave { (R.held rows.old).base.is_spent ≡ false }
     ensures comes { ComeTo (run_calls (state_in (R.held rows.old)) programmer calls.now) (state_in (R.held rows.new)) result }
     ensures kept { OnOk result (HaveKept programmer calls.now (R.held rows.old) (R.held rows.new)) }
     ensures good { IfErr result (IsGoodAt (R.held rows.new).maps) }
@@ -62,10 +93,13 @@ fn run_calls<R: Rows>(
     let mut answers = Vec::new(alloc);
     for call in calls {
         let number = answers.len() as u32 + 1;
-        match step(rows, alloc, programmer, call) {
+        match step_on(rows, alloc, programmer, call) {
             Ok(answer) => {
+                if !may_follow(rows, &answer) {
+                    return Err(Stop::OutOfMemory { call: number });
+                }
                 if answers.push(answer).is_err() {
-                    return Err(Stop::OutOfMemory);
+                    return Err(Stop::OutOfMemory { call: number });
                 }
             }
             Err(Fault::Moo(reason)) => {
@@ -83,7 +117,7 @@ fn run_calls<R: Rows>(
                 }));
             }
             Err(Fault::Full) => return Err(Stop::Full { call: number }),
-            Err(Fault::OutOfMemory) => return Err(Stop::OutOfMemory),
+            Err(Fault::OutOfMemory) => return Err(Stop::OutOfMemory { call: number }),
         }
     }
     Ok(Answers::from_vec(answers))
@@ -116,7 +150,8 @@ fn counted(alloc: Global, head: Head) -> Changes
     }
 }
 
-/// The verdict on a batch whose calls stopped, which left these rows over those that it was judged on. The witness sees a refusal.
+/// The verdict on a batch whose calls stopped, which left these rows over those that it was judged on. The witness sees a refusal, and
+/// ticks that are spent.
 fn stopped<B: Rows, R: Rows, W: Witness>(
     base: &B,
     rows: &R,
@@ -127,7 +162,8 @@ fn stopped<B: Rows, R: Rows, W: Witness>(
     requires { IsGoodAt (R.held rows.now).maps stop }
     ensures refused { (refusal : Refusal) → stop ≡ Stop.Refused refusal → result ≡ Verdict.Refused refusal.call (error_of refusal.reason) }
     ensures full { (call : ℕ) → stop ≡ Stop.Full call → result ≡ Verdict.Full call }
-    ensures memory { stop ≡ Stop.OutOfMemory → result ≡ Verdict.OutOfMemory }
+    ensures memory { (call : ℕ) → stop ≡ Stop.OutOfMemory call → result ≡ Verdict.OutOfMemory }
+    ensures ticks { W.left witness.new ≡ W.left witness.old }
 {
     match stop {
         Stop::Refused(refusal) => {
@@ -138,14 +174,30 @@ fn stopped<B: Rows, R: Rows, W: Witness>(
             }
         }
         Stop::Full { call } => Verdict::Full { call },
-        Stop::OutOfMemory => Verdict::OutOfMemory,
+        Stop::OutOfMemory { call } => {
+            if !rows.may_go_on() {
+                witness.see_spent(call);
+            }
+            Verdict::OutOfMemory
+        }
+    }
+}
+
+/// Tells the witness how many ticks are left of so many after the calls of a batch, which take one at least.
+fn leave_ticks<R: Rows, W: Witness>(draft: &Draft<'_, R>, ticks: Option<u64>, witness: &mut W)
+    requires left { ticks ≡ W.left witness.old }
+    requires some { (n : ℕ) → ticks ≡ Some n → 0 < n }
+    ensures { TakesOne ticks (W.left witness.new) }
+{
+    if let Some(ticks) = ticks {
+        witness.leave(draft.ticks_left().min(ticks - 1));
     }
 }
 
 /// The verdict on a batch on these rows, which stay as they are: stale if it names another number than the present
 /// one, else full if [`LAST_SEQ`] batches were accepted, else refused or full at the first call that isn't done, else
-/// accepted. A lack of memory comes only if a call is run. If it is accepted, what stays keeps its number, and what is new
-/// has one that was never given. If it is refused, the witness sees why.
+/// accepted. A lack of memory comes only if a call is run; ticks that are spent are one. If it is accepted, what stays keeps its number,
+/// and what is new has one that was never given. The witness sees why it is refused, and how many ticks are left.
 pub fn judge<R: Rows, W: Witness>(
     alloc: Global,
     rows: &R,
@@ -153,7 +205,8 @@ pub fn judge<R: Rows, W: Witness>(
     witness: &mut W,
 ) -> Verdict
     requires good { IsGood (R.held rows.now).maps }
-    ensures { IsVerdict (R.held rows.now).maps batch.now result }
+    ensures verdict { IsVerdict (R.held rows.now).maps batch.now result }
+    ensures ticks { TakesTicks (W.left witness.old) (W.left witness.new) result }
 {
     let head = rows.head();
     if !is_due(batch.at, head.seq) {
@@ -169,8 +222,14 @@ pub fn judge<R: Rows, W: Witness>(
             changes: counted(alloc, head),
         };
     }
-    let mut draft = Draft::new(alloc, rows);
-    let answers = match run_calls(&mut draft, alloc, batch.programmer, calls) {
+    let ticks = witness.ticks();
+    if ticks == Some(0) {
+        return Verdict::OutOfMemory;
+    }
+    let mut draft = Draft::within(alloc, rows, ticks.unwrap_or(ENDLESS));
+    let ran = run_calls(&mut draft, alloc, batch.programmer, calls);
+    leave_ticks(&draft, ticks, witness);
+    let answers = match ran {
         Ok(answers) => answers,
         Err(stop) => return stopped(rows, &draft, batch, stop, witness),
     };

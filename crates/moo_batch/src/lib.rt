@@ -3,6 +3,7 @@
 
 mod args;
 mod asking;
+mod charging;
 mod declining;
 mod granting;
 mod held;

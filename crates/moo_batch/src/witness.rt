@@ -1,6 +1,6 @@
-//! Who sees why a batch is refused.
+//! Who sees how a batch is judged.
 
-ghost use Rattle.std.specs.Prelude.{◌≡◌, None};
+ghost use Rattle.std.specs.Prelude.{◌≡◌, ℕ, Option, None, option_map};
 ghost use Rattle.moo_world.specs.Rows.{IsGood};
 
 use moo_calls_shared::Reason;
@@ -16,10 +16,26 @@ pub struct Refusal {
     pub reason: Reason,
 }
 
-/// Who sees why a batch is refused, at the check that failed. What it does of that, no contract says.
+/// Who says how many ticks a batch may take, and sees why it is refused, at the check that failed. What it does of that, no contract says.
 pub trait Witness {
+    /// How many ticks are left, or `None` if there is no bound.
+    ghost left: { Self → Option ℕ };
+
+    /// How many ticks are left: so often rows may be looked up, put and removed. `None`: there is no bound.
+    fn ticks(&self) -> Option<u64>
+        ensures { result ≡ left self.now };
+
+    /// So many are left from now on, if there is a bound.
+    fn leave(&mut self, ticks: u64)
+        ensures { left self.new ≡ option_map (λ _. ticks) (left self.old) };
+
+    /// They were spent at this call of a batch, numbered from 1.
+    fn see_spent(&mut self, call: u32)
+        ensures { left self.new ≡ left self.old };
+
     /// A batch is refused that was judged on the rows `base`. The other rows are those on which the check failed. If a granted petition
     /// fails, they have been changed by the calls that it holds before the one that failed.
     fn see<B: Rows, R: Rows>(&mut self, base: &B, rows: &R, batch: &Batch, refusal: Refusal)
-        requires { refusal.held ≡ None → IsGood (R.held rows.now).maps };
+        requires { refusal.held ≡ None → IsGood (R.held rows.now).maps }
+        ensures { left self.new ≡ left self.old };
 }

@@ -50,7 +50,7 @@ pub fn chparent<R: Rows>(
     if is_under(rows, new, x) {
         return Err(Fault::Moo(Reason::ParentBelow(new)));
     }
-    if let Some((definer, property)) = shares_property_name(rows, x, new) {
+    if let Some((definer, property)) = shares_property_name(alloc, rows, x, new)? {
         return Err(Fault::Moo(Reason::NameShared { definer, property }));
     }
     reparent(alloc, rows, x, new)?;

@@ -2,7 +2,7 @@
 use Rattle.std.{proofs.Common.{◌≡◌, ◌<◌, ◌≤◌, inl, inr, ℕ, List, Option, Some, None, option_map, refl, sym, ap, subst, ◌∙◌, arith, length}, proofs.lemmas.Bool.{true≢false}, specs.Str.{bytes_eq}, specs.Str.Parse.{digits_value, without_leading_plus}}
 use Rattle.std.specs.Prelude.{codes, find, option_and_then, slice_get}
 use Rattle.clap.{specs.Walk.{Row, Text, first_of, one_of, row_text}, specs.Values.{read_as}, specs.Simple.{subcommand_of}}
-use Rattle.moo_cli.{specs.Commands.{moo_app}, specs.declared.task.Task.{Task}, specs.declared.task.Service.{Service}, specs.declared.task.Action.{Action}, specs.declared.task.Action.TheVariants.{Init, Apply, Rehearse, Ask, Dump, Load, Check, Serve}, specs.declared.task.Options.{Options}, specs.Tasks.{AreOptions, HasNumber, HasCount, IsService, HasArguments, IsTask, NamesTask, NamesAlone, command_of, text_word, options_of, service_of, request_of}}
+use Rattle.moo_cli.{specs.Commands.{moo_app}, specs.declared.task.Task.{Task}, specs.declared.task.Service.{Service}, specs.declared.task.Action.{Action}, specs.declared.task.Action.TheVariants.{Init, Apply, Rehearse, Ask, Dump, Load, Check, Serve}, specs.declared.task.Options.{Options}, specs.Tasks.{AreOptions, HasNumber, HasNumberOr, IsService, HasArguments, IsTask, NamesTask, NamesAlone, command_of, text_word, options_of, service_of, request_of}}
 
 same_some : {A : Type 0} (o : Option A) (a b : A) → o ≡ Some a → o ≡ Some b → a ≡ b
 same_some o a b e f = let same : Some a ≡ Some b = sym e ∙ f in cc
@@ -22,14 +22,18 @@ none_then id rows none = go (find (λ r. bytes_eq r.id id) rows) none
 not_absent : (rows : List Row) (id : Text) (n : ℕ) → HasNumber rows id n → first_of id rows ≡ None → ⊥
 not_absent rows id n (text, one, digits, value) none = let bad : Some text ≡ None = sym one ∙ none_then id rows none in cc
 
-one_count : (rows : List Row) (n m : ℕ) → HasCount rows n → HasCount rows m → n ≡ m
-one_count rows n m (inl of) (inl also) = one_number rows (codes "COUNT") n m of.0 also.0
-one_count rows n m (inl of) (inr also) = absurd (not_absent rows (codes "COUNT") n of.0 also.0)
-one_count rows n m (inr of) (inl also) = absurd (not_absent rows (codes "COUNT") m also.0 of.0)
-one_count rows n m (inr of) (inr also) = of.1 ∙ sym also.1
+one_or : (rows : List Row) (id : Text) (least most absent n m : ℕ) → HasNumberOr rows id least most absent n → HasNumberOr rows id least most absent m → n ≡ m
+one_or rows id least most absent n m (inl of) (inl also) = one_number rows id n m of.0 also.0
+one_or rows id least most absent n m (inl of) (inr also) = absurd (not_absent rows id n of.0 also.0)
+one_or rows id least most absent n m (inr of) (inl also) = absurd (not_absent rows id m also.0 of.0)
+one_or rows id least most absent n m (inr of) (inr also) = of.1 ∙ sym also.1
 
 one_service : (rows : List Row) (a b : Service) → IsService rows a → IsService rows b → a ≡ b
-one_service rows a b of also = grind (arith, one_number, one_count)
+one_service rows a b of also =
+    let port : a.port ≡ b.port = one_number rows (codes "PORT") a.port b.port of.0 also.0 in
+    let count : a.count ≡ b.count = one_or rows (codes "COUNT") 0 1000000 4294967295 a.count b.count of.2 also.2 in
+    let ticks : a.ticks ≡ b.ticks = one_or rows (codes "ticks") 1000 4294967295 4000000 a.ticks b.ticks of.3 also.3 in
+    λ i. record { port = port i; count = count i; ticks = ticks i }
 
 one_options : (rows : List Row) (a b : Options) → AreOptions rows a → AreOptions rows b → a ≡ b
 one_options rows a b of also = grind arith

@@ -40,16 +40,17 @@ HasNumber rows id n =
     (text : Text) × (one_of id rows ≡ Some text)
     × IsNumeral 10 (without_leading_plus text) × (digits_value 10 (without_leading_plus text) ≡ n)
 
--- how many connections are served: as many as the argument says, or without it 4,294,967,295
-abbrev pub HasCount : List Row → ℕ → Type 0
-HasCount rows n =
-    (HasNumber rows (codes "COUNT") n × (n ≤ 1000000))
-    ⊎ ((first_of (codes "COUNT") rows ≡ None) × (n ≡ 4294967295))
+-- the argument of that name is read as digits with this value within bounds, or it isn't there, and this is the value then
+abbrev pub HasNumberOr : List Row → Text → ℕ → ℕ → ℕ → ℕ → Type 0
+HasNumberOr rows id least most absent n =
+    (HasNumber rows id n × IsInRange least most n) ⊎ ((first_of id rows ≡ None) × (n ≡ absent))
 
--- what `serve` is told: a port, and a number of connections
+-- what `serve` is told: a port, how many connections are served, and how many ticks a request has
 abbrev pub IsService : List Row → Service → Type 0
 IsService rows service =
-    HasNumber rows (codes "PORT") service.port × IsInRange 1 65535 service.port × HasCount rows service.count
+    HasNumber rows (codes "PORT") service.port × IsInRange 1 65535 service.port
+    × HasNumberOr rows (codes "COUNT") 0 1000000 4294967295 service.count
+    × HasNumberOr rows (codes "ticks") 1000 4294967295 4000000 service.ticks
 
 -- the command of an action
 abbrev pub command_of : Action → Text

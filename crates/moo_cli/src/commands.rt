@@ -1,9 +1,9 @@
 //! The commands of the program.
-ghost use Rattle.std.specs.Prelude.{◌≡◌, false, codes, IfOk};
+ghost use Rattle.std.specs.Prelude.{◌≡◌, false, codes, Some, IfOk};
 ghost use Rattle.clap.specs.Walk.{rule_of};
 ghost use Rattle.clap.specs.Simple.{App, app_of, new_app, with_rule, with_subcommand};
 ghost use Rattle.clap.specs.declared.builder.command.Command.TheViews.{out-Command as fields_of};
-ghost use Rattle.moo_cli.specs.Commands.{text_rule, flag_rule, port_rule, count_rule, file_app, batches_app, running_app, load_app};
+ghost use Rattle.moo_cli.specs.Commands.{text_rule, flag_rule, number_rule, port_rule, count_rule, file_app, batches_app, running_app, load_app};
 ghost use Rattle.moo_cli.specs.Commands.{serve_app, program_app, moo_app};
 
 use crate::help;
@@ -45,6 +45,16 @@ fn count_arg<'a>(alloc: Global) -> Arg<'a>
     Arg::new(alloc, "COUNT")
         .value_parser(value_parser!(u32).range(0..=1_000_000))
         .help(help::COUNT)
+}
+
+fn ticks_arg<'a>(alloc: Global) -> Arg<'a>
+    ensures rule { rule_of result ≡ record (number_rule (codes "ticks") 1000 4294967295) { long = Some (codes "ticks") } }
+    ensures local { result.global ≡ false }
+{
+    Arg::new(alloc, "ticks")
+        .long("ticks")
+        .value_parser(value_parser!(u32).range(1000..=4_294_967_295))
+        .help(help::TICKS)
 }
 
 /// A command with what help says of it and no arguments yet.
@@ -128,7 +138,8 @@ fn serve_command<'a>(alloc: Global) -> Result<Command<'a>, AllocError>
 {
     file_command(alloc, "serve", help::SERVE, help::SERVE_MORE)?
         .arg(port_arg(alloc))?
-        .arg(count_arg(alloc))
+        .arg(count_arg(alloc))?
+        .arg(ticks_arg(alloc))
 }
 
 /// A program with one more command. Memory may have run out for either.

@@ -16,6 +16,9 @@ pub(crate) const PORT: &str = "The port on 127.0.0.1 to listen on, 1 to 65535";
 pub(crate) const COUNT: &str =
     "How many connections to take before it ends, 0 to 1000000; without it, 4294967295";
 
+pub(crate) const TICKS: &str =
+    "How many ticks a request has, 1000 to 4294967295; without it, 4000000";
+
 pub(crate) const MOO: &str =
     "Keeps the objects of a text world in a database, and runs batches of calls on them";
 
@@ -241,6 +244,9 @@ pub(crate) const SERVE: &str = "Answer HTTP requests on 127.0.0.1:PORT, one a co
 pub(crate) const SERVE_MORE: &str =
     "Standard output: `listening 127.0.0.1:PORT` once FILE is open and the port is bound; at the end, after COUNT
 connections, `served A failed F`. Without COUNT that is after 4,294,967,295 connections.
+
+A request to /batch, /ask or /each has N ticks, 4000000 without --ticks. A row looked up, put or removed takes
+one, and so do a value of an answer and 64 bytes of a string. What spends more is answered 503 nomemory.
 
 POST /batch runs a batch, POST /ask says what it would answer, and POST /each what each of its calls alone
 would. The body is JSON, with calls as in a text:

@@ -3,7 +3,7 @@ ghost use Rattle.std.specs.Prelude.{◌≡◌, ◌<◌, ◌^◌, true, List, Som
 ghost use Rattle.clap.specs.Simple.{subcommand_rows_of};
 ghost use Rattle.clap.specs.Walk.{Row, Text, first_of, rows_of};
 ghost use Rattle.clap.specs.Matches.{found_of};
-ghost use Rattle.moo_cli.specs.Tasks.{HasNumber, is_set, AreOptions, AreBatches, HasCount, IsService, IsAction, IsTask};
+ghost use Rattle.moo_cli.specs.Tasks.{HasNumber, is_set, AreOptions, AreBatches, HasNumberOr, IsService, IsAction, IsTask};
 ghost use Rattle.moo_cli.specs.Tasks.{IsAny, IsRefusal, NamesTask, NamesAlone, text_word};
 
 use crate::commands::moo_command;
@@ -54,11 +54,12 @@ pub struct Options {
 }
 
 /// How `serve` answers: on this port of 127.0.0.1, 1 to 65535, and it ends after so many connections, 0 to 1,000,000, or 4,294,967,295 if
-/// no number is given.
+/// no number is given. Each request has so many ticks, 1,000 to 4,294,967,295, or 4,000,000 if no number is given.
 #[derive(Clone, Copy, Drop)]
 pub struct Service {
     pub port: u16,
     pub count: u32,
+    pub ticks: u32,
 }
 
 /// Why the words name no task.
@@ -71,8 +72,17 @@ pub enum Usage {
     Absent,
 }
 
-// So many connections are served if no number is given.
+// How many connections are served at most if a number is given, and if none is.
+const MOST_CONNECTIONS: u32 = 1_000_000;
+
 const ENDLESS: u32 = 4_294_967_295;
+
+// How many ticks a request has at least, at most, and if no number is given.
+const LEAST_TICKS: u32 = 1000;
+
+const MOST_TICKS: u32 = 4_294_967_295;
+
+const TICKS: u32 = 4_000_000;
 
 // The text of an argument.
 fn text_of<'a>(matches: &ArgMatches<'a>, id: &str) -> Option<&'a str>
@@ -98,18 +108,18 @@ fn number_of(matches: &ArgMatches<'_>, id: &str) -> Option<u32>
     matches.get_one::<u32>(id)
 }
 
-// How many connections `serve` takes. Without a number it doesn't end before a signal, or 4,294,967,295 connections.
-fn count_in(matches: &ArgMatches<'_>) -> Option<u32>
-    ensures { IsAny (HasCount (rows_of (found_of matches.now))) result }
+// The number of an argument within bounds, or if it isn't given this one.
+fn number_or(matches: &ArgMatches<'_>, id: &str, least: u32, most: u32, absent: u32) -> Option<u32>
+    ensures { IsAny (HasNumberOr (rows_of (found_of matches.now)) id.now least most absent) result }
 {
-    match matches.get_str("COUNT") {
-        None => Some(ENDLESS),
+    match matches.get_str(id) {
+        None => Some(absent),
         Some(_text) => {
-            let count = number_of(matches, "COUNT")?;
-            if count > 1_000_000 {
+            let number = number_of(matches, id)?;
+            if number < least || most < number {
                 return None;
             }
-            Some(count)
+            Some(number)
         }
     }
 }
@@ -119,13 +129,15 @@ fn service_in(matches: &ArgMatches<'_>) -> Option<Service>
     ensures { IsAny (IsService (rows_of (found_of matches.now))) result }
 {
     let port = number_of(matches, "PORT")?;
-    let count = count_in(matches)?;
+    let count = number_or(matches, "COUNT", 0, MOST_CONNECTIONS, ENDLESS)?;
+    let ticks = number_or(matches, "ticks", LEAST_TICKS, MOST_TICKS, TICKS)?;
     if port == 0 || port > 65535 {
         return None;
     }
     Some(Service {
         port: port as u16,
         count,
+        ticks,
     })
 }
 

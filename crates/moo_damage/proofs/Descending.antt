@@ -1,14 +1,29 @@
--- If each link goes to a lesser number, each chain ends.
-use Rattle.moo_damage.{proofs.Words.{◌≡◌, Bool, true, false, None, Some, List, [], ◌∷◌, Less, refl, sym, ap, ◌∙◌, subst, inl, inr, ⊤, T, AllByRecursion, eq_by_cmp, is_eq, get, find, entries, get-entries, is_sorted, entries_sorted, key-Decides, none-some, some_of, ObjNo, ObjRow, Maps, object_cmp, object_exact, object_total, TreeLink, link_of, HasEnd, LinksHold, LinksDescend}, proofs.Ending.{step_up}, proofs.Firsts.{none_below, held_entries}}
+-- If each link goes to nothing, or to an object that has a lesser number or ends the chain, each chain ends.
+use Rattle.moo_damage.{proofs.Words.{◌≡◌, Bool, true, false, ◌||◌, Option, None, Some, Ordering, Equal, Greater, is_lt, false≢true, or_cases, unwrap_or, option_map, nothing, same_object, same_object-Decides, List, [], ◌∷◌, Less, refl, sym, ap, ◌∙◌, subst, inl, inr, ⊤, T, AllByRecursion, eq_by_cmp, is_eq, get, find, entries, get-entries, is_sorted, entries_sorted, key-Decides, none-some, ObjNo, ObjRow, Maps, object_cmp, object_exact, object_total, TreeLink, link_of, HasEnd, LinksHold, LinksDescend}, proofs.Ending.{step_up}, proofs.Firsts.{none_below, held_entries}}
 use Rattle.moo_rows.proofs.Walking.{first_of, second_of, elsewhere}
+
+less_of : (o : Ordering) → is_lt o ≡ true → o ≡ Less
+less_of Less e = refl
+less_of Equal e = absurd (false≢true e)
+less_of Greater e = absurd (false≢true e)
 
 module _ (link : TreeLink) (m : Maps) (holds : LinksHold link m) (down : LinksDescend link m) where
   -- what is known of an object once all lesser ones end
   ends_next : (x : ObjNo) (row : ObjRow) → get m.objects x ≡ Some row → ((y : ObjNo) (r : ObjRow) → object_cmp y x ≡ Less → get m.objects y ≡ Some r → HasEnd link m y) → HasEnd link m x
-  ends_next x row there lesser = step_up link m holds x row there (elim (holds.links x row there) [
-    | inl none ↦ ([], none)
-    | inr some ↦ let r = some_of (get m.objects (link_of link row)) some in lesser (link_of link row) r.0 (down x row there) r.1
-  ])
+  ends_next x row there lesser = step_up link m holds x row there (by (link_of link row) (get m.objects (link_of link row)) refl (down x row there))
+    where
+      is_nothing : (z : ObjNo) → same_object nothing z ≡ true → HasEnd link m z
+      is_nothing z e = ([], sym ((same_object-Decides nothing z).0 e))
+
+      by : (y : ObjNo) (o : Option ObjRow) → get m.objects y ≡ o → (same_object nothing y || unwrap_or (option_map (λ above. is_lt (object_cmp y x) || same_object nothing (link_of link above)) o) false) ≡ true → HasEnd link m y
+      by y None h e = elim (or_cases (same_object nothing y) false e) [ inl k ↦ is_nothing y k | inr k ↦ absurd (false≢true k) ]
+      by y (Some r) h e = elim (or_cases (same_object nothing y) (is_lt (object_cmp y x) || same_object nothing (link_of link r)) e) [
+        | inl k ↦ is_nothing y k
+        | inr k ↦ elim (or_cases (is_lt (object_cmp y x)) (same_object nothing (link_of link r)) k) [
+          | inl less ↦ lesser y r (less_of (object_cmp y x) less) h
+          | inr root ↦ step_up link m holds y r h (is_nothing (link_of link r) root)
+        ]
+      ]
 
   -- those before the rest of the entries end
   abbrev EndBefore : List (ObjNo × ObjRow) → Type 0

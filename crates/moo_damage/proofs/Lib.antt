@@ -2,6 +2,7 @@ pub mod Words
 pub mod Firsts
 pub mod Descending
 pub mod Ending
+pub mod Plainly
 pub mod Apart
 pub mod Naming
 pub mod Chained

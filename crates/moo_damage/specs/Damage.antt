@@ -4,7 +4,7 @@ use Rattle.std.specs.Prelude.{List, Option, None, Some, is_some, unwrap_or}
 use Rattle.std.specs.Option.{option_map}
 use Rattle.std.specs.List.{list_any}
 use Rattle.std.specs.FinMap.{get, entries}
-use Rattle.std.specs.declared.cmp.Ordering.TheVariants.{Less}
+use Rattle.std.specs.Ordering.{is_lt}
 use Rattle.moo_value.specs.declared.value.ObjNo.{ObjNo}
 use Rattle.moo_rows.specs.declared.row.Head.{Head}
 use Rattle.moo_rows.specs.declared.row.ObjRow.{ObjRow}
@@ -97,9 +97,15 @@ pub record LinksHold (link : TreeLink) (m : Maps) : Type 0 where
       (link_of link row ≡ nothing) ⊎ (is_some (get m.objects (link_of link row)) ≡ true)
   pub nothing : get m.objects nothing ≡ None
 
--- each object is linked to a number that is less than its own
+-- an object is linked to nothing, or to an object that has a lesser number or is linked to nothing
+abbrev pub goes_down : TreeLink → Maps → ObjNo → ObjRow → Bool
+goes_down link m x row =
+    same_object nothing (link_of link row)
+    || unwrap_or (option_map (λ above. is_lt (object_cmp (link_of link row) x) || same_object nothing (link_of link above)) (get m.objects (link_of link row))) false
+
+-- each is
 abbrev pub LinksDescend : TreeLink → Maps → Type 0
-LinksDescend link m = (x : ObjNo) (row : ObjRow) → get m.objects x ≡ Some row → object_cmp (link_of link row) x ≡ Less
+LinksDescend link m = (x : ObjNo) (row : ObjRow) → get m.objects x ≡ Some row → goes_down link m x row ≡ true
 
 -- ---- none of this is so
 

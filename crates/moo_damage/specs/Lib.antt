@@ -8,5 +8,6 @@ pub mod Limits
 pub mod Local
 pub mod Missing
 pub mod Noted
+pub mod Plain
 pub mod Words
 pub mod OwnClear

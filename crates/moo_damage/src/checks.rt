@@ -71,7 +71,7 @@ pub(crate) fn first_past<T: NumberedRow, R: Rows>(rows: &R) -> Option<T::Key>
 }
 
 /// Whether the link of a row names neither an object nor `#-1`.
-fn is_lost<R: Rows>(rows: &R, link: TreeLink, row: &ObjRow) -> bool
+pub(crate) fn is_lost<R: Rows>(rows: &R, link: TreeLink, row: &ObjRow) -> bool
     ensures { result ≡ is_lost link (R.held rows.now).maps row.now }
 {
     let next = link.of(row);

@@ -7,20 +7,23 @@ ghost use Rattle.moo_damage.specs.Damage.{NumbersGiven, LinksEnd, PropsRight, Sl
 ghost use Rattle.moo_damage.specs.Kinds.{rank, lost_kind, loop_kind, InRows, NoneBefore, IsFirstBefore, IsFirstInRows};
 ghost use Rattle.moo_damage.specs.Limits.{AreWithin};
 ghost use Rattle.moo_damage.specs.Local.{SlotsHold};
+ghost use Rattle.moo_damage.specs.Plain.{ArePlain};
 
-use crate::checks::{first_clear, first_lost, first_past, first_strange_verb, first_undefined};
+use crate::checks::{first_clear, first_past, first_strange_verb, first_undefined};
 use crate::kind::{Key, Kind, object_key, petition_key, prop_key, slot_key, verb_key};
 use crate::local::{double_name, missing_slot, slots_hold, strange_slot};
-use crate::trees::{TreeLink, first_loop};
-use moo_rows::{ObjRow, PetitionRow, PropRow, Rows, VerbRow};
+use crate::plain::{are_plain, looping_object, lost_object, past_object};
+use crate::trees::TreeLink;
+use moo_rows::{PetitionRow, PropRow, Rows, VerbRow};
 use std::alloc::{AllocError, Global};
 
 /// Numbers past those of the head.
-fn wrong_number<R: Rows>(rows: &R) -> Option<(Kind, Key)>
+fn wrong_number<R: Rows>(rows: &R, plain: bool) -> Option<(Kind, Key)>
+    requires { plain ≡ true → ArePlain (R.held rows.now).maps }
     ensures first { IsFirstBefore (InRows (R.held rows.now).maps) 4 result }
     ensures given { IfNone result (NumbersGiven (R.held rows.now).maps) }
 {
-    if let Some(x) = first_past::<ObjRow, R>(rows) {
+    if let Some(x) = past_object(rows, plain) {
         return Some((Kind::PastHead, object_key(x)));
     }
     if let Some(id) = first_past::<PropRow, R>(rows) {
@@ -40,16 +43,18 @@ fn wrong_link<R: Rows>(
     alloc: Global,
     rows: &R,
     link: TreeLink,
+    plain: bool,
 ) -> Result<Option<(Kind, Key)>, AllocError>
+    requires plain { plain ≡ true → ArePlain (R.held rows.now).maps }
     requires numbers { NumbersGiven (R.held rows.now).maps }
     requires before { NoneBefore (InRows (R.held rows.now).maps) (rank (lost_kind link)) }
     ensures first { IfOk result (IsFirstBefore (InRows (R.held rows.now).maps) (suc (rank (loop_kind link)))) }
     ensures ends { IfOk result (λ o. IfNone o (LinksEnd link (R.held rows.now).maps)) }
 {
-    if let Some(x) = first_lost(rows, link) {
+    if let Some(x) = lost_object(rows, link, plain) {
         return Ok(Some((link.lost(), object_key(x))));
     }
-    match first_loop(alloc, rows, link)? {
+    match looping_object(alloc, rows, link, plain)? {
         Some(x) => Ok(Some((link.loops(), object_key(x)))),
         None => Ok(None),
     }
@@ -105,13 +110,14 @@ pub fn damage_of<R: Rows>(alloc: Global, rows: &R) -> Result<Option<(Kind, Key)>
     ensures good { IfOk result (λ o. IfNone o (IsGood (R.held rows.now).maps)) }
     ensures first { IfOk result (λ o. IfSome o (λ d. IsFirstInRows (R.held rows.now).maps d.0 d.1)) }
 {
-    if let Some(damage) = wrong_number(rows) {
+    let plain = are_plain(rows);
+    if let Some(damage) = wrong_number(rows, plain) {
         return Ok(Some(damage));
     }
-    if let Some(damage) = wrong_link(alloc, rows, TreeLink::Parent)? {
+    if let Some(damage) = wrong_link(alloc, rows, TreeLink::Parent, plain)? {
         return Ok(Some(damage));
     }
-    if let Some(damage) = wrong_link(alloc, rows, TreeLink::Location)? {
+    if let Some(damage) = wrong_link(alloc, rows, TreeLink::Location, plain)? {
         return Ok(Some(damage));
     }
     let hold = slots_hold(alloc, rows)?;

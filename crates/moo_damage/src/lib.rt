@@ -9,6 +9,7 @@ mod kind;
 mod laws;
 mod local;
 mod names;
+mod plain;
 mod trees;
 
 pub use damage::damage_of;

@@ -4,13 +4,14 @@ ghost use Rattle.std.specs.Prelude.{◌≡◌, ◌≤◌, IsTrue, IfOk, IfSome, 
 ghost use Rattle.std.specs.FinMap.{entries, get};
 ghost use Rattle.moo_rows.specs.Ordered.{contents};
 ghost use Rattle.moo_rows.specs.Maps.{object_cmp};
-ghost use Rattle.moo_damage.specs.Damage.{link_of, HasEnd, Loops, LinksHold, LinksDescend};
+ghost use Rattle.moo_damage.specs.Damage.{link_of, goes_down, HasEnd, Loops, LinksHold, LinksDescend};
 ghost use Rattle.moo_damage.specs.Kinds.{lost_kind, loop_kind};
 ghost use Rattle.moo_damage.specs.Noted.{AllEnd, AreEnding, IsFirstLoop, NotesEnding};
 
 use crate::first::first_bad;
 use crate::kind::Kind;
 use moo_rows::{ObjRow, Rows, each_object, ordered};
+use moo_tree::is_nothing;
 use moo_value::ObjNo;
 use std::alloc::{AllocError, Global};
 use std::collections::BTreeMap;
@@ -54,11 +55,25 @@ impl TreeLink {
     }
 }
 
-/// Whether each object is linked to one of a lesser number, or to none. Then each chain ends.
+/// Whether an object is linked to nothing, or to an object that has a lesser number or is linked to nothing.
+pub(crate) fn goes_down<R: Rows>(rows: &R, link: TreeLink, x: ObjNo, row: &ObjRow) -> bool
+    ensures { result ≡ goes_down link (R.held rows.now).maps x row.now }
+{
+    let next = link.of(row);
+    if is_nothing(next) {
+        return true;
+    }
+    match rows.object(next) {
+        None => false,
+        Some(above) => next < x || is_nothing(link.of(above)),
+    }
+}
+
+/// Whether each object is. Then each chain ends.
 fn links_descend<R: Rows>(rows: &R, link: TreeLink) -> bool
     ensures { IsTrue result → LinksDescend link (R.held rows.now).maps }
 {
-    first_bad::<ObjRow, R, _>(rows, |x, row| link.of(row) >= x).is_none()
+    first_bad::<ObjRow, R, _>(rows, |x, row| !goes_down(rows, link, x, row)).is_none()
 }
 
 /// How many objects there are. An `Err` is a lack of memory.
@@ -120,7 +135,8 @@ fn note(known: &mut BTreeMap<ObjNo, ()>, path: &[ObjNo]) -> Result<(), AllocErro
 
 /// The least object whose chain of links doesn't end, or none. An `Err` is a lack of memory.
 ///
-/// In most worlds each object is linked to one of a lesser number, and that is looked for first, without any memory. Else
+/// In most worlds each object is linked to one of a lesser number, or to a root as a new world's system object is, and that is looked
+/// for first, without any memory. Else
 /// each object is climbed over once: what is known to end is noted, and the first chain that is longer than there are
 /// objects is the answer.
 pub fn first_loop<R: Rows>(

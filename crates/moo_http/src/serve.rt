@@ -22,11 +22,12 @@ use sqlite::Alter;
 use std::alloc::Global;
 use std::io::Write;
 
-/// What requests are served with: memory, and the routes that they may ask for.
+/// What requests are served with: memory, the routes that they may ask for, and how many ticks each of them has.
 #[derive(Drop)]
 pub struct Means<'r> {
     pub alloc: Global,
     pub routes: &'r Routes,
+    pub ticks: u32,
 }
 
 /// What a request asks of the World, and how it wants the answer.
@@ -43,7 +44,7 @@ pub(crate) struct Inquiry {
 
 /// Does what is asked, and writes the answer, which says why it is refused if that is asked too.
 fn serve_asked<S: Alter + Drop, W: Write>(
-    alloc: Global,
+    means: &Means<'_>,
     inquiry: &Inquiry,
     writer: &mut W,
     world: &mut World<S>,
@@ -58,10 +59,10 @@ fn serve_asked<S: Alter + Drop, W: Write>(
     ensures clean { HasCleanDisk (store_of S.Store world.new) → HasCleanDisk (store_of S.Store world.old) }
 {
     note.asks(&inquiry.asked);
-    let mut whys = Whys::new(alloc, inquiry.asks_why);
-    let outcome = consult(alloc, world, &inquiry.asked, &mut whys);
+    let mut whys = Whys::new(means.alloc, inquiry.asks_why, means.ticks);
+    let outcome = consult(means.alloc, world, &inquiry.asked, &mut whys);
     note.comes_to(&outcome);
-    let bytes = told_answer(alloc, &mut whys, inquiry, outcome)?;
+    let bytes = told_answer(means.alloc, &mut whys, inquiry, outcome)?;
     write_out(writer, &bytes)
 }
 
@@ -106,7 +107,7 @@ pub fn serve_one<S: Alter + Drop, R: Incoming, W: Write>(
                 asks_why,
                 wrong,
             };
-            serve_asked(means.alloc, &inquiry, writer, world, note)
+            serve_asked(means, &inquiry, writer, world, note)
         }
     }
 }

@@ -31,11 +31,12 @@ pub struct Tools<'s, C> {
     pub console: &'s C,
 }
 
-/// What a service is to do: on this port, to serve so many connections.
+/// What a service is to do: on this port, to serve so many connections, each of whose requests has so many ticks.
 #[derive(Clone, Copy, Drop)]
 pub struct Duty {
     pub port: u16,
     pub count: u32,
+    pub ticks: u32,
 }
 
 /// Why the service ended before its last line.
@@ -129,6 +130,7 @@ pub fn serve_from<S: Alter + Drop, A: Arrivals, C: Clock + Eprint, W: Write>(
     let means = Means {
         alloc: tools.alloc,
         routes: &routes,
+        ticks: duty.ticks,
     };
     let served = serve_on(&means, arrivals, &mut log, world, duty.count);
     log.finish();

@@ -5,7 +5,7 @@ ghost use Rattle.moo_http_response.specs.Responses.{response_with, response_text
 ghost use Rattle.moo_http.specs.Serves.{IsWhyOf};
 
 use crate::serve::Inquiry;
-use moo_http_request::BodyFault;
+use moo_http_request::{Asked, BodyFault};
 use moo_http_response::{Replies, RequestOutcome, answer_text};
 use moo_reasons::{Whys, call_why};
 use moo_text::Reply;
@@ -71,17 +71,39 @@ fn bad_texts(wrong: Option<&BodyFault>) -> &[Option<String>] {
     }
 }
 
-/// Why what was asked is refused, if its body, its batch or one of its calls alone is.
+/// The place, from 1, of the last of the calls asked alone of which so many were judged. Texts that aren't calls have places too.
+fn last_place(asked: &Asked, judged: u32) -> Option<u32> {
+    let Asked::Each(each) = asked else {
+        return None;
+    };
+    let mut left = judged;
+    let mut place: u32 = 0;
+    for batch in each.batches.items() {
+        place = place.saturating_add(1);
+        left = left.saturating_sub(u32::from(batch.is_some()));
+        if left == 0 {
+            return Some(place);
+        }
+    }
+    None
+}
+
+/// Why what was asked is refused, if its body, its batch or one of its calls alone is, or has spent the ticks of the request.
 fn find_whys(
     alloc: Global,
     seen: &mut Whys,
     outcome: &RequestOutcome,
-    wrong: Option<&BodyFault>,
+    inquiry: &Inquiry,
 ) -> Result<Vec<Option<String>>, AllocError> {
+    let wrong = inquiry.wrong.as_ref();
     match outcome {
         RequestOutcome::Refused(_) => body_why(alloc, wrong),
         RequestOutcome::Replied(reply) => one_of(alloc, seen.next(reply)?),
         RequestOutcome::Each(replies, _) => each_whys(alloc, seen, replies, bad_texts(wrong)),
+        RequestOutcome::NoMemory => {
+            let place = last_place(&inquiry.asked, seen.judged());
+            one_of(alloc, seen.spent_why(place)?)
+        }
         _ => Ok(Vec::new(alloc)),
     }
 }
@@ -102,7 +124,7 @@ pub(crate) fn told_answer(
     if !asks_why {
         return answer_text(alloc, outcome, &[], is_head);
     }
-    let whys = match find_whys(alloc, seen, &outcome, inquiry.wrong.as_ref()) {
+    let whys = match find_whys(alloc, seen, &outcome, inquiry) {
         Ok(whys) => whys,
         Err(_) => Vec::new(alloc),
     };

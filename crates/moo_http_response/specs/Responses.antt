@@ -50,13 +50,14 @@ reply_response (reply.Refused call code) = plain 409 (call_body call (name code)
 reply_response (reply.Full call) = plain 409 (call_body call (codes "full"))
 reply_response (reply.Accepted seq answers) = plain 200 (accepted_body answers seq)
 
--- the same two, with why a body or a batch is refused, if that is told
+-- the same two, with why a body or a batch is refused, or ticks are spent, if that is told
 abbrev pub told_refusal : Option (List ℕ) → Refusal → Response
 told_refusal why BadRequest = plain 400 (told_error_body why (codes "bad request"))
 told_refusal why (Malformed call) = plain 400 (told_call_body why call (codes "malformed"))
 told_refusal why other = refusal_response other
 
 abbrev pub told_reply : Option (List ℕ) → Reply → Response
+told_reply why reply.NoMemory = plain 503 (told_error_body why (codes "nomemory"))
 told_reply why (reply.Refused call code) = plain 409 (told_call_body why call (name code))
 told_reply why (reply.Full call) = plain 409 (told_call_body why call (codes "full"))
 told_reply why other = reply_response other
@@ -79,4 +80,5 @@ abbrev pub response_with : List (Option (List ℕ)) → RequestOutcome → Respo
 response_with whys (Refused refusal) = told_refusal (first_why whys) refusal
 response_with whys (Replied reply) = told_reply (first_why whys) reply
 response_with whys (Each replies seq) = plain 200 (each_body whys replies seq)
+response_with whys NoMemory = told_reply (first_why whys) reply.NoMemory
 response_with whys other = response_of other

@@ -146,11 +146,18 @@ fn refuse(alloc: Global, refusal: Refusal, why: Option<&str>) -> Result<Response
     }
 }
 
+/// Memory or ticks ran out, and which call spent these, if that is told.
+fn no_memory(alloc: Global, why: Option<&str>) -> Result<Response, AllocError>
+    ensures { IfOk result (λ r. Shows r (told_reply (option_map (λ w. w.now) why.entry) Reply.NoMemory)) }
+{
+    told_error(alloc, StatusCode::SERVICE_UNAVAILABLE, "nomemory", why)
+}
+
 fn reply_to(alloc: Global, reply: &Reply, why: Option<&str>) -> Result<Response, AllocError>
     ensures { IfOk result (λ r. Shows r (told_reply (option_map (λ w. w.now) why.entry) reply.now)) }
 {
     match reply {
-        Reply::NoMemory => error(alloc, StatusCode::SERVICE_UNAVAILABLE, "nomemory"),
+        Reply::NoMemory => no_memory(alloc, why),
         Reply::Stale { seq } => stale(alloc, *seq),
         Reply::Refused { call, code } => {
             call_error(alloc, StatusCode::CONFLICT, *call, code.name(), why)
@@ -172,7 +179,7 @@ pub(crate) fn respond(
         RequestOutcome::Refused(refusal) => refuse(alloc, refusal, why_of(whys, 0)),
         RequestOutcome::Closed => error(alloc, StatusCode::SERVICE_UNAVAILABLE, "closed"),
         RequestOutcome::Fault => error(alloc, StatusCode::SERVICE_UNAVAILABLE, "fault"),
-        RequestOutcome::NoMemory => error(alloc, StatusCode::SERVICE_UNAVAILABLE, "nomemory"),
+        RequestOutcome::NoMemory => no_memory(alloc, why_of(whys, 0)),
         RequestOutcome::Replied(reply) => reply_to(alloc, &reply, why_of(whys, 0)),
         RequestOutcome::Each(replies, seq) => each(alloc, &replies, seq, whys),
         RequestOutcome::Told(told) => say(alloc, told),

@@ -3,3 +3,4 @@ pub mod Overlays
 pub mod Drafts
 pub mod Changing
 pub mod Exactly
+pub mod Tied

@@ -1,6 +1,6 @@
 //! Drafts: rows changed over others that stay as they are.
 
-ghost use Rattle.std.specs.Prelude.{◌≡◌, IfOk};
+ghost use Rattle.std.specs.Prelude.{◌≡◌, ◌≤◌, ◌+◌, false, IfOk};
 ghost use Rattle.moo_memory.specs.Changes.{AreChanges};
 
 use crate::changes::{Changes, changed_rows};
@@ -9,9 +9,10 @@ use crate::links::{definer_of, forget_defined, row_defined, row_has};
 use crate::names::{forget_tagged, row_named, tag_if, tag_of};
 use crate::overlay;
 use crate::own::OwnLinks;
+use crate::ticks::{ENDLESS, Ticks};
 use moo_rows::{
     Head, Link, ObjRow, PetitionId, PetitionRow, PropId, PropRow, Rows, SlotRow, VerbId, VerbRow,
-    Writes, ordered,
+    ordered,
 };
 use moo_value::ObjNo;
 use std::alloc::{AllocError, Global};
@@ -34,7 +35,9 @@ pub struct Draft<'a, R: Rows> {
     links: OwnLinks,
     definers: BTreeMap<(ObjNo, PropId), ()>,
     names: BTreeMap<((ObjNo, u64), PropId), ()>,
-    writes: Writes,
+    writes: u64,
+    ticks: Ticks,
+    is_spent: bool,
 }
 
 impl<'a, R: Rows> Model for Draft<'a, R> {
@@ -55,26 +58,37 @@ impl<'a, R: Rows> Model for Draft<'a, R> {
         verbs = overlaid below.verbs (contents verb_cmp d.verbs);
         petitions = overlaid below.petitions (contents petition_cmp d.petitions);
       };
-      writes = d.writes.count;
-      base = below;
+      writes = d.writes;
+      base = record { maps = below; most = d.ticks.most; is_spent = d.is_spent };
     } };
 
     ghost use Rattle.std.specs.FinMap as map;
     ghost use Rattle.moo_rows.specs.Links.{AreOfDefiners};
     ghost use Rattle.moo_rows.specs.Named.{AreByName, named_cmp};
     ghost use Rattle.moo_memory.specs.Either.{EitherCovers, of_changes};
+    ghost use Rattle.std.specs.Prelude.{◌≤◌};
 
     ghost invariant = { λ d.
         EitherCovers (map.get (R.held d.base.now).maps.objects) (of_changes (contents object_cmp d.objects)) d.links
         × AreOfDefiners (of_changes (contents prop_cmp d.props)) (contents slot_cmp d.definers)
-        × AreByName (of_changes (contents prop_cmp d.props)) (contents named_cmp d.names) };
+        × AreByName (of_changes (contents prop_cmp d.props)) (contents named_cmp d.names)
+        × (d.writes ≤ d.ticks.most) };
 }
 
 impl<'a, R: Rows> Draft<'a, R> {
     /// A draft without changes.
     pub fn new(alloc: Global, base: &'a R) -> Draft<'a, R>
         ensures maps { result.maps ≡ (R.held base.now).maps }
-        ensures base { result.base ≡ (R.held base.now).maps }
+        ensures base { result.base.maps ≡ (R.held base.now).maps }
+        ensures writes { result.writes ≡ 0 }
+    {
+        Draft::within(alloc, base, ENDLESS)
+    }
+
+    /// A draft without changes, whose rows may be looked up, put and removed so often. Past that a row that is put or removed is refused.
+    pub fn within(alloc: Global, base: &'a R, ticks: u64) -> Draft<'a, R>
+        ensures maps { result.maps ≡ (R.held base.now).maps }
+        ensures base { result.base ≡ record { maps = (R.held base.now).maps; most = ticks; is_spent = false } }
         ensures writes { result.writes ≡ 0 }
     {
         Draft {
@@ -89,14 +103,23 @@ impl<'a, R: Rows> Draft<'a, R> {
             links: OwnLinks::new(alloc),
             definers: BTreeMap::new(alloc),
             names: BTreeMap::new(alloc),
-            writes: Writes::new(),
+            writes: 0,
+            ticks: Ticks::new(ticks),
+            is_spent: false,
         }
+    }
+
+    /// How many ticks are left. No more rows were put and removed than there were ticks.
+    pub fn ticks_left(&self) -> u64
+        ensures { result + self.now.writes ≤ self.now.base.most }
+    {
+        self.ticks.left(self.writes)
     }
 
     /// The changes that make the base into the draft: a row that is put back isn't a change, nor is the removal of a row
     /// that the base doesn't have. The only error is that memory runs out.
     pub fn into_changes(self) -> Result<Changes, AllocError>
-        ensures { IfOk result (λ changes. AreChanges self.entry.base self.entry.maps changes) }
+        ensures { IfOk result (λ changes. AreChanges self.entry.base.maps self.entry.maps changes) }
     {
         Ok(Changes {
             head: self.head,
@@ -112,6 +135,21 @@ impl<'a, R: Rows> Draft<'a, R> {
 impl<'a, R: Rows> Rows for Draft<'a, R> {
     ghost held = { λ d. d };
 
+    fn may_go_on(&self) -> bool {
+        self.ticks.are_kept()
+    }
+
+    fn spend(&self, ticks: u64) {
+        self.ticks.spend(ticks);
+    }
+
+    fn may_call(&mut self) -> bool {
+        if !self.ticks.are_kept() {
+            self.is_spent = true;
+        }
+        !self.is_spent
+    }
+
     fn head(&self) -> Head {
         self.head
     }
@@ -121,16 +159,19 @@ impl<'a, R: Rows> Rows for Draft<'a, R> {
     }
 
     fn object(&self, key: ObjNo) -> Option<&ObjRow> {
+        self.ticks.spend(1);
         overlay::get(self.base, &self.objects, key)
     }
 
     fn next_object(&self, from: Option<ObjNo>) -> Option<ObjNo> {
+        self.ticks.spend(1);
         overlay::next(self.base, &self.objects, from)
     }
 
     fn next_linked(&self, link: Link, after: ObjNo) -> Option<ObjNo> {
         let mut last = after;
         loop {
+            self.ticks.spend(1);
             let key = match next_linked_of_either(
                 self.base,
                 &self.objects,
@@ -148,26 +189,54 @@ impl<'a, R: Rows> Rows for Draft<'a, R> {
         }
     }
 
+    fn list_linked(
+        &self,
+        link: Link,
+        after: ObjNo,
+        list: &mut Vec<ObjNo>,
+    ) -> Result<(), AllocError> {
+        if self.objects.is_empty() {
+            self.base.list_linked(link, after, list)?;
+            self.ticks.spend(list.len() as u64);
+            return Ok(());
+        }
+        let mut last = after;
+        while let Some(y) = self.next_linked(link, last) {
+            list.push(y)?;
+            last = y;
+        }
+        Ok(())
+    }
+
     fn put_object(&mut self, key: ObjNo, row: ObjRow) -> Result<(), AllocError> {
         self.links.add(self.base, key, row.ties())?;
-        overlay::put(&mut self.objects, &mut self.writes, key, Some(row))
+        overlay::put(
+            &mut self.objects,
+            &mut self.writes,
+            &self.ticks,
+            key,
+            Some(row),
+        )
     }
 
     fn remove_object(&mut self, key: ObjNo) -> Result<(), AllocError> {
-        overlay::put(&mut self.objects, &mut self.writes, key, None)
+        overlay::put(&mut self.objects, &mut self.writes, &self.ticks, key, None)
     }
 
     fn prop(&self, key: PropId) -> Option<&PropRow> {
+        self.ticks.spend(1);
         overlay::get(self.base, &self.props, key)
     }
 
     fn next_prop(&self, from: Option<PropId>) -> Option<PropId> {
+        self.ticks.spend(1);
         overlay::next(self.base, &self.props, from)
     }
 
     fn next_defined(&self, x: ObjNo, after: PropId) -> Option<PropId> {
         let mut last = after;
         loop {
+            self.ticks.spend(1);
             let key = match next_defined_of_either(self.base, &self.definers, x, last) {
                 None => return None,
                 Some(key) => key,
@@ -182,6 +251,7 @@ impl<'a, R: Rows> Rows for Draft<'a, R> {
     fn next_named(&self, x: ObjNo, name: &[u8], hash: u64, after: PropId) -> Option<PropId> {
         let mut last = after;
         loop {
+            self.ticks.spend(1);
             let key = match next_named_of_either(self.base, &self.names, x, name, hash, last) {
                 None => return None,
                 Some(key) => key,
@@ -196,64 +266,100 @@ impl<'a, R: Rows> Rows for Draft<'a, R> {
     fn put_prop(&mut self, key: PropId, row: PropRow) -> Result<(), AllocError> {
         ordered::put(&mut self.definers, (row.definer, key), ())?;
         ordered::put(&mut self.names, (tag_of(&row), key), ())?;
-        overlay::put(&mut self.props, &mut self.writes, key, Some(row))
+        overlay::put(
+            &mut self.props,
+            &mut self.writes,
+            &self.ticks,
+            key,
+            Some(row),
+        )
     }
 
     fn remove_prop(&mut self, key: PropId) -> Result<(), AllocError> {
         let row = overlay::own(&self.props, key);
         let definer = definer_of(row);
         let tag = tag_if(row);
-        overlay::put(&mut self.props, &mut self.writes, key, None)?;
+        overlay::put(&mut self.props, &mut self.writes, &self.ticks, key, None)?;
         forget_defined(&mut self.definers, definer, key);
         forget_tagged(&mut self.names, tag, None, key);
         Ok(())
     }
 
     fn slot(&self, key: (ObjNo, PropId)) -> Option<&SlotRow> {
+        self.ticks.spend(1);
         overlay::get(self.base, &self.slots, key)
     }
 
     fn next_slot(&self, from: Option<(ObjNo, PropId)>) -> Option<(ObjNo, PropId)> {
+        self.ticks.spend(1);
         overlay::next(self.base, &self.slots, from)
     }
 
     fn put_slot(&mut self, key: (ObjNo, PropId), row: SlotRow) -> Result<(), AllocError> {
-        overlay::put(&mut self.slots, &mut self.writes, key, Some(row))
+        overlay::put(
+            &mut self.slots,
+            &mut self.writes,
+            &self.ticks,
+            key,
+            Some(row),
+        )
     }
 
     fn remove_slot(&mut self, key: (ObjNo, PropId)) -> Result<(), AllocError> {
-        overlay::put(&mut self.slots, &mut self.writes, key, None)
+        overlay::put(&mut self.slots, &mut self.writes, &self.ticks, key, None)
     }
 
     fn verb(&self, key: (ObjNo, VerbId)) -> Option<&VerbRow> {
+        self.ticks.spend(1);
         overlay::get(self.base, &self.verbs, key)
     }
 
     fn next_verb(&self, from: Option<(ObjNo, VerbId)>) -> Option<(ObjNo, VerbId)> {
+        self.ticks.spend(1);
         overlay::next(self.base, &self.verbs, from)
     }
 
     fn put_verb(&mut self, key: (ObjNo, VerbId), row: VerbRow) -> Result<(), AllocError> {
-        overlay::put(&mut self.verbs, &mut self.writes, key, Some(row))
+        overlay::put(
+            &mut self.verbs,
+            &mut self.writes,
+            &self.ticks,
+            key,
+            Some(row),
+        )
     }
 
     fn remove_verb(&mut self, key: (ObjNo, VerbId)) -> Result<(), AllocError> {
-        overlay::put(&mut self.verbs, &mut self.writes, key, None)
+        overlay::put(&mut self.verbs, &mut self.writes, &self.ticks, key, None)
     }
 
     fn petition(&self, key: PetitionId) -> Option<&PetitionRow> {
+        self.ticks.spend(1);
         overlay::get(self.base, &self.petitions, key)
     }
 
     fn next_petition(&self, from: Option<PetitionId>) -> Option<PetitionId> {
+        self.ticks.spend(1);
         overlay::next(self.base, &self.petitions, from)
     }
 
     fn put_petition(&mut self, key: PetitionId, row: PetitionRow) -> Result<(), AllocError> {
-        overlay::put(&mut self.petitions, &mut self.writes, key, Some(row))
+        overlay::put(
+            &mut self.petitions,
+            &mut self.writes,
+            &self.ticks,
+            key,
+            Some(row),
+        )
     }
 
     fn remove_petition(&mut self, key: PetitionId) -> Result<(), AllocError> {
-        overlay::put(&mut self.petitions, &mut self.writes, key, None)
+        overlay::put(
+            &mut self.petitions,
+            &mut self.writes,
+            &self.ticks,
+            key,
+            None,
+        )
     }
 }

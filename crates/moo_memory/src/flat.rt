@@ -6,6 +6,7 @@ ghost use Rattle.moo_rows.specs.Maps.{no_maps, without_object, without_prop, wit
 use crate::links::{
     Links, are_same, definer_of, forget_defined, next_defined, row_defined, row_has, ties_of,
 };
+use crate::listing::list_tied;
 use crate::names::{forget_tagged, next_tagged, row_named, tag_if, tag_of};
 use moo_rows::{
     Head, Link, ObjRow, PetitionId, PetitionRow, PropId, PropRow, Rows, SlotRow, VerbId, VerbRow,
@@ -32,7 +33,7 @@ pub struct Flat {
 }
 
 impl Model for Flat {
-    ghost use Rattle.moo_rows.specs.Maps.{Held, coded_held, no_maps, object_cmp, prop_cmp, slot_cmp, verb_cmp, petition_cmp};
+    ghost use Rattle.moo_rows.specs.Maps.{Held, coded_held, no_base, object_cmp, prop_cmp, slot_cmp, verb_cmp, petition_cmp};
     ghost use Rattle.moo_rows.specs.Ordered.{contents};
 
     ghost Value = { Held };
@@ -49,7 +50,7 @@ impl Model for Flat {
         petitions = contents petition_cmp f.petitions;
       };
       writes = f.writes.count;
-      base = no_maps;
+      base = no_base;
     } };
 
     ghost use Rattle.std.specs.FinMap as map;
@@ -110,6 +111,11 @@ impl Flat {
 impl Rows for Flat {
     ghost held = { λ f. f };
 
+    fn may_call(&mut self) -> bool {
+        let _no_ticks = self.head;
+        true
+    }
+
     fn head(&self) -> Head {
         self.head
     }
@@ -137,6 +143,25 @@ impl Rows for Flat {
                 return Some(key);
             }
             last = key;
+        }
+    }
+
+    fn list_linked(
+        &self,
+        link: Link,
+        after: ObjNo,
+        list: &mut Vec<ObjNo>,
+    ) -> Result<(), AllocError> {
+        match self.links.pairs_of(link) {
+            Some((pairs, x)) => list_tied(&self.objects, pairs, x, link, after, list),
+            None => {
+                let mut last = after;
+                while let Some(y) = self.next_linked(link, last) {
+                    list.push(y)?;
+                    last = y;
+                }
+                Ok(())
+            }
         }
     }
 

@@ -8,12 +8,15 @@ mod either;
 mod flat;
 pub mod laws;
 mod links;
+mod listing;
 mod names;
 mod opening;
 mod overlay;
 mod own;
+mod ticks;
 
 pub use changes::{ChangeList, Changes, apply_changes};
 pub use draft::Draft;
 pub use flat::Flat;
 pub use opening::{opening_world, put_opening};
+pub use ticks::ENDLESS;

@@ -1,6 +1,6 @@
 //! Objects by their links, and properties by who defines them: those that may have one, whose rows are still to be looked at.
 
-ghost use Rattle.std.specs.Prelude.{◌≡◌, ◌≢◌, ◌↔◌, true, false, Some, option_map, IfOk, IsTrue, OnOk};
+ghost use Rattle.std.specs.Prelude.{◌≡◌, ◌≢◌, ◌↔◌, true, false, Some, option_map, IfOk, IfSome, IsTrue, OnOk};
 ghost use Rattle.moo_value.specs.declared.value.ObjNo.{ObjNo};
 ghost use Rattle.moo_rows.specs.declared.row.Link.{Link};
 ghost use Rattle.moo_rows.specs.declared.row.PropId.{PropId};
@@ -183,6 +183,20 @@ impl Links {
             next_of(held, after)
         } else {
             self.next_kept(link, after)
+        }
+    }
+
+    /// The pairs that tell whom a link to an object may have, and that object; `None` for one to `#-1`, and for that of players.
+    pub fn pairs_of(&self, link: Link) -> Option<(&BTreeMap<(ObjNo, ObjNo), ()>, ObjNo)>
+        ensures { IfSome result (λ p. (key : ObjNo) → has_key tie_cmp p.0.now (p.1, key) ≡ may_have self.now link key) }
+    {
+        if link.is_to_nothing() {
+            return None;
+        }
+        match link {
+            Link::ChildOf(x) => Some((&self.parents, x)),
+            Link::Within(x) => Some((&self.locations, x)),
+            Link::Player => None,
         }
     }
 

@@ -1,12 +1,13 @@
 //! Changes over a map of rows that stays as it is.
 
-ghost use Rattle.std.specs.Prelude.{◌≡◌, ◌↔◌, ◌+◌, IsTrue, OnErr, OnOk, option_map, Some, None};
+ghost use Rattle.std.specs.Prelude.{◌≡◌, ◌↔◌, ◌+◌, ◌≤◌, IsTrue, OnErr, OnOk, option_map, Some, None};
 ghost use Rattle.std.specs.FinMap as map;
 ghost use Rattle.moo_rows.specs.Ordered.{contents, IsNextAt};
 ghost use Rattle.moo_memory.specs.Overlay.{row_over, IsNextOfEither};
 
+use crate::ticks::Ticks;
 use moo_rows::ordered::OrderedKey;
-use moo_rows::{KeyedRow, Rows, Writes, ordered};
+use moo_rows::{KeyedRow, Rows, ordered};
 use std::alloc::AllocError;
 use std::collections::BTreeMap;
 
@@ -76,18 +77,23 @@ pub fn own<K: OrderedKey, V>(changes: &BTreeMap<K, Option<V>>, key: K) -> Option
     }
 }
 
-/// Sets the new row of a key, or `None` if its row is removed, and counts it. After an `Err`, a lack of memory, nothing has changed.
+/// Sets the new row of a key, or `None` if its row is removed, and counts it. After an `Err`, a lack of memory or of ticks, nothing has
+/// changed.
 pub fn put<K: OrderedKey, V: Drop>(
     changes: &mut BTreeMap<K, Option<V>>,
-    writes: &mut Writes,
+    writes: &mut u64,
+    ticks: &Ticks,
     key: K,
     row: Option<V>,
 ) -> Result<(), AllocError>
-    ensures ok { OnOk result ((contents K.cmp changes.new ≡ map.insert (contents K.cmp changes.old) key row)
-        × (writes.new.count ≡ writes.old.count + 1)) }
-    ensures err { OnErr result ((contents K.cmp changes.new ≡ contents K.cmp changes.old) × (writes.new.count ≡ writes.old.count)) }
+    ensures ok { OnOk result ((contents K.cmp changes.new ≡ map.insert (contents K.cmp changes.old) key row) × (writes.new ≡ writes.old + 1)) }
+    ensures err { OnErr result ((contents K.cmp changes.new ≡ contents K.cmp changes.old) × (writes.new ≡ writes.old)) }
+    ensures most { writes.old ≤ ticks.now.most → writes.new ≤ ticks.now.most }
 {
+    if !ticks.may_put(*writes) {
+        return Err(AllocError);
+    }
     ordered::put(changes, key, row)?;
-    writes.rise();
+    *writes += 1;
     Ok(())
 }

@@ -53,7 +53,7 @@ module _ (t : Maps) (good : IsGood t) (x : ObjNo) (row : ObjRow) (here : get t.o
       ]
 
   same_keys : (z : ObjNo) (j : PropId) → (is_among x (chain (world_of t) z) && has_id j (ids_for x all own z)) ≡ (is_some (get t.slots (z, j)) && goes_with t x (z, j))
-  same_keys z j = grind (arith, (same_object-Decides x z).0, own_among t good.formed.tree x (is_object_seen (look_ups t) x ∙ ap is_some here), walked j, is_own_id t good x row here (record { maps = t; writes = 0; base = t }) refl j, own_slot z j)
+  same_keys z j = grind (arith, (same_object-Decides x z).0, own_among t good.formed.tree x (is_object_seen (look_ups t) x ∙ ap is_some here), walked j, is_own_id t good x row here (record { maps = t; writes = 0; base = record { maps = t; most = 0; is_spent = false } }) refl j, own_slot z j)
 
   pub dropped_list : keys_by (ids_for x all own) (owners_under t x) ≡ dropped_keys t x
   dropped_list = unique slot_total slot_exact (keys_by (ids_for x all own) (owners_under t x)) (dropped_keys t x) listed_ascend dropped_ascend

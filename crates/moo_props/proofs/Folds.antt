@@ -1,12 +1,12 @@
 -- What one step for each element of a list changes, and what it leaves as it was.
-use Rattle.moo_props.proofs.Words.{◌||◌, ◌≡◌, Bool, cond, List, [], ◌∷◌, refl, ap, ◌∙◌, list_any, AllByRecursion, FinMap, Held, Maps, object_cmp, prop_cmp, slot_cmp, verb_cmp, ObjRow, PropRow, SlotRow, VerbRow, after_each, ◌+◌, ◌≤◌, arith, length}
+use Rattle.moo_props.proofs.Words.{◌||◌, ◌≡◌, Bool, cond, List, [], ◌∷◌, refl, ap, ◌∙◌, list_any, AllByRecursion, FinMap, Base, Held, Maps, object_cmp, prop_cmp, slot_cmp, verb_cmp, ObjRow, PropRow, SlotRow, VerbRow, after_each, ◌+◌, ◌≤◌, arith, length}
 use Rattle.std.specs.Prelude.{⊤}
 
 -- ---- all but one map
 
 -- the rows by one of the maps, and what they are over
 abbrev pub Rest : Type 0 → Type 0
-Rest X = (X → Maps) × Maps
+Rest X = (X → Maps) × Base
 
 abbrev pub but_objects : Held → Rest (FinMap object_cmp ObjRow)
 but_objects held = (λ rows. record (held.maps) { objects = rows }, held.base)

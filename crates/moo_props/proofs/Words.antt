@@ -21,7 +21,8 @@ pub use Rattle.moo_rows.proofs.Orders.{object_total, prop_total, slot_total}
 pub use Rattle.moo_rows.proofs.Walking.{first_of}
 pub use Rattle.moo_rows.specs.Exact.{object_exact, prop_exact, slot_exact}
 pub use Rattle.moo_rows.specs.Links.{IsFirst, defined_left, is_linked}
-pub use Rattle.moo_rows.specs.Maps.{Held, Maps, object_cmp, prop_cmp, slot_cmp, verb_cmp, without_object, without_prop, without_verb, wrote}
+pub use Rattle.moo_rows.specs.Maps.{Base, Held, Maps, object_cmp, prop_cmp, slot_cmp, verb_cmp, without_object, without_prop, without_verb, wrote}
+pub use Rattle.moo_rows.specs.Ordered.{contents}
 pub use Rattle.moo_rows.specs.Walk.{entries_past, is_past, slots_of_left, verbs_of_left}
 pub use Rattle.moo_rows.specs.declared.row.Link.TheVariants.{ChildOf, Within}
 pub use Rattle.moo_rows.specs.declared.row.ObjRow.{ObjRow}
@@ -68,9 +69,10 @@ pub use Rattle.moo_props.specs.Defining.{with_definition}
 pub use Rattle.moo_props.specs.Descent.{after_below, from_here, walk_after}
 pub use Rattle.moo_props.specs.Dropped.{dropped_keys, goes_with}
 pub use Rattle.moo_props.specs.Dropping.{ids_among, linked_among, links_to, props_removed, released_row, row_released, rows_released, verbs_among, verbs_removed, with_released}
+pub use Rattle.moo_props.specs.Hashed.{HoldsNames, hashed_cmp, has_under_name}
 pub use Rattle.moo_props.specs.Names.{defines, name_of, spelling_of}
 pub use Rattle.moo_props.specs.Present.{AreAbsent, AreAscending, ArePresent}
-pub use Rattle.moo_props.specs.Reparent.{is_defined_only, is_only_of, props_only_of, relinked, relinked_list}
+pub use Rattle.moo_props.specs.Reparent.{defined_only, is_defined_only, is_key, is_only_of, props_only_of, relinked, relinked_list}
 pub use Rattle.moo_props.specs.Slots.{after_each, fresh_of, fresh_row, ids_for, keys_by, keys_on, keys_over, origin_of, origins, origins_among, slot_put, slot_removed, slots_moved, with_fresh, without_on}
 pub use Rattle.moo_props.specs.Touched.{IsSameButSlotsAndObjects, added_keys, is_defined_among, props_of, removed_keys, row_after, slot_after}
 pub use Rattle.moo_props.specs.declared.slots.Origin.{Origin}

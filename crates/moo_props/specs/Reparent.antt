@@ -1,5 +1,6 @@
 -- A change of parent, at the level of the rows: which slots go and which come.
-use Rattle.std.specs.Prelude.{Bool, false, not, ◌&&◌, List, [], ◌∷◌, map, unwrap_or, if◌then◌else◌}
+use Rattle.std.specs.Prelude.{Bool, false, not, ◌&&◌, List, [], ◌∷◌, map, ⊤, is_some, unwrap_or, if◌then◌else◌}
+use Rattle.std.specs.BTreeMap.{BTreeMap}
 use Rattle.std.specs.Option.{option_map}
 use Rattle.std.specs.List.{filter}
 use Rattle.std.specs.FinMap.{get, insert}
@@ -7,7 +8,8 @@ use Rattle.moo_value.specs.declared.value.ObjNo.{ObjNo}
 use Rattle.moo_rows.specs.declared.row.ObjRow.{ObjRow}
 use Rattle.moo_rows.specs.declared.row.PropId.{PropId}
 use Rattle.moo_rows.specs.declared.row.PropRow.{PropRow}
-use Rattle.moo_rows.specs.Maps.{Maps, Held, wrote}
+use Rattle.moo_rows.specs.Maps.{Maps, Held, object_cmp, wrote}
+use Rattle.moo_rows.specs.Ordered.{contents}
 use Rattle.moo_world.specs.Objects.{same_object, is_among}
 
 -- ---- which properties are concerned
@@ -16,13 +18,22 @@ use Rattle.moo_world.specs.Objects.{same_object, is_among}
 abbrev pub is_only_of : List ObjNo → List ObjNo → ObjNo → Bool
 is_only_of these others definer = is_among definer these && not (is_among definer others)
 
--- the properties of these entries whose definer is of the first list and not of the second
-abbrev pub props_only_of : List ObjNo → List ObjNo → List (PropId × PropRow) → List PropId
-props_only_of these others pairs = map (λ pair. pair.0) (filter (λ pair. is_only_of these others pair.1.definer) pairs)
+-- the properties of these entries whose definer passes the first test and not the second
+abbrev pub defined_only : (ObjNo → Bool) → (ObjNo → Bool) → List (PropId × PropRow) → List PropId
+defined_only these others pairs = map (λ pair. pair.0) (filter (λ pair. these pair.1.definer && not (others pair.1.definer)) pairs)
 
--- an object of the first list, and not of the second, defines the property
-abbrev pub is_defined_only : List ObjNo → List ObjNo → Maps → PropId → Bool
-is_defined_only these others maps id = unwrap_or (option_map (λ row. is_only_of these others row.definer) (get maps.props id)) false
+-- the same of those whose definer is of the first list and not of the second
+abbrev pub props_only_of : List ObjNo → List ObjNo → List (PropId × PropRow) → List PropId
+props_only_of these others pairs = defined_only (λ object. is_among object these) (λ object. is_among object others) pairs
+
+-- an object that passes the first test, and not the second, defines the property
+abbrev pub is_defined_only : (ObjNo → Bool) → (ObjNo → Bool) → Maps → PropId → Bool
+is_defined_only these others maps id =
+    unwrap_or (option_map (λ row. these row.definer && not (others row.definer)) (get maps.props id)) false
+
+-- the object is a key of the map
+abbrev pub is_key : BTreeMap ObjNo ⊤ → ObjNo → Bool
+is_key keys object = is_some (get (contents object_cmp keys) object)
 
 -- ---- the parent link
 

@@ -21,7 +21,7 @@ ghost use Rattle.moo_props.specs.Touched.{props_of};
 use crate::slots::{SlotKeys, keys_by, move_slots};
 use moo_rows::ordered::least;
 use moo_rows::{
-    Link, ObjList, PropId, Row, Rows, VerbId, each_defined, each_slot_of, each_verb_of,
+    Link, ObjList, PropId, Row, Rows, VerbId, each_defined, each_slot_of, each_verb_of, go_on,
 };
 use moo_tree::owners_under;
 use moo_value::ObjNo;
@@ -92,6 +92,7 @@ fn ids_on<R: Rows>(alloc: Global, rows: &R, x: ObjNo) -> Result<Vec<PropId>, All
 {
     let mut found = Vec::new(alloc);
     for (key, _slot) in each_slot_of(rows, x, PropId(0)) {
+        go_on(rows)?;
         found.push(key.1)?;
     }
     Ok(found)
@@ -104,6 +105,7 @@ fn props_on<R: Rows>(alloc: Global, rows: &R, x: ObjNo) -> Result<Vec<PropId>, A
 {
     let mut found = Vec::new(alloc);
     for (id, _row) in each_defined(rows, x, PropId(0)) {
+        go_on(rows)?;
         found.push(id)?;
     }
     Ok(found)
@@ -116,6 +118,7 @@ fn verbs_on<R: Rows>(alloc: Global, rows: &R, x: ObjNo) -> Result<Vec<(ObjNo, Ve
 {
     let mut found = Vec::new(alloc);
     for (key, _row) in each_verb_of(rows, x, VerbId(0)) {
+        go_on(rows)?;
         found.push(key)?;
     }
     Ok(found)
@@ -139,6 +142,7 @@ fn linked_to<R: Rows>(alloc: Global, rows: &R, x: ObjNo) -> Result<Vec<ObjNo>, A
     let mut found = Vec::new(alloc);
     let mut last = ObjNo(-1);
     while let Some(y) = next_linked_to(rows, x, last) {
+        go_on(rows)?;
         found.push(y)?;
         last = y;
     }
@@ -170,6 +174,7 @@ fn remove_props<R: Rows>(rows: &mut R, ids: &[PropId]) -> Result<(), AllocError>
     ensures { OnOk result (R.held rows.new ≡ props_removed ids.now (R.held rows.old)) }
 {
     for id in ids {
+        go_on(rows)?;
         rows.remove_prop(*id)?;
     }
     Ok(())
@@ -180,6 +185,7 @@ fn remove_verbs<R: Rows>(rows: &mut R, keys: &[(ObjNo, VerbId)]) -> Result<(), A
     ensures { OnOk result (R.held rows.new ≡ verbs_removed keys.now (R.held rows.old)) }
 {
     for key in keys {
+        go_on(rows)?;
         rows.remove_verb(*key)?;
     }
     Ok(())
@@ -224,6 +230,7 @@ fn release_all<R: Rows>(
     ensures { OnOk result (R.held rows.new ≡ rows_released x parent objects.now (R.held rows.old)) }
 {
     for y in objects {
+        go_on(rows)?;
         release(alloc, rows, x, parent, *y)?;
     }
     Ok(())

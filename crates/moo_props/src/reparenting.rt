@@ -8,15 +8,16 @@ ghost use Rattle.moo_world.specs.World.{chain, reparented};
 ghost use Rattle.moo_world.specs.Rows.{world_of, IsGood};
 ghost use Rattle.moo_world.specs.Laws.{MayReparent};
 ghost use Rattle.moo_world.specs.Keeps.{Keeps};
-ghost use Rattle.moo_props.specs.Reparent.{is_defined_only, props_only_of, relinked, relinked_list};
+ghost use Rattle.moo_props.specs.Reparent.{defined_only, is_defined_only, is_key, props_only_of, relinked, relinked_list};
 ghost use Rattle.moo_props.specs.Slots.{keys_over, origins, slots_moved};
 ghost use Rattle.moo_props.specs.Touched.{ListsTouched, LeavesTouched, rows_touched};
 
 use crate::slots::{SlotKeys, keys_by, move_slots, origins};
-use moo_rows::{ObjList, ObjRow, PropId, Row, Rows, each_slot_of};
-use moo_tree::{chain, owners_under};
+use moo_rows::{ObjList, ObjRow, PropId, Row, Rows, each_slot_of, go_on, ordered};
+use moo_tree::{chain_keys, owners_under};
 use moo_value::ObjNo;
 use std::alloc::{AllocError, Global};
+use std::collections::BTreeMap;
 
 /// What a change of parent touched: the slots that went, those that came, and the objects with another parent.
 #[derive(Drop)]
@@ -26,38 +27,44 @@ pub struct Touched {
     pub relinked: ObjList,
 }
 
-/// Whether an object is in a list.
-fn is_among(list: &[ObjNo], x: ObjNo) -> bool
-    ensures { result ≡ is_among x list.now }
+/// Whether an object is a key of a map.
+fn is_key(keys: &BTreeMap<ObjNo, ()>, x: ObjNo) -> bool
+    ensures { result ≡ is_key keys.now x }
 {
-    list.contains(&x)
+    ordered::get(keys, x).is_some()
 }
 
-/// Whether an object of one list, and not of another, defines the property.
-fn is_defined_only<R: Rows>(rows: &R, these: &[ObjNo], others: &[ObjNo], id: PropId) -> bool
-    ensures { result ≡ is_defined_only these.now others.now (R.held rows.now).maps id }
+/// Whether an object that is a key of one map, and not of another, defines the property.
+fn is_defined_only<R: Rows>(
+    rows: &R,
+    these: &BTreeMap<ObjNo, ()>,
+    others: &BTreeMap<ObjNo, ()>,
+    id: PropId,
+) -> bool
+    ensures { result ≡ is_defined_only (is_key these.now) (is_key others.now) (R.held rows.now).maps id }
 {
     match rows.prop(id) {
         None => false,
-        Some(row) => is_among(these, row.definer) && !is_among(others, row.definer),
+        Some(row) => is_key(these, row.definer) && !is_key(others, row.definer),
     }
 }
 
-/// The properties that objects of one list define and not those of another, ascending. The first list is of y's chain, so
-/// that y has a slot of each: only its slots are gone over.
+/// The properties that objects among these define and not those among others, ascending. These are of y's chain, so that y has a slot of
+/// each: only its slots are gone over, and each definer is looked up.
 fn props_among<R: Rows>(
     alloc: Global,
     rows: &R,
     y: ObjNo,
-    these: &[ObjNo],
-    others: &[ObjNo],
+    these: &BTreeMap<ObjNo, ()>,
+    others: &BTreeMap<ObjNo, ()>,
 ) -> Result<Vec<PropId>, AllocError>
     requires good { IsGood (R.held rows.now).maps }
-    requires within { (d : ObjNo) → is_among d these.now ≡ true → is_among d (chain (world_of (R.held rows.now).maps) y) ≡ true }
-    ensures { IfOk result (λ v. v.items ≡ props_only_of these.now others.now (entries (R.held rows.now).maps.props)) }
+    requires within { (d : ObjNo) → is_key these.now d ≡ true → is_among d (chain (world_of (R.held rows.now).maps) y) ≡ true }
+    ensures { IfOk result (λ v. v.items ≡ defined_only (is_key these.now) (is_key others.now) (entries (R.held rows.now).maps.props)) }
 {
     let mut found = Vec::new(alloc);
     for (key, _slot) in each_slot_of(rows, y, PropId(0)) {
+        go_on(rows)?;
         if is_defined_only(rows, these, others, key.1) {
             found.push(key.1)?;
         }
@@ -81,10 +88,10 @@ fn turnover<R: Rows>(
     ensures gained { IfOk result (λ both. let w = world_of (R.held rows.now).maps in
         both.1.items ≡ props_only_of (chain w new) (chain w parent) (entries (R.held rows.now).maps.props)) }
 {
-    let above = chain(alloc, rows, parent)?;
-    let ahead = chain(alloc, rows, new)?;
-    let lost = props_among(alloc, rows, x, above.as_slice(), ahead.as_slice())?;
-    let gained = props_among(alloc, rows, new, ahead.as_slice(), above.as_slice())?;
+    let above = chain_keys(alloc, rows, parent)?;
+    let ahead = chain_keys(alloc, rows, new)?;
+    let lost = props_among(alloc, rows, x, &above, &ahead)?;
+    let gained = props_among(alloc, rows, new, &ahead, &above)?;
     Ok((lost, gained))
 }
 

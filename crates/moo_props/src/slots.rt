@@ -4,7 +4,7 @@ ghost use Rattle.std.specs.Prelude.{◌≡◌, ◌++◌, IfOk, OnOk};
 ghost use Rattle.moo_rows.specs.Walk.{slots_of_left};
 ghost use Rattle.moo_props.specs.Slots.{fresh_of, ids_for, keys_by, keys_on, origins, origins_among, slots_moved, with_fresh, without_on};
 
-use moo_rows::{Bits, PropId, Rows, SlotRow, SlotState, each_slot_of};
+use moo_rows::{Bits, PropId, Rows, SlotRow, SlotState, each_slot_of, go_on};
 use moo_value::ObjNo;
 use std::alloc::{AllocError, Global};
 use std::marker::Model;
@@ -65,6 +65,7 @@ pub(crate) fn origins_on<R: Rows>(
 {
     let mut found = Vec::new(alloc);
     for (key, slot) in each_slot_of(rows, q, PropId(0)) {
+        go_on(rows)?;
         found.push(Origin {
             id: key.1,
             owner: slot.owner,
@@ -85,6 +86,7 @@ pub(crate) fn origins<R: Rows>(
 {
     let mut found = Vec::new(alloc);
     for id in ids {
+        go_on(rows)?;
         if let Some(slot) = rows.slot((q, *id)) {
             found.push(Origin {
                 id: *id,
@@ -101,6 +103,7 @@ fn remove_on<R: Rows>(rows: &mut R, y: ObjNo, ids: &[PropId]) -> Result<(), Allo
     ensures { OnOk result (R.held rows.new ≡ without_on y ids.now (R.held rows.old)) }
 {
     for id in ids {
+        go_on(rows)?;
         rows.remove_slot((y, *id))?;
     }
     Ok(())
@@ -116,6 +119,7 @@ pub(crate) fn put_fresh<R: Rows>(
     ensures { OnOk result (R.held rows.new ≡ with_fresh y owner origins.now (R.held rows.old)) }
 {
     for origin in origins {
+        go_on(rows)?;
         rows.put_slot((y, origin.id), origin.fresh(owner))?;
     }
     Ok(())

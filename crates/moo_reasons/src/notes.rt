@@ -159,6 +159,18 @@ impl<'a, C: Eprint> StandardNotes<'a, C> {
 }
 
 impl<'a, C: Eprint> Witness for StandardNotes<'a, C> {
+    ghost use Rattle.std.specs.Prelude.{None};
+
+    ghost left = { λ _. None };
+
+    fn ticks(&self) -> Option<u64> {
+        None
+    }
+
+    fn leave(&mut self, _ticks: u64) {}
+
+    fn see_spent(&mut self, _call: u32) {}
+
     fn see<B: Rows, R: Rows>(&mut self, base: &B, rows: &R, batch: &Batch, refusal: Refusal) {
         if self.told < MOST_TOLD {
             self.refusal = match refusal_text(self.alloc, base, rows, batch, refusal) {

@@ -1,5 +1,7 @@
 //! Why a batch isn't accepted, in one line of at most 1,000 bytes: tabs and printing ASCII.
 
+ghost use Rattle.std.specs.Prelude.{◌≡◌};
+
 use crate::calls::put_call_reason;
 use crate::finding::refusal_text;
 use crate::shown::Said;
@@ -9,6 +11,7 @@ use moo_text::Reply;
 use moo_world::Batch;
 use std::alloc::{AllocError, Global};
 use std::collections::VecDeque;
+use std::marker::Model;
 
 const LONGEST: usize = 1000;
 
@@ -37,7 +40,7 @@ pub fn call_why(alloc: Global, text: &str) -> Result<String, AllocError> {
     line_of(said)
 }
 
-/// Why batches are refused, in the order in which they are, if that is wanted.
+/// Why batches are refused, in the order in which they are, if that is wanted; and the ticks of a request, which its batches share.
 #[derive(Drop)]
 pub struct Whys {
     alloc: Global,
@@ -45,21 +48,61 @@ pub struct Whys {
     seen: VecDeque<String>,
     /// Memory ran out for one of them.
     is_lost: bool,
+    /// How many ticks the request has, and how many are left.
+    ticks: u32,
+    left: u64,
+    /// How many batches were judged.
+    judged: u32,
+    /// The call of the last batch at which ticks were spent.
+    spent_at: Option<u32>,
+}
+
+impl Model for Whys {
+    ghost use Rattle.std.specs.Prelude.{ℕ};
+    ghost use Rattle.std.specs.Coded.{coded_ℕ};
+
+    ghost Value = { ℕ };
+
+    ghost coded = { coded_ℕ };
+
+    ghost view = { λ w. w.left };
 }
 
 impl Whys {
-    /// None is refused yet.
-    pub fn new(alloc: Global, is_wanted: bool) -> Whys {
+    /// None is refused yet, and none of so many ticks is spent.
+    pub fn new(alloc: Global, is_wanted: bool, ticks: u32) -> Whys
+        ensures { result ≡ ticks }
+    {
         Whys {
             alloc,
             is_wanted,
             seen: VecDeque::new(alloc),
             is_lost: false,
+            ticks,
+            left: u64::from(ticks),
+            judged: 0,
+            spent_at: None,
         }
     }
 
-    /// Why the next batch got this reply: the call that failed, its error and the check, or what there is no room for. None if it is
-    /// neither refused nor full. AllocError: memory ran out.
+    /// How many batches were judged.
+    pub fn judged(&self) -> u32 {
+        self.judged
+    }
+
+    /// Which call spent the ticks of the request, if one did: that of the last batch, or if it was asked alone, at this place, from 1.
+    /// AllocError: memory ran out.
+    pub fn spent_why(&self, place: Option<u32>) -> Result<Option<String>, AllocError> {
+        let Some(call) = self.spent_at else {
+            return Ok(None);
+        };
+        let call = place.unwrap_or(call);
+        let ticks = self.ticks;
+        Ok(Some(format!(in self.alloc; "call {call}: over {ticks} ticks (moo serve --ticks)")?))
+    }
+
+    /// Why the next batch got this reply: the call that failed, its error and the check, what there is no room for, or which call spent the
+    /// ticks. None if it is nothing of these. AllocError: memory ran out.
     pub fn next(&mut self, reply: &Reply) -> Result<Option<String>, AllocError> {
         if self.is_lost {
             return Err(AllocError);
@@ -67,12 +110,30 @@ impl Whys {
         match reply {
             Reply::Refused { call: _, code: _ } => Ok(self.seen.pop_front()),
             Reply::Full { call } => Ok(Some(String::from_str(self.alloc, room_reason(*call))?)),
+            Reply::NoMemory => self.spent_why(None),
             _ => Ok(None),
         }
     }
 }
 
 impl Witness for Whys {
+    ghost use Rattle.std.specs.Prelude.{Some};
+
+    ghost left = { λ w. Some w };
+
+    fn ticks(&self) -> Option<u64> {
+        Some(self.left)
+    }
+
+    fn leave(&mut self, ticks: u64) {
+        self.left = ticks;
+        self.judged = self.judged.saturating_add(1);
+    }
+
+    fn see_spent(&mut self, call: u32) {
+        self.spent_at = Some(call);
+    }
+
     fn see<B: Rows, R: Rows>(&mut self, base: &B, rows: &R, batch: &Batch, refusal: Refusal) {
         if !self.is_wanted {
             return;

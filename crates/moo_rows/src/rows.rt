@@ -1,11 +1,11 @@
 //! What holds the rows.
 
-ghost use Rattle.std.specs.Prelude.{◌≡◌, option_map, OnErr, OnOk};
+ghost use Rattle.std.specs.Prelude.{◌≡◌, ◌++◌, true, false, map as map_list, option_map, OnErr, OnOk};
 ghost use Rattle.std.specs.FinMap as map;
 ghost use Rattle.moo_rows.specs.Ordered.{IsNext};
-ghost use Rattle.moo_rows.specs.Links.{IsFirst, is_linked, is_definer};
+ghost use Rattle.moo_rows.specs.Links.{IsFirst, is_linked, is_definer, linked_left};
 ghost use Rattle.moo_rows.specs.Named.{is_named_by, name_hash};
-ghost use Rattle.moo_rows.specs.Maps.{Held, object_cmp, prop_cmp, with_object, without_object, with_prop, without_prop};
+ghost use Rattle.moo_rows.specs.Maps.{Held, object_cmp, prop_cmp, spent, with_object, without_object, with_prop, without_prop};
 ghost use Rattle.moo_rows.specs.Maps.{with_slot, without_slot, with_verb, without_verb, with_petition, without_petition};
 
 use crate::row::{
@@ -18,9 +18,26 @@ use std::alloc::AllocError;
 ///
 /// A look-up, a next key and the head take no memory. A put or a removal that is refused, for a lack of memory alone, changes nothing.
 /// Each other one changes the row of its key and nothing else, and raises the count of writes, which only contracts see, by one.
+///
+/// What judges a call of somebody's may look rows up and change them only so often: whoever goes over many rows asks between two of them
+/// whether it may go on, and answers a lack of memory if not.
 pub trait Rows {
     /// The head and what the maps hold, how many rows were put or removed so far, and what the rows are over.
     ghost held: { Self → Held };
+
+    /// Whether more rows may be looked up and changed. No contract says when not.
+    fn may_go_on(&self) -> bool {
+        true
+    }
+
+    /// Counts so many look-ups more. No contract sees it.
+    fn spend(&self, _ticks: u64) {}
+
+    /// Whether one more call may be made on the rows. Once it is said that none may, that is never taken back.
+    fn may_call(&mut self) -> bool
+        ensures yes { result ≡ true → held self.new ≡ held self.old }
+        ensures leave { result ≡ true → (held self.new).base.is_spent ≡ false }
+        ensures no { result ≡ false → held self.new ≡ spent (held self.old) };
 
     /// The head.
     fn head(&self) -> Head
@@ -42,6 +59,18 @@ pub trait Rows {
     /// The least object past `after` that has the link, or `None` if no object past it has it.
     fn next_linked(&self, link: Link, after: ObjNo) -> Option<ObjNo>
         ensures { IsFirst object_cmp (is_linked (held self.now).maps link) after result };
+
+    /// Lists the objects past `after` that have the link, ascending, after those that are listed. An `Err` is a lack of memory.
+    fn list_linked(&self, link: Link, after: ObjNo, list: &mut Vec<ObjNo>) -> Result<(), AllocError>
+        ensures { OnOk result (list.new.items ≡ list.old.items ++ map_list (λ e. e.0) (linked_left link after (held self.now).maps)) }
+    {
+        let mut last = after;
+        while let Some(y) = self.next_linked(link, last) {
+            list.push(y)?;
+            last = y;
+        }
+        Ok(())
+    }
 
     /// Sets the row of an object, in place of the one that it has, if any. An `Err` is a lack of memory.
     fn put_object(&mut self, key: ObjNo, row: ObjRow) -> Result<(), AllocError>

@@ -344,13 +344,13 @@ fn serve<'s, S: Streams, B: Alter + Drop>(
         RunsAction B.Store known world.old world.new (Action.Serve service) s run result }
     ensures input { session.new.input ≡ session.old.input }
 {
-    let Service { port, count } = service;
+    let Service { port, count, ticks } = service;
     world.has_good_rows();
     let tools = Tools {
         alloc: session.alloc,
         console: session.console,
     };
-    let duty = Duty { port, count };
+    let duty = Duty { port, count, ticks };
     match serve_port(&tools, &mut session.host, world, duty, &mut session.output) {
         Ok(()) => Ok(0),
         Err(fault) => Err(Failure::from(fault)),

@@ -1,6 +1,7 @@
 //! Asking batches, each of which sees the World as it is at present.
 
 ghost use Rattle.std.specs.Prelude.{◌≡◌, ◌≢◌, false, Bool, IfOk, IfErr, IsErrOf, IsTrue, option_map};
+ghost use Rattle.moo_batch.specs.Ticks.{NoneComeBack};
 ghost use Rattle.moo_world.specs.Judge.{judge};
 ghost use Rattle.moo_store.specs.Answered.{answer_of, answers_alone};
 ghost use Rattle.moo_store.specs.World.{StandsFor};
@@ -29,8 +30,9 @@ fn ask_kept<S: Alter + Drop, N: Witness>(
     batch: &Batch,
     witness: &mut N,
 ) -> Result<Reply, AllocError>
-    ensures { (known : Bool) (s : _) → StandsFor S.Store known world.now s →
+    ensures reply { (known : Bool) (s : _) → StandsFor S.Store known world.now s →
         IfOk result (λ reply. reply ≡ answer_of s (judge s batch.now)) }
+    ensures ticks { NoneComeBack (N.left witness.old) (N.left witness.new) }
 {
     match world.ask(batch, witness) {
         Ok(reply) => kept(reply),
@@ -39,13 +41,15 @@ fn ask_kept<S: Alter + Drop, N: Witness>(
 }
 
 /// What a batch would come to at present, if there is one.
+#[tactic(auto, using(moo_batch::proofs::Ticking::as_before))]
 fn ask_alone<S: Alter + Drop, N: Witness>(
     world: &World<S>,
     batch: &Option<Batch>,
     witness: &mut N,
 ) -> Result<Option<Reply>, AllocError>
-    ensures { (known : Bool) (s : _) → StandsFor S.Store known world.now s →
+    ensures reply { (known : Bool) (s : _) → StandsFor S.Store known world.now s →
         IfOk result (λ reply. reply ≡ option_map (λ batch. answer_of s (judge s batch)) batch.now) }
+    ensures ticks { NoneComeBack (N.left witness.old) (N.left witness.new) }
 {
     match batch {
         Some(batch) => Ok(Some(ask_kept(world, batch, witness)?)),
@@ -59,8 +63,9 @@ fn ask_all<S: Alter + Drop, N: Witness>(
     batches: &[Option<Batch>],
     witness: &mut N,
 ) -> Result<Vec<Option<Reply>>, AllocError>
-    ensures { (known : Bool) (s : _) → StandsFor S.Store known world.now s →
+    ensures replies { (known : Bool) (s : _) → StandsFor S.Store known world.now s →
         IfOk result (λ replies. replies.items ≡ answers_alone s batches.now) }
+    ensures ticks { NoneComeBack (N.left witness.old) (N.left witness.new) }
 {
     let mut replies = Vec::new(world.alloc);
     for batch in batches {
@@ -71,9 +76,10 @@ fn ask_all<S: Alter + Drop, N: Witness>(
 
 impl<S: Alter + Drop> World<S> {
     /// What each of these batches would come to at present, as if it alone were asked: none sees another. If there is none in a place,
-    /// there is no reply in it. Nothing changes. The witness sees why each is refused that would be.
+    /// there is no reply in it. Nothing changes. The witness sees why each is refused that would be. They share its ticks.
     ///
-    /// OutOfMemory if memory runs out. Closed if the World had failed.
+    /// OutOfMemory if memory or ticks run out. Closed if the World had failed.
+    #[tactic(auto, using(moo_batch::proofs::Ticking::as_before))]
     pub fn ask_each<N: Witness>(
         &self,
         batches: &[Option<Batch>],
@@ -83,6 +89,7 @@ impl<S: Alter + Drop> World<S> {
             IfOk result (λ replies. replies.items ≡ answers_alone s batches.now) }
         ensures fault { self.now.failed ≡ false → IfErr result (λ fault. fault ≡ StoreFault.OutOfMemory) }
         ensures closed { IsTrue self.now.failed → IsErrOf result StoreFault.Closed }
+        ensures ticks { NoneComeBack (N.left witness.old) (N.left witness.new) }
     {
         if self.failed {
             return Err(StoreFault::Closed);

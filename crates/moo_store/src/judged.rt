@@ -2,6 +2,7 @@
 
 ghost use Rattle.std.specs.Prelude.{◌≡◌, ◌⊎◌, [], ◌∷◌, IfOk, IfErr};
 ghost use Rattle.moo_batch.specs.Judge.{IsVerdict};
+ghost use Rattle.moo_batch.specs.Ticks.{NoneComeBack};
 ghost use Rattle.moo_batch.specs.declared.judging.Verdict.TheVariants.{Accepted};
 ghost use Rattle.moo_world.specs.Judge.{judge as verdict, state_of};
 ghost use Rattle.moo_world.specs.Rows.{IsGood};
@@ -28,6 +29,7 @@ pub(crate) fn judged<N: Witness>(
     ensures none { IfErr result (λ reply. acknowledged (batch.now ∷ []) (reply ∷ []) ≡ []) }
     ensures asked { IfErr result (λ reply. ((reply ≡ Reply.NoMemory) × IsRun (state_of rows.now.maps) batch.now)
         ⊎ (reply ≡ answer_of (state_of rows.now.maps) (verdict (state_of rows.now.maps) batch.now))) }
+    ensures ticks { NoneComeBack (N.left witness.old) (N.left witness.new) }
 {
     match judge(alloc, rows, batch, witness) {
         Verdict::Accepted { answers, changes } => Ok((answers, changes)),

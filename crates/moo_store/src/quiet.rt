@@ -10,6 +10,18 @@ use moo_world::Batch;
 pub struct NoNotes;
 
 impl Witness for NoNotes {
+    ghost use Rattle.std.specs.Prelude.{None};
+
+    ghost left = { λ _. None };
+
+    fn ticks(&self) -> Option<u64> {
+        None
+    }
+
+    fn leave(&mut self, _ticks: u64) {}
+
+    fn see_spent(&mut self, _call: u32) {}
+
     fn see<B: Rows, R: Rows>(&mut self, _base: &B, _rows: &R, _batch: &Batch, _refusal: Refusal) {}
 }
 

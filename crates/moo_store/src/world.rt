@@ -53,6 +53,7 @@ impl<S: Alter + Drop> World<S> {
     ghost use Rattle.moo_store.specs.Moves.{Stands, MovesBy, RunsAt, FailsRun};
     ghost use Rattle.moo_store_rows.specs.Moment.{Moment, HasAtRest};
     ghost use Rattle.moo_store_rows.specs.Place as place;
+    ghost use Rattle.moo_batch.specs.Ticks.{NoneComeBack};
     ghost use Rattle.moo_store.specs.Answered.{answer_of, IsRun};
     ghost use Rattle.moo_store_rows.specs.Stopped.{KeepsFaults};
     ghost use Rattle.moo_store.specs.Stand.{Stand};
@@ -132,11 +133,13 @@ impl<S: Alter + Drop> World<S> {
 
     /// What a batch would come to at present, with the present number. Nothing changes. If it would be refused, the witness sees why. The
     /// only fault is Closed.
+    #[tactic(auto, using(moo_batch::proofs::Ticking::as_before))]
     pub fn ask<N: Witness>(&self, batch: &Batch, witness: &mut N) -> Result<Reply, StoreFault>
         ensures verdict { (known : Bool) (s : _) → StandsFor S.Store known self.now s →
             IsOkAnd result (λ reply. (reply ≡ Reply.NoMemory) ⊎ (reply ≡ answer_of s (verdict s batch.now))) }
         ensures memory { (known : Bool) (s : _) → StandsFor S.Store known self.now s →
             IfOk result (λ reply. reply ≡ Reply.NoMemory → IsRun s batch.now) }
+        ensures ticks { NoneComeBack (N.left witness.old) (N.left witness.new) }
         ensures closed { IsTrue self.now.failed → IsErrOf result StoreFault.Closed }
     {
         if self.failed {

@@ -12,7 +12,9 @@ use moo_rows::{
     KeyedRow, ObjList, ObjRow, PetitionId, PetitionRow, PropId, PropRow, Row, Rows, SlotRow,
     SlotState, VerbBits, VerbId, VerbRow,
 };
-use moo_tables::{CellChanges, ObjectCells, PetitionCells, PropCells, SlotCells, VerbCells};
+use moo_tables::{
+    CellChanges, Expected, ObjectCells, PetitionCells, PropCells, SlotCells, VerbCells,
+};
 use moo_value::{ObjNo, ValueList};
 use moo_verbs::{print_object_spec, print_prep};
 use std::alloc::{AllocError, Global};
@@ -122,6 +124,14 @@ fn print_each<K: Copy + Drop, C: Drop, V: Print<K, C>>(
     Ok(cells)
 }
 
+/// Whether the row of the first change is there.
+fn has_first<V: KeyedRow>(rows: &Flat, changes: &ChangeList<V::Key, V>) -> bool {
+    match changes.items().first() {
+        Some(change) => V::find(rows, change.0).is_some(),
+        None => false,
+    }
+}
+
 /// The cells of a new row. The only error is out of memory.
 fn new_cells<'a, K, C, V: Print<K, C>>(alloc: Global, row: &'a V) -> Result<C, AllocError>
     ensures { IfOk result (λ cells. V.prints None cells row.now) }
@@ -165,6 +175,13 @@ pub fn print_all(alloc: Global, rows: &Flat) -> Result<CellChanges, AllocError>
         slots,
         verbs,
         petitions,
+        expected: Expected {
+            objects: false,
+            props: false,
+            slots: false,
+            verbs: false,
+            petitions: false,
+        },
     })
 }
 
@@ -198,5 +215,12 @@ pub fn print_changes(
         slots,
         verbs,
         petitions,
+        expected: Expected {
+            objects: has_first(rows, &changes.objects),
+            props: has_first(rows, &changes.props),
+            slots: has_first(rows, &changes.slots),
+            verbs: has_first(rows, &changes.verbs),
+            petitions: has_first(rows, &changes.petitions),
+        },
     })
 }

@@ -44,7 +44,7 @@ fn write_migrated<T: Run>(
     create_added_tables(tx)?;
     put_counter(tx, 1)?;
     put_head(tx, head)?;
-    write_rows(tx, slots)?;
+    write_rows(tx, slots, false)?;
     tx.run("DELETE FROM slot", &[])
 }
 

@@ -17,7 +17,7 @@ mod verb;
 mod version;
 mod writing;
 
-pub use cells::CellChanges;
+pub use cells::{CellChanges, Expected};
 pub use counter::{PETITION_HEAD, put_counter, put_next_petition};
 pub use head::{HEAD, put_head};
 pub use object::{OBJECT, ObjectCells};

@@ -68,17 +68,19 @@ fn write_row<T: Run, R: TableRow>(
     }
 }
 
-/// Writes these changes, one after another. After a row that wasn't there the others are taken to be new too, until one is there.
+/// Writes these changes, one after another. The first row is taken to be there or not as the hint says. After a row that wasn't there
+/// the others are taken to be new too, until one is there.
 pub fn write_rows<T: Run, R: TableRow>(
     tx: &mut T,
     changes: &[(R::Key, Option<R>)],
+    first_expected: bool,
 ) -> Result<(), Error>
     ensures same_reference { T.lender tx.new ≡ T.lender tx.old }
     ensures inside { StaysInside (T.state tx.old) (T.state tx.new) }
     ensures written { OnOk result (Changes (with_each R.with_row changes.now) (T.state tx.old) (T.state tx.new)) }
     ensures cause { HasCauseIn (T.state tx.old) (T.state tx.new) result }
 {
-    let mut expected = true;
+    let mut expected = first_expected;
     for change in changes {
         expected = write_row(tx, change.0, &change.1, expected)?;
     }

@@ -8,20 +8,6 @@ all_pass : {A : Type 0} (l : List A) → filter (λ a. true) l ≡ l
 all_pass [] = refl
 all_pass (a ∷ l) = ap (λ m. a ∷ m) (all_pass l)
 
-module _ (t : Maps) (link : Link) (from : ObjNo) where
-  -- the first object with the link, and then those past it
-  pub linked_first : (y : ObjNo) → IsFirst object_cmp (is_linked t link) from (Some y) → map (λ e. e.0) (linked_left link from t) ≡ y ∷ map (λ e. e.0) (linked_left link y t)
-  linked_first y h =
-      let row = some_linked (get t.objects y) h.0 in
-      ap (map (λ e. e.0)) (first-step object_total object_exact (λ r. has_link link (ties_of r)) t.objects from y row.0 h row.1)
-    where
-      some_linked : (o : Option ObjRow) → row_has link o ≡ true → (row : ObjRow) × (o ≡ Some row)
-      some_linked None e = absurd (true≢false (sym e))
-      some_linked (Some row) e = (row, refl)
-
-  pub linked_end : IsFirst object_cmp (is_linked t link) from None → map (λ e. e.0) (linked_left link from t) ≡ []
-  linked_end h = ap (map (λ e. e.0)) (first-end object_total object_exact (λ r. has_link link (ties_of r)) t.objects from h)
-
 module _ (t : Maps) (tree : IsTree (world_of t)) where
   -- every object is past #-1
   all_past : AllByRecursion (λ e. is_lt (object_cmp nothing e.0) ≡ true) (entries t.objects)

@@ -9,7 +9,7 @@ ghost use Rattle.moo_world.specs.Objects.{is_among};
 ghost use Rattle.moo_world.specs.Rows.{world_of};
 ghost use Rattle.moo_world.specs.World.{IsTree, chain};
 
-use moo_rows::{Rows, ordered};
+use moo_rows::{Rows, go_on, ordered};
 use moo_value::ObjNo;
 use std::alloc::{AllocError, Global};
 use std::collections::BTreeMap;
@@ -22,6 +22,7 @@ pub fn chain<R: Rows>(alloc: Global, rows: &R, x: ObjNo) -> Result<Vec<ObjNo>, A
     let mut found = Vec::new(alloc);
     let mut at = x;
     while let Some(row) = rows.object(at) {
+        go_on(rows)?;
         found.push(at)?;
         at = row.parent;
     }
@@ -42,6 +43,7 @@ pub fn chain_keys<R: Rows>(
     let mut keys = BTreeMap::new(alloc);
     let mut at = x;
     while let Some(row) = rows.object(at) {
+        go_on(rows)?;
         ordered::put(&mut keys, at, ())?;
         at = row.parent;
     }

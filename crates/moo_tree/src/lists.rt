@@ -20,12 +20,7 @@ pub(crate) fn list_linked<R: Rows>(
 ) -> Result<(), AllocError>
     ensures { OnOk result (list.new.items ≡ list.old.items ++ map (λ e. e.0) (linked_left link nothing (R.held rows.now).maps)) }
 {
-    let mut last = nothing();
-    while let Some(y) = rows.next_linked(link, last) {
-        list.push(y)?;
-        last = y;
-    }
-    Ok(())
+    rows.list_linked(link, nothing(), list)
 }
 
 /// The objects past `#-1` that have the link, ascending. An `Err` is a lack of memory.

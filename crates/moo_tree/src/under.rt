@@ -12,7 +12,7 @@ ghost use Rattle.moo_tree.specs.Under.{IsFound, owners_under};
 
 use crate::lists::list_linked;
 use crate::numbers::valid;
-use moo_rows::{Link, Rows, ordered};
+use moo_rows::{Link, Rows, go_on, ordered};
 use moo_value::ObjNo;
 use std::alloc::{AllocError, Global};
 use std::collections::BTreeMap;
@@ -57,6 +57,7 @@ pub(crate) fn find_under<R: Rows>(
     while !level.is_empty() {
         let mut below = Vec::new(alloc);
         for y in level.as_slice() {
+            go_on(rows)?;
             visit(rows, *y, &mut found, &mut below)?;
         }
         level = below;

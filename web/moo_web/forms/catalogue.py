@@ -150,7 +150,7 @@ CHANGING = (
         (
             Field("object", "Whose", "object", "A person’s object: its number, or its name."),
             Field("quota", "May make", "number", "How many more objects.", now=f"get(<object>, {QUOTA})"),
-            Field("how", "Kept", "choice", "Somebody without a quota may make as many objects as they like.", default="set",
+            Field("how", "Kept", "choice", "Somebody without a quota may make as many objects as they like.", default="set", section="More",
                   options=(("set", "in the property ownership_quota, which is there already"), ("add", "in a new property of theirs"))),
         ),
         (

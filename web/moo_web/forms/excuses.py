@@ -6,7 +6,7 @@ import re
 from typing import NamedTuple
 
 from moolib.calls import call_name
-from moolib.errors import MANUAL, words_for
+from moolib.errors import MANUAL, is_too_much, words_for
 
 from moo_web.forms.forms import Form
 
@@ -42,5 +42,8 @@ def blamed(form: Form | None, call: str, error: str) -> str:
 
 def excuse(form: Form | None, call: str, error: str, why: str) -> Excuse:
     """A refusal of this call in words. `why` is moo's sentence, or empty."""
+    if is_too_much(error, why):
+        # Its word is that of a lack of memory, which this isn't.
+        return Excuse(words_for("", "too much"), why, "", "", "")
     words = words_for(call_name(call), error) or "moo refuses this."
     return Excuse(words, detail_of(why, call, error), error, MANUAL.get(error, ""), blamed(form, call, error))

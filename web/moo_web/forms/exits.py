@@ -48,6 +48,12 @@ def exits_in(value: Any) -> list[Exit] | None:
     return [Exit(pair[0], pair[1].number) for pair in pairs] if all(is_pair) else None
 
 
+def free_direction(exits: list[Exit]) -> str:
+    """A direction for an exit to the place that has these exits: its way back is none of them. If all are taken it is empty."""
+    taken = {one.direction.lower() for one in exits}
+    return next((back for pair in PAIRS for way, back in (pair, pair[::-1]) if way not in taken), "")
+
+
 def exits_text(exits: list[Exit], short: Callable[[int], str]) -> str:
     """Exits as they are typed. `short` gives an object by its name and number."""
     return "\n".join(f"{one.direction}: {short(one.to)}" for one in exits)

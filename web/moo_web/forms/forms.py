@@ -272,12 +272,12 @@ def value_with_names(text: str, names: Names, me: Me) -> str:
 def number_at(text: str, found: Found, names: Names, me: Me) -> str:
     """The number of the object whose name is in a text. `Mistyped`, `Ambiguous`: as `object_value`, with the letter at which the name begins."""
     try:
-        return object_value(found.word, names, me)
+        return object_value(found.word, names, me, may_be_nothing=True)
     except Ambiguous as several:
         choices = [(replaced(text, found, value), label) for value, label in several.choices]
         raise Ambiguous(f"Letter {found.place + 1}: {several.reason}", typed=choices) from None
     except Mistyped as mistyped:
-        raise Mistyped(f"Letter {found.place + 1}: {mistyped.reason}") from None
+        raise Mistyped(f"Letter {found.place + 1}: {mistyped.reason} If it is a text, put quotes round it.") from None
 
 
 def filled_lines(typed: str) -> list[str]:

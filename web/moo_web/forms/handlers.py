@@ -11,7 +11,7 @@ from collections.abc import Mapping
 from typing import Any
 
 from moolib.batches import Item
-from moolib.calls import read_or_none
+from moolib.calls import call_name
 from moolib.errors import Failed
 
 from moo_web.app import Reply
@@ -25,7 +25,7 @@ from moo_web.forms.untouched import is_untouched
 from moo_web.forms.views import NamesOf, Offer, chosen_of, known_values, reads_at_first, typed_at_first, view_of
 from moo_web.journal.recent import Recent, Seen
 from moo_web.journal.segments import Accepted
-from moo_web.journal.writer import Busy, Stopped, TooMuch, Unknown
+from moo_web.journal.jobs import Busy, Stopped, TooMuch, Unknown
 from moo_web.pages.accepting import accepting
 from moo_web.pages.pages import Visit
 from moo_web.pages.sentences import is_grave, linked, told
@@ -99,10 +99,12 @@ class FormPages:
         return visit.page("forms/list.html", groups=GROUPS)
 
     def show(self, visit: Visit, key: str) -> Reply:
-        """A form, with what is there now."""
+        """A form, with what is there now; or its preview, if the address has all that it takes, and `go=preview`."""
         form = catalogue.FORMS.get(key)
         if form is None:
             return visit.refused("not found", 404)
+        if visit.fields.get("go") == "preview":
+            return self.attempt(visit, form, visit.fields)
         names, me = NamesOf(visit.world), me_of(visit)
         typed = offered_by(visit)
         known = known_values(form, typed, names, me)
@@ -117,9 +119,10 @@ class FormPages:
         form = catalogue.FORMS.get(key)
         return self.attempt(visit, form) if form else visit.refused("not found", 404)
 
-    def attempt(self, visit: Visit, form: Form) -> Reply:
-        """The same of a form that is known."""
-        typed, go = chosen_of(form, visit.form), visit.form.get("go", "preview")
+    def attempt(self, visit: Visit, form: Form, fields: Mapping[str, str] | None = None) -> Reply:
+        """The same of a form that is known, with these fields or those that were sent."""
+        fields = visit.form if fields is None else fields
+        typed, go = chosen_of(form, fields), fields.get("go", "preview")
         try:
             return self.acted(visit, form, typed, go)
         except (Busy, Unreachable):
@@ -306,10 +309,11 @@ def refusal_sentence(why: Excuse) -> str:
 def values_before(change: Change) -> list[tuple[str, Any, str]]:
     """What is there before a change: what it is, its value, and the error in place of one that can't be read.
 
-    Of a new object nothing is there.
+    Of a new object nothing is there. What is under a recycled object and in it is told if something is.
     """
     there = [(before.what, said) for before, said in change.before if said.text not in NOT_THERE]
-    return [(what, said.value, "" if said.is_good else said.text) for what, said in there]
+    is_recycled = call_name(change.call) == "recycle"
+    return [(what, said.value, "" if said.is_good else said.text) for what, said in there if not (is_recycled and said.is_good and said.value == [])]
 
 
 def stay_with(visit: Visit) -> None:

@@ -45,12 +45,13 @@ FORM = Form(
         Field("name", "Name of a new object", "text", "Empty: the name to sign in with.", is_needed=False, section=NEW),
         Field("parent", "Parent of a new object", "place", "What it inherits from.", section=NEW),
         Field("quota", "Quota of a new object", "number", "How many objects the person may make.", default=FIRST_QUOTA, section=NEW),
+        Field("place", "Where it begins", "place", "A place. Empty: nowhere.", is_needed=False, section=NEW),
     ),
     (
         Step("create(<parent>)", is_new=True), Step('set(<new>, "name", <name>)', given="name"),
-        Step('set(<new>, "name", <account>)', unless="name"), Step("set_player_flag(<new>, 1)"),
+        Step('set(<new>, "name", <account>)', unless="name"), Step("set_player_flag(<new>, 1)"), Step("move(<new>, <place>)", given="place"),
     ),
-    who="wizards", blame={"create": "parent"},
+    who="wizards", blame={"create": "parent", "move": "place"},
 )  # fmt: skip
 
 
@@ -67,7 +68,9 @@ class NewcomerPages(FormPages):
         """Everybody, and the form."""
         if not visit.is_wizard:
             return visit.refused("forbidden", 403)
-        said = {"what": "there"} if visit.fields.get("object") else {"parent": f"#{usual_parent(visit)}"}
+        here = visit.world.things[visit.number].location
+        usual = {"parent": f"#{usual_parent(visit)}", "place": f"#{here}" if here in visit.world.things else ""}
+        said = {"what": "there"} if visit.fields.get("object") else usual
         return self.page(visit, FORM, typed_at_first(FORM, said | visit.fields, {}), {}, FormResult())
 
     def add(self, visit: Visit) -> Reply:

@@ -4,8 +4,11 @@ from __future__ import annotations
 
 from collections.abc import Callable, Mapping
 
+from moolib.values import written
+
 from moo_web.app import Reply
 from moo_web.forms.entries import Differing, key_of, sum_of_typed, typed_with
+from moo_web.forms.exits import exits_in, free_direction
 from moo_web.forms.forms import Field, Form, Typed, object_value
 from moo_web.forms.handlers import TROUBLES, FormPages, FormResult, me_of
 from moo_web.forms.input import Mistyped
@@ -134,8 +137,14 @@ class ObjectPages(EntriesPages):
         found = {keys[name]: text for name, text in visit.fields.items() if name in keys}
         start, exits = visit.fields.get("from", ""), key_of("p", visit.pages.sight_names.exits)
         if start.isascii() and start.isdigit() and int(start[:10]) in visit.world.things and exits in form.keys:
-            found.setdefault(exits, f": {NamesOf(visit.world).short(int(start[:10]))}")
+            found.setdefault(exits, exit_to(visit, int(start[:10])))
         return found
+
+
+def exit_to(visit: Visit, room: int) -> str:
+    """The line of an exit to a room, in a direction whose way back is free there."""
+    (value,) = visit.answers([f"get(#{room}, {written(visit.pages.sight_names.exits)})"])
+    return f"{free_direction(exits_in(value) or [])}: {NamesOf(visit.world).short(room)}"
 
 
 class ClassPages(EntriesPages):

@@ -24,7 +24,8 @@ from moo_web.forms.petitions import petitions_at
 from moo_web.forms.questions import Before, Questions, reads_before
 from moo_web.journal.recent import Recent, Seen
 from moo_web.journal.tables import sum_of
-from moo_web.journal.writer import Busy, Unknown, Writer
+from moo_web.journal.jobs import Busy, Unknown
+from moo_web.journal.writer import Writer
 from moo_web.people.person import Person
 from moo_web.world.asking import Moved
 from moo_web.world.door import Answer, Unreachable

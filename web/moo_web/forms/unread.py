@@ -10,7 +10,7 @@ from typing import Callable
 
 from moolib.batches import Item, resolved
 from moolib.calls import Call, call_name, read_or_none
-from moolib.draft import SETTABLE
+from moolib.slots import SETTABLE
 from moolib.errors import Failed
 from moolib.lines import read_line
 from moolib.service import Answer

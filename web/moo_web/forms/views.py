@@ -40,7 +40,7 @@ class NamesOf:
 
     def like(self, word: str) -> list[tuple[int, str]]:
         """The objects with this word in their names, those that begin with it first."""
-        return [(number, self.label(self.world.things[number])) for number in self.world.names.like(word)[:MOST_OFFERED]]
+        return [(number, self.label(self.world.things[number])) for number in self.world.names.like(word, MOST_OFFERED)]
 
     def short(self, number: int) -> str:
         """An object by its name and number."""
@@ -61,7 +61,7 @@ class NamesOf:
 class FieldView:
     """A field as it is shown. `text` is what is typed in it, `kind` the kind of a value, and `ticked` the letters or objects that are.
 
-    `offered` are objects to tick, and `suggested` what may be typed, each with its words.
+    `offered` are objects to tick, and `suggested` what may be typed, each with its words. `named` is the object whose number is typed.
     """
 
     field: Field
@@ -72,6 +72,7 @@ class FieldView:
     offered: Offer = ()
     suggested: Offer = ()
     mistake: Mistake | None = None
+    named: str = ""
 
     @property
     def id(self) -> str:
@@ -243,7 +244,14 @@ def shown_field(field: Field, typed: Mapping[str, str], mistake: Mistake | None,
         offered_to(field, typed, names) if field.kind == "objects" else (),
         suggested_to(field, names, me) if field.kind in ("object", "place") else (),
         mistake,
+        named_in(typed.get(field.key, ""), names) if field.kind in ("object", "place") else "",
     )
+
+
+def named_in(text: str, names: NamesOf) -> str:
+    """The object whose number was typed, with its name; empty, if it is another text."""
+    found = re.fullmatch(r"\s*#(\d{1,10})\s*", text)
+    return names.short(int(found[1])) if found and names.is_object(int(found[1])) else ""
 
 
 def view_of(

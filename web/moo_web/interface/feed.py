@@ -19,7 +19,8 @@ from moo_web.journal.recent import MOST_LETTERS, letters_of
 from moo_web.journal.segments import Accepted
 from moo_web.journal.since import batches_since, begin_of, petitions_before
 from moo_web.journal.subjects import Subjects, BatchSubjects, Wish, answered, wishes_of
-from moo_web.journal.writer import Busy, Writer
+from moo_web.journal.jobs import Busy
+from moo_web.journal.writer import Writer
 
 MOST_KEPT = 5000
 # How long a follower waits for others who read the journal.

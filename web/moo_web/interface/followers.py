@@ -10,7 +10,7 @@ from typing import Any, Callable, ContextManager
 from moo_web.app import JSON, Reply, Request, in_json
 from moo_web.interface.bodies import wants
 from moo_web.interface.feed import About, Feed, Gone, NotYet
-from moo_web.journal.writer import Busy
+from moo_web.journal.jobs import Busy
 from moo_web.people.person import Person
 from moo_web.programs import utc
 from moo_web.traffic.visitors import present, visiting

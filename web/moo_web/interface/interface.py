@@ -126,7 +126,7 @@ CAUSES = (
     Cause("busy", "503", "nothing was sent", "send it again, after a pause that has chance"),
     Cause("unknown", "503", "the batch was sent for number S, and will be decided", "see what became of it before you send it again"),
     Cause("gap", "503", "writing has stopped: somebody else wrote the world", "ask an operator"),
-    Cause("nomemory", "503", "moo's memory ran out; nothing changed", "make the batch smaller, or send it later"),
+    Cause("nomemory", "503", "moo's memory ran out, or it is too much work for one request, as `why` says then; nothing changed", "make several batches of it"),
     Cause("closed", "503", "moo's store failed before; nothing changed", "send it again, after a pause: the service is started again"),
     Cause("fault", "503", "moo's store failed now: the batch has acted or not", "see what became of it before you send it again"),
     Cause("internal", "500", "the front failed; its log says how", "ask an operator"),

@@ -5,7 +5,7 @@ from __future__ import annotations
 from typing import NamedTuple, Optional
 
 from moolib.calls import Call
-from moolib.draft import SETTABLE
+from moolib.slots import SETTABLE
 from moolib.values import Value, written
 
 PLAIN = {"move": "location", "chparent": "parent", "set_accept": "accepts", "set_player_flag": "player"}

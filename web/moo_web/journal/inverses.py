@@ -11,7 +11,8 @@ from typing import Iterable, Iterator, NamedTuple, Optional, Union
 from moolib.calls import Call, call_text
 from moolib.values import Obj, Value
 
-from moolib.draft import NOTHING, QUOTA, SETTABLE, Draft, Slot, Verb, slot_calls
+from moolib.draft import NOTHING, QUOTA, Draft
+from moolib.slots import SETTABLE, Slot, Verb, slot_calls
 
 
 class VerbOn(NamedTuple):

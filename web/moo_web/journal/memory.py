@@ -19,7 +19,8 @@ from moo_web.traffic.turns import NobodyWaits
 from moo_web.world.asking import Moved
 from moo_web.world.door import Door, Unreachable
 from moo_web.world.overseeing import Overseeing
-from moolib.draft import MARKS, PETITIONS, Draft, first_calls
+from moolib.draft import PETITIONS, Draft
+from moolib.slots import MARKS, first_calls
 from moolib.facts import Facts, TooMuch
 
 # So many letters of calls are kept for a batch; so many of names.

@@ -8,7 +8,8 @@ from typing import NamedTuple
 from moo_web.journal.history import History, StillRead
 from moo_web.journal.segments import Accepted
 from moo_web.journal.tables import sum_of
-from moo_web.journal.writer import Busy, Writer
+from moo_web.journal.jobs import Busy
+from moo_web.journal.writer import Writer
 
 MOST_LETTERS = 1 << 24
 

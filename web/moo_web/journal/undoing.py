@@ -36,6 +36,8 @@ LEFT_BY = {
     "delete_property": "A property comes back as the last that its object defines, whatever its place was.",
     "grant": "The petition isn’t made again.",
 }
+# What needn't be put back on an object that is recycled then. An owner is: the recycled object counts for the owner's quota.
+MOOT = frozenset(("set", "clear_property", "set_accept", "move"))
 # Where a call has owners in a list; where it names an object besides the first.
 OWNERS = {"add_property": 3, "set_property_info": 2, "add_verb": 1, "set_verb_info": 2}
 OTHERS = {"move": 1, "chparent": 1, "create": 1}
@@ -80,8 +82,9 @@ class Undoing:
         made = [call.made(answer) for call, answer in zip(self.calls, answers) if call]
         gone = [call.subject for call in self.calls if call and call.name == "recycle"]
         self.gone = {number for number in gone if number is not None}
-        # What came and went in this very batch.
+        # What came and went in this very batch, and what came and stayed.
         self.passing = self.gone.intersection(number for number in made if number is not None)
+        self.made = {number for number in made if number is not None} - self.gone
         self.names: dict[int, str] = {}
 
     def undo(self) -> Undo:
@@ -106,12 +109,16 @@ class Undoing:
         for text in before or ():
             step = Call.read(text)
             named = numbers_of(step)
-            if named & self.passing:
+            if named & self.passing or self.is_moot(step):
                 continue
             if named & self.gone - self.names.keys():
                 lasting[f"{text}: an object that it names is gone."] += 1
             else:
                 yield renamed(step, self.names)
+
+    def is_moot(self, step: Call) -> bool:
+        """Whether a step would change what is recycled right after it, since this batch made it."""
+        return step.subject in self.made and step.name in MOOT and not changes_owner(step)
 
     def remade(self, number: int, calls: list[str], lasting: collections.Counter[str]) -> Iterator[str]:
         """The lines that make an object again."""
@@ -152,8 +159,12 @@ def name_in(value: Value, names: dict[int, str]) -> str:
 
 def naming_places(call: Call) -> set[int]:
     """Which of a call's values are objects that have to be there, or lists that begin with one."""
-    is_owner = call.name == "set" and len(call.values) > 1 and str(call.values[1]).lower() == "owner"
-    return {0, OTHERS.get(call.name, 0), OWNERS.get(call.name, 0), 2 if is_owner else 0}
+    return {0, OTHERS.get(call.name, 0), OWNERS.get(call.name, 0), 2 if changes_owner(call) else 0}
+
+
+def changes_owner(call: Call) -> bool:
+    """Whether a call gives an object to another owner."""
+    return call.name == "set" and len(call.values) > 1 and str(call.values[1]).lower() == "owner"
 
 
 def numbers_of(call: Call) -> set[int]:

@@ -1,4 +1,4 @@
-"""The one writer of a world: an intent in the journal before each batch, its outcome after it. docs/WEB.md has the argument.
+"""The one writer of a world: an intent in the journal before each batch, its outcome after it. docs/JOURNAL.md has the argument.
 
     writer = Writer(Door(8080), journal, tell)
     writer.start()
@@ -11,7 +11,6 @@ is decided. Who waits for a batch waits for so many seconds and no longer.
 from __future__ import annotations
 
 import collections
-import math
 import threading
 import time
 from typing import Any, Callable
@@ -20,6 +19,7 @@ from moolib.batches import Item, resolved
 from moolib.errors import Failed, LostAnswer, NoService
 from moolib.service import FIRST_PAUSE, LONGEST_PAUSE
 
+from moo_web.journal.jobs import Barred, Busy, Job, Stopped, TooMuch, Unknown
 from moo_web.journal.journal import Broken, Journal, NoRoom
 from moo_web.journal.memory import Memory
 from moo_web.journal.segments import Accepted, accepted_of, kept_of
@@ -32,99 +32,12 @@ from moo_web.world.door import Answer, Door, TooLong, Unreachable, batch_body, s
 
 PATIENCE = 10.0
 LONGEST_QUEUE = 64
-LONGEST_SYNC = 5.0
 TOLD_AFTER = 5.0
 
 GAP_ADVICE = (
     "Nothing is written until an operator decides. If the world is right as it is, stop the front and start it with --rebase: the journal "
     "begins anew at its number. If another copy was served by mistake, put the right one back first, and bring it up by moo-replay"
 )
-
-
-class Busy(Exception):
-    """Nothing was sent."""
-
-
-class Unknown(Exception):
-    """The batch was sent for the number `at` and isn't decided yet. It will be."""
-
-    def __init__(self, at: int) -> None:
-        super().__init__(f"the batch was sent for number {at}")
-        self.at = at
-
-
-class Stopped(Exception):
-    """Writing has stopped, and an operator is needed."""
-
-
-class Barred(Exception):
-    """Who wrote the batch may not come in any more. Nothing was sent."""
-
-
-class TooMuch(Exception):
-    """Nothing was sent: the batch is more than its person may add, for this reason. In so many seconds it may be tried again."""
-
-    def __init__(self, why: str, seconds: float) -> None:
-        super().__init__(why)
-        self.why, self.seconds = why, math.ceil(seconds)
-
-
-class Job:
-    """A batch that somebody waits for. With `items` its calls have names, and `calls` are made of them when its turn comes."""
-
-    def __init__(
-        self, who: str, programmer: int, calls: list[str], at: int | None, patience: float, items: list[Item] | None = None
-    ) -> None:  # fmt: skip
-        self.who, self.programmer, self.calls, self.at, self.items = who, programmer, calls, at, items
-        self.visitor = present()
-        self.end = time.monotonic() + patience
-        self.lock, self.decided, self.recorded = threading.Lock(), threading.Event(), threading.Event()
-        self.is_withdrawn, self.is_unknown, self.intent_at = False, False, -1
-        self.answer: Answer | None = None
-        self.failure: Exception | None = None
-        # What `/ask` has said that it answers.
-        self.would: list[str] = []
-
-    def finish(self, answer: Answer) -> None:
-        """Tells who waits what moo answered."""
-        self.answer = answer
-        self.decided.set()
-
-    def fail(self, failure: Exception) -> None:
-        """Tells who waits why there is no answer."""
-        self.failure = failure
-        self.decided.set()
-
-    def commit(self, at: int) -> bool:
-        """Says that the batch is sent for this number from now on. False if nobody waits any more: then it may not be sent."""
-        with self.lock:
-            if not self.is_withdrawn:
-                self.intent_at = at
-            return not self.is_withdrawn
-
-    def uncommit(self) -> None:
-        """Says that the batch isn't sent after all."""
-        with self.lock:
-            self.intent_at = -1
-
-    def outcome(self) -> Answer:
-        """Waits for the answer. `Busy`, `Barred`, `TooMuch`, `Unknown`, `Stopped`, `TooLong`: there is none."""
-        self.decided.wait(max(0.0, self.end - time.monotonic()))
-        with self.lock:
-            if not self.decided.is_set() and self.intent_at < 0:
-                self.is_withdrawn = True
-                raise Busy
-        if not self.decided.is_set():
-            # Whether the intent is in the journal is known soon.
-            self.recorded.wait(LONGEST_SYNC)
-        with self.lock:
-            if not self.decided.is_set():
-                self.is_unknown = True
-                raise Unknown(self.intent_at)
-        if self.failure:
-            raise self.failure
-        assert self.answer
-        return self.answer
 
 
 class Writer:
@@ -139,8 +52,8 @@ class Writer:
         self.stopped: str | None = None
         self.owed: list[dict[str, Any]] = []
         self.listeners: list[Callable[[Accepted], None]] = []
-        # What is asked before a batch that would be accepted: its person, programmer, calls and answers. `TooMuch`: it isn't sent.
-        self.bound: Callable[[str, int, list[str], list[str]], None] = lambda who, programmer, calls, answers: None
+        # What is asked before a batch that would be accepted: its person, programmer and calls. `TooMuch`: it isn't sent.
+        self.bound: Callable[[str, int, list[str]], None] = lambda who, programmer, calls: None
         self.is_ended = False
         # Why the last batch wasn't taken, and the moment of that; nothing, once one is taken.
         self.trouble, self.troubled_at = "", 0.0
@@ -259,7 +172,7 @@ class Writer:
             return
         with visiting(job.visitor):
             asked = self.ask(job)
-            if asked is None or not self.is_wanted(job) or not self.is_within_bounds(job, asked):
+            if asked is None or not self.is_wanted(job) or not self.is_within_bounds(job):
                 return
             memory = self.remember(job, asked)
         # The reading may have taken long.
@@ -305,10 +218,10 @@ class Writer:
             return None
         return answer
 
-    def is_within_bounds(self, job: Job, asked: Answer) -> bool:
+    def is_within_bounds(self, job: Job) -> bool:
         """Whether a batch that would be accepted is within its person's bounds. If it isn't, who waits is told."""
         try:
-            self.bound(job.who, job.programmer, job.calls, asked.said["answers"])
+            self.bound(job.who, job.programmer, job.calls)
             return True
         except (TooMuch, TooLong, Unreachable, NobodyWaits) as error:
             job.fail(error if isinstance(error, (TooMuch, TooLong)) else Busy())
@@ -373,7 +286,7 @@ class Writer:
                 answer = self.door.sent("POST", "/batch?why", body)
                 if self.decide(intent, answer, is_unsure, job):
                     return
-                is_unsure, why = is_unsure or answer.error == "fault" or not answer.error, f"moo answers {answer.status} {answer.error}"
+                is_unsure, why = is_unsure or answer.error == "fault" or not answer.error, told_of_answer(answer)
             except (LostAnswer, TooLong):
                 is_unsure, why = True, "moo's answer was lost"
             except NoService:
@@ -485,6 +398,11 @@ class Writer:
         if back > 0 and self.journal.seq is not None:
             self.tell(f"the clock went back: the journal's last line is of {back:.3f} seconds later")
         return now
+
+
+def told_of_answer(answer: Answer) -> str:
+    """What an answer is that decides nothing."""
+    return f"moo answers {answer.status} {answer.error}" + (f": {answer.why}" if answer.why else "")
 
 
 def told_of_gap(gap: dict[str, Any]) -> str:

@@ -7,6 +7,7 @@ from typing import NamedTuple
 from moolib.values import written
 
 from moo_web.pages.pages import Visit
+from moo_web.world.asking import Refusal
 from moo_web.world.properties import SightNames
 from moo_web.paths import form_for, url_for
 
@@ -20,10 +21,13 @@ class Action(NamedTuple):
 
 
 def buttons(visit: Visit, number: int, names: SightNames) -> list[Action]:
-    """What is done most."""
-    describe = url_for("form", key="set", object=f"#{number}", name=names.description)
+    """What is done most. What has no property for a description gets one."""
+    (description,) = visit.answers([f"get(#{number}, {written(names.description)})"])
+    key = "add-property" if isinstance(description, Refusal) and description.error == "E_PROPNF" else "set"
     return [
-        Action("Edit", url_for("edit", number=number)), Action("Describe", describe), Action("Rename", form_for("rename", number)), Action("Move", form_for("move", number)),
+        Action("Edit", url_for("edit", number=number)),
+        Action("Describe", url_for("form", key=key, object=f"#{number}", name=names.description)),
+        Action("Rename", form_for("rename", number)), Action("Move", form_for("move", number)),
         Action("Make something in it", form_for("create", number, "place")),
     ]  # fmt: skip
 
@@ -54,8 +58,8 @@ def more(visit: Visit, number: int, names: SightNames) -> list[Action]:
 
 
 def way_to(visit: Visit, number: int, is_open: bool) -> str:
-    """The form by which the person goes to an object that accepts something; empty if they are there, or can't be."""
+    """The preview of the form by which the person goes to an object that accepts something; empty if they are there, or can't be."""
     here = visit.world.things[visit.number].location
     if not is_open or number in (here, visit.number) or visit.world.things[number].has("player"):
         return ""
-    return url_for("form", key="move", object=f"#{visit.number}", place=f"#{number}")
+    return url_for("form", key="move", object=f"#{visit.number}", place=f"#{number}", go="preview")

@@ -12,7 +12,7 @@ from typing import Any, Iterable, NamedTuple, Optional, Sequence
 
 from markupsafe import Markup, escape
 from moolib.calls import Call, read_or_none
-from moolib.draft import SETTABLE
+from moolib.slots import SETTABLE
 from moolib.errors import Failed
 from moolib.values import Obj, Value, read, written
 

@@ -6,8 +6,11 @@ import datetime
 import re
 from typing import Optional
 
+from moolib.calls import read_or_none
+
 from moo_web.app import Reply
 from moo_web.journal.history import Batches, History
+from moo_web.journal.segments import Accepted
 from moo_web.pages.batches import Telling, concerns, told, without_unreadable
 from moo_web.pages.pages import Visit
 
@@ -54,7 +57,7 @@ def numbers_for(visit: Visit, asked: str) -> list[int]:
     if found:
         return [int(found[1])]
     names = visit.world.names
-    return (names.named(asked) or names.like(asked)) if asked else []
+    return (names.named(asked) or names.like(asked, MOST_OFFERED + 1)) if asked else []
 
 
 def moment_in(visit: Visit, text: str, more: datetime.timedelta = datetime.timedelta()) -> Optional[float]:
@@ -73,5 +76,14 @@ def one(visit: Visit, history: History, number: int, is_done: bool = False) -> R
     batch = history.one(number)
     if batch is None or not concerns(visit, history, batch):
         return visit.refused("not found", 404)
-    shown = told(visit, history, batch)
-    return visit.page("pages/one_batch.html", batch=batch, told=shown, is_done=is_done and batch.who.lower() == visit.name.lower())
+    return visit.page(
+        "pages/one_batch.html", batch=batch, told=told(visit, history, batch), here=walked_to(visit, batch),
+        is_done=is_done and batch.who.lower() == visit.name.lower(),
+    )  # fmt: skip
+
+
+def walked_to(visit: Visit, batch: Accepted) -> Optional[int]:
+    """The place where the person is, if the batch moved them; else None."""
+    here = visit.world.things[visit.number].location
+    has_moved = any(call and call.name == "move" and call.subject == visit.number for call in map(read_or_none, batch.calls))
+    return here if has_moved and here in visit.world.things else None

@@ -21,7 +21,6 @@ SOON = 0.3
 
 def home(visit: Visit, history: History, names: SightNames) -> Reply:
     """The first page of somebody who is signed in."""
-    visit.trust()
     seen = visit.world
     here = seen.things[visit.number].location
     calls = [f'get(#{visit.number}, "ownership_quota")', "petitions()"]

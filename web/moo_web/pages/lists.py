@@ -15,6 +15,8 @@ from moo_web.world.things import NOTHING, Thing
 PAGE = 100
 MOST_PAGES = 1_000_000
 LONGEST_QUERY = 256
+# A search by name stops after so many.
+MOST_FOUND = 1000
 
 
 class Part(NamedTuple):
@@ -72,10 +74,11 @@ def find(visit: Visit, definers: Definers) -> Reply:
     if number and int(number[1]) in visit.world.things:
         return visit.go(url_for("object", number=int(number[1])))
     is_property = query.startswith(".") and len(query) > 1
-    part = part_of([] if is_property or not query else visit.world.names.like(query), visit.fields.get("page", ""))
+    found = [] if is_property or not query else visit.world.names.like(query, MOST_FOUND + 1)
+    part = part_of(found[:MOST_FOUND], visit.fields.get("page", ""))
     properties = definers.found(visit, query.removeprefix(".")) if query else []
     return visit.page(
         "pages/find.html", query=query, part=part, things=[visit.world.things[one] for one in part.items], properties=properties,
-        is_property=is_property, is_number=bool(number),
+        is_property=is_property, is_number=bool(number), is_more=len(found) > MOST_FOUND,
     )  # fmt: skip
 

@@ -46,11 +46,7 @@ class Verb(NamedTuple):
 
 def object_page(visit: Visit, history: History, sight_names: SightNames, one: int) -> Reply:
     """The page of an object."""
-    visit.trust()
     thing = visit.world.things.get(one)
-    if thing is None:
-        visit.seen = None
-        thing = visit.world.things.get(one)
     if thing is None:
         return visit.page("pages/no_object.html", 404, number=one)
     world = visit.world

@@ -75,27 +75,30 @@ class Visit:
         self.fields = request.fields()
         self.zone = zone_of(sessions.cookies_of(request).get(sessions.ZONE_COOKIE, ""))
         self.seen: World | None = None
+        # Whether it is the world that was known last, and moo wasn't asked for its number.
+        self.is_trusting = False
         # What calls answer in the world of the number `told_seq`.
         self.told: dict[str, Any] = {}
         self.told_seq = -1
 
-    def trust(self) -> None:
-        """Takes the world as it was known last. What is asked of it then tells if it has moved on, so that its number needn't be asked first.
-
-        A page that asks nothing mustn't do so. After the first try of a page nothing is trusted.
-        """
-        kept = self.index.kept
-        if self.seen is None and self.is_first and kept and self.number in kept.things and self.index.is_last(kept):
-            self.seen = kept
-
     @property
     def world(self) -> World:
-        """The public facts of the world, of one number for the whole page. `NoObject`: the person's object isn't in it."""
+        """The public facts of the world, of one number for the whole page. `NoObject`: the person's object isn't in it.
+
+        The first try of a page takes the world that was known last. What is asked of it, or `confirm`, tells if it has moved on.
+        """
         if self.seen is None:
-            self.seen = self.index.world()
+            kept = self.index.kept
+            self.is_trusting = self.is_first and kept is not None and self.number in kept.things and self.index.is_last(kept)
+            self.seen = kept if kept and self.is_trusting else self.index.world()
         if self.number not in self.seen.things:
             raise NoObject
         return self.seen
+
+    def confirm(self) -> None:
+        """Sees that the page is of the present world, if nothing was asked of it. `Moved`: it isn't. `Unreachable`: moo doesn't tell."""
+        if self.is_trusting and self.seen and not self.told and not self.index.is_present(self.seen):
+            raise Moved
 
     @property
     def is_wizard(self) -> bool:
@@ -245,7 +248,10 @@ class Pages:
         for attempt in range(TRIES):
             # The whole page is of one number of the world, so it is made anew if the world has moved on.
             try:
-                return self.answered(Visit(self, request, session, attempt == 0), handler, parts)
+                visit = Visit(self, request, session, attempt == 0)
+                reply = self.answered(visit, handler, parts)
+                visit.confirm()
+                return reply
             except Moved:
                 continue
         return self.error(request, Reply(503), {"error": "busy"})

@@ -2,9 +2,10 @@
 
     growth = Growth(door, daily_bytes=10_000_000, full=Path("/run/moo/world.full"))
     writer.bound = growth.test
+    writer.listeners.append(growth.take)
 
-Bytes are those of the calls and answers of accepted batches. Wizards may add ten times as many. All bytes of a day may be added at once, and then as
-many as time brings back. A front that is started anew has forgotten what was added. A world is full while there is a file that says so:
+Bytes are those of accepted batches: of their calls, and of the answers that the journal keeps. What wasn't accepted costs nothing. Wizards
+may add ten times as many. All bytes of a day may be added at once, and then as many as time brings back. A front that is started anew has forgotten what was added. A world is full while there is a file that says so:
 `moo-watch` makes it when the service takes three quarters of the memory that it may have.
 """
 
@@ -19,7 +20,8 @@ from moolib.calls import READING as READING_CALLS
 from moolib.calls import call_name
 from moolib.values import Obj, read, written
 
-from moo_web.journal.writer import TooMuch
+from moo_web.journal.jobs import TooMuch
+from moo_web.journal.segments import Accepted
 from moo_web.world.door import Door, TooLong, batch_body
 
 DAY = 86_400.0
@@ -47,15 +49,16 @@ class Allowance:
         self.daily, self.clock = daily, clock
         self.left: dict[str, tuple[float, float]] = {}
 
-    def take(self, name: str, amount: int) -> float:
-        """Takes bytes of this name's, and gives 0; or gives how many seconds it has to wait, if none are left."""
-        left, now = self.now_left(name), self.clock()
-        if left <= 0:
-            return (1 - left) * DAY / self.daily
-        self.left[name] = (left - amount, now)
+    def wait(self, name: str) -> float:
+        """How many seconds this name has to wait until it may add something; 0 if it may now."""
+        left = self.now_left(name)
+        return 0.0 if left > 0 else (1 - left) * DAY / self.daily
+
+    def take(self, name: str, amount: int) -> None:
+        """Takes bytes of this name's."""
+        self.left[name] = (self.now_left(name) - amount, self.clock())
         if len(self.left) > MOST_NAMES:
             self.left = {other: at for other, at in self.left.items() if self.now_left(other) < self.daily}
-        return 0.0
 
     def now_left(self, name: str) -> float:
         """How many bytes are left to this name."""
@@ -72,23 +75,30 @@ class Growth:
         self.door, self.full = door, full
         self.of_people, self.of_wizards = Allowance(daily_bytes, clock), Allowance(FOR_WIZARDS * daily_bytes, clock)
 
-    def test(self, who: str, programmer: int, calls: list[str], answers: list[str]) -> None:
-        """Counts a batch that would be accepted. `TooMuch`: it is more than the person may add. `Unreachable`: moo doesn't answer."""
+    def test(self, who: str, programmer: int, calls: list[str]) -> None:
+        """`TooMuch`: a batch that would be accepted is more than the person may add. `Unreachable`: moo doesn't answer."""
         if self.full and os.path.exists(self.full) and any(call_name(call) not in SHRINKING for call in calls):
             raise TooMuch(OF_ALL, NEXT_LOOK)
         if asked := [call for call in calls if call_name(call) == "petition"]:
             self.test_petitions(programmer, asked)
-        size = sum(map(len, calls)) + sum(map(len, answers))
-        wait = self.of_people.take(who.lower(), size)
+        wait = self.of_people.wait(who.lower())
         if wait and self.is_wizard(programmer):
-            wait = self.of_wizards.take(who.lower(), size)
+            wait = self.of_wizards.wait(who.lower())
         if wait:
             raise TooMuch(OF_BYTES.format(seconds=wait), wait)
+
+    def take(self, accepted: Accepted) -> None:
+        """Counts a batch that was accepted. A wizard's bytes are those of a person first."""
+        name = accepted.who.lower()
+        allowance = self.of_wizards if self.of_people.wait(name) else self.of_people
+        allowance.take(name, sum(map(len, accepted.calls)) + sum(map(len, accepted.answers or [])))
 
     def test_petitions(self, programmer: int, asked: list[str]) -> None:
         """`TooMuch`: these petitions are too many, or too long, with those that the programmer has made and that aren't decided."""
         try:
-            answer = self.door.asked("POST", "/ask", batch_body(programmer, ["petitions()"]), time.monotonic() + READING)
+            answer = self.door.asked("POST", "/ask?why", batch_body(programmer, ["petitions()"]), time.monotonic() + READING)
+            if answer.is_too_much:
+                raise TooLong
         except TooLong:
             raise TooMuch(OF_PETITION_BYTES, NEXT_PETITION) from None
         found = read(answer.said["answers"][0]) if answer.status == 200 else []

@@ -9,10 +9,10 @@ from http import HTTPStatus
 from typing import Callable, NamedTuple
 
 from moo_web.app import FOR_PROGRAMS, JSON, Observer, Reply, Request
-from moo_web.people.people import Person
+from moo_web.people.person import Person
 from moo_web.programs import utc
 from moo_web.status.access import AccessLog
-from moo_web.status.meters import Meters
+from moo_web.status.meters import Meters, kind_of
 from moo_web.status.metrics import OTHER
 
 # A longer body isn't a refusal.
@@ -66,11 +66,11 @@ class Activity(Observer):
 
 
 def word_in(reply: Reply) -> str:
-    """The word for a refusal in JSON; nothing, if there is none."""
+    """The kind of a refusal in JSON; nothing, if there is none."""
     if reply.kind != JSON or len(reply.body) > LONGEST_REFUSAL:
         return ""
     try:
         said = json.loads(reply.body)
     except ValueError:
         return ""
-    return str(said.get("error", "")) if isinstance(said, dict) else ""
+    return kind_of(str(said.get("error", "")), str(said.get("why", ""))) if isinstance(said, dict) else ""

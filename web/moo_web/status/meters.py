@@ -2,11 +2,13 @@
 
 from __future__ import annotations
 
+from moolib.errors import is_too_much
 from moolib.service import Answer
 
 from moo_web.status.metrics import Counter, Histogram, Metric
 
 LOST = "no answer"
+TOO_MUCH = "too much"
 
 
 class Meters:
@@ -29,4 +31,9 @@ class Meters:
         """Counts a request to moo; None: no answer came."""
         self.moo_seconds.take(seconds, "/" + target[1:].partition("?")[0].partition("/")[0])
         if answer is None or answer.error:
-            self.refusals.add("moo", answer.error if answer else LOST)
+            self.refusals.add("moo", kind_of(answer.error, answer.why) if answer else LOST)
+
+
+def kind_of(error: str, why: str) -> str:
+    """The kind of a refusal: its error, or that it was too much work for one request. Memory isn't short then."""
+    return TOO_MUCH if is_too_much(error, why) else error

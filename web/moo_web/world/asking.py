@@ -25,6 +25,7 @@ class Refusal(NamedTuple):
 
 
 TOO_LONG = Said("too long", False, "its answer is too long to be shown")
+TOO_MUCH = Said("too much", False, "it is too much work for one request")
 
 
 class Asker:
@@ -49,14 +50,18 @@ class Asker:
         return found
 
     def part(self, number: int, calls: list[str], seq: int, end: float) -> list[Said]:
-        """The same of at most 1,000 calls. If their answers are too long together they are asked for in halves."""
+        """The same of at most 1,000 calls. What is too much for one request, or has too long an answer, is asked for in halves."""
+        alone = TOO_LONG
         try:
             said = self.door.alone(number, calls, seq, end - time.monotonic())
+            if not isinstance(said, Answer):
+                return said
+            if not said.is_too_much:
+                raise Moved if said.error == "stale" else Unreachable
+            alone = TOO_MUCH
         except TooLong:
-            if len(calls) == 1:
-                return [TOO_LONG]
-            middle = len(calls) // 2
-            return self.part(number, calls[:middle], seq, end) + self.part(number, calls[middle:], seq, end)
-        if isinstance(said, Answer):
-            raise Moved if said.error == "stale" else Unreachable
-        return said
+            pass
+        if len(calls) == 1:
+            return [alone]
+        middle = len(calls) // 2
+        return self.part(number, calls[:middle], seq, end) + self.part(number, calls[middle:], seq, end)

@@ -5,10 +5,11 @@ A request that changes nothing is sent again until an answer comes (`Door.asked`
 
 from __future__ import annotations
 
+import contextlib
 import time
-from typing import IO, Callable
+from typing import IO, Callable, ContextManager
 
-from moolib.errors import TooLong, Unreachable
+from moolib.errors import LostAnswer, NoService, TooLong, Unreachable
 from moolib.service import WAIT, Answer, Service, batch_body, packed
 
 from moo_web.traffic.turns import Turnstile
@@ -40,29 +41,37 @@ class Door(Service):
         super().__init__(port, wait=wait, longest=LONGEST_ANSWER)
         self.turnstile, self.note = turnstile, note
 
+    def turn(self, end: float) -> ContextManager[None]:
+        """The turn of a request, if there is a turnstile. `NoService`: it didn't come before the moment `end`. `NobodyWaits`: as there."""
+        return self.turnstile.turn(end) if self.turnstile else contextlib.nullcontext()
+
     def sent(self, method: str, route: str, body: bytes | None = None, wait: float | None = None) -> Answer:
         """The answer to one request, whatever it says. With a turnstile it has its turn first, or `NobodyWaits`."""
-        if self.turnstile is None:
-            return self.timed(method, route, body, wait)
         end = time.monotonic() + (self.wait if wait is None else wait)
-        with self.turnstile.turn(end):
-            return self.timed(method, route, body, max(0.0, end - time.monotonic()))
+        with self.turn(end):
+            began, answer = time.monotonic(), None
+            try:
+                answer = super().sent(method, route, body, max(0.0, end - began))
+                return answer
+            finally:
+                self.note(route, time.monotonic() - began, answer)
 
-    def timed(self, method: str, route: str, body: bytes | None, wait: float | None) -> Answer:
-        """The same at once, of which note is taken."""
-        began, answer = time.monotonic(), None
+    def copied(self, route: str, file: IO[bytes], end: float | None = None) -> Answer | None:
+        """As a service has it, in its turn too, for which it waits until the moment `end` of the monotonic clock.
+
+        `Unreachable`: no answer came whole. `NobodyWaits`: as `sent` has it.
+        """
         try:
-            answer = super().sent(method, route, body, wait)
-            return answer
-        finally:
-            self.note(route, time.monotonic() - began, answer)
-
-    def copied(self, route: str, file: IO[bytes]) -> Answer | None:
-        """As a service has it, of which note is taken too."""
-        began = time.monotonic()
-        refusal = super().copied(route, file)
-        self.note(route, time.monotonic() - began, refusal or said_by(200))
-        return refusal
+            with self.turn(time.monotonic() + self.wait if end is None else end):
+                began, answer = time.monotonic(), None
+                try:
+                    refusal = super().copied(route, file)
+                    answer = refusal or said_by(200)
+                    return refusal
+                finally:
+                    self.note(route, time.monotonic() - began, answer)
+        except (NoService, LostAnswer) as error:
+            raise Unreachable(str(error)) from error
 
     def asked(self, method: str, path: str, body: bytes | None, end: float) -> Answer:
         """The answer to a request that changes nothing. It is sent again until one comes, or until the moment `end` of the monotonic clock.

@@ -127,16 +127,20 @@ class Index:
         """Whether the writer has told of no batch after this world."""
         return self.told_seq <= world.seq
 
+    def is_present(self, world: World) -> bool:
+        """Whether this is the world as it is now. `Unreachable`: moo didn't tell in time."""
+        return self.number(time.monotonic() + READING) == world.seq
+
     def world(self) -> World:
         """The world as it is now. `Unreachable`: moo didn't tell in time."""
         end = time.monotonic() + READING
-        kept = self.kept
-        if kept and kept.seq == self.number(end):
+        kept, seq = self.kept, self.number(end)
+        if kept and kept.seq == seq:
             return kept
         if not self.turn.acquire(timeout=max(0.0, end - time.monotonic())):
             raise Unreachable
         try:
-            self.kept = self.brought_up(end)
+            self.kept = self.brought_up(seq, end)
             return self.kept
         finally:
             self.turn.release()
@@ -149,9 +153,12 @@ class Index:
             raise Unreachable
         return seq
 
-    def brought_up(self, end: float) -> World:
-        """The world of the present number, or of a later one."""
-        seq, kept = self.number(end), self.kept
+    def brought_up(self, seq: int, end: float) -> World:
+        """The world of this number, which moo has told, or of a later one."""
+        kept = self.kept
+        if kept and kept.seq > seq:
+            # Another page has brought it up meanwhile, or an older copy is served.
+            seq = self.number(end)
         if kept and kept.seq == seq:
             return kept
         if kept and kept.seq < seq and self.is_told(seq, end):

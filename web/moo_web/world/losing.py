@@ -5,7 +5,7 @@ from __future__ import annotations
 import time
 from typing import Callable
 
-from moolib.draft import first_calls
+from moolib.slots import first_calls
 from moolib.calls import read_or_none
 from moolib.facts import Facts, TooMuch
 from moolib.losses import Losses, may_lose

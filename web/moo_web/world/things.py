@@ -4,10 +4,12 @@ from __future__ import annotations
 
 import functools
 import sys
-from typing import Any, Iterator, NamedTuple
+from collections.abc import Iterator, Mapping, Sequence
+from typing import Any, NamedTuple, Optional
 
+from moo_web.world.layers import Layered
 from moo_web.world.linking import Links, Relinking, links_of, relinked
-from moo_web.world.names import MOST_RENAMINGS, Names, Renaming
+from moo_web.world.names import Names
 
 # The names of the bits, in the order of their values 1, 2, 4 ..
 BITS = ("player", "programmer", "wizard", "r", "w", "f")
@@ -52,20 +54,18 @@ class World:
 
     `things` has them by their numbers, ascending. `children`, `contents` and `owned` have the numbers of those under an object, in it and
     of it, ascending; an object without any isn't in there. Under -1 are those without a parent, a location and an owner. `marked` has those
-    with a bit by its place in `BITS`, for the bits of `LISTED`.
+    with a bit by its place in `BITS`, for the bits of `LISTED`. The world of the next number shares with it what hasn't changed.
     """
 
-    def __init__(self, seq: int, things: dict[int, Thing], children: Links, contents: Links, owned: Links, marked: Links) -> None:
+    def __init__(self, seq: int, things: Layered[Thing], children: Links, contents: Links, owned: Links, marked: Links) -> None:
         self.seq, self.things = seq, things
         self.children, self.contents, self.owned, self.marked = children, contents, owned, marked
-        # The names of a world before this one, and what has changed of them: they are put in order by the next search.
-        self.former: tuple[Names, list[Renaming]] | None = None
 
     @classmethod
     def made(cls, seq: int, things: dict[int, Thing]) -> World:
         """The world of these objects."""
         return cls(
-            seq, things, links_of((thing.parent, number) for number, thing in things.items()),
+            seq, Layered(things), links_of((thing.parent, number) for number, thing in things.items()),
             links_of((thing.location, number) for number, thing in things.items()),
             links_of((thing.owner, number) for number, thing in things.items()),
             links_of((place, number) for place in LISTED for number, thing in things.items() if thing.bits >> place & 1),
@@ -73,41 +73,29 @@ class World:
 
     @functools.cached_property
     def names(self) -> Names:
-        """The names of the objects, for searches."""
-        if self.former:
-            former, changes = self.former
-            return former.changed(changes)
+        """The names of the objects, for searches: they are put in order by the first one."""
         return Names.of((number, thing.name) for number, thing in self.things.items())
 
-    def former_of_next(self, changes: list[Renaming]) -> tuple[Names, list[Renaming]] | None:
-        """The names that are known, and what will have changed after these changes. None: nothing is known, or it is too much."""
-        names, before = (self.names, []) if "names" in self.__dict__ else self.former or (None, [])
-        return (names, before + changes) if names and len(before) + len(changes) <= MOST_RENAMINGS else None
-
-    def changed(self, seq: int, found: dict[int, Thing | None]) -> World:
+    def changed(self, seq: int, found: Mapping[int, Optional[Thing]]) -> World:
         """The world in which these objects are as they were found; None: they are gone. What was found comes ascending."""
-        things = self.things.copy()
-        former = {number: things.get(number) for number in found}
-        for number, thing in found.items():
-            if thing is None:
-                things.pop(number, None)
-            else:
-                things[number] = thing
-        pairs = [(number, former[number], thing) for number, thing in found.items()]
+        pairs = [(number, self.things.get(number), thing) for number, thing in found.items()]
         made = World(
-            seq, things, relinked(self.children, ((number, old and old.parent, new and new.parent) for number, old, new in pairs)),
+            seq, self.things.changed(found),
+            relinked(self.children, ((number, old and old.parent, new and new.parent) for number, old, new in pairs)),
             relinked(self.contents, ((number, old and old.location, new and new.location) for number, old, new in pairs)),
             relinked(self.owned, ((number, old and old.owner, new and new.owner) for number, old, new in pairs)),
             relinked(self.marked, (change for pair in pairs for change in remarked(*pair))),
         )  # fmt: skip
-        made.former = self.former_of_next(
-            [(number, old and old.name, new and new.name) for number, old, new in pairs if (old and old.name) != (new and new.name)]
-        )
+        if "names" in self.__dict__:
+            renamed = {number: new and new.name for number, old, new in pairs if (old and old.name) != (new and new.name)}
+            if names := self.names.changed(renamed):
+                made.names = names
         return made
 
-    def with_bit(self, bit: str) -> tuple[int, ...]:
+    def with_bit(self, bit: str) -> Sequence[int]:
         """The numbers of the objects with this bit, ascending. It is one of `player`, `wizard` and `f`."""
-        return self.marked.get(BITS.index(bit), ())
+        numbers: Sequence[int] = self.marked.get(BITS.index(bit), ())
+        return numbers
 
     @property
     def top(self) -> int:
@@ -135,7 +123,7 @@ class World:
         return number in self.things and self.things[number].has("wizard")
 
 
-def remarked(number: int, old: Thing | None, new: Thing | None) -> Iterator[Relinking]:
+def remarked(number: int, old: Optional[Thing], new: Optional[Thing]) -> Iterator[Relinking]:
     """What changes of the bits of an object that are listed."""
     for place in LISTED:
         was, now = old is not None and old.bits >> place & 1, new is not None and new.bits >> place & 1

@@ -6,7 +6,7 @@ import collections
 import itertools
 from typing import Sequence
 
-from moo_web.world.linking import Links, is_in
+from moo_web.world.linking import Links, is_among
 from moo_web.world.things import World
 
 # So many objects are shown in all, and of leaves under one object so many.
@@ -41,7 +41,7 @@ def picked(world: World, links: Links, number: int) -> list[int]:
     """Those under an object that are shown: first those with something under them, then some others. One or two aren't left out."""
     under = links.get(number, ())
     # Of many that are under it few have something under them, and then these are looked through.
-    branches = (one for one in under if one in links) if len(under) < len(links) else (one for one in sorted(links) if is_in(under, one))
+    branches = (one for one in under if one in links) if len(under) < len(links) else (one for one in sorted(links) if is_among(under, one))
     shown = list(itertools.islice(branches, MOST_BRANCHES))
     most = MOST_LEAVES + 2 if len(under) - len(shown) <= MOST_LEAVES + 2 else MOST_LEAVES
     for one in under:

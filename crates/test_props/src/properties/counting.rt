@@ -53,6 +53,10 @@ fn one_more(count: &mut u32) {
 impl Rows for Counting {
     ghost held = { λ c. c.rows };
 
+    fn may_call(&mut self) -> bool {
+        self.rows.may_call()
+    }
+
     fn head(&self) -> Head {
         self.rows.head()
     }

@@ -197,7 +197,7 @@ pub(super) fn moved<R: Rows>(
     assert!(rt; valid(rows, ObjNo(x)));
     assert!(rt; valid(rows, ObjNo(new)));
     assert!(rt; !is_under(rows, ObjNo(new), ObjNo(x)));
-    assert!(rt; shares_property_name(rows, ObjNo(x), ObjNo(new)).is_none());
+    assert!(rt; shares_property_name(alloc, rows, ObjNo(x), ObjNo(new))?.is_none());
     Ok(reparent(alloc, rows, ObjNo(x), ObjNo(new))?)
 }
 

@@ -1,4 +1,5 @@
 use Rattle.std.{proofs.Common.{◌≡◌, ◌+◌, [], ◌∷◌, ◌++◌, length, drop, sym, ap, ◌∙◌, subst, rules, arith}, proofs.lemmas.Grind.{common_steps}}
+use Rattle.moo_rows.specs.Maps.{Base}
 use Rattle.moo_calls_shared.specs.Reasons.{error_of}
 use Rattle.moo_batch.proofs.Running.{HaveRunSoFar, run-started, run-one_more, run-ended, run-kept, run-failed, run-full}
 use Rattle.moo_batch.proofs.judging.run_calls.Goals as goal
@@ -25,11 +26,16 @@ pub returns-in-Err-Full-clause-comes : goal.returns-in-Err-Full-clause-comes
 returns-in-Err-Full-clause-comes g c =
     run-full c.call-item.result (drop (c.loop-call.call-index + 1) c.args.calls.now) c.len.result (omega arith) (grind (arith, common_steps)) c.loop-call.invariant.0 (rw c.in-Err-Full.field-0-is at c.in-Err-Full.ensures.reaches)
 
+pub step_on-requires-clause-leave : goal.step_on-requires-clause-leave
+step_on-requires-clause-leave g c = ap (λ (b : Base). b.is_spent) c.loop-call.invariant.0.kept.base ∙ c.requires.leave
+
 pub loop-call-preserved : goal.loop-call-preserved
 loop-call-preserved g c =
     let pushed : c.push.new.self.items ≡ c.loop-call.answers.items ++ c.in-Ok.answer ∷ [] = search rules in
-    let left = drop (c.loop-call.call-index + 1) c.args.calls.now in (
-      run-one_more c.call-item.result left c.in-Ok.answer c.push.new.self.items _ pushed (grind (arith, common_steps)) c.loop-call.invariant.0 c.in-Ok.ensures.reaches c.in-Ok.ensures.kept,
+    let left = drop (c.loop-call.call-index + 1) c.args.calls.now in
+    let same : g.R.Rows.held c.may_follow.new.rows ≡ g.R.Rows.held c.step_on.new.rows = c.may_follow.ensures (search rules) in (
+      subst (λ now. HaveRunSoFar (g.R.Rows.held c.args.rows.now) c.args.programmer c.args.calls.now c.push.new.self.items now left) (sym same)
+          (run-one_more c.call-item.result left c.in-Ok.answer c.push.new.self.items _ pushed (grind (arith, common_steps)) c.loop-call.invariant.0 c.in-Ok.ensures.reaches c.in-Ok.ensures.kept),
       ap length pushed ∙ grind (arith, common_steps),
     )
 

@@ -1,15 +1,15 @@
 use Rattle.moo_damage.{proofs.Words.{None, subst, lost_kind, loop_kind, InRows, IsLeast}, proofs.Good.{links_hold}, proofs.InTurn.{none_more}, proofs.Searched.{of_object, lost_least, loops_least, told, after_lost}}
 use Rattle.moo_damage.proofs.damage.wrong_link.Goals as goal
 
-pub first_loop-requires : goal.first_loop-requires
-first_loop-requires g c = links_hold c.args.link (g.R.Rows.held c.args.rows.now).maps c.requires.numbers c.in_default.ensures
+pub looping_object-requires-clause-links : goal.looping_object-requires-clause-links
+looping_object-requires-clause-links g c = links_hold c.args.link (g.R.Rows.held c.args.rows.now).maps c.requires.numbers c.in_default.ensures
 
 pub returns-in-Some-clause-first : goal.returns-in-Some-clause-first
 returns-in-Some-clause-first g c =
     let m = (g.R.Rows.held c.args.rows.now).maps in
     let link = c.args.link in
     told m (lost_kind link) _ _ _ c.lost.ensures c.object_key.ensures c.requires.before
-    (subst (λ o. IsLeast (InRows m (lost_kind link)) (of_object o)) c.in-Some.is (lost_least m link c.first_lost.result c.first_lost.ensures))
+    (subst (λ o. IsLeast (InRows m (lost_kind link)) (of_object o)) c.in-Some.is (lost_least m link c.lost_object.result c.lost_object.ensures))
 
 pub returns-in-Some-2-clause-first : goal.returns-in-Some-2-clause-first
 returns-in-Some-2-clause-first g c =

@@ -2,6 +2,3 @@ use Rattle.moo_http_response.proofs.respond.respond.Goals as goal
 
 pub returns-in-Closed : goal.returns-in-Closed
 returns-in-Closed c = rw c.in-Closed.is c.error.ensures
-
-pub returns-in-NoMemory : goal.returns-in-NoMemory
-returns-in-NoMemory c = rw c.in-NoMemory.is c.error-in-NoMemory.ensures

@@ -1,6 +1,6 @@
 use Rattle.moo_memory.proofs.Words.{ap, ◌∙◌, pos, insert, ObjNo, Maps, Held}
 use Rattle.moo_memory.proofs.opening.put_opening.Goals as goal
-use Rattle.moo_rows.{specs.declared.row.Head.{Head}, specs.declared.row.ObjRow.{ObjRow}, specs.Opening.{system_object, root_class, first_room, wizard}}
+use Rattle.moo_rows.{specs.Maps.{Base}, specs.declared.row.Head.{Head}, specs.declared.row.ObjRow.{ObjRow}, specs.Opening.{system_object, root_class, first_room, wizard}}
 
 abbrev of : Held → Maps
 of h = h.maps
@@ -22,7 +22,7 @@ returns-clause-maps g c none =
     let e3 = ap of (c.in_ok-put_row-3.ensures first_room c.first_room.ensures) ∙ ap (put_on (record { 0 = pos 2 }) first_room) e2 in
     ap of (c.in_ok-put_row-4.ensures wizard c.wizard.ensures) ∙ ap (put_on (record { 0 = pos 3 }) wizard) e3
 
-abbrev base_of : Held → Maps
+abbrev base_of : Held → Base
 base_of h = h.base
 
 pub returns-clause-base : goal.returns-clause-base

@@ -15,4 +15,5 @@ invariant_of-self-2 g c =
           (λ l e f. put-there l c.args.row (may_have_own c.add.new.self l c.args.key) (λ h. c.in_ok-add.ensures.there l (ap (has_link l) c.ties.ensures ∙ h) f) e),
       c.self.invariant.1,
       c.self.invariant.2,
+      c.put.ensures.most c.self.invariant.3,
     )

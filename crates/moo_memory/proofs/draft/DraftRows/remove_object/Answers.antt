@@ -8,4 +8,4 @@ pub returns-clause-err : goal.returns-clause-err
 returns-clause-err g c = seen-refused object_total object_exact (λ t. t.objects) (λ m t. record t { objects = m }) c.self.view_is c.put.result _ _ _ _ refl c.put.ensures.err
 
 pub invariant_of-self : goal.invariant_of-self
-invariant_of-self g c = (either-change (get (g.R.Rows.held c.self.inside.base.now).maps.objects) _ _ c.put.result _ _ _ c.args.key None c.put.ensures.ok c.put.ensures.err c.self.invariant.0 (λ l e f. refl), c.self.invariant.1, c.self.invariant.2)
+invariant_of-self g c = (either-change (get (g.R.Rows.held c.self.inside.base.now).maps.objects) _ _ c.put.result _ _ _ c.args.key None c.put.ensures.ok c.put.ensures.err c.self.invariant.0 (λ l e f. refl), c.self.invariant.1, c.self.invariant.2, c.put.ensures.most c.self.invariant.3)

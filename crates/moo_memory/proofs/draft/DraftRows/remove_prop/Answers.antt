@@ -9,4 +9,5 @@ invariant_of-self-2 g c = (
   c.self.invariant.0,
   draft-remove _ _ c.args.key (contents slot_cmp c.self.inside.definers) (contents slot_cmp c.forget_defined.new.pairs) c.in_ok-put.ensures.ok.0 c.self.invariant.1 (λ x id other e. c.forget_defined.ensures x id other e),
   draft-untag _ _ c.args.key (contents named_cmp c.self.inside.names) (contents named_cmp c.forget_tagged.new.names) c.in_ok-put.ensures.ok.0 c.self.invariant.2 (λ p apart h. c.forget_tagged.ensures p.0 p.1 (λ same. absurd (apart same)) h),
+  c.in_ok-put.ensures.most c.self.invariant.3,
 )

@@ -1,5 +1,5 @@
-use Rattle.moo_memory.{proofs.Words.{None, sym, ap, ◌∙◌, unwrap_or, get, get-empty, from_entries, object_cmp, prop_cmp, row_has, row_defined}, proofs.Overlays.{overlaid-none}}
-use Rattle.moo_memory.proofs.draft.Draft.new.Goals as goal
+use Rattle.moo_memory.{proofs.Words.{rules, None, sym, ap, ◌∙◌, unwrap_or, get, get-empty, from_entries, object_cmp, prop_cmp, row_has, row_defined}, proofs.Overlays.{overlaid-none}}
+use Rattle.moo_memory.proofs.draft.Draft.within.Goals as goal
 use Rattle.std.proofs.lemmas.Option.{none-some}
 
 pub returns-clause-maps : goal.returns-clause-maps
@@ -17,4 +17,5 @@ invariant_of-result g c = (
   λ link key _ _. ap (λ o. row_has link (unwrap_or o None)) (ap (λ es. get (from_entries {R = object_cmp} es) key) c.new.ensures.empty ∙ get-empty object_cmp key),
   λ x id _. ap (λ o. row_defined x (unwrap_or o None)) (ap (λ es. get (from_entries {R = prop_cmp} es) id) c.new-2.ensures.empty ∙ get-empty prop_cmp id),
   λ id row h. absurd (none-some row (sym (ap (λ o. unwrap_or o None) (ap (λ es. get (from_entries {R = prop_cmp} es) id) c.new-2.ensures.empty ∙ get-empty prop_cmp id)) ∙ h)),
+  search rules,
 )

@@ -1,0 +1,27 @@
+-- How many ticks are left after a batch.
+use Rattle.std.specs.Prelude.{◌≡◌, ◌≢◌, ◌≤◌, ◌<◌, ℕ, Option, None, Some, [], ⊤}
+use Rattle.moo_batch.specs.declared.judging.Verdict.{Verdict}
+use Rattle.moo_batch.specs.declared.judging.Verdict.TheVariants.{Accepted, Refused, Full, Stale, OutOfMemory}
+
+-- no ticks come back; without a bound there is none afterwards either
+abbrev pub NoneComeBack : Option ℕ → Option ℕ → Type 0
+NoneComeBack None new = new ≡ None
+NoneComeBack (Some old) new = (left : ℕ) × (new ≡ Some left) × (left ≤ old)
+
+-- one was taken at least
+abbrev pub TakesOne : Option ℕ → Option ℕ → Type 0
+TakesOne None new = new ≡ None
+TakesOne (Some old) new = (left : ℕ) × (new ≡ Some left) × (left < old)
+
+-- a call was made, and memory didn't run out
+abbrev pub HasMadeCall : Verdict → Type 0
+HasMadeCall (Accepted answers changes) = answers ≢ []
+HasMadeCall (Refused call code) = ⊤
+HasMadeCall (Full call) = call ≢ 0
+HasMadeCall (Stale seq) = ⊥
+HasMadeCall OutOfMemory = ⊥
+
+-- none come back, and a batch of which a call was made takes one at least, whatever came of it
+abbrev pub TakesTicks : Option ℕ → Option ℕ → Verdict → Type 0
+TakesTicks None new verdict = new ≡ None
+TakesTicks (Some old) new verdict = (left : ℕ) × (new ≡ Some left) × (left ≤ old) × (HasMadeCall verdict → left < old)

@@ -1,0 +1,74 @@
+//! One look at each object, which shows of most rows that nothing is wrong with the numbers and the links of objects.
+
+ghost use Rattle.std.specs.Prelude.{◌≡◌, IsTrue, IfOk, true};
+ghost use Rattle.moo_damage.specs.Damage.{is_object_past, is_lost, LinksHold};
+ghost use Rattle.moo_damage.specs.First.{IsLeastPassing};
+ghost use Rattle.moo_damage.specs.Noted.{IsFirstLoop};
+ghost use Rattle.moo_damage.specs.Plain.{ArePlain, is_plain_object};
+
+use crate::checks::{NumberedRow, first_lost, first_past};
+use crate::first::first_bad;
+use crate::trees::{TreeLink, first_loop, goes_down};
+use moo_rows::{ObjRow, Rows};
+use moo_value::ObjNo;
+use std::alloc::{AllocError, Global};
+
+/// Whether the number of an object was given, and both of its links go down.
+fn is_plain_object<R: Rows>(rows: &R, x: ObjNo, row: &ObjRow) -> bool
+    ensures { result ≡ is_plain_object (R.held rows.now).maps x row.now }
+{
+    if ObjRow::is_past(rows.head(), x) {
+        return false;
+    }
+    if !goes_down(rows, TreeLink::Parent, x, row) {
+        return false;
+    }
+    goes_down(rows, TreeLink::Location, x, row)
+}
+
+/// Whether each object is plain. Then none has a number that was never given, a link that names no object, or a chain without an end.
+pub(crate) fn are_plain<R: Rows>(rows: &R) -> bool
+    ensures { IsTrue result → ArePlain (R.held rows.now).maps }
+{
+    first_bad::<ObjRow, R, _>(rows, |x, row| !is_plain_object(rows, x, row)).is_none()
+}
+
+/// The least object whose number was never given, or none. It isn't looked for if the objects are known to be plain.
+pub(crate) fn past_object<R: Rows>(rows: &R, plain: bool) -> Option<ObjNo>
+    requires { plain ≡ true → ArePlain (R.held rows.now).maps }
+    ensures { IsLeastPassing (R.held rows.now).maps.objects (λ x _. is_object_past (R.held rows.now).maps.head x) result }
+{
+    if plain {
+        return None;
+    }
+    first_past::<ObjRow, R>(rows)
+}
+
+/// The least object whose link names neither an object nor `#-1`, or none. It isn't looked for if the objects are known to be plain.
+pub(crate) fn lost_object<R: Rows>(rows: &R, link: TreeLink, plain: bool) -> Option<ObjNo>
+    requires { plain ≡ true → ArePlain (R.held rows.now).maps }
+    ensures { IsLeastPassing (R.held rows.now).maps.objects (λ _ row. is_lost link (R.held rows.now).maps row) result }
+{
+    if plain {
+        return None;
+    }
+    first_lost(rows, link)
+}
+
+/// The least object whose chain of links doesn't end, or none. It isn't looked for if the objects are known to be plain. An `Err` is a
+/// lack of memory.
+pub(crate) fn looping_object<R: Rows>(
+    alloc: Global,
+    rows: &R,
+    link: TreeLink,
+    plain: bool,
+) -> Result<Option<ObjNo>, AllocError>
+    requires links { LinksHold link (R.held rows.now).maps }
+    requires plain { plain ≡ true → ArePlain (R.held rows.now).maps }
+    ensures { IfOk result (IsFirstLoop link (R.held rows.now).maps) }
+{
+    if plain {
+        return Ok(None);
+    }
+    first_loop(alloc, rows, link)
+}

@@ -1,0 +1,59 @@
+//! How often the rows of a draft may be looked up and changed.
+
+ghost use Rattle.std.specs.Prelude.{◌≡◌, ◌<◌, ◌≤◌, ◌+◌, IsTrue};
+
+use std::cell::Cell;
+
+/// No bound: so many ticks nobody spends.
+pub const ENDLESS: u64 = u64::MAX;
+
+/// So many rows may be looked up, put or removed: a tick each. Contracts see how many rows are put and removed, of which there are no more
+/// than ticks. What is spent on look-ups too is in a cell, which no contract sees.
+#[derive(Drop)]
+pub struct Ticks {
+    pub(crate) most: u64,
+    spent: Cell<u64>,
+}
+
+impl Ticks {
+    /// None is spent.
+    pub(crate) fn new(most: u64) -> Ticks
+        ensures { result.most ≡ most }
+    {
+        Ticks {
+            most,
+            spent: Cell::new(0),
+        }
+    }
+
+    /// Spends so many.
+    pub(crate) fn spend(&self, ticks: u64) {
+        self.spent.set(self.spent.get().saturating_add(ticks));
+    }
+
+    /// Whether no more were spent than there were.
+    pub(crate) fn are_kept(&self) -> bool {
+        self.spent.get() <= self.most
+    }
+
+    /// Spends one on a row that is to be put or removed after so many; whether it may be.
+    pub(crate) fn may_put(&self, writes: u64) -> bool
+        ensures { IsTrue result → writes < self.now.most }
+    {
+        self.spend(1);
+        self.are_kept() && writes < self.most
+    }
+
+    /// How many are left after so many rows were put or removed.
+    pub(crate) fn left(&self, writes: u64) -> u64
+        ensures { writes ≤ self.now.most → result + writes ≤ self.now.most }
+    {
+        let unspent = self.most.saturating_sub(self.spent.get());
+        let unwritten = self.most.saturating_sub(writes);
+        if unspent < unwritten {
+            unspent
+        } else {
+            unwritten
+        }
+    }
+}
