@@ -21,11 +21,11 @@ from tests.support.worlds import make
 
 import moo_client
 from moolib import calls, errors, values
-from moolib.calls import Call, NoCall, read_or_none
+from moolib.calls import Call, NoCall, read_about, read_or_none
 from moolib.errors import LostAnswer, NoService, Stranger, TooLong, Unreachable, Unsure
 from moolib.exchange import Exchange
 from moolib.service import Patience, Service, batch_body
-from moolib.values import ErrorValue, NoValue, Obj, TooGreat, read, written
+from moolib.values import ErrorValue, Name, NoValue, Obj, TooGreat, read, written
 
 SEED, COUNT = int(os.environ.get("SEED", 20)), 400
 PAGE = (TOP / "docs/CALLS.md").read_text()
@@ -152,6 +152,25 @@ class Calls(unittest.TestCase):
             self.assertTrue(Call.read(text).is_grave, text)
         for text in ('set(#4, "name", "wizard")', "recycled(#4)", "create(#1)", 'get(#4, "wizard")'):
             self.assertFalse(Call.read(text).is_grave, text)
+
+    def test_what_it_is_about(self) -> None:
+        """An object, or a name of the batch; and a property, if the value after that is a text."""
+        parts = {
+            'set(#5, "name", "a(b")': ("set", Obj(5), "name", 2),
+            ' SET ( $room , "say \\"hi\\"" , {1, $x})': None,
+            ' SET ( $room , "say \\"hi\\"" , {1, 2})': ("set", Name("room"), 'say "hi"', 2),
+            "recycle($room)": ("recycle", Name("room"), "", 0),
+            "move(#4, #2)": ("move", Obj(4), "", 1),
+            "recycle($room": None,
+            "recycle($room,)": None,
+            "create({#1})": None,
+            "players()": None,
+            "$room": None,
+        }
+        for text, expected in parts.items():
+            with self.subTest(text):
+                call = read_about(text)
+                self.assertEqual(call and (call.name, call.subject, call.property, len(call.others)), expected)
 
     def test_names_in_front(self) -> None:
         for text, name in (("create(#1", "create"), (" Sing (", "sing"), ("create", ""), ("#4", ""), ("grantor(1)", "grantor")):

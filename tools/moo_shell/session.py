@@ -25,7 +25,7 @@ from moo_shell.told import Output
 from moo_shell.watching import only_looks
 from moo_shell.world import BUILT_IN, World
 from moolib.batches import Item
-from moolib.calls import LONGEST_CALL, READING, call_name
+from moolib.calls import LONGEST_CALL, READING, call_name, read_about
 from moolib.errors import Failed
 from moolib.lines import Line, counted, did_you_mean, filled, hint, names_in, unfinished, unquoted
 from moolib.values import written
@@ -336,16 +336,15 @@ class Session:
         """A refusal, with the name of a property that is like the one that isn't there; at a prompt else with the call that adds it."""
         if refused.error != "E_PROPNF" or "did you mean" in refused.reason or not 0 < refused.call <= len(items):
             return refused
-        text = items[refused.call - 1].text
-        found = re.match(r'\s*\w+\s*\(\s*(#\d+|\$\w+)\s*,\s*"([^"\\]*)"', text)
-        if found:
-            known = set(BUILT_IN) if call_name(text) in ("get", "set") else set()
+        call = read_about(items[refused.call - 1].text)
+        if call and call.property:
+            known = set(BUILT_IN) if call.name in ("get", "set") else set()
             # An object that the batch was to make isn't there.
             with contextlib.suppress(Failed):
-                known.update(self.world.properties(self.number(found[1])))
-            like = did_you_mean(found[2], sorted(known))
-            if not like and call_name(text) == "set" and self.door.can_name and not self.is_script:
-                like = f'; add_property({found[1]}, "{found[2]}", VALUE, {{#{self.who}, "rc"}}) adds it'
+                known.update(self.world.properties(self.number(str(call.subject))))
+            like = did_you_mean(call.property, sorted(known))
+            if not like and call.name == "set" and self.door.can_name and not self.is_script:
+                like = f'; add_property({call.subject}, {written(call.property)}, VALUE, {{#{self.who}, "rc"}}) adds it'
             refused.reason += like
         return refused
 

@@ -8,13 +8,14 @@
 
 from __future__ import annotations
 
+import contextlib
 import dataclasses
 import functools
 import re
 from collections.abc import Iterable, Iterator
-from typing import Optional
+from typing import Optional, Union
 
-from moolib.values import BLANKS, NoValue, Obj, Value, values_at, written
+from moolib.values import BLANKS, Name, NoValue, Obj, Value, values_at, written
 
 # A line isn't longer than that.
 LONGEST_CALL = 262_144
@@ -35,6 +36,8 @@ LOSING = frozenset("recycle delete_property delete_verb chparent".split())
 GIVING = frozenset("set_player_flag set_property_info set_verb_info".split())
 RIGHTS = frozenset("wizard owner programmer w f".split())
 FRONT = re.compile(r"[ \t]*([A-Za-z_]\w*)[ \t]*\([ \t]*(\)?)", re.ASCII)
+# A name that is the first value of a call, with the sign after it.
+FIRST_NAME = re.compile(r"\$([A-Za-z]\w*)[ \t]*([,)])", re.ASCII)
 
 
 class NoCall(ValueError):
@@ -52,6 +55,19 @@ def call_text(name: str, given: Iterable[object]) -> str:
     return f"{name}({', '.join(map(written, given))})"
 
 
+def values_to_the_end(text: str, place: int, is_closed: bool) -> tuple[Value, ...]:
+    """The values of a call from this place of its text on, where it may be closed already. `NoCall`: something else is there."""
+    values: list[Value] = []
+    try:
+        if not is_closed:
+            values, place = values_at(text, place, ")", any_case=True)
+    except NoValue as error:
+        raise NoCall(str(error)) from error
+    if text[place:].strip(BLANKS) or len(text) > LONGEST_CALL:
+        raise NoCall(f"no call: {text[:200]!r}")
+    return tuple(values)
+
+
 @dataclasses.dataclass(frozen=True)
 class Call:
     """A call of a batch or of a petition: its name, in small letters, and its values. `str` gives its text."""
@@ -63,18 +79,9 @@ class Call:
     def read(text: str) -> Call:
         """The call that a text is, its name and the names of errors in any case. `NoCall`: it isn't one, whatever its name."""
         found = FRONT.match(text)
-        if not found or len(text) > LONGEST_CALL:
+        if not found:
             raise NoCall(f"no call: {text[:200]!r}")
-        values: list[Value] = []
-        place = found.end()
-        try:
-            if not found[2]:
-                values, place = values_at(text, place, ")", any_case=True)
-        except NoValue as error:
-            raise NoCall(str(error)) from error
-        if text[place:].strip(BLANKS):
-            raise NoCall(f"no call: {text[:200]!r}")
-        return Call(found[1].lower(), tuple(values))
+        return Call(found[1].lower(), values_to_the_end(text, found.end(), bool(found[2])))
 
     @staticmethod
     def of(value: Value) -> Call:
@@ -162,3 +169,30 @@ def read_or_none(text: str) -> Optional[Call]:
         return Call.read(text)
     except NoCall:
         return None
+
+
+@dataclasses.dataclass(frozen=True)
+class CallAbout:
+    """A call about an object, or about a name that an earlier call of its batch gives: its name, that first value, and the values after it."""
+
+    name: str
+    subject: Union[Obj, Name]
+    others: tuple[Value, ...]
+
+    @property
+    def property(self) -> str:
+        """The name of the property that it is about; empty if its second value isn't a text."""
+        return self.others[0] if self.others and isinstance(self.others[0], str) else ""
+
+
+def read_about(text: str) -> Optional[CallAbout]:
+    """The call about an object or a name that a text is, or None."""
+    front = FRONT.match(text)
+    first = FIRST_NAME.match(text, front.end()) if front else None
+    if front and first:
+        with contextlib.suppress(NoCall):
+            return CallAbout(front[1].lower(), Name(first[1]), values_to_the_end(text, first.end(), first[2] == ")"))
+        return None
+    call = read_or_none(text)
+    subject = call.values[0] if call and call.values else None
+    return CallAbout(call.name, subject, call.values[1:]) if call and isinstance(subject, Obj) else None

@@ -43,11 +43,11 @@ class ErrorValue:
         return self.name
 
 
+@dataclasses.dataclass(frozen=True)
 class Name:
     """A name in place of a value of a call: it stands for the answer of an earlier call of the same batch. `Name("room")` is $room."""
 
-    def __init__(self, text: str) -> None:
-        self.text = text
+    text: str
 
     def __str__(self) -> str:
         return f"${self.text}"

@@ -8,7 +8,7 @@ from __future__ import annotations
 
 from typing import Callable
 
-from moolib.calls import call_name
+from moolib.calls import call_name, read_about
 from moolib.errors import Failed, words_for
 from moolib.lines import read_line
 
@@ -17,7 +17,7 @@ from moo_web.forms.editor import BATCH, BatchPages
 from moo_web.forms.forms import Form
 from moo_web.forms.handlers import FormResult, me_of
 from moo_web.forms.previews import Preview, Previews
-from moo_web.forms.unread import is_of_value, items_of_lines, readable_lines, second_of, subject_of, with_number
+from moo_web.forms.unread import is_of_value, items_of_lines, readable_lines
 from moo_web.journal.recent import Recent
 from moo_web.journal.segments import Accepted
 from moo_web.journal.undoing import Undo, undone
@@ -128,8 +128,7 @@ def with_known_names(lines: list[str]) -> list[str]:
 
 def shown_line(line: str) -> str:
     """A line without the values in it that the person may not read."""
-    call = with_number(line)
-    subject = subject_of(line)
+    call = read_about(line)
     if call and call.name in ("set", "add_property", "set_property_info", "clear_property"):
-        return f"{call.name} of {second_of(line)} on {subject}"
+        return f"{call.name} of {call.property} on {call.subject}"
     return line if len(line) <= 200 else f"{line[:200]}…"

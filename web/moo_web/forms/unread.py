@@ -9,7 +9,7 @@ from __future__ import annotations
 from typing import Callable
 
 from moolib.batches import Item, resolved
-from moolib.calls import Call, call_name, read_or_none
+from moolib.calls import call_text, read_about
 from moolib.slots import SETTABLE
 from moolib.errors import Failed
 from moolib.lines import read_line
@@ -58,42 +58,26 @@ def unread_now(lines: list[str], ask: Callable[[list[str]], Answer]) -> set[str]
 
 def is_of_value(line: str) -> bool:
     """Whether a line gives a property a value that isn't built in."""
-    return call_name(line) == "set" and (about := second_of(line)) is not None and about.lower() not in SETTABLE
-
-
-def subject_of(line: str) -> str:
-    """The object that a line is about, as it is written: a number or a name."""
-    return line.partition("(")[2].partition(",")[0].rstrip(")")
-
-
-def second_of(line: str) -> str | None:
-    """The name of the property that a line is about."""
-    call = with_number(line)
-    return str(call.values[1]) if call and len(call.values) > 1 else None
-
-
-def with_number(line: str) -> Call | None:
-    """A line as a call, with a number in place of a name that comes first."""
-    head, _, rest = line.partition("(")
-    name, comma, others = rest.partition(",")
-    return read_or_none(f"{head}(#0{comma}{others}" if name.startswith("$") else line)
+    call = read_about(line)
+    return call is not None and call.name == "set" and bool(call.property) and call.property.lower() not in SETTABLE
 
 
 def reading(line: str) -> Item:
     """The call that reads what a line sets."""
-    about = str(second_of(line)).replace("\\", "\\\\").replace('"', '\\"')
-    return Item(f'get({subject_of(line)}, "{about}")')
+    call = read_about(line)
+    assert call, "it sets a value"
+    return Item(call_text("get", (call.subject, call.property)))
 
 
 def hidden_by_rights(lines: list[str], me: int) -> set[int]:
     """The places of lines about slots that were somebody else's, without the letter r: their values, and their rights."""
     found: set[int] = set()
     for place, line in enumerate(lines):
-        call = with_number(line)
-        if call and call.name == "set_property_info" and is_hidden(call.values[2], me):
+        call = read_about(line)
+        if call and call.name == "set_property_info" and is_hidden(call.others[1], me):
             found.add(place)
-            former = lines[place - 1] if place else ""
-            if is_of_value(former) and (subject_of(former), second_of(former)) == (subject_of(line), second_of(line)):
+            former = read_about(lines[place - 1]) if place and is_of_value(lines[place - 1]) else None
+            if former and (former.subject, former.property) == (call.subject, call.property):
                 found.add(place - 1)
     return found
 
