@@ -55,9 +55,9 @@ def broken_links() -> Iterator[str]:
 
 
 def without_readers() -> list[str]:
-    """The pages that don't begin with whom they are for. The one that is for everybody who runs a world says what it has."""
+    """The pages that don't begin with whom they are for."""
     begins = {page.name: page.read_text().split("\n\n")[1] for page in TOP.glob("docs/*.md")}
-    return [name for name, first in begins.items() if not first.startswith("For ") and name != "OPERATING.md"]
+    return [name for name, first in begins.items() if not first.startswith("For ")]
 
 
 def miscounted() -> str:
