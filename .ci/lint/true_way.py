@@ -3,8 +3,8 @@
 What a name in a body means is read off the imports of its file. The type of a method's receiver isn't known, so all methods with the name
 are taken, of the crates that the caller uses: a function may pass for reached that isn't.
 
-A `surface.rt` has calls that the program leaves out: none of them is reached, and no page names one but DEFINITIONS and PROMISES. PROMISES
-says of each call that the program leaves out that it doesn't call it.
+A `surface.rt` has calls that the program leaves out: none of them is reached, and no page names one but PROMISES, which says of each call
+that the program leaves out that it doesn't call it.
 """
 from __future__ import annotations
 
@@ -284,5 +284,4 @@ def cases() -> Iterator[tuple[str, Optional[str]]]:
         if file == SURFACE:
             yield f"{crate}, {SURFACE}.rt", surface_fault(crate, source, program)
     for page in (page for pattern in PAGES for page in sorted(TOP.glob(pattern))):
-        if page.name != "DEFINITIONS.md":
-            yield str(page.relative_to(TOP)), naming_fault(page, program)
+        yield str(page.relative_to(TOP)), naming_fault(page, program)
