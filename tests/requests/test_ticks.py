@@ -69,6 +69,18 @@ class Ticks(ProgramTest):
         self.case("in a batch the first refused one ends it", service.ask(posted("/batch", body([call] * 100))), refused(1, "E_PROPNF"))
         self.case("each request has its own", service.ask(posted("/each", body([call]))), refusal)
 
+    def test_a_call_alone_that_spends_the_last_tick(self):
+        service = self.served(1000)
+        # It looks up more than 1,000 rows before it is refused.
+        call = f'get(#{LAST}, "nosuch")'
+        refusal = answer("200 OK", '{"each":[{"error":"E_PROPNF"}],"seq":2}')
+        self.case("it has its answer", service.ask(posted("/each", body([call]))), refusal)
+        self.case("there is no tick for the next", service.ask(posted("/each", body([call, "valid(#1)"]))), SPENT)
+        self.case("which is named", service.ask(posted("/each?why", body([call, "valid(#1)", "valid(#1)"]))), spent(2, 1000))
+        texts = ["sing()", call, "sing()", "valid(#1)"]
+        self.case("texts that are no calls have numbers", service.ask(posted("/each?why", body(texts))), spent(4, 1000))
+        self.case("in a batch it is refused", service.ask(posted("/batch", body([call, "valid(#1)"]))), refused(1, "E_PROPNF"))
+
     def test_answers_cost(self):
         text = "x" * 64000
         service = self.served(10000)

@@ -2,13 +2,13 @@
 import json
 
 from tests.support.cases import ProgramTest
-from tests.support.exchange import BAD_REQUEST, MOO, NOT_FOUND, TOO_LARGE, RequestTest, accepted, allow, answer, error, malformed, posted
+from tests.support.exchange import BAD_REQUEST, MOO, NO_OBJECT, NOT_FOUND, TOO_LARGE, RequestTest, accepted, allow, answer, error, malformed, posted
 from tests.support.exchange import refused, said, seq, stale
 from tests.support.program import edit, ended
 from tests.support.service import Service
 from tests.support.worlds import make, text_of
 
-BAD, CONFLICT = "400 Bad Request", "409 Conflict"
+BAD, MISSING, CONFLICT = "400 Bad Request", "404 Not Found", "409 Conflict"
 
 
 def told(status, why, **parts):
@@ -18,6 +18,17 @@ def told(status, why, **parts):
 
 def told_refusal(call, code, why):
     return told(CONFLICT, why, call=call, error=code)
+
+
+def unlike(path, method, is_head=False):
+    """The answer to another method than the route has, which says why."""
+    body = {"error": "method not allowed", "why": f"{path} is asked by {method}"}
+    return answer("405 Method Not Allowed", json.dumps(body, separators=(",", ":")), f"allow: {method}\r\n", is_head)
+
+
+def headed(target, method="GET", lines=""):
+    """A request without a body."""
+    return f"{method} {target} HTTP/1.1\r\n{lines}\r\n".encode()
 
 
 NO_NUMBER = "the value of at is neither null nor a number from 0 to 9223372036854775807"
@@ -45,18 +56,42 @@ SHAPES = [
     ("the first of two faults", b'{"as":3,"calls":3}', "the value of as isn't a string"),
 ]
 
-# A request that is refused before its body is looked at, or isn't refused for what it says, is answered as ever.
+# A route, its method, and another one.
+METHODS = [
+    ("/batch", "POST", "GET"), ("/ask", "POST", "PUT"), ("/each", "POST", "post"), ("/seq", "GET", "POST"), ("/object", "GET", "POST"),
+    ("/objects", "GET", "DELETE"), ("/dump", "GET", "POST"),
+]  # fmt: skip
+# Targets of routes with a number that have no number of 32 bits.
+NO_NUMBERS = ["", "/", "/x", "/-", "/+1", "/#1", "/1x", "/2147483648", "/-2147483649"]
+# Targets that no route has.
+NO_ROUTES = ["/", "*", "/nothing", "/seq/", "/SEQ", "/dump/0", "/object/1/2", "/objects//", "/objec", "/objectss", "/object0", "/each/1", "http://localhost/seq"]
+CHUNKED = "chunked bodies aren't read: send content-length"
+NO_LENGTH = "content-length isn't one number"
+# Lines of a head that state no length of a body, and why that is refused.
+LENGTHS = [
+    ("none", "", NO_LENGTH),
+    ("a line without a number", "content-length:\r\n", NO_LENGTH),
+    ("a sign", "content-length: -1\r\n", NO_LENGTH),
+    ("two numbers in a line", "content-length: 2, 2\r\n", NO_LENGTH),
+    ("the same twice", "content-length: 2\r\ncontent-length: 2\r\n", NO_LENGTH),
+    ("eleven digits", "content-length: 00000000002\r\n", NO_LENGTH),
+    ("chunks", "transfer-encoding: chunked\r\n", CHUNKED),
+    ("chunks and a length", "content-length: 2\r\nTransfer-Encoding: chunked\r\n", CHUNKED),
+    ("another coding, and two lengths", "transfer-encoding: gzip\r\ncontent-length: 2\r\ncontent-length: 2\r\n", CHUNKED),
+]
+
+# A request without a whole head, and one that is refused for another cause, is answered as ever.
 AS_EVER = [
     ("no head", b"POST /batch?why\r\n\r\n", BAD_REQUEST),
-    ("no route", b"GET /nothing?why HTTP/1.1\r\n\r\n", NOT_FOUND),
-    ("another method", b"GET /batch?why HTTP/1.1\r\n\r\n", allow("POST")),
-    ("HEAD", b"HEAD /ask?why HTTP/1.1\r\n\r\n", allow("POST", is_head=True)),
-    ("no length", b"POST /batch?why HTTP/1.1\r\n\r\n", BAD_REQUEST),
+    ("a head that is cut off", b"GET /nothing?why HTTP/1.1\r\n", BAD_REQUEST),
+    ("a head of 33 lines", headed("/nothing?why", lines="a: b\r\n" * 33), BAD_REQUEST),
+    ("a page of a browser", headed("/nothing?why", lines="origin: http://localhost\r\n"), answer("403 Forbidden", error("forbidden"))),
+    ("another machine", headed("/objects/x?why", lines="host: example.org\r\n"), answer("403 Forbidden", error("forbidden"))),
     ("a great length", b"POST /batch?why HTTP/1.1\r\ncontent-length: 1048577\r\n\r\n", TOO_LARGE),
     ("a body that is cut off", b'POST /batch?why HTTP/1.1\r\ncontent-length: 9\r\n\r\n{"as":3}', BAD_REQUEST),
     ("another number", posted("/batch?why", b'{"as":"#3","at":7,"calls":["valid(#1)"]}'), stale(0)),
     ("a question", posted("/ask?why", b'{"as":"#3","calls":["create(#1)"]}'), accepted(0, "#4")),
-    ("a number that is no object", b"GET /object/9?why HTTP/1.1\r\n\r\n", answer("404 Not Found", error("E_INVARG"))),
+    ("a number that is no object", b"GET /object/9?why HTTP/1.1\r\n\r\n", NO_OBJECT),
     ("nothing of all this acted", b"GET /seq?why HTTP/1.1\r\n\r\n", seq(0)),
     ("a batch", posted("/batch?why", b'{"as":"#3","calls":["create(#1)"]}'), accepted(1, "#4")),
 ]
@@ -97,9 +132,42 @@ class Why(RequestTest):
     def test_as_ever(self):
         self.in_turn("as ever", AS_EVER)
 
+    def test_methods(self):
+        rows = []
+        for route, method, other in METHODS:
+            for target in [f"{route}/4", f"{route}/x"] if route in ("/object", "/objects") else [route]:
+                for query in QUERIES:
+                    rows.append((f"{other} {target}{query}", headed(f"{target}{query}", other), unlike(route, method)))
+                rows.append((f"HEAD {target}?why", headed(f"{target}?why", "HEAD"), unlike(route, method, is_head=True)))
+                rows.append((f"{other} {target}", headed(target, other), allow(method)))
+        self.in_turn("another method", rows)
+
+    def test_paths(self):
+        rows = []
+        whys = [(f"{route}{rest}", f"{route} wants a number: {route}/0") for route in ("/object", "/objects") for rest in NO_NUMBERS]
+        for target, why in [*whys, *((target, "no route has this path") for target in NO_ROUTES)]:
+            for query in QUERIES:
+                rows.append((f"{target}{query}", headed(f"{target}{query}"), told(MISSING, why, error="not found")))
+            rows.append((target, headed(target), NOT_FOUND))
+        rows.append(("no route, whatever the method", headed("/object?why", "PUT"), told(MISSING, whys[0][1], error="not found")))
+        rows.append(("a query alone", headed("?why"), told(MISSING, "no route has this path", error="not found")))
+        self.in_turn("no path", rows)
+
+    def test_lengths(self):
+        rows = []
+        for name, lines, why in LENGTHS:
+            for route in ("/batch", "/ask", "/each"):
+                for query in QUERIES:
+                    rows.append((f"{name}, {route}{query}", headed(f"{route}{query}", "POST", lines), told(BAD, why, error="bad request")))
+                rows.append((f"{name}, {route}", headed(route, "POST", lines), BAD_REQUEST))
+        self.in_turn("no length", rows)
+
     def test_other_queries(self):
         rows = []
         for query in OTHER_QUERIES:
+            rows.append((f"{query} of no route", headed(f"/nothing{query}"), NOT_FOUND))
+            rows.append((f"{query} of another method", headed(f"/seq{query}", "POST"), allow("GET")))
+            rows.append((f"{query} of no length", headed(f"/batch{query}", "POST"), BAD_REQUEST))
             rows.append((f"{query} of a shape", posted(f"/batch{query}", b"{}"), BAD_REQUEST))
             rows.append((f"{query} of a text", posted(f"/batch{query}", bytes_of(["sing()"])), malformed(1)))
             rows.append((f"{query} of a call", posted(f"/ask{query}", bytes_of(["recycle(#9)"])), refused(1, "E_INVARG")))

@@ -50,7 +50,7 @@ nothing g known old was bytes done unwritten takes at stays =
 -- ---- a request came
 
 answered : {S : Type 0} (g : Ghosts S) (known : Bool) (old : Stand) (was world : World S) (bytes : Traffic) (is_head asks_why : Bool) (asked : Asked) (o : RequestOutcome) (whys : List (Option (List ℕ))) → Takes bytes.left bytes.rest (Request is_head asks_why asked) → IsWhyOf asks_why whys → Consulted g known old world asked o
-    → IsMovedAs g was world asked o → Serves g known old was world bytes (response_text is_head (response_with whys o))
+    → IsMovedAs g was world asked o → Serves g known old was world bytes (response_text is_head (response_with asks_why whys o))
 answered g known old was world bytes is_head asks_why asked o whys takes wanted consulted moved = record {
   received = Request is_head asks_why asked;
   takes = takes;
@@ -65,9 +65,9 @@ answered g known old was world bytes is_head asks_why asked o whys takes wanted 
 pub served : {S : Type 0} (g : Ghosts S) (known : Bool) (r : Result (Unit {0}) ServeFault) (old : Stand) (was world : World S) (bytes : Traffic) (is_head asks_why : Bool) (asked : Asked)
     → Takes bytes.left bytes.rest (Request is_head asks_why asked) → AnswersTo g known old was world is_head asks_why asked r bytes.before bytes.after → IfErr r (λ fault. fault ≢ Read) → Served g known r old was world bytes
 served g known (Ok done) old was world bytes is_head asks_why asked takes (o, whys, wanted, consulted, moved, written) other =
-    (response_text is_head (response_with whys o), answered g known old was world bytes is_head asks_why asked o whys takes wanted consulted moved, written)
+    (response_text is_head (response_with asks_why whys o), answered g known old was world bytes is_head asks_why asked o whys takes wanted consulted moved, written)
 served g known (Err Write) old was world bytes is_head asks_why asked takes (o, whys, wanted, consulted, moved, written) other =
-    (response_text is_head (response_with whys o), answered g known old was world bytes is_head asks_why asked o whys takes wanted consulted moved, written.0, written.1)
+    (response_text is_head (response_with asks_why whys o), answered g known old was world bytes is_head asks_why asked o whys takes wanted consulted moved, written.0, written.1)
 served g known (Err Read) old was world bytes is_head asks_why asked takes it other = absurd (other refl)
 served g known (Err OutOfMemory) old was world bytes is_head asks_why asked takes (o, whys, wanted, consulted, moved, written) other =
-    (written, inr (response_text is_head (response_with whys o), answered g known old was world bytes is_head asks_why asked o whys takes wanted consulted moved))
+    (written, inr (response_text is_head (response_with asks_why whys o), answered g known old was world bytes is_head asks_why asked o whys takes wanted consulted moved))

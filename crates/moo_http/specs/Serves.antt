@@ -18,7 +18,7 @@ use Rattle.moo_http.specs.Traffic.{Traffic}
 use Rattle.moo_http.specs.Ledger.{Ledger, no_batches, IsMovedIn}
 use Rattle.moo_http.specs.Answers.{MayAnswer, Consulted, ledger_by, IsMovedAs}
 
--- it is said why what was asked is refused only if that was asked too
+-- it is said why a body, a batch or a call alone is refused only if that was asked too
 abbrev pub IsWhyOf : Bool → List (Option (List ℕ)) → Type 0
 IsWhyOf asks_why whys = asks_why ≡ false → whys ≡ []
 
@@ -27,7 +27,7 @@ abbrev pub Gets : Stand → Received → List ℕ → Ledger → Stand → Type 
 Gets old Nothing output ledger new = (output ≡ []) × (ledger ≡ no_batches) × (new ≡ old)
 Gets old (Request is_head asks_why asked) output ledger new =
     (o : RequestOutcome) × (whys : List (Option (List ℕ))) × IsWhyOf asks_why whys × MayAnswer old asked o new
-    × (ledger ≡ ledger_by asked o) × (output ≡ response_text is_head (response_with whys o))
+    × (ledger ≡ ledger_by asked o) × (output ≡ response_text is_head (response_with asks_why whys o))
 
 -- the World was moved by the batch that was asked to be run, if it is acknowledged, and by nothing else
 abbrev pub Moved : {S : Type 0} → Ghosts S → World S → World S → Received → Ledger → Type 0
@@ -64,7 +64,7 @@ abbrev pub AnswersTo : {S : Type 0} → Ghosts S → Bool → Stand → World S 
     → Result (Unit {0}) ServeFault → Option (List ℕ) → Option (List ℕ) → Type 0
 AnswersTo g known old was world is_head asks_why asked result before behind =
     (o : RequestOutcome) × (whys : List (Option (List ℕ))) × IsWhyOf asks_why whys × Consulted g known old world asked o
-    × IsMovedAs g was world asked o × Written result before behind (response_text is_head (response_with whys o))
+    × IsMovedAs g was world asked o × Written result before behind (response_text is_head (response_with asks_why whys o))
 
 -- What came of a connection, by the result: its request is served, and the answer written; or a front of the answer; or, if the reader
 -- failed, nothing; or memory was refused, before the World was asked or after that, and nothing is written.

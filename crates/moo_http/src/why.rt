@@ -5,6 +5,7 @@ ghost use Rattle.moo_http_response.specs.Responses.{response_with, response_text
 ghost use Rattle.moo_http.specs.Serves.{IsWhyOf};
 
 use crate::serve::Inquiry;
+use moo_batch::Witness;
 use moo_http_request::{Asked, BodyFault};
 use moo_http_response::{Replies, RequestOutcome, answer_text};
 use moo_reasons::{Whys, call_why};
@@ -88,6 +89,24 @@ fn last_place(asked: &Asked, judged: u32) -> Option<u32> {
     None
 }
 
+/// Which call spent the ticks of the request, if one did. A call alone isn't judged if no tick was left for it, and then it is the one.
+fn spent_why(
+    alloc: Global,
+    seen: &mut Whys,
+    asked: &Asked,
+) -> Result<Vec<Option<String>>, AllocError> {
+    let judged = seen.judged();
+    let why = seen.spent_why(last_place(asked, judged))?;
+    if why.is_some() || seen.ticks() != Some(0) {
+        return one_of(alloc, why);
+    }
+    let Some(place) = last_place(asked, judged.saturating_add(1)) else {
+        return one_of(alloc, why);
+    };
+    seen.see_spent(place);
+    one_of(alloc, seen.spent_why(Some(place))?)
+}
+
 /// Why what was asked is refused, if its body, its batch or one of its calls alone is, or has spent the ticks of the request.
 fn find_whys(
     alloc: Global,
@@ -100,10 +119,7 @@ fn find_whys(
         RequestOutcome::Refused(_) => body_why(alloc, wrong),
         RequestOutcome::Replied(reply) => one_of(alloc, seen.next(reply)?),
         RequestOutcome::Each(replies, _) => each_whys(alloc, seen, replies, bad_texts(wrong)),
-        RequestOutcome::NoMemory => {
-            let place = last_place(&inquiry.asked, seen.judged());
-            one_of(alloc, seen.spent_why(place)?)
-        }
+        RequestOutcome::NoMemory => spent_why(alloc, seen, &inquiry.asked),
         _ => Ok(Vec::new(alloc)),
     }
 }
@@ -117,16 +133,16 @@ pub(crate) fn told_answer(
     outcome: RequestOutcome,
 ) -> Result<Vec<u8>, AllocError>
     ensures { IfOk result (λ bytes. (whys : List (Option (List ℕ))) × IsWhyOf inquiry.now.asks_why whys
-        × (bytes.items ≡ response_text inquiry.now.is_head (response_with whys outcome))) }
+        × (bytes.items ≡ response_text inquiry.now.is_head (response_with inquiry.now.asks_why whys outcome))) }
 {
     let is_head = inquiry.is_head;
     let asks_why = inquiry.asks_why;
     if !asks_why {
-        return answer_text(alloc, outcome, &[], is_head);
+        return answer_text(alloc, outcome, asks_why, &[], is_head);
     }
     let whys = match find_whys(alloc, seen, &outcome, inquiry) {
         Ok(whys) => whys,
         Err(_) => Vec::new(alloc),
     };
-    answer_text(alloc, outcome, &whys, is_head)
+    answer_text(alloc, outcome, asks_why, &whys, is_head)
 }

@@ -27,6 +27,10 @@ IsFoundAmong values Several = 1 < length values
 abbrev pub is_from_page : List Line → Bool
 is_from_page lines = nat_lt 0 (length (values_of (codes "origin") lines))
 
+-- a line names a coding of the body, as of one in chunks
+abbrev pub is_coded : List Line → Bool
+is_coded lines = nat_lt 0 (length (values_of (codes "transfer-encoding") lines))
+
 -- the one text
 abbrev pub only : List (List ℕ) → Option (List ℕ)
 only [] = None

@@ -6,5 +6,5 @@ mod lines;
 mod numbers;
 
 pub use host::is_for_us;
-pub use lines::{is_from_page, stated_length};
+pub use lines::{is_coded, is_from_page, stated_length};
 pub use numbers::{bounded, number_in};

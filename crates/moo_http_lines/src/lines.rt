@@ -2,7 +2,7 @@
 
 ghost use Rattle.std.specs.Prelude.{◌≡◌, length, map, All, option_map};
 ghost use Rattle.httparse.specs.Spans.{IsHeaderWithin, header_bytes};
-ghost use Rattle.moo_http_lines.specs.Lines.{is_line_of, values_of, IsFoundAmong, is_from_page, length_text};
+ghost use Rattle.moo_http_lines.specs.Lines.{is_line_of, values_of, IsFoundAmong, is_from_page, is_coded, length_text};
 
 use httparse::spans::HeaderSpan;
 
@@ -48,6 +48,17 @@ pub fn is_from_page(bytes: &[u8], lines: &[HeaderSpan]) -> bool
     ensures { result ≡ is_from_page (map (header_bytes bytes.now) lines.now) }
 {
     match find(bytes, lines, b"origin") {
+        FoundLine::Nothing => false,
+        _ => true,
+    }
+}
+
+/// Whether a coding of the body is named, as of one in chunks.
+pub fn is_coded(bytes: &[u8], lines: &[HeaderSpan]) -> bool
+    requires within { All (IsHeaderWithin (length bytes.now)) lines.now }
+    ensures { result ≡ is_coded (map (header_bytes bytes.now) lines.now) }
+{
+    match find(bytes, lines, b"transfer-encoding") {
         FoundLine::Nothing => false,
         _ => true,
     }

@@ -8,15 +8,17 @@ use Rattle.moo_http_request.specs.declared.asked.Method.{Method}
 use Rattle.moo_http_request.specs.declared.asked.Method.TheVariants.{Get, Post}
 use Rattle.moo_http_request.specs.declared.asked.Form.{Form}
 use Rattle.moo_http_request.specs.declared.asked.Form.TheVariants as form
-use Rattle.moo_http_request.specs.declared.asked.Refusal.TheVariants.{BadRequest, Forbidden, NotFound, NotAllowed, TooLarge}
+use Rattle.moo_http_request.specs.declared.asked.Refusal.{Refusal}
+use Rattle.moo_http_request.specs.declared.asked.Refusal.TheVariants.{Coded, NoLength, Forbidden, NotFound, NoNumber, NotAllowed, TooLarge}
 use Rattle.moo_http_request.specs.declared.routes.Endpoint.{Endpoint}
 use Rattle.moo_http_request.specs.declared.routes.Endpoint.TheVariants.{Batch, Each, About}
 use Rattle.moo_http_request.specs.declared.question.Question.{Question}
 use Rattle.moo_http_request.specs.declared.plan.Plan.{Plan}
 use Rattle.moo_http_request.specs.declared.plan.Plan.TheVariants.{Decided, Body}
+use Rattle.moo_http_request.specs.declared.question.Topic.{Topic}
 use Rattle.moo_http_request.specs.declared.question.Topic.TheVariants.{Seq, Object, Objects, Dump}
 use Rattle.moo_http_lines.specs.Hosts.{is_own_line}
-use Rattle.moo_http_lines.specs.Lines.{Line, is_from_page, length_text}
+use Rattle.moo_http_lines.specs.Lines.{Line, is_from_page, is_coded, length_text}
 use Rattle.moo_http_lines.specs.Numbers.{bounded_of}
 use Rattle.moo_http_request.specs.Questions.{question_of}
 use Rattle.moo_http_request.specs.Routes.{endpoint_of}
@@ -47,25 +49,29 @@ method_text Post = codes "POST"
 abbrev pub length_of : List Line → Option ℕ
 length_of lines = option_and_then (λ text. if nat_le (length text) 10 then bounded_of 9999999999 text else None) (length_text lines)
 
--- a body says it, if its length is stated and at most 1,048,576
-abbrev pub body_plan : Form → Option ℕ → Plan
-body_plan form None = Decided (Refused BadRequest)
-body_plan form (Some n) = if nat_lt 1048576 n then Decided (Refused TooLarge) else Body form n
+-- why a body has no length: a coding is named, or no one number states it
+abbrev pub length_refusal : List Line → Refusal
+length_refusal lines = if is_coded lines then Coded else NoLength
 
--- the question that the path asks; not found if it asks none
-abbrev pub question_plan : Option Question → Plan
-question_plan None = Decided (Refused NotFound)
-question_plan (Some question) = Decided (Asks question)
+-- a body says it, if its length is stated and at most 1,048,576
+abbrev pub body_plan : Form → List Line → Option ℕ → Plan
+body_plan form lines None = Decided (Refused (length_refusal lines))
+body_plan form lines (Some n) = if nat_lt 1048576 n then Decided (Refused TooLarge) else Body form n
+
+-- the question that a path of the topic asks; if it asks none, it has no number
+abbrev pub question_plan : Topic → Option Question → Plan
+question_plan topic None = Decided (Refused (NoNumber topic))
+question_plan topic (Some question) = Decided (Asks question)
 
 abbrev pub endpoint_plan : Endpoint → List ℕ → List Line → Plan
-endpoint_plan (Batch mode) path lines = body_plan (form.Batch mode) (length_of lines)
-endpoint_plan Each path lines = body_plan form.Each (length_of lines)
-endpoint_plan (About topic) path lines = question_plan (question_of topic path)
+endpoint_plan (Batch mode) path lines = body_plan (form.Batch mode) lines (length_of lines)
+endpoint_plan Each path lines = body_plan form.Each lines (length_of lines)
+endpoint_plan (About topic) path lines = question_plan topic (question_of topic path)
 
 -- the method of a route, then what it needs
 abbrev pub allowed_plan : Endpoint → List ℕ → List ℕ → List Line → Plan
 allowed_plan endpoint method path lines =
-    if bytes_eq method (method_text (method_of endpoint)) then endpoint_plan endpoint path lines else Decided (Refused (NotAllowed (method_of endpoint)))
+    if bytes_eq method (method_text (method_of endpoint)) then endpoint_plan endpoint path lines else Decided (Refused (NotAllowed endpoint))
 
 -- the routes that aren't for a request to another machine
 abbrev pub is_guarded : Endpoint → Bool
@@ -76,9 +82,15 @@ is_guarded (About Object) = false
 is_guarded (About Objects) = true
 is_guarded (About Dump) = true
 
+-- why a path has no route: it names a topic, and leaves out its number; or it is none of ours
+abbrev pub path_refusal : List ℕ → Refusal
+path_refusal path =
+    if bytes_eq path (codes "/object") || bytes_eq path (codes "/object/") then NoNumber Object
+    else if bytes_eq path (codes "/objects") || bytes_eq path (codes "/objects/") then NoNumber Objects else NotFound
+
 -- first the route, then whether it is for this machine, then its method
 abbrev pub routed_plan : Option Endpoint → List ℕ → List ℕ → List Line → Plan
-routed_plan None method path lines = Decided (Refused NotFound)
+routed_plan None method path lines = Decided (Refused (path_refusal path))
 routed_plan (Some endpoint) method path lines =
     if is_guarded endpoint && not (list_all is_own_line lines) then Decided (Refused Forbidden) else allowed_plan endpoint method path lines
 

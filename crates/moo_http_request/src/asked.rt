@@ -1,7 +1,8 @@
 //! What a request asks.
 
 use crate::each::Each;
-use crate::question::Question;
+use crate::question::{Question, Topic};
+use crate::routes::Endpoint;
 use moo_world::Batch;
 
 /// The method that a route has.
@@ -14,14 +15,20 @@ pub enum Method {
 /// Why a request is refused before the World is asked.
 #[derive(Clone, Copy, Drop)]
 pub enum Refusal {
-    /// No head within the limits, no stated length, or no body of the shape.
+    /// No head within the limits, a body that is cut off, or no body of the shape.
     BadRequest,
+    /// The head names a coding of the body, as of one in chunks.
+    Coded,
+    /// The head states the length of the body not once, or not by 1 to 10 digits.
+    NoLength,
     /// A page of a browser sent it that isn't of this machine, by what the lines of the head say.
     Forbidden,
     /// The path has no route.
     NotFound,
-    /// The route has this method, and not the request's.
-    NotAllowed(Method),
+    /// The path is about this topic, and has no number where the topic needs one.
+    NoNumber(Topic),
+    /// The route has another method than the request.
+    NotAllowed(Endpoint),
     /// The stated length is over 1,048,576 bytes.
     TooLarge,
     /// The number, from 1, of the first text under `calls` that isn't a call.

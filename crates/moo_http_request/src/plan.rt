@@ -2,14 +2,14 @@
 
 ghost use Rattle.std.specs.Prelude.{◌≡◌, All, IsUtf8, length, map, bytes_eq};
 ghost use Rattle.httparse.specs.Spans.{IsHeaderWithin, header_bytes};
-ghost use Rattle.moo_http_request.specs.Plan.{path_of, is_why_query, is_why, method_of, method_text, length_of, body_plan, question_plan, endpoint_plan, routed_plan, known_plan, is_guarded, allowed_plan, plan_of};
+ghost use Rattle.moo_http_request.specs.Plan.{path_of, is_why_query, is_why, method_of, method_text, length_of, length_refusal, body_plan, question_plan, endpoint_plan, path_refusal, routed_plan, known_plan, is_guarded, allowed_plan, plan_of};
 ghost use Rattle.moo_http_request.specs.Planned.{IsBounded};
 
 use crate::asked::{Asked, Form, Method, Refusal};
 use crate::question::{Question, Topic};
 use crate::routes::{Endpoint, Routes};
 use httparse::spans::HeaderSpan;
-use moo_http_lines::{bounded, is_for_us, is_from_page, stated_length};
+use moo_http_lines::{bounded, is_coded, is_for_us, is_from_page, stated_length};
 use std::str;
 
 const MAX_BODY: u64 = 1_048_576;
@@ -85,12 +85,25 @@ fn body_length(bytes: &[u8], lines: &[HeaderSpan]) -> Option<u64>
     }
 }
 
+/// Why a body has no length.
+fn length_refusal(bytes: &[u8], lines: &[HeaderSpan]) -> Refusal
+    requires within { All (IsHeaderWithin (length bytes.now)) lines.now }
+    ensures { result ≡ length_refusal (map (header_bytes bytes.now) lines.now) }
+{
+    if is_coded(bytes, lines) {
+        Refusal::Coded
+    } else {
+        Refusal::NoLength
+    }
+}
+
 /// A body says it, unless its length isn't stated or is over the limit.
-fn plan_body(form: Form, length: Option<u64>) -> Plan
-    ensures value { result ≡ body_plan form length }
+fn plan_body(form: Form, bytes: &[u8], lines: &[HeaderSpan]) -> Plan
+    requires within { All (IsHeaderWithin (length bytes.now)) lines.now }
+    ensures value { let head = map (header_bytes bytes.now) lines.now in result ≡ body_plan form head (length_of head) }
     ensures bound { IsBounded result }
 {
-    match length {
+    match body_length(bytes, lines) {
         Some(length) => {
             if MAX_BODY < length {
                 Plan::Decided(Asked::Refused(Refusal::TooLarge))
@@ -98,18 +111,18 @@ fn plan_body(form: Form, length: Option<u64>) -> Plan
                 Plan::Body(form, length)
             }
         }
-        None => Plan::Decided(Asked::Refused(Refusal::BadRequest)),
+        None => Plan::Decided(Asked::Refused(length_refusal(bytes, lines))),
     }
 }
 
-/// The question that the path asks. Not found if it asks none.
-fn plan_question(question: Option<Question>) -> Plan
-    ensures value { result ≡ question_plan question }
+/// The question that a path of the topic asks. If it asks none, it has no number.
+fn plan_question(topic: Topic, question: Option<Question>) -> Plan
+    ensures value { result ≡ question_plan topic question }
     ensures bound { IsBounded result }
 {
     match question {
         Some(question) => Plan::Decided(Asked::Question(question)),
-        None => Plan::Decided(Asked::Refused(Refusal::NotFound)),
+        None => Plan::Decided(Asked::Refused(Refusal::NoNumber(topic))),
     }
 }
 
@@ -120,9 +133,9 @@ fn plan_endpoint(endpoint: Endpoint, path: &[u8], bytes: &[u8], lines: &[HeaderS
     ensures bound { IsBounded result }
 {
     match endpoint {
-        Endpoint::Batch(mode) => plan_body(Form::Batch(mode), body_length(bytes, lines)),
-        Endpoint::Each => plan_body(Form::Each, body_length(bytes, lines)),
-        Endpoint::About(topic) => plan_question(topic.question(path)),
+        Endpoint::Batch(mode) => plan_body(Form::Batch(mode), bytes, lines),
+        Endpoint::Each => plan_body(Form::Each, bytes, lines),
+        Endpoint::About(topic) => plan_question(topic, topic.question(path)),
     }
 }
 
@@ -154,7 +167,20 @@ fn plan_allowed(
     if is_method(method, wanted) {
         plan_endpoint(endpoint, path, bytes, lines)
     } else {
-        Plan::Decided(Asked::Refused(Refusal::NotAllowed(wanted)))
+        Plan::Decided(Asked::Refused(Refusal::NotAllowed(endpoint)))
+    }
+}
+
+/// Why a path has no route: it leaves out a number, or it is none of ours.
+fn path_refusal(path: &[u8]) -> Refusal
+    ensures { result ≡ path_refusal path.now }
+{
+    if path == b"/object".as_slice() || path == b"/object/".as_slice() {
+        Refusal::NoNumber(Topic::Object)
+    } else if path == b"/objects".as_slice() || path == b"/objects/".as_slice() {
+        Refusal::NoNumber(Topic::Objects)
+    } else {
+        Refusal::NotFound
     }
 }
 
@@ -177,7 +203,7 @@ fn plan_route(
             }
             plan_allowed(endpoint, method, path, bytes, lines)
         }
-        None => Plan::Decided(Asked::Refused(Refusal::NotFound)),
+        None => Plan::Decided(Asked::Refused(path_refusal(path))),
     }
 }
 

@@ -4,6 +4,7 @@ pub mod Bytes
 pub mod Pages
 pub mod PageBodies
 pub mod Whys
+pub mod HeadWhys
 pub mod EachBodies
 pub mod Told
 pub mod Outcomes

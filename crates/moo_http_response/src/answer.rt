@@ -10,16 +10,17 @@ use crate::response::print_response;
 use std::alloc::{AllocError, Global};
 
 /// The bytes of the answer to what came of a request: its head and its body, and to HEAD the head alone. If a body, a batch or a call alone
-/// is refused, and it is told why, the last key says it: of calls alone each has the sentence in its place, else it is the first.
-/// `AllocError` if memory is refused.
+/// is refused, and it is told why, the last key says it: of calls alone each has the sentence in its place, else it is the first. If the
+/// head is refused, the last key says why if that is asked. `AllocError` if memory is refused.
 pub fn answer_text(
     alloc: Global,
     outcome: RequestOutcome,
+    asks_why: bool,
     whys: &[Option<String>],
     is_head: bool,
 ) -> Result<Vec<u8>, AllocError>
-    ensures { IfOk result (λ bytes. bytes.items ≡ response_text is_head (response_with (whys_shown whys.now) outcome)) }
+    ensures { IfOk result (λ bytes. bytes.items ≡ response_text is_head (response_with asks_why (whys_shown whys.now) outcome)) }
 {
-    let response = respond(alloc, outcome, whys)?;
+    let response = respond(alloc, outcome, asks_why, whys)?;
     print_response(alloc, response, is_head)
 }

@@ -5,6 +5,7 @@ mod answer;
 mod bodies;
 mod each_body;
 mod entry;
+mod head_whys;
 mod limits;
 mod look_body;
 mod outcome;

@@ -1,31 +1,34 @@
 //! The status and the body of what came of a request.
 
-ghost use Rattle.std.specs.Prelude.{◌≡◌, None, IfOk, option_map, codes, string_bytes};
-ghost use Rattle.moo_http_response.specs.Responses.{plain, method_name, refusal_response, told_refusal, told_reply, response_of, response_with};
+ghost use Rattle.std.specs.Prelude.{◌≡◌, Some, None, IfOk, option_map, codes, string_bytes};
+ghost use Rattle.moo_http_request.specs.Plan.{method_of};
+ghost use Rattle.moo_http_response.specs.Responses.{plain, json, method_name, told_refusal, told_reply, response_of, response_with};
 ghost use Rattle.moo_http_response.specs.Bodies.{error_body, told_error_body, told_call_body, stale_body, accepted_body};
 ghost use Rattle.moo_http_response.specs.EachBodies.{each_body};
+ghost use Rattle.moo_http_response.specs.HeadWhys.{head_told};
 ghost use Rattle.moo_http_response.specs.Whys.{whys_shown};
 ghost use Rattle.moo_http_response.specs.Shown.{Shows};
 
 use crate::bodies::{accepted_text, error_text, stale_text, told_call_text, told_error_text};
 use crate::each_body::each_text;
+use crate::head_whys::head_told;
 use crate::outcome::RequestOutcome;
 use crate::replies::Replies;
 use crate::response::Response;
 use crate::told::{Told, kind_of, status_of, told_bytes};
 use crate::whys::why_of;
 use http::StatusCode;
-use moo_http_request::{Method, Refusal};
+use moo_http_request::{Endpoint, Refusal};
 use moo_text::Reply;
 use moo_world::Answers;
 use std::alloc::{AllocError, Global};
 
-fn name_of(method: Method) -> &'static str
-    ensures { result.now ≡ method_name method }
+fn method_name(endpoint: Endpoint) -> &'static str
+    ensures { result.now ≡ method_name (method_of endpoint) }
 {
-    match method {
-        Method::Get => "GET",
-        Method::Post => "POST",
+    match endpoint {
+        Endpoint::Batch(_) | Endpoint::Each => "POST",
+        Endpoint::About(_) => "GET",
     }
 }
 
@@ -119,26 +122,53 @@ fn say(alloc: Global, told: Told) -> Result<Response, AllocError>
     })
 }
 
-fn not_allowed(alloc: Global, method: Method) -> Result<Response, AllocError>
-    ensures { IfOk result (λ r. Shows r (refusal_response (Refusal.NotAllowed method))) }
+/// No length of a body is stated, and why that is refused, if it is asked.
+fn no_length(alloc: Global, asks_why: bool, refusal: Refusal) -> Result<Response, AllocError>
+    ensures { IfOk result (λ r. Shows r (plain 400 (told_error_body (head_told asks_why refusal) (codes "bad request")))) }
 {
-    let body = error_text(alloc, "method not allowed")?;
+    let why = head_told(asks_why, refusal);
+    told_error(alloc, StatusCode::BAD_REQUEST, "bad request", why)
+}
+
+/// A path asks nothing, and why, if that is asked.
+fn not_found(alloc: Global, asks_why: bool, refusal: Refusal) -> Result<Response, AllocError>
+    ensures { IfOk result (λ r. Shows r (plain 404 (told_error_body (head_told asks_why refusal) (codes "not found")))) }
+{
+    let why = head_told(asks_why, refusal);
+    told_error(alloc, StatusCode::NOT_FOUND, "not found", why)
+}
+
+/// A route has another method, and which, if that is asked.
+fn not_allowed(alloc: Global, asks_why: bool, endpoint: Endpoint) -> Result<Response, AllocError>
+    ensures { IfOk result (λ r. Shows r (json 405 (Some (method_name (method_of endpoint)))
+        (told_error_body (head_told asks_why (Refusal.NotAllowed endpoint)) (codes "method not allowed")))) }
+{
+    let why = head_told(asks_why, Refusal::NotAllowed(endpoint));
+    let body = told_error_text(alloc, "method not allowed", why)?;
     Ok(Response {
         status: StatusCode::METHOD_NOT_ALLOWED,
-        allow: Some(name_of(method)),
+        allow: Some(method_name(endpoint)),
         kind: "application/json",
         body: body.into_bytes(),
     })
 }
 
-fn refuse(alloc: Global, refusal: Refusal, why: Option<&str>) -> Result<Response, AllocError>
-    ensures { IfOk result (λ r. Shows r (told_refusal (option_map (λ w. w.now) why.entry) refusal)) }
+fn refuse(
+    alloc: Global,
+    refusal: Refusal,
+    asks_why: bool,
+    why: Option<&str>,
+) -> Result<Response, AllocError>
+    ensures { IfOk result (λ r. Shows r (told_refusal asks_why (option_map (λ w. w.now) why.entry) refusal)) }
 {
     match refusal {
         Refusal::BadRequest => told_error(alloc, StatusCode::BAD_REQUEST, "bad request", why),
         Refusal::Forbidden => error(alloc, StatusCode::FORBIDDEN, "forbidden"),
-        Refusal::NotFound => error(alloc, StatusCode::NOT_FOUND, "not found"),
-        Refusal::NotAllowed(method) => not_allowed(alloc, method),
+        Refusal::Coded => no_length(alloc, asks_why, Refusal::Coded),
+        Refusal::NoLength => no_length(alloc, asks_why, Refusal::NoLength),
+        Refusal::NotFound => not_found(alloc, asks_why, Refusal::NotFound),
+        Refusal::NoNumber(topic) => not_found(alloc, asks_why, Refusal::NoNumber(topic)),
+        Refusal::NotAllowed(endpoint) => not_allowed(alloc, asks_why, endpoint),
         Refusal::TooLarge => error(alloc, StatusCode::PAYLOAD_TOO_LARGE, "too large"),
         Refusal::Malformed(call) => {
             call_error(alloc, StatusCode::BAD_REQUEST, call, "malformed", why)
@@ -171,12 +201,13 @@ fn reply_to(alloc: Global, reply: &Reply, why: Option<&str>) -> Result<Response,
 pub(crate) fn respond(
     alloc: Global,
     outcome: RequestOutcome,
+    asks_why: bool,
     whys: &[Option<String>],
 ) -> Result<Response, AllocError>
-    ensures { IfOk result (λ r. Shows r (response_with (whys_shown whys.now) outcome)) }
+    ensures { IfOk result (λ r. Shows r (response_with asks_why (whys_shown whys.now) outcome)) }
 {
     match outcome {
-        RequestOutcome::Refused(refusal) => refuse(alloc, refusal, why_of(whys, 0)),
+        RequestOutcome::Refused(refusal) => refuse(alloc, refusal, asks_why, why_of(whys, 0)),
         RequestOutcome::Closed => error(alloc, StatusCode::SERVICE_UNAVAILABLE, "closed"),
         RequestOutcome::Fault => error(alloc, StatusCode::SERVICE_UNAVAILABLE, "fault"),
         RequestOutcome::NoMemory => no_memory(alloc, why_of(whys, 0)),

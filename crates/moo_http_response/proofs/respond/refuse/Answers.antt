@@ -3,11 +3,23 @@ use Rattle.moo_http_response.proofs.respond.refuse.Goals as goal
 pub returns-in-BadRequest : goal.returns-in-BadRequest
 returns-in-BadRequest c = rw c.in-BadRequest.is c.told_error.ensures
 
+pub returns-in-Coded : goal.returns-in-Coded
+returns-in-Coded c = rw c.in-Coded.is c.no_length.ensures
+
+pub returns-in-NoLength : goal.returns-in-NoLength
+returns-in-NoLength c = rw c.in-NoLength.is c.no_length-in-NoLength.ensures
+
 pub returns-in-Forbidden : goal.returns-in-Forbidden
 returns-in-Forbidden c = rw c.in-Forbidden.is c.error.ensures
 
 pub returns-in-NotFound : goal.returns-in-NotFound
-returns-in-NotFound c = rw c.in-NotFound.is c.error-in-NotFound.ensures
+returns-in-NotFound c = rw c.in-NotFound.is c.not_found.ensures
+
+pub returns-in-NoNumber : goal.returns-in-NoNumber
+returns-in-NoNumber c = rw c.in-NoNumber.is c.not_found-in-NoNumber.ensures
+
+pub returns-in-NotAllowed : goal.returns-in-NotAllowed
+returns-in-NotAllowed c = rw c.in-NotAllowed.is c.not_allowed.ensures
 
 pub returns-in-TooLarge : goal.returns-in-TooLarge
 returns-in-TooLarge c = rw c.in-TooLarge.is c.error-in-TooLarge.ensures

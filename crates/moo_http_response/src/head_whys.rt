@@ -1,0 +1,63 @@
+//! Why a head is refused, in sentences for people.
+
+ghost use Rattle.std.specs.Prelude.{◌≡◌, option_map};
+ghost use Rattle.moo_http_response.specs.HeadWhys.{number_why, method_why, head_why, head_told};
+
+use moo_http_request::{Endpoint, Mode, Refusal, Topic};
+
+/// The number that a path of the topic wants, if it wants one.
+fn number_why(topic: Topic) -> Option<&'static str>
+    ensures { option_map (λ why. why.now) result ≡ number_why topic }
+{
+    match topic {
+        Topic::Object => Some("/object wants a number: /object/0"),
+        Topic::Objects => Some("/objects wants a number: /objects/0"),
+        Topic::Seq => None,
+        Topic::Dump => None,
+    }
+}
+
+/// The method of the route of a topic.
+fn topic_why(topic: Topic) -> &'static str
+    ensures { result.now ≡ method_why (Endpoint.About topic) }
+{
+    match topic {
+        Topic::Seq => "/seq is asked by GET",
+        Topic::Object => "/object is asked by GET",
+        Topic::Objects => "/objects is asked by GET",
+        Topic::Dump => "/dump is asked by GET",
+    }
+}
+
+/// The method of a route.
+fn method_why(endpoint: Endpoint) -> &'static str
+    ensures { result.now ≡ method_why endpoint }
+{
+    match endpoint {
+        Endpoint::Batch(Mode::Run) => "/batch is asked by POST",
+        Endpoint::Batch(Mode::Ask) => "/ask is asked by POST",
+        Endpoint::Each => "/each is asked by POST",
+        Endpoint::About(topic) => topic_why(topic),
+    }
+}
+
+/// Why a head is refused. None if it isn't the head, or if nothing is said of it.
+fn head_why(refusal: Refusal) -> Option<&'static str>
+    ensures { option_map (λ why. why.now) result ≡ head_why refusal }
+{
+    match refusal {
+        Refusal::Coded => Some("chunked bodies aren't read: send content-length"),
+        Refusal::NoLength => Some("content-length isn't one number"),
+        Refusal::NotFound => Some("no route has this path"),
+        Refusal::NoNumber(topic) => number_why(topic),
+        Refusal::NotAllowed(endpoint) => Some(method_why(endpoint)),
+        _ => None,
+    }
+}
+
+/// Why a head is refused, if that is asked.
+pub(crate) fn head_told(asks_why: bool, refusal: Refusal) -> Option<&'static str>
+    ensures { option_map (λ why. why.now) result ≡ head_told asks_why refusal }
+{
+    if asks_why { head_why(refusal) } else { None }
+}
