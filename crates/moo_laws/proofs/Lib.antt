@@ -1,0 +1,2 @@
+pub mod ObjectNumbers
+pub mod Ranks

@@ -1,0 +1,8 @@
+//! The laws of the model over whole runs: what holds of any batches, one after another, whoever sends them.
+//!
+//! No crate uses these laws, so a new one costs the check of this crate alone.
+#![tactic(auto)]
+
+mod rights;
+
+pub use rights::nobody_rises;
