@@ -1,2 +1,3 @@
 pub mod ObjectNumbers
+pub mod Numbered
 pub mod Ranks

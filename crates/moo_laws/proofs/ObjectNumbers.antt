@@ -13,11 +13,7 @@ use Rattle.moo_rows.specs.declared.row.{Bits.{Bits}, ArgSpec.{ArgSpec}, VerbBits
 use Rattle.moo_rows.specs.declared.row.SlotState.TheVariants.{Set as a_value}
 use Rattle.moo_value.specs.declared.value.Value.TheVariants.{Int}
 use Rattle.std.specs.Prelude.{ℕ}
-
--- the greatest number doesn't fall, and below it nothing is an object that wasn't one
-pub record NoneAgain (world next : World) : Type 0 where
-  pub top : world.top ≤ℤ next.top
-  pub old : (object : ObjNo) → object.0 ≤ℤ world.top → is_object next object ≡ true → is_object world object ≡ true
+use Rattle.moo_laws.specs.ObjectNumbers.{KeepsObjectNumbers}
 
 le_self : (a : ℤ) → a ≤ℤ a
 le_self a = grind (arith, ints)
@@ -28,7 +24,7 @@ le_trans a b c f g = grind (arith, ints)
 pub le_below : (a b : ℤ) → a ≤ℤ b → (c : ℤ) → c ≤ℤ a → c ≤ℤ b
 le_below a b f c g = le_trans c a b g f
 
-pub none_again_joins : (a b c : World) → NoneAgain a b → NoneAgain b c → NoneAgain a c
+pub none_again_joins : (a b c : World) → KeepsObjectNumbers a b → KeepsObjectNumbers b c → KeepsObjectNumbers a c
 none_again_joins a b c f g = record {
   top = le_trans a.top b.top c.top f.top g.top;
   old = λ y below is. f.old y below (g.old y (le_trans y.0 a.top b.top below f.top) is);
@@ -39,24 +35,24 @@ same_some f None = refl
 same_some f (Some r) = refl
 
 -- a world of the same number, with no other objects
-alike : (w next : World) → next.top ≡ w.top → ((y : ObjNo) → is_object next y ≡ is_object w y) → NoneAgain w next
+alike : (w next : World) → next.top ≡ w.top → ((y : ObjNo) → is_object next y ≡ is_object w y) → KeepsObjectNumbers w next
 alike w next top objects = record { top = subst (λ t. w.top ≤ℤ t) (sym top) (le_self w.top); old = λ y below is. sym (objects y) ∙ is }
 
-pub none_again_itself : (w : World) → NoneAgain w w
+pub none_again_itself : (w : World) → KeepsObjectNumbers w w
 none_again_itself w = alike w w refl (λ y. refl)
 
 -- one object changed
-on_record : (w : World) (x : ObjNo) (change : WorldObject → WorldObject) → NoneAgain w (object_changed w x change)
+on_record : (w : World) (x : ObjNo) (change : WorldObject → WorldObject) → KeepsObjectNumbers w (object_changed w x change)
 on_record w x change = alike w (object_changed w x change) refl (λ y. same_some (λ (r : WorldObject). if same_object x y then change r else r) (w.object y))
 
 -- slots don't count
-on_rebuilt : (w s v : World) (q : ObjNo) → NoneAgain w s → NoneAgain w (rebuilt v s q)
+on_rebuilt : (w s v : World) (q : ObjNo) → KeepsObjectNumbers w s → KeepsObjectNumbers w (rebuilt v s q)
 unfolding rebuilt
 on_rebuilt w s v q k = record { top = k.top; old = λ y below is. k.old y below (sym (objects_same (rebuilt v s q) s (SameButSlots-rebuilt v s q) y) ∙ is) }
 
 module _ (w : World) where
   abbrev Passes : World → Type 0
-  Passes next = NoneAgain w next
+  Passes next = KeepsObjectNumbers w next
 
   same : Passes w
   same = none_again_itself w
@@ -158,7 +154,7 @@ module _ (w : World) where
 
   -- ---- by name
 
-  named : (p : ObjNo) (values : List Value) (name : CallName) → Holds (λ v next. NoneAgain w next) (named_call w p name values)
+  named : (p : ObjNo) (values : List Value) (name : CallName) → Holds (λ v next. KeepsObjectNumbers w next) (named_call w p name values)
   named p values Valid = search (each_check, same)
   named p values Parent = search (each_check, same)
   named p values Children = search (each_check, same)
@@ -193,6 +189,6 @@ module _ (w : World) where
   named p values Grant = on_failed _ _
   named p values Decline = on_failed _ _
 
-pub none_again : (w next : World) (p : ObjNo) (call : Call) (v : Value) → world_call w p call ≡ Done v next → NoneAgain w next
+pub none_again : (w next : World) (p : ObjNo) (call : Call) (v : Value) → world_call w p call ≡ Done v next → KeepsObjectNumbers w next
 unfolding world_call
-none_again w next p call v h = of_done (λ v next. NoneAgain w next) (world_call w p call) v next (on_check _ (is_object w p) _ _ (λ po. named w p call.args call.name)) h
+none_again w next p call v h = of_done (λ v next. KeepsObjectNumbers w next) (world_call w p call) v next (on_check _ (is_object w p) _ _ (λ po. named w p call.args call.name)) h

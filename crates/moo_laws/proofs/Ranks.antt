@@ -8,7 +8,8 @@ use Rattle.moo_world.specs.Ownership.{SameRights}
 use Rattle.moo_world.specs.declared.name.PetitionCall.{PetitionCall}
 use Rattle.moo_rows.specs.Maps.{Maps}
 use Rattle.moo_laws.specs.NobodyRises.{NoWizardActs, NobodyRises, NamedSlot, slot_behind_call, slot_behind_calls, slot_behind, KeepsRights}
-use Rattle.moo_laws.proofs.ObjectNumbers.{NoneAgain, none_again, none_again_itself, none_again_joins, le_below}
+use Rattle.moo_laws.specs.ObjectNumbers.{KeepsObjectNumbers}
+use Rattle.moo_laws.proofs.ObjectNumbers.{none_again, none_again_itself, none_again_joins, le_below}
 
 -- ---- what is kept, with what becomes of slots
 
@@ -16,7 +17,7 @@ record Kept (w v : World) (path : ObjNo → NamedSlot → Option NamedSlot) : Ty
   rises : NobodyRises w v
   objects : (x : ObjNo) → is_object w x ≡ true → is_object v x ≡ true → SameRights w v x
   slots : (x : ObjNo) (was now : NamedSlot) → slot_of w x was.0 ≡ Some was.1 → path x was ≡ Some now → (slot_of v x now.0 ≡ Some now.1) × (now.1.owner ≡ was.1.owner)
-  again : NoneAgain w v
+  again : KeepsObjectNumbers w v
 
 kept_itself : (w : World) → Kept w w (λ x named. Some named)
 kept_itself w = record {
@@ -86,7 +87,7 @@ followed w v call x was now h = by (slot_of v x (name_after w call x was.0)) ref
     by None e h = absurd (none-some now h)
     by (Some t) e h = test t e (same_object was.1.definer t.definer) refl h
 
-kept_by : (w v : World) (p : ObjNo) (call : Call) → KeepsOwnership w v p (name_after w call) → NoneAgain w v → Kept w v (λ x named. slot_behind_call w v call x named)
+kept_by : (w v : World) (p : ObjNo) (call : Call) → KeepsOwnership w v p (name_after w call) → KeepsObjectNumbers w v → Kept w v (λ x named. slot_behind_call w v call x named)
 kept_by w v p call k again = record {
   rises = record {
     players = λ x h. had_it (λ row. row.player) w v x (λ e f. (k.rights x e f).1) (λ e f. (k.made x e f).1) h;

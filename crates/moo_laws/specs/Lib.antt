@@ -1,1 +1,2 @@
 pub mod NobodyRises
+pub mod ObjectNumbers

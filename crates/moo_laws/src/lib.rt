@@ -3,6 +3,8 @@
 //! No crate uses these laws, so a new one costs the check of this crate alone.
 #![tactic(auto)]
 
+mod numbers;
 mod rights;
 
+pub use numbers::object_numbers_stay;
 pub use rights::nobody_rises;
