@@ -46,7 +46,7 @@ some_tables : (version : Version) → no_schema ≢ schema_of version
 some_tables First none = let odd : zero ≡ suc 4 = ap (λ (schema : Schema). length schema.tables) none in absurd cc
 some_tables Second none = let odd : zero ≡ suc 7 = ap (λ (schema : Schema). length schema.tables) none in absurd cc
 
-any_of_ours : (trees : Trees) (tables : Tables) → Leaves trees tables → HasAnyTable trees
+pub any_of_ours : (trees : Trees) (tables : Tables) → Leaves trees tables → HasAnyTable trees
 any_of_ours trees tables it none = some_tables tables.version (one_schema tables.version trees no_schema it.sound none)
 
 -- a database that was kept, or migrated, shows the rows that it showed

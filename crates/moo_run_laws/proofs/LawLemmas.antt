@@ -46,12 +46,12 @@ module _ {T D : Type 0} {g : Ghosts D} where
       × IfRan ends (λ conn. IsLeftBy (file_state conn) next ⊎ (DiskLeaves conn next ⊎ IsFoundIn closed next)) (λ rest. IsFoundOf image rest next ⊎ IsFoundOf image closed next))
 
   -- if a task ran over the file, its disk was clean
-  found_clean : (image : Image) (conn : Held (FileStore D g)) (closed : Remains T D g) (next : Image) → Found image (variant.Ran conn) closed next → HasCleanDisk (file_state conn)
+  pub found_clean : (image : Image) (conn : Held (FileStore D g)) (closed : Remains T D g) (next : Image) → Found image (variant.Ran conn) closed next → HasCleanDisk (file_state conn)
   found_clean image conn closed next (inl crash) = crash.0
   found_clean image conn closed next (inr (from, clean, found)) = early_clean (remains.Connection conn) closed from clean
 
   -- and it is a database that the connection may leave
-  left_of : (image : Image) (conn : Held (FileStore D g)) (closed : Remains T D g) (end : Stand) (next : Image) → CrashLeaves (file_state conn) end → Found image (variant.Ran conn) closed next → IsLeftBy (file_state conn) next
+  pub left_of : (image : Image) (conn : Held (FileStore D g)) (closed : Remains T D g) (end : Stand) (next : Image) → CrashLeaves (file_state conn) end → Found image (variant.Ran conn) closed next → IsLeftBy (file_state conn) next
   left_of image conn closed end next leaves (inl crash) = crash.1
   left_of image conn closed end next leaves (inr (from, clean, inl left)) = left
   left_of image conn closed end next leaves (inr ((rest, is, copied, closes), clean, inr (inl lies))) =

@@ -1,5 +1,7 @@
 mod AgainLemmas
 mod LawLemmas
 mod TwiceLemmas
+mod LedLemmas
+mod InTurnLemmas
 pub mod Desks
 mod HaltedLemmas

@@ -1,0 +1,3 @@
+pub mod ObjectNumbers
+pub mod Numbered
+pub mod Ranks

@@ -1,0 +1,194 @@
+-- No call gives the number of an object again.
+use Rattle.moo_world.{proofs.Lemmas.{◌≡◌, Bool, true, false, List, arith, ints, refl, sym, subst, ◌∙◌, ap, Option, Some, None, ℤ, pos, negsuc, ◌+ℤ◌, ◌≤ℤ◌, is_some, if◌then◌else◌, option_map, unwrap_or, ObjNo, Value, VerbRow, plain_object, Name, nothing, same_object, same_object-Decides, Done, World, WorldObject, Slot, is_object, parent_of, owner_of, SameButSlots-rebuilt, objects_same, Holds, on_check, on_failed, of_done, named_call, world_call}, proofs.Form.Passing.{each_check}, specs.declared.name.CallName.{CallName}, specs.declared.call.Call.{Call}, specs.declared.change.Change.{Change}}
+use Rattle.moo_world.specs.declared.name.CallName.TheVariants.{Set, Valid, Parent, Children, IsPlayer, Players, MaxObject, Get, Properties, PropertyInfo, IsClearProperty, Verbs, VerbInfo, VerbArgs, AcceptList, Create, Chparent, Recycle, Move, SetPlayerFlag, AddProperty, DeleteProperty, SetPropertyInfo, ClearProperty, AddVerb, DeleteVerb, SetVerbInfo, SetVerbArgs, SetAccept, Petition, Petitions, Grant, Decline}
+use Rattle.moo_world.specs.World.{rebuilt, object_changed, with_parent, reparented}
+use Rattle.moo_world.specs.Creation.{next_object, owner_or_self, object_added, created}
+use Rattle.moo_world.specs.Recycling.{released, object_removed, recycled}
+use Rattle.moo_world.specs.Fields.{field_changed}
+use Rattle.moo_world.specs.Changes.{property_added, property_removed, property_renamed, value_set, cleared, info_set}
+use Rattle.moo_world.specs.Directories.{verb_added, verb_removed, verb_info_set, verb_args_set}
+use Rattle.moo_world.specs.PropertyCalls.{renamed_to}
+use Rattle.moo_world.specs.Quota.{quota_name, quota_of, set_slot, quota_changed, charged, quota_returned}
+use Rattle.moo_rows.specs.declared.row.{Bits.{Bits}, ArgSpec.{ArgSpec}, VerbBits.{VerbBits}}
+use Rattle.moo_rows.specs.declared.row.SlotState.TheVariants.{Set as a_value}
+use Rattle.moo_value.specs.declared.value.Value.TheVariants.{Int}
+use Rattle.std.specs.Prelude.{ℕ}
+use Rattle.moo_laws.specs.ObjectNumbers.{KeepsObjectNumbers}
+
+le_self : (a : ℤ) → a ≤ℤ a
+le_self a = grind (arith, ints)
+
+le_trans : (a b c : ℤ) → a ≤ℤ b → b ≤ℤ c → a ≤ℤ c
+le_trans a b c f g = grind (arith, ints)
+
+pub le_below : (a b : ℤ) → a ≤ℤ b → (c : ℤ) → c ≤ℤ a → c ≤ℤ b
+le_below a b f c g = le_trans c a b g f
+
+pub none_again_joins : (a b c : World) → KeepsObjectNumbers a b → KeepsObjectNumbers b c → KeepsObjectNumbers a c
+none_again_joins a b c f g = record {
+  top = le_trans a.top b.top c.top f.top g.top;
+  old = λ y below is. f.old y below (g.old y (le_trans y.0 a.top b.top below f.top) is);
+}
+
+same_some : (f : WorldObject → WorldObject) (o : Option WorldObject) → is_some (option_map f o) ≡ is_some o
+same_some f None = refl
+same_some f (Some r) = refl
+
+-- a world of the same number, with no other objects
+alike : (w next : World) → next.top ≡ w.top → ((y : ObjNo) → is_object next y ≡ is_object w y) → KeepsObjectNumbers w next
+alike w next top objects = record { top = subst (λ t. w.top ≤ℤ t) (sym top) (le_self w.top); old = λ y below is. sym (objects y) ∙ is }
+
+pub none_again_itself : (w : World) → KeepsObjectNumbers w w
+none_again_itself w = alike w w refl (λ y. refl)
+
+-- one object changed
+on_record : (w : World) (x : ObjNo) (change : WorldObject → WorldObject) → KeepsObjectNumbers w (object_changed w x change)
+on_record w x change = alike w (object_changed w x change) refl (λ y. same_some (λ (r : WorldObject). if same_object x y then change r else r) (w.object y))
+
+-- slots don't count
+on_rebuilt : (w s v : World) (q : ObjNo) → KeepsObjectNumbers w s → KeepsObjectNumbers w (rebuilt v s q)
+unfolding rebuilt
+on_rebuilt w s v q k = record { top = k.top; old = λ y below is. k.old y below (sym (objects_same (rebuilt v s q) s (SameButSlots-rebuilt v s q) y) ∙ is) }
+
+module _ (w : World) where
+  abbrev Passes : World → Type 0
+  Passes next = KeepsObjectNumbers w next
+
+  same : Passes w
+  same = none_again_itself w
+
+  changed : (v : World) (x : ObjNo) (change : WorldObject → WorldObject) → Passes v → Passes (object_changed v x change)
+  changed v x change k = none_again_joins w v (object_changed v x change) k (on_record v x change)
+
+  by_quota : (v : World) (o : ObjNo) (more : ℤ) → Passes v → Passes (quota_changed v o more)
+  by_quota v o more k = by (quota_of v o)
+    where
+      by : (q : Option ℤ) → Passes (elim q [ None ↦ v | Some had ↦ object_changed v o (set_slot quota_name (a_value (Int (had +ℤ more)))) ])
+      by None = k
+      by (Some had) = changed v o (set_slot quota_name (a_value (Int (had +ℤ more)))) k
+
+  by_charge : (v : World) (o : ObjNo) → Passes v → Passes (charged v o)
+  by_charge v o k = by (same_object nothing o)
+    where
+      by : (b : Bool) → Passes (if b then v else quota_changed v o (negsuc 0))
+      by true = k
+      by false = by_quota v o (negsuc 0) k
+
+  by_return : (v : World) (o : ObjNo) → Passes v → Passes (quota_returned v o)
+  by_return v o k = by _
+    where
+      by : (b : Bool) → Passes (if b then quota_changed v o (pos 1) else v)
+      by true = by_quota v o (pos 1) k
+      by false = k
+
+  -- ---- objects
+
+  next_is : (x : ObjNo) → next_object w ≡ Some x → x.0 ≡ w.top +ℤ pos 1
+  next_is x is_next = grind arith
+
+  above : (a b : ℤ) → a ≡ b +ℤ pos 1 → a ≤ℤ b → false ≡ true
+  above a b e f = grind (arith, ints)
+
+  grows : (a b : ℤ) → b ≡ a +ℤ pos 1 → a ≤ℤ b
+  grows a b e = grind (arith, ints)
+
+  added : (x q owner : ObjNo) → next_object w ≡ Some x → Passes (object_added w x (plain_object q owner))
+  added x q owner is_next = record { top = grows w.top x.0 (next_is x is_next); old = λ y below is. by y below (same_object x y) refl is }
+    where
+      by : (y : ObjNo) → y.0 ≤ℤ w.top → (b : Bool) → same_object x y ≡ b → is_some (if b then Some (plain_object q owner) else w.object y) ≡ true → is_object w y ≡ true
+      by y below false e is = is
+      by y below true e is = absurd (both (above y.0 w.top (sym (ap (λ (z : ObjNo). z.0) ((same_object-Decides x y).0 e)) ∙ next_is x is_next) below))
+        where
+          both : false ≡ true → ⊥
+          both h = absurd cc
+
+  made : (x q owner : ObjNo) → next_object w ≡ Some x → Passes (charged (created w x q (owner_or_self x owner)) owner)
+  made x q owner is_next = by_charge (created w x q (owner_or_self x owner)) owner (on_rebuilt w (object_added w x (plain_object q (owner_or_self x owner))) w q (added x q (owner_or_self x owner) is_next))
+
+  moved_under : (x q : ObjNo) → Passes (reparented w x q)
+  moved_under x q = on_rebuilt w (with_parent w x q) w q (on_record w x (λ (r : WorldObject). record r { row = record r.row { parent = q } }))
+
+  removed : (x : ObjNo) → Passes (object_removed w x)
+  removed x = record { top = le_self w.top; old = λ y below is. by (same_object x y) (w.object y) is }
+    where
+      by : (b : Bool) (o : Option WorldObject) → is_some (if b then None else option_map (released x (unwrap_or (parent_of w x) nothing)) o) ≡ true → is_some o ≡ true
+      by b o is = grind arith
+
+  gone : (x : ObjNo) → Passes (quota_returned (recycled w x) (owner_of w x))
+  gone x = by_return (recycled w x) (owner_of w x) (on_rebuilt w (object_removed w x) w nothing (removed x))
+
+  with_field : (x : ObjNo) (c : Change) → Passes (field_changed w x c)
+  with_field x c = on_record w x _
+
+  -- ---- properties
+
+  with_value : (x : ObjNo) (n : Name) (v : Value) → Passes (value_set w x n v)
+  with_value x n v = on_record w x _
+
+  without_value : (x : ObjNo) (n : Name) → Passes (cleared w x n)
+  without_value x n = on_record w x _
+
+  with_property : (x : ObjNo) (n : Name) (s : Slot) → Passes (property_added w x n s)
+  with_property x n s = alike w (property_added w x n s) refl (λ y. same_some _ (w.object y))
+
+  without_property : (x : ObjNo) (n : Name) → Passes (property_removed w x n)
+  without_property x n = on_rebuilt w _ w nothing (on_record w x _)
+
+  with_info : (x : ObjNo) (n : Name) (owner : ObjNo) (bits : Bits) (new : Option Name) → Passes (renamed_to (info_set w x n owner bits) x n new)
+  with_info x n owner bits None = on_record w x _
+  with_info x n owner bits (Some name) = none_again_joins w (info_set w x n owner bits) _ (on_record w x _) (alike (info_set w x n owner bits) (property_renamed (info_set w x n owner bits) x n name) refl (λ y. same_some _ ((info_set w x n owner bits).object y)))
+
+  -- ---- verbs
+
+  with_verb : (x : ObjNo) (v : VerbRow) → Passes (verb_added w x v)
+  with_verb x v = alike w (verb_added w x v) refl (λ y. same_some _ (w.object y))
+
+  without_verb : (x : ObjNo) (place : ℕ) → Passes (verb_removed w x place)
+  without_verb x place = on_record w x _
+
+  with_verb_info : (x : ObjNo) (place : ℕ) (owner : ObjNo) (bits : VerbBits) (names : Name) → Passes (verb_info_set w x place owner bits names)
+  with_verb_info x place owner bits names = on_record w x _
+
+  with_verb_args : (x : ObjNo) (place : ℕ) (args : ArgSpec) → Passes (verb_args_set w x place args)
+  with_verb_args x place args = on_record w x _
+
+  -- ---- by name
+
+  named : (p : ObjNo) (values : List Value) (name : CallName) → Holds (λ v next. KeepsObjectNumbers w next) (named_call w p name values)
+  named p values Valid = search (each_check, same)
+  named p values Parent = search (each_check, same)
+  named p values Children = search (each_check, same)
+  named p values IsPlayer = search (each_check, same)
+  named p values Players = search (each_check, same)
+  named p values MaxObject = search (each_check, same)
+  named p values Get = search (each_check, same) depth 9
+  named p values Properties = search (each_check, same) depth 9
+  named p values PropertyInfo = search (each_check, same) depth 9
+  named p values IsClearProperty = search (each_check, same) depth 9
+  named p values Verbs = search (each_check, same) depth 9
+  named p values VerbInfo = search (each_check, same) depth 9
+  named p values VerbArgs = search (each_check, same) depth 9
+  named p values AcceptList = search (each_check, same)
+  named p values Create = search (each_check, made) depth 12
+  named p values Chparent = search (each_check, moved_under) depth 12
+  named p values Recycle = search (each_check, gone) depth 12
+  named p values Move = search (each_check, with_field) depth 12
+  named p values SetPlayerFlag = search (each_check, with_field) depth 12
+  named p values Set = search (each_check, with_field, with_value) depth 12
+  named p values AddProperty = search (each_check, with_property) depth 15
+  named p values DeleteProperty = search (each_check, without_property) depth 12
+  named p values SetPropertyInfo = search (each_check, with_info) depth 15
+  named p values ClearProperty = search (each_check, without_value) depth 12
+  named p values AddVerb = search (each_check, with_verb) depth 15
+  named p values DeleteVerb = search (each_check, without_verb) depth 12
+  named p values SetVerbInfo = search (each_check, with_verb_info) depth 15
+  named p values SetVerbArgs = search (each_check, with_verb_args) depth 12
+  named p values SetAccept = search (each_check, with_field) depth 12
+  named p values Petition = on_failed _ _
+  named p values Petitions = on_failed _ _
+  named p values Grant = on_failed _ _
+  named p values Decline = on_failed _ _
+
+pub none_again : (w next : World) (p : ObjNo) (call : Call) (v : Value) → world_call w p call ≡ Done v next → KeepsObjectNumbers w next
+unfolding world_call
+none_again w next p call v h = of_done (λ v next. KeepsObjectNumbers w next) (world_call w p call) v next (on_check _ (is_object w p) _ _ (λ po. named w p call.args call.name)) h

@@ -1,0 +1,2 @@
+pub mod NobodyRises
+pub mod ObjectNumbers

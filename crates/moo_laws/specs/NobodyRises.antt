@@ -1,0 +1,67 @@
+-- Who isn't a wizard makes nobody a wizard, a programmer or a player, and takes no object and no property from anybody.
+use Rattle.std.specs.Prelude.{◌≡◌, true, false, List, [], ◌∷◌, Option, Some, None, if◌then◌else◌, ⊤}
+use Rattle.std.specs.Option.{option_and_then}
+use Rattle.moo_value.specs.declared.value.ObjNo.{ObjNo}
+use Rattle.moo_world.specs.declared.call.Call.{Call}
+use Rattle.moo_world.specs.declared.call.Batch.{Batch}
+use Rattle.moo_world.specs.Judge.{State, judge, left_by, is_accepted}
+use Rattle.moo_world.specs.Objects.{Name, same_object}
+use Rattle.moo_world.specs.Outcomes.{Done, Failed, Full}
+use Rattle.moo_world.specs.Ownership.{SameRights, name_after}
+use Rattle.moo_world.specs.Requests.{batch_call}
+use Rattle.moo_world.specs.Rights.{is_wizard}
+use Rattle.moo_world.specs.World.{World, Slot, is_object, row_passes, slot_of}
+
+-- no accepted batch among these is a wizard's at its turn
+abbrev pub NoWizardActs : State → List Batch → Type 0
+NoWizardActs state [] = ⊤
+NoWizardActs state (batch ∷ batches) =
+    (is_accepted (judge state batch) ≡ true → is_wizard state.world batch.programmer ≡ false)
+    × NoWizardActs (left_by state (judge state batch)) batches
+
+-- whoever is a player, a programmer or a wizard was one
+pub record NobodyRises (world next : World) : Type 0 where
+  pub players : (object : ObjNo) → row_passes (λ row. row.player) next object ≡ true →
+      row_passes (λ row. row.player) world object ≡ true
+  pub programmers : (object : ObjNo) → row_passes (λ row. row.programmer) next object ≡ true →
+      row_passes (λ row. row.programmer) world object ≡ true
+  pub wizards : (object : ObjNo) → is_wizard next object ≡ true → is_wizard world object ≡ true
+
+-- ---- a slot is followed: it stays while its object has it, under its name or the new one, by the same definer
+
+-- a slot under its folded name
+abbrev pub NamedSlot : Type 0
+NamedSlot = Name × Slot
+
+-- what a call makes of a slot of an object: nothing, if it takes it away
+abbrev pub slot_behind_call : World → World → Call → ObjNo → NamedSlot → Option NamedSlot
+slot_behind_call world next call object (name, slot) = option_and_then
+    (λ now. if same_object slot.definer now.definer then Some (name_after world call object name, now) else None)
+    (slot_of next object (name_after world call object name))
+
+-- what calls in turn make of it
+abbrev pub slot_behind_calls : State → ObjNo → List Call → ObjNo → NamedSlot → Option NamedSlot
+slot_behind_calls state programmer [] object named = Some named
+slot_behind_calls state programmer (call ∷ calls) object named = elim (batch_call state programmer call) [
+  | Done answer next ↦
+      option_and_then (slot_behind_calls next programmer calls object) (slot_behind_call state.world next.world call object named)
+  | Failed code ↦ None
+  | Full ↦ None
+]
+
+-- what batches in turn make of it: only those that are accepted do anything
+abbrev pub slot_behind : State → List Batch → ObjNo → NamedSlot → Option NamedSlot
+slot_behind state [] object named = Some named
+slot_behind state (batch ∷ batches) object named =
+    option_and_then (slot_behind (left_by state (judge state batch)) batches object)
+    (if is_accepted (judge state batch) then slot_behind_calls state batch.programmer batch.calls object named else Some named)
+
+-- ---- what holds
+
+-- Nobody rises. An object that stays keeps its owner and its bits. A slot that was never away keeps its owner.
+pub record KeepsRights (state : State) (batches : List Batch) (end : State) : Type 0 where
+  pub rises : NobodyRises state.world end.world
+  pub objects : (object : ObjNo) → is_object state.world object ≡ true → is_object end.world object ≡ true →
+      SameRights state.world end.world object
+  pub slots : (object : ObjNo) (was now : NamedSlot) → slot_of state.world object was.0 ≡ Some was.1 →
+      slot_behind state batches object was ≡ Some now → (slot_of end.world object now.0 ≡ Some now.1) × (now.1.owner ≡ was.1.owner)
