@@ -36,9 +36,11 @@ pub data Deed (S R W : Type 0) : Type 0 where
 module _ {R W : Type 0}
     {inward : Inward.Ghosts R} {incoming : Incoming.Ghosts R} {reader : Reading.Ghosts R} {outward : Outward.Ghosts W}
     {writer : Writing.Ghosts W} where
+  -- what a desk holds, as a book
   abbrev pub book_of : Held R W inward incoming reader outward writer → Book (Slot R W inward incoming reader outward writer) R W
   book_of held = record { slots = held.slots.items; leaving = held.leaving.items; losses = held.losses }
 
+  -- a desk holds no connection and has noted no loss
   abbrev pub HoldsNone : Held R W inward incoming reader outward writer → Type 0
   HoldsNone held = (held.slots.items ≡ []) × (held.leaving.items ≡ []) × (held.losses.all.items ≡ []) × (held.losses.more ≡ 0)
 
@@ -46,6 +48,7 @@ module _ {R W : Type 0}
   abbrev pub IsFresh : Slot R W inward incoming reader outward writer → Type 0
   IsFresh slot = (slot.reader.bytes.items ≡ []) × (slot.writer.text.items ≡ [])
 
+  -- what a deed does to the book
   abbrev pub Does : Deed (Slot R W inward incoming reader outward writer) R W
       → Book (Slot R W inward incoming reader outward writer) R W → Book (Slot R W inward incoming reader outward writer) R W → Type 0
   Does (takes slot) old new =
@@ -68,5 +71,6 @@ module _ {R W : Type 0}
     pub deeds : List (Deed (Slot R W inward incoming reader outward writer) R W)
     pub after : After deeds old new
 
+  -- nothing happened to what a desk holds but deeds
   abbrev pub Goes : Held R W inward incoming reader outward writer → Held R W inward incoming reader outward writer → Type 0
   Goes old new = Keep (book_of old) (book_of new)
