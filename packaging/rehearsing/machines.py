@@ -13,7 +13,8 @@ from pathlib import Path
 
 from rehearsing.page import COMMANDS, TOP, here, is_wrong
 
-SECONDS = 600
+# How long is waited for what comes soon on a machine that has time.
+SECONDS = 3600
 MIRROR = "http://deb.debian.org/debian"
 ENTER = "--mount --uts --ipc --net --pid --root --wd".split()
 PATH = "/usr/local/sbin:/usr/local/bin:/usr/sbin:/usr/bin:/sbin:/bin"

@@ -3,6 +3,7 @@
 from __future__ import annotations
 
 import contextlib
+import os
 import random
 import re
 import socket
@@ -125,7 +126,8 @@ def with_copy(lines: list[str], copy: Path) -> list[str]:
 
 @contextlib.contextmanager
 def step(name: str) -> Iterator[None]:
-    """A step. When it is done its name, its seconds, and how many of the page's lines were run as they are, are printed."""
+    """A step. When it is done its name, its minutes, how many of the page's lines were run as they are, and the machine's load are printed."""
     began, before = time.monotonic(), COMMANDS.count
     yield
-    print(f"ok {name}: {time.monotonic() - began:.0f} s, {COMMANDS.count - before} commands of the page", flush=True)
+    told = f"{(time.monotonic() - began) / 60:.1f} minutes, {COMMANDS.count - before} commands of the page, load {os.getloadavg()[0]:.0f}"
+    print(f"ok {name}: {told}", flush=True)

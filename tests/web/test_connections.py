@@ -132,6 +132,32 @@ class OneAtATime(ChannelTest):
         self.assertLess(self.honest(), 5)
 
 
+class Many(ChannelTest):
+    """A server that may have 20 connections."""
+
+    silent, count = 2, 20
+
+    def setUp(self):
+        from moo_web.traffic import connections
+
+        patched = mock.patch.object(connections, "MOST_CONNECTIONS", self.count)
+        patched.start()
+        self.addCleanup(patched.stop)
+        super().setUp()
+
+    def test_one_more_waits_until_another_is_let_go(self):
+        from moo_web.traffic.connections import open_connections
+
+        for _ in range(self.count + 10):
+            self.peer()
+        self.until(lambda: open_connections(self.server) >= self.count // 2)
+        late = self.peer(b"GET /late HTTP/1.0\r\n\r\n")
+        time.sleep(0.3)
+        self.assertLessEqual(open_connections(self.server), self.count)
+        self.assertEqual(self.seen, [])
+        self.assertTrue(got(late).endswith(b"/late"))
+
+
 class InTurn(ChannelTest):
     """Requests to `/long..` are worked on until they may end."""
 
@@ -297,6 +323,7 @@ class Holders(ServingTest):
                 whole = got(peer)
                 self.assertEqual(int(whole.split()[1]), wanted)
                 self.assertEqual(whole.count(b"&#34;"), letters if letters <= 1 << 16 else 0)
+                self.assertEqual(b"What you typed is too long to be kept here" in whole, letters > 1 << 16)
 
 
 if __name__ == "__main__":

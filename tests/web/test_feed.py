@@ -4,12 +4,14 @@ import contextlib
 import threading
 import time
 import unittest
+from unittest import mock
 
 from tests.support.operating import SECONDS
 from tests.web.test_api import Api_
 
 from moo_web.api import Api
 from moo_web.app import App
+from moo_web.journal.since import batches_of
 from moo_web.journal.writer import Writer
 from moo_web.traffic.visitors import present
 
@@ -184,6 +186,13 @@ class Waits(Feeds):
         self.assertEqual(self.since(1, query="wait=1")[0], 200)
         self.assertEqual(followers.waiting.of.total(), 0)
 
+    def test_so_many_of_all(self):
+        followers = self.api.followers
+        for number in range(64):
+            followers.waiting.begin(f"one{number}")
+        self.assertEqual(self.since(1, query="wait=1"), (503, {"error": "busy"}))
+        self.assertEqual(self.since(1), (200, {"objects": [], "seq": 1}))
+
 
 class Older(Feeds):
     """Batches that aren't in memory, as after a start of the front."""
@@ -231,6 +240,45 @@ class Older(Feeds):
         self.restart()
         for at in range(1, 13):
             self.assertEqual(self.since(at), (200, {"objects": [f"#{place}" for place in sorted(range(at - 1, 12))], "seq": 13}))
+
+    def read_for(self, at):
+        """The numbers at which the segments begin that are read for who asks for what came after a number."""
+        with mock.patch("moo_web.journal.since.batches_of", wraps=batches_of) as read:
+            self.assertEqual(self.since(at)[0], 200)
+        return [int(call.args[0].name.removeprefix("journal-")) for call in read.call_args_list]
+
+    def test_what_is_read(self):
+        """Nothing, if the batches are in memory; else the segments from that on in which the number is."""
+        self.journal.segment_bytes = 400
+        for place in range(12):
+            self.batch("ada", f"valid(#{place})")
+        begins = sorted(int(path.name.removeprefix("journal-")) for path in (self.room / "front").glob("journal-*"))
+        self.assertEqual([self.read_for(at) for at in range(1, 14)], [[]] * 13)
+        self.restart()
+        for at in range(1, 13):
+            last = max(begin for begin in begins if begin <= at)
+            self.assertEqual(self.read_for(at), [begin for begin in begins if begin >= last])
+        self.assertEqual(self.read_for(13), [])
+
+    def test_for_a_petition_of_before_all_is_read(self):
+        self.journal.segment_bytes = 400
+        self.batch("ada", 'petition({{"set", #5, "name", "Lamp"}})')
+        for place in range(6):
+            self.batch("ada", f"valid(#{place})")
+        self.batch("wizard", "grant(1)")
+        begins = sorted(int(path.name.removeprefix("journal-")) for path in (self.room / "front").glob("journal-*"))
+        self.restart()
+        self.assertEqual(self.since(8), (200, {"objects": ["#5"], "seq": 9}))
+        self.assertEqual(set(self.read_for(8)), set(begins))
+
+    def test_one_reads_at_a_time(self):
+        self.batch("ada", "valid(#1)")
+        self.restart()
+        feed = self.api.followers.feed
+        with mock.patch("moo_web.interface.feed.READING", 0.2), feed.reading:
+            self.assertEqual(self.since(1), (503, {"error": "busy"}))
+            self.assertEqual(self.since(2), (200, {"objects": [], "seq": 2}), "nothing is read for it")
+        self.assertEqual(self.since(1), (200, {"objects": ["#1"], "seq": 2}))
 
     def test_a_journal_that_began_anew(self):
         self.batch("ada", "valid(#1)")

@@ -159,6 +159,15 @@ class Read(JournalTest):
             found = history.one(7)
         self.assertEqual((line_at.call_count, found.seq), (2, 7))
 
+    def test_of_a_page_of_batches_those_lines_are_read(self):
+        self.fill(300)
+        history = self.history()
+        history.found(None, None, 0)
+        for who, number in ((None, None), ("ada", None), (None, 7), ("ada", 7)):
+            with self.subTest(who=who, number=number), mock.patch.object(history_module, "line_at", wraps=history_module.line_at) as line_at:
+                found = history.found(who, number, 10)
+                self.assertEqual(line_at.call_count, 2 * len(found.batches))
+
     def test_a_batch_of_a_journal_that_is_still_read_isnt_told_to_be_missing(self):
         self.fill(3)
         history, app = self.history(), App(print)

@@ -160,6 +160,16 @@ class Requests(ServingTest):
         self.assertEqual(ask(front.port, "GET", "/api/object/%33", token=self.token)[0], 200)
         self.assertEqual(ask(front.port, "GET", "/api/seq?x=1", token=self.token), (200, {"seq": 0}))
 
+    def test_paths_that_lead_out(self):
+        """To the file of accounts, which is beside the journal, and to the front's own files."""
+        front = self.front()
+        for path in (
+            "/static/style.css", "/..%2f..%2fpeople.db", "/style.css/../../people.db", "/%2e%2e/people.db", "/../people.db", "/people.db",
+            "/templates/base.html", "/style.css%00", "/style.css/..%5cpeople.db", "//etc/passwd",
+        ):  # fmt: skip
+            with self.subTest(path):
+                self.assertEqual(ask(front.port, "GET", path, token=self.token)[0], 404)
+
     def test_slow_peers_hold_nobody(self):
         front = self.front()
         peers = [socket.create_connection(("127.0.0.1", front.port), SECONDS) for _ in range(100)]

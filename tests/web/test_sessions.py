@@ -1,5 +1,6 @@
 """Sessions in cookies, and forms: what a browser is given and for how long, and what a page of a stranger can't do."""
 
+import itertools
 import unittest
 
 from tests.support.pages import HOST, PagesTest, Reader
@@ -42,6 +43,15 @@ class Cookies(SessionsTest):
                 self.assertFalse(self.is_in(reader))
         reader.cookies = {"a": "b", "__Host-moo": secret, "c": "d=e"}
         self.assertTrue(self.is_in(reader))
+
+    def test_one_that_a_stranger_chose_is_not_kept(self):
+        reader = self.reader()
+        reader.cookies["__Host-moo"] = chosen = "x" * 43
+        self.assertEqual(reader.sign_in("wizard").status, 303)
+        self.assertNotEqual(reader.cookies["__Host-moo"], chosen)
+        stranger = self.reader()
+        stranger.cookies["__Host-moo"] = chosen
+        self.assertEqual([self.is_in(one) for one in (reader, stranger)], [True, False])
 
     def test_it_ends_twelve_hours_after_its_last_use_and_after_seven_days(self):
         reader = self.reader("wizard")
@@ -152,6 +162,22 @@ class Strangers(SessionsTest):
         self.assertTrue(self.is_in(reader))
         self.assertEqual(self.reader().sign_in("wizard").status, 303)
 
+    def test_each_site_with_each_token(self):
+        """A form acts if it has the session's own token, and the browser says that it is of this site, or says nothing of another one."""
+        reader = self.reader("wizard")
+        token = reader.token()
+        origins = {
+            "": True, f"http://{HOST}": True, f"https://{HOST}": True, "https://evil.example": False, "null": False, f"https://evil@{HOST}": False,
+            f"https://{HOST}.evil.example": False, f"https://{HOST}:1": False, "http://localhost": False,
+        }  # fmt: skip
+        sites = {"": None, "same-origin": True, "same-site": False, "cross-site": False, "none": False, "bogus": False}
+        tokens = {token: True, "": False, "x" * 22: False, token[:-1]: False}
+        for origin, site, given in itertools.product(origins, sites, tokens):
+            is_ours = origins[origin] if sites[site] is None else sites[site]
+            answer = reader.post("/you/zone", {"form": given, "zone": "UTC"}, HTTP_ORIGIN=origin, HTTP_SEC_FETCH_SITE=site)
+            with self.subTest(origin=origin, site=site, token=tokens[given]):
+                self.assertEqual(answer.status, 303 if is_ours and tokens[given] else 403)
+
     def test_a_form_without_the_sessions_own_token(self):
         reader, other = self.reader("wizard"), self.reader("wizard")
         for fields in ({}, {"form": ""}, {"form": "x"}, {"form": other.token()}, {"form": reader.cookies["__Host-moo"]}):
@@ -185,11 +211,18 @@ class Strangers(SessionsTest):
     def test_where_a_sign_in_leads_is_of_this_front(self):
         for to in (
             "//evil.example", "https://evil.example", "/\\evil.example", "\\\\evil.example", "javascript:alert(1)", "", "o/3",
-            "/\t/evil.example", "/é",
+            "/\t/evil.example", "/é", "///evil.example", " //evil.example", "/in\r\nX: y", "javascript:alert(1)//",
         ):  # fmt: skip
             with self.subTest(to=to):
                 self.assertEqual(self.reader().sign_in("wizard", to=to).head["Location"], "/")
                 self.assertEqual(self.reader().get("/in", QUERY_STRING=f"to={to}").read.form("/in")["fields"]["to"], "/")
+
+    def test_a_name_that_would_be_a_line_of_the_head(self):
+        for name in ("ada\r\nSet-Cookie: a=b", "a" * 65, "\x00", "ada\u2028"):
+            answer = self.reader().post("/in", {"name": name, "password": PASSWORD, "to": "/"})
+            with self.subTest(name=name):
+                self.assertIn(answer.status, (403, 429))
+                self.assertNotIn("a=b", str(answer.head))
 
     def test_pages_that_change_something_answer_no_get(self):
         reader = self.reader("wizard")
