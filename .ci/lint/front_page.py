@@ -55,8 +55,8 @@ def broken_links() -> Iterator[str]:
 
 
 def without_readers() -> list[str]:
-    """The pages that don't begin with whom they are for."""
-    begins = {page.name: page.read_text().split("\n\n")[1] for page in TOP.glob("docs/*.md")}
+    """The pages that don't begin with whom they are for. README is for everybody."""
+    begins = {page.name: page.read_text().split("\n\n")[1] for page in PAGES if page.name != "README.md"}
     return [name for name, first in begins.items() if not first.startswith("For ")]
 
 
