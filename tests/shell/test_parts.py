@@ -89,6 +89,7 @@ class Parts(ProgramTest):
             ("\\ask create(\n#1)", [("\\ask create( #1)", 1, 1)]),
             ("create(#1", [("create(#1", 1, 1)]),
             ("@describe here as A bar; \"warm // (\nend", [("@describe here as A bar; \"warm // (", 1, 1), ("end", 2, 1)]),
+            ('@dig up to "A; @go up"; @go up;', [('@dig up to "A; @go up"', 1, 1), (" @go up", 1, 2)]),
         )
         for text, wanted in cases:
             found = [(each.text, each.line, each.part) for each in statements.statements(text.split("\n"))]
@@ -110,7 +111,7 @@ class Parts(ProgramTest):
             ("a = create(#1)", Line("call", "create(#1)", name="$a")),
             ("a = 5", Line("value", "5", name="$a")),
             ("a == 5", Line("call", "a == 5")),
-            ("player.name", Line("call", 'get($player, "name")')),
+            ("player.name", Line("call", 'get($me, "name")')),
             ('a.name = "x"', Line("call", 'set($a, "name", "x")')),
             ("show #2", Line("command", "#2", word="show")),
             ("@show #2", Line("command", "#2", word="show")),
@@ -126,7 +127,7 @@ class Parts(ProgramTest):
             ("show #5.name", Line("call", 'get(#5, "name")')),
             ("eval #5.name", Line("call", 'get(#5, "name")')),
             ("inventory", Line("command", "$me", word="places")),
-            ("player", Line("alone", "$player")),
+            ("player", Line("alone", "$me")),
         )
         for text, wanted in cases:
             self.case(f"what {text} means", meant.meant(text, ("show", "tree"), answers.__getitem__), wanted)
@@ -136,27 +137,40 @@ class Parts(ProgramTest):
         answers = {
             'get($here, "exits")': '{{"east", #9}}', 'get(#9, "exits")': "{}", "parent($here)": "#6",
             'property_info(#5, "light")': '{#3, "rc"}', 'verb_info(#5, "look")': '{#4, "rd", "l*ook"}', 'verb_args(#5, "look")': '{"this", "none", "none"}',
+            'get(#1, "aliases")': "{}", 'get(#5, "aliases")': "{}", 'get($me, "ownership_quota")': "5", 'get(#8, "ownership_quota")': '""',
+            "properties(#5)": '{"light", "weight"}', "parent(#5)": "#-1", 'property_info(#5, "weight")': '{#3, "r"}',
         }  # fmt: skip
-        known = building.Known(lambda text: {"me": "$me", "here": "$here", "Lamp": "#5"}.get(text, text), answers.__getitem__)
+
+        def told(call: str) -> str:
+            if call not in answers:
+                raise Failed(f"refused: {call}: E_PROPNF")
+            return answers[call]
+
+        known = building.Known(lambda text: {"me": "$me", "here": "$here", "Lamp": "#5"}.get(text, text), told)
         cases = (
             ("@create #1", ["$new = create(#1)"]),
             ('@create $thing named "Lamp"', ["$new = create($thing)", '$new.name = "Lamp"']),
             ("@create #1 called Lamp:lamp,brass lamp", ["$new = create(#1)", '$new.name = "Lamp"', '$new.aliases = {"Lamp", "lamp", "brass lamp"}']),
             ('@create #1 named "Bar, Inn"', ["$new = create(#1)", '$new.name = "Bar, Inn"']),
+            ("@create #7 named Lamp,brass", ["$new = create(#7)", f'$new.name = "Lamp" {building.NO_ALIASES.format("#7")}']),
             ("@recycle Lamp", ["recycle(#5)"]),
             ("@describe me as A tall wizard.", ['$me.description = "A tall wizard."']),
             ('@describe here as "Say \\"hi\\"."', ['$here.description = "Say \\"hi\\"."']),
             ('@describe here as 6" of snow; cold', ['$here.description = "6\\" of snow; cold"']),
             ("@rename Lamp to Torch", ['#5.name = "Torch"']),
+            ('@rename Lamp to "Torch","brand"', ['#5.name = "Torch"', '#5.aliases = {"Torch", "brand"}']),
+            ("@rename #7 to Torch:brand", [f'#7.name = "Torch" {building.NO_ALIASES.format("#7")}']),
             ("@rename #5.light to dark", ['set_property_info(#5, "light", {#3, "rc", "dark"})']),
             ("@rename #5:look to peer", ['set_verb_info(#5, "look", {#4, "rd", "peer"})']),
             ("@move Lamp to here", ["move(#5, $here)"]),
             ("@move me here", ["move($me, $here)"]),
             ("@go #7", ["move($me, #7)"]),
+            ("@go east", ["move($me, #9)"]),
             ("@chparent #5 #6", ["chparent(#5, #6)"]),
             ("@set #5.light to 3", ["#5.light = 3"]),
             ("@prop #5.light", ['add_property(#5, "light", 0, {$me, "rc"})']),
             ('@property #5.light "very dim" r #3', ['add_property(#5, "light", "very dim", {#3, "r"})']),
+            ("@property #5.light 1 rc me", ['add_property(#5, "light", 1, {$me, "rc"})']),
             ('@property #5.light {1, 2} ""', ['add_property(#5, "light", {1, 2}, {$me, ""})']),
             ("@rmprop #5.light", ['delete_property(#5, "light")']),
             ("@clearp #5.light", ['clear_property(#5, "light")']),
@@ -166,7 +180,7 @@ class Parts(ProgramTest):
             ("@chmod #5:look +x", ['set_verb_info(#5, "look", {#4, "rdx", "l*ook"})']),
             ("@chmod Lamp +rf", ["#5.r = 1", "#5.f = 1"]),
             ("@chmod Lamp r", ["#5.r = 1", "#5.w = 0", "#5.f = 0"]),
-            ("@chown Lamp to me", ["#5.owner = $me"]),
+            ("@chown Lamp to #7", ["#5.owner = #7", 'set_property_info(#5, "light", {#7, "rc"})']),
             ("@chown #5.light #7", ['set_property_info(#5, "light", {#7, "rc"})']),
             ("@verb #5:look", ['add_verb(#5, {$me, "rd", "look"}, {"none", "none", "none"}) // moo keeps this header and runs no verb']),
             ('@verb #5:"l*ook get" this none this', [f'add_verb(#5, {{$me, "rxd", "l*ook get"}}, {{"this", "none", "this"}}) {building.HEADERS}']),
@@ -178,8 +192,8 @@ class Parts(ProgramTest):
             ("@display Lamp.", ["\\show #5"]),
             ("@kids #1", ["\\tree #1"]),
             ("@audit", ["\\owned $me"]),
-            ("@quota me", ["$me.ownership_quota"]),
-            ("@quota #8 is public 5", ["#8.ownership_quota = 5"]),
+            ("@quota me", [f"$me.ownership_quota {building.NUMBERED}"]),
+            ("@quota #8 is public 5", [f"#8.ownership_quota = 5 {building.NUMBERED}"]),
             ("@dig Attic", ["$new = create(#6)", '$new.name = "Attic"']),
             ("@dig up,u|down to The Attic", [
                 "$new = create(#6)", '$new.name = "The Attic"', '$here.exits = {{"east", #9}, {"up", $new}, {"u", $new}}', '$new.exits = {{"down", $here}}',
@@ -190,9 +204,19 @@ class Parts(ProgramTest):
         )  # fmt: skip
         for text, wanted in cases:
             self.case(f"what {text} does", building.building_lines(text, known), wanted)
-        for text in ("@chmod", "@rename Lamp", "@property #5.light dim", "@dig east to #9", "@list"):
+        for text in ("@chmod", "@rename Lamp", "@property #5.light dim", "@list"):
             with self.assertRaises(Failed, msg=text):
                 building.building_lines(text, known)
+        refused = (
+            ("@dig east to #9", '$here has an exit "east" already, to #9;'),
+            ("@dig up|down to #7", "@property #7.exits {} rc adds it"),
+            ("@quota #7", "@property #1.ownership_quota"),
+            ('@describe here as "a" and "b"', "in a text"),
+        )
+        for text, wanted in refused:
+            with self.assertRaises(Failed) as failed:
+                building.building_lines(text, known)
+            self.case(f"{text} says {wanted}", wanted in failed.exception.reason, True)
 
     def test_advice(self) -> None:
         """What can't be done is told in a sentence."""
@@ -206,19 +230,32 @@ class Parts(ProgramTest):
             ("say hello", elsewhere.PLAYED),
             ('"hello', elsewhere.PLAYED),
             ("north", elsewhere.PLAYED),
-            ("1 + 1", "moo reckons nothing: a line is a call, or a property as #5.name"),
-            ("#4.light + 1", 'a property is read by get(#4, "light")'),
+            ("1 + 1", meant.RECKONS),
+            ('"a" + "b"', meant.RECKONS),
+            ("for x in (players()) endfor", meant.RECKONS),
+            ("#4.light + 1", meant.RECKONS),
+            ("#4.light(", 'a property is read by get(#4, "light")'),
+            ("grant 3", "grant is a call, and its values are in brackets: \\help grant"),
+            ("@set_accept #5", "set_accept is a call, and its values are in brackets: \\help set_accept"),
+            ("@where Ada", f"@where is LambdaMOO's; here {elsewhere.SENTENCES['who']}"),
             (":x", "a name is written $x, and nobody plays at this prompt"),
             ("/* words */", "a comment begins with // and ends with its line"),
             ("select", f"moo has no SQL; {elsewhere.SQL['select']}"),
             ("create table inn (a int)", f"moo has no SQL; {elsewhere.KINDS['create']}"),
-            ("create #1", ""),
             ("nothing", ""),
         )
         for text, wanted in cases:
             self.case(f"the advice of {text}", meant.advice(text), wanted)
         for text in ("#4", "{1, 2}"):
             self.case(f"the expression {text}", meant.expression_advice(text), "")
+        wrong = "malformed: '{}' isn't a value: 12"
+        for text, of_value, wanted in (
+            ('set(#5, "name", Inn)', "Inn)", 'a text is in double quotes, as "Inn"'),
+            ("move(#5, me)", "me)", "in a call it is $me"),
+            ('petition(set(#5, "w", 1))', "set(#5,", "a call in a petition is a list"),
+            ("move(create(#1), #2)", "create(#1),", "a call isn't a value of another one"),
+        ):
+            self.case(f"the advice of {text}", wanted in meant.signs_advice(text, wrong.format(of_value)), True)
         for word, begins in (("x", "\\show #5"), ("dv+", "\\show #5"), ("df", "\\help calls"), ("dus", "\\show #5"), ("nosuch", "")):
             self.case(f"the advice of \\{word}", elsewhere.of_psql(word)[: len(begins)] if begins else elsewhere.of_psql(word), begins)
         for options, begins in ((["-A"], "-A: answers of a script are bare"), (["-Ubob"], "-U: --as N"), (["--attempt"], "")):
@@ -226,7 +263,8 @@ class Parts(ProgramTest):
 
     def test_the_examples_of_advice(self) -> None:
         """The calls of the examples are calls of moo, or words of the shell; each command of help has a form that is read."""
-        lists = {"property_info": '{#3, "r"}', "verb_info": '{#3, "r", "look"}', "verb_args": '{"this", "none", "none"}', "parent": "#6", "get": "{}"}
+        lists = {"property_info": '{#3, "r"}', "verb_info": '{#3, "r", "look"}', "verb_args": '{"this", "none", "none"}', "parent": "#-1", "get": "{}"}
+        lists["properties"] = '{"light"}'
         known = building.Known(lambda text: text, lambda call: lists[call.partition("(")[0]])
         done = [line for command in building.COMMANDS.values() for line in building.building_lines(command.example, known)]
         shown = [*elsewhere.SENTENCES.values(), *elsewhere.SQL.values(), *elsewhere.PSQL.values(), elsewhere.PLAYED, *done]

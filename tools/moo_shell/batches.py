@@ -148,12 +148,12 @@ class Batches:
         call = answer.call
         item = items[call - 1] if 0 < call <= len(items) else None
         text = calls[call - 1] if 0 < call <= len(calls) else ""
-        why = answer.why or self.own_why(answer, text)
+        why = (answer.why or self.own_why(answer, text)).replace(" (see LAMBDAMOO)", ": moo reckons nothing, and \\help calls lists the calls")
         if text.startswith("#") and answer.error == "malformed" and "//" not in why:
             why += "; a comment begins with //"
         if strange_letter(text) and strange_letter(text) not in why:
             why += f": '{strange_letter(text)}'"
-        why += signs_advice(text) if answer.error == "malformed" else ""
+        why += signs_advice(text, why) if answer.error == "malformed" else ""
         kind = answer.error if answer.error in ("malformed", "full") else "refused"
         return Refused(f"{kind}: {why}", call, answer.error, item.place if item else None)
 

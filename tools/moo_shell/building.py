@@ -6,20 +6,26 @@
 
 from __future__ import annotations
 
+import contextlib
 import re
 from collections.abc import Callable
 from typing import NamedTuple, Optional, Union
 
+from moo_shell.naming import is_value
 from moolib.errors import Failed
 from moolib.lines import hint, strange_letter, unquoted
 from moolib.values import NoValue, Value, read, written
 
 
 class Known(NamedTuple):
-    """What the session knows: `thing` is an object, as people name it, as calls name it; `read` is what a reading call answers."""
+    """What the session knows.
+
+    `thing` is an object, as people name it, as calls name it; `read` is what a reading call answers, and `new` the name for what is made.
+    """
 
     thing: Callable[[str], str]
     read: Callable[[str], str]
+    new: str = "$new"
 
     def value(self, call: str) -> list[Value]:
         """The list that a reading call answers."""
@@ -45,8 +51,10 @@ PROPERTY = r"(?P<thing>.+?)\.(?P<property>[A-Za-z_]\w*)"
 VERB = r'(?P<thing>[^:]+):(?:"(?P<verbs>[^"]+)"|(?P<verb>\S+))'
 # Two objects, with `to` between them, or without it if the second one is a number or a name.
 TO = r"(?:\s+to\s+|\s+(?=[#$]|here$|me$))(?P<other>.+)"
-# What is said beside the calls on verbs.
+# What is said beside the calls on verbs, on quotas, and for an object whose class has no aliases.
 HEADERS = "// moo keeps this header and runs no verb"
+NUMBERED = "// a number bounds how many; nothing else does"
+NO_ALIASES = "// without aliases: {0} has no such property, and @property {0}.aliases {{}} rc adds it"
 PERMS = r"\s+(?P<perms>[-+!]?[A-Za-z]*|\"\")"
 
 
@@ -55,13 +63,15 @@ def text_of(text: str) -> str:
     try:
         value = read(text)
     except NoValue:
+        if len(text) > 1 and text.startswith('"') and text.endswith('"'):
+            raise Failed(f'{text} isn\'t one text: in a text " is written \\"') from None
         return unquoted(text)
     return value if isinstance(value, str) else text.strip()
 
 
 def texts(text: str) -> list[str]:
     """A name with its aliases, as LambdaMOO has them: `"Lamp",lantern` or `Lamp:lamp,lantern`."""
-    if is_literal(text):
+    if is_value(text):
         return [text_of(text)]
     first, _, others = text.partition(":") if ":" in text else text.partition(",")
     return [unquoted(each) for each in (first, *others.split(",")) if each.strip()]
@@ -69,22 +79,80 @@ def texts(text: str) -> list[str]:
 
 def create(found: re.Match[str], known: Known) -> list[str]:
     """An object of a class, with its name and aliases."""
-    lines = [f"$new = create({known.thing(found['thing'])})"]
-    names = texts(found["text"] or "")
-    if names:
-        lines.append(f"$new.name = {written(names[0])}")
-    if len(names) > 1:
-        lines.append(f"$new.aliases = {written(names)}")
+    kind = known.thing(found["thing"])
+    return [f"{known.new} = create({kind})", *name_lines(known.new, texts(found["text"] or ""), kind, known)]
+
+
+def name_lines(thing: str, names: list[str], kind: str, known: Known) -> list[str]:
+    """The lines that give an object its name, and aliases if its class has that property. `kind` is the class, or the object itself."""
+    lines = [f"{thing}.name = {written(names[0])}"] if names else []
+    if len(names) < 2:
+        return lines
+    if lacks(known, kind, "aliases"):
+        return [f"{lines[0]} {NO_ALIASES.format(kind)}"]
+    return [*lines, f"{thing}.aliases = {written(names)}"]
+
+
+def lacks(known: Known, thing: str, name: str) -> bool:
+    """Whether an object has no property of this name."""
+    try:
+        known.read(f"get({thing}, {written(name)})")
+    except Failed as failed:
+        return "E_PROPNF" in failed.reason
+    return False
+
+
+def chown(found: re.Match[str], known: Known) -> list[str]:
+    """The lines that give an object another owner, and its properties with a `c` too, as LambdaMOO's core does."""
+    thing, owner = known.thing(found["thing"]), known.thing(found["other"])
+    lines = [f"{thing}.owner = {owner}"]
+    above = thing
+    # Who may not read that may not change the owner either, and is told so by the first line.
+    with contextlib.suppress(Failed):
+        while above != "#-1":
+            for name in map(str, known.value(f"properties({above})")):
+                _, perms, *_ = known.value(f"property_info({thing}, {written(name)})")
+                if "c" in str(perms):
+                    lines.append(f"set_property_info({thing}, {written(name)}, {{{owner}, {written(perms)}}})")
+            above = known.read(f"parent({above})")
     return lines
+
+
+def rename(found: re.Match[str], known: Known) -> list[str]:
+    """The lines that give an object another name, and aliases."""
+    thing = known.thing(found["thing"])
+    return name_lines(thing, texts(found["text"]), thing, known)
 
 
 def exits_of(place: str, known: Known, more: list[tuple[str, str]]) -> str:
     """The line that gives a place more exits: the name of each, and the object to which it leads."""
-    former = known.value(f'get({place}, "exits")')
-    taken = [name for name, _ in more if any(isinstance(each, list) and each[:1] == [name] for each in former)]
-    if taken:
-        raise Failed(f"{place} has an exit {written(taken[0])} already")
+    former = exits(place, known)
+    for name, _ in more:
+        if name in leading(former):
+            raise Failed(f"{place} has an exit {written(name)} already, to {leading(former)[name]}; {place}.exits = {{..}} sets them")
     return f"{place}.exits = {{{', '.join([*map(written, former), *(f'{{{written(name)}, {to}}}' for name, to in more)])}}}"
+
+
+def exits(place: str, known: Known) -> list[Value]:
+    """The exits of a place. `Failed`: it has no such property."""
+    try:
+        return known.value(f'get({place}, "exits")')
+    except Failed as failed:
+        raise Failed(f"{failed.reason}; @property {place}.exits {{}} rc adds it, or to all rooms @property #5.exits {{}} rc to their class #5") from None
+
+
+def leading(value: list[Value]) -> dict[str, str]:
+    """The names of exits, and where each leads."""
+    return {str(each[0]): written(each[1]) for each in value if isinstance(each, list) and len(each) > 1}
+
+
+def go(found: re.Match[str], known: Known) -> list[str]:
+    """The call that goes to an object, or by the exit of this name."""
+    try:
+        ways = leading(exits("$here", known))
+    except Failed:
+        ways = {}
+    return [f"move($me, {ways.get(found['thing']) or known.thing(found['thing'])})"]
 
 
 def dig(found: re.Match[str], known: Known) -> list[str]:
@@ -92,14 +160,14 @@ def dig(found: re.Match[str], known: Known) -> list[str]:
     there, _, back = (found["ways"] or "").partition("|")
     names, names_back = texts(there), texts(back)
     is_made = not re.fullmatch(r"[#$]\S+", found["text"])
-    place = "$new" if is_made else known.thing(found["text"])
+    place = known.new if is_made else known.thing(found["text"])
     lines = []
     if is_made:
-        lines = [f"$new = create({class_of_rooms(known)})", f"$new.name = {written(text_of(found['text']))}"]
+        lines = [f"{place} = create({class_of_rooms(known)})", f"{place}.name = {written(text_of(found['text']))}"]
     if names:
         lines.append(exits_of("$here", known, [(name, place) for name in names]))
     if names_back and is_made:
-        lines.append(f"$new.exits = {{{', '.join(f'{{{written(name)}, $here}}' for name in names_back)}}}")
+        lines.append(f"{place}.exits = {{{', '.join(f'{{{written(name)}, $here}}' for name in names_back)}}}")
     elif names_back:
         lines.append(exits_of(place, known, [(name, "$here") for name in names_back]))
     return lines
@@ -151,31 +219,24 @@ def add_property(found: re.Match[str], known: Known) -> list[str]:
     """A property with its value, perms and owner: 0, rc and the caller if they aren't given."""
     value = (found["given"] or "").strip() or "0"
     words: list[str] = []
-    while not is_literal(value):
+    while not is_value(value):
         value, _, last = value.rpartition(" ")
         words.insert(0, last)
         if not value:
             raise Failed(f"{' '.join(words)} isn't a value and then perms: {COMMANDS['property'].example}")
-    perms, owner = [*words, *["rc", "$me"][len(words) :]][:2]
-    return [f"add_property({known.thing(found['thing'])}, {written(found['property'])}, {value}, {{{owner}, {written(unquoted(perms))}}})"]
-
-
-def is_literal(text: str) -> bool:
-    """Whether a text is a value."""
-    try:
-        read(text)
-    except NoValue:
-        return False
-    return True
+    perms, owner = [*words, *["rc", "me"][len(words) :]][:2]
+    thing = known.thing(found["thing"])
+    return [f"add_property({thing}, {written(found['property'])}, {value}, {{{known.thing(owner)}, {written(unquoted(perms))}}})"]
 
 
 def add_verb(found: re.Match[str], known: Known) -> list[str]:
     """A verb with its arguments, perms and owner."""
     words = (found["given"] or "").split()
     given = [*words[:3], "none", "none", "none"][:3]
-    perms, owner = [*words[3:], *["rxd" if given == ["this", "none", "this"] else "rd", "$me"][max(len(words) - 3, 0) :]][:2]
+    perms, owner = [*words[3:], *["rxd" if given == ["this", "none", "this"] else "rd", "me"][max(len(words) - 3, 0) :]][:2]
     names = written(found["verbs"] or found["verb"])
-    return [f"add_verb({known.thing(found['thing'])}, {{{owner}, {written(unquoted(perms))}, {names}}}, {written(given)}) {HEADERS}"]
+    thing = known.thing(found["thing"])
+    return [f"add_verb({thing}, {{{known.thing(owner)}, {written(unquoted(perms))}, {names}}}, {written(given)}) {HEADERS}"]
 
 
 def args_of_verb(found: re.Match[str], known: Known) -> list[str]:
@@ -194,7 +255,9 @@ def header(found: re.Match[str], known: Known) -> list[str]:
 def quota(found: re.Match[str], known: Known) -> list[str]:
     """How many objects somebody may make still, or that number set."""
     thing = known.thing(found["thing"] or "me")
-    return [f"{thing}.ownership_quota = {found['value']}" if found["value"] else f"{thing}.ownership_quota"]
+    if lacks(known, thing, "ownership_quota"):
+        raise Failed('nothing is bounded here: @property #1.ownership_quota "" "" makes quotas, and @quota #18 is 5 one')
+    return [f"{thing}.ownership_quota{' = ' + found['value'] if found['value'] else ''} {NUMBERED}"]
 
 
 def owned(found: re.Match[str], known: Known) -> list[str]:
@@ -203,7 +266,7 @@ def owned(found: re.Match[str], known: Known) -> list[str]:
 
 
 MOVED = ((rf"{THING}{TO}", "move({thing}, {other})"),)
-WENT = ((THING, "move($me, {thing})"),)
+WENT = ((THING, go),)
 DESCRIBED = ((rf"{THING}\s+as\s+(?P<text>.+)", "{thing}.description = {text}"),)
 SET = ((rf"{PROPERTY}\s+(?:to\s+)?(?P<value>\S.*)", "{thing}.{property} = {value}"),)
 ADDED = ((rf"{PROPERTY}(?P<given>\s.*)?", add_property),)
@@ -218,7 +281,7 @@ COMMANDS = {
     "rename": Command('@rename #5 to "Inn"', (
         (rf"{VERB}\s+to\s+(?P<text>.+)", lambda found, known: info_of_verb(found, known, name=text_of(found["text"]))),
         (rf"{PROPERTY}\s+to\s+(?P<text>.+)", lambda found, known: info_of_property(found, known, name=text_of(found["text"]))),
-        (rf"{THING}\s+to\s+(?P<text>.+)", "{thing}.name = {text}"),
+        (rf"{THING}\s+to\s+(?P<text>.+)", rename),
     )),
     "set": Command("@set #5.light to 3", SET),
     "move": Command("@move #5 to here", MOVED),
@@ -236,7 +299,7 @@ COMMANDS = {
     "chown": Command("@chown #5 to #3", (
         (rf"{VERB}{TO}", lambda found, known: info_of_verb(found, known, owner=known.thing(found["other"]))),
         (rf"{PROPERTY}{TO}", lambda found, known: info_of_property(found, known, owner=known.thing(found["other"]))),
-        (rf"{THING}{TO}", "{thing}.owner = {other}"),
+        (rf"{THING}{TO}", chown),
     )),
     "verb": Command("@verb #5:look this none none", ((rf"{VERB}(?P<given>\s.*)?", add_verb),)),
     "rmverb": Command("@rmverb #5:look", ((VERB, lambda found, known: [f"delete_verb({known.thing(found['thing'])}, {written(found['verbs'] or found['verb'])})"]),)),
@@ -263,7 +326,7 @@ OTHER_WORDS = {
 
 def command_of(text: str) -> tuple[str, str]:
     """The word of a command of LambdaMOO without its `@`, and what it is given; two empty texts for another line."""
-    found = re.fullmatch(r"@([A-Za-z][A-Za-z-]*)(?:\s+(.*))?", text.strip(), re.DOTALL)
+    found = re.fullmatch(r"@([A-Za-z][\w-]*)(?:\s+(.*))?", text.strip(), re.DOTALL)
     word = found[1].lower() if found else ""
     return OTHER_WORDS.get(word, word), (found[2] or "").strip() if found else ""
 

@@ -21,6 +21,7 @@ from moo_shell.history import history
 from moo_shell.service import OwnService
 from moo_shell.session import Session
 from moo_shell.watching import watch
+from moo_shell.ways import how_to_undo
 from moolib.batches import Item
 from moolib.errors import Failed
 from moolib.lines import Line, counted, did_you_mean, filled, names_in, unquoted
@@ -256,8 +257,10 @@ def list_batch(session: Session, _: str) -> None:
     session.output.show("\n".join(rows) or "no calls yet")
 
 
-def undo(session: Session, _: str) -> None:
+def undo(session: Session, text: str) -> None:
     """Drops the last call of the open batch."""
+    if session.open is None:
+        raise Failed(how_to_undo(session, text))
     if not session.open:
         raise Failed("no call of an open batch is there to drop")
     session.output.note(f"dropped: {session.open.pop().text}")

@@ -5,9 +5,10 @@ from __future__ import annotations
 import re
 
 from moo_shell.building import COMMANDS, command_of
+from moolib.calls import NAMES
 
 NO_VERBS = "moo keeps the headers of verbs and runs none: the game is a program beside it"
-PLAYED = "nobody plays at this prompt: move(#5, $me) takes a thing, move($me, #7) goes to a place, and a program of yours lets people play"
+PLAYED = "nobody plays at this prompt: @move #5 to me takes a thing, @go #7 or @go north goes to a place, and a program of yours lets people play"
 # What to write for a command of LambdaMOO that isn't done.
 SENTENCES = {
     "program": NO_VERBS,
@@ -15,16 +16,19 @@ SENTENCES = {
     "who": "nobody is connected to a world of moo; players() lists the players, and \\places shows where they are",
     "password": "accounts are the front's: /people there, or moo-people",
     "newplayer": "set_player_flag(#5, 1) makes #5 a player; an account is made by the front, at /people, or by moo-people",
-    "addalias": '#5.aliases = {"lamp", "light"} sets them, if the class has that property',
+    "addalias": '#5.aliases = {"lamp", "light"} sets them, and @property #1.aliases {} rc makes that property',
     "lock": "set_accept(#7, {#5}) says what a place takes: #5 and what is under it",
     "edit": '#5.description = "Dull." sets a property, and \\e edits that line',
-    "exits": "here.exits tells them, and @dig north|south to #7 makes them, if the class has that property",
+    "exits": "`here.exits` tells them, and @dig north|south to #7 makes them, if the class has that property",
+    "home": "#5.home = #7 sets one, if the class has that property, and @move #5 to #7 moves anything",
+    "check": "\\ask CALL tells what a call would answer, as \\ask chparent(#5, #6)",
     "shutdown": "who runs the service ends it; what was answered is on the disk",
     "mail": "there is no mail; petition({{\"set\", #5, \"f\", 1}}) asks a wizard to do something",
 }
 SAME = {
     "make-player": "newplayer", "rmalias": "addalias", "unlock": "lock", "notedit": "edit", "ways": "exits", "entrances": "exits",
-    "add-exit": "exits", "addexit": "exits", "dump-database": "shutdown", "gripe": "mail", "send": "mail", "news": "mail",
+    "add-exit": "exits", "addexit": "exits", "dump-database": "shutdown", "gripe": "mail", "send": "mail", "news": "mail", "where": "who", "users": "who", "boot": "who", "shout": "who",
+    "sethome": "home", "eject": "home", "check-property": "check", "check-chparent": "check", "check-prop": "check", "check-p": "check",
 }  # fmt: skip
 # Words and signs with which people play a game.
 PLAYING = re.compile(
@@ -126,6 +130,8 @@ def of_lambdamoo(text: str) -> str:
     told = SENTENCES.get(SAME.get(word, word))
     if told:
         return f"@{word} is LambdaMOO's; here {told}"
+    if word in NAMES:
+        return f"{word} is a call, and its values are in brackets: \\help {word}"
     return "" if word in COMMANDS else f"@{word} isn't one of the commands of LambdaMOO that the shell does: \\help lambdamoo lists them"
 
 

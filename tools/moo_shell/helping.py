@@ -138,10 +138,18 @@ def help_on(manual: Manual, commands: Mapping[str, tuple[str, str]], word: str) 
         found.append(manual.part(ASIDE[word.lower()]))
     if manual.about(word):
         found.append(str(manual.about(word)))
+    found = found or [told for told in (help_on_commands(f"@{word}"),) if told]
     if not found:
         known = [*commands, *TOPICS, *ASIDE, *manual.calls, *manual.reasons]
-        raise Failed(f"there is no help on {word}{did_you_mean(word, known)}")
+        raise Failed(f"there is no help on {word}{did_you_mean(word, known) or where_else(manual, word)}")
     return "\n\n".join(found)
+
+
+def where_else(manual: Manual, word: str) -> str:
+    """The topics in which a word is, or the list of what there is."""
+    texts = {**TOPICS, **{name: manual.part(begins) for name, begins in ASIDE.items()}}
+    found = [f"\\help {name}" for name, text in texts.items() if re.search(rf"\b{re.escape(word)}", text, re.IGNORECASE)]
+    return f"; the word is in {' and '.join(found[:3])}" if found else "; \\help lists what there is"
 
 
 def hanging(line: str) -> int:

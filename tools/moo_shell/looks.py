@@ -72,7 +72,7 @@ def shown_info(answer: Said) -> str:
 
 def shown_slot(slot: Slot, number: int) -> tuple[str, str]:
     """A property: its name with its value, and where both are from."""
-    origin = "defined here" if slot.definer == number else f"defined on #{slot.definer}"
+    origin = "defined here" if slot.definer == number else "defined above" if slot.definer is None else f"defined on #{slot.definer}"
     if slot.source is None:
         inherited = ", inherited" if slot.value.is_good else ""
     else:

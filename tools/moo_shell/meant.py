@@ -7,7 +7,7 @@ from collections.abc import Callable, Collection
 from typing import Optional
 
 from moo_shell.elsewhere import NO_VERBS, of_lambdamoo, of_sql
-from moolib.calls import call_name
+from moolib.calls import NAMES, call_name
 from moolib.lines import Line, pieces, read_line
 from moolib.values import written
 
@@ -25,11 +25,17 @@ VERB = re.compile(rf"(?:{THING}|[A-Za-z_]\w*):\w+.*", re.DOTALL)
 EVALUATED = re.compile(r"(?:eval|return)\s+(.*)", re.IGNORECASE | re.DOTALL)
 WORD = re.compile(r"[@.]?([A-Za-z]+)(?:\s+(.*))?", re.DOTALL)
 
+# An expression that moo would have to reckon, and the word with which a value that isn't one begins, in the words of moo.
+SUM = re.compile(r'(?:-?\d+|"(?:[^"\\]|\\.)*"|[#$]\w+(?:\.\w+)*|\{.*\})\s*[-+*/%<>=?[]|(?:for|if|while|fork|try|return)\b', re.DOTALL)
+RECKONS = "moo reckons nothing: a line is a call, or a property as #5.name"
+NO_SUMS = "; a call isn't a value of another one: $x = CALL gives its answer a name"
+WORD_OF_VALUE = re.compile(r"(?:.*: )?'([A-Za-z]\w*)(\()?[^']*' isn't a value")
 # Words of other prompts that end a batch or drop it, and the word of the shell for each.
 BATCH_WORDS = {"commit": "end", "rollback": "abandon", "abort": "abandon"}
 SHOWING = ("look", "examine", "exam", "display")
-# Words that stand alone, and the name for what they show.
-ALONE_WORDS = {"me": "$me", "player": "$player", "here": "$here", "look": "$here", "l": "$here"}
+# Words for objects, and the name of each; those of the second line stand alone.
+OWN_WORDS = {"me": "$me", "player": "$me", "here": "$here"}
+ALONE_WORDS = {**OWN_WORDS, "look": "$here", "l": "$here"}
 CARRIED = ("inventory", "inv", "i")
 
 
@@ -65,8 +71,10 @@ def of_expression(text: str, read: Read) -> Optional[Line]:
     given = ASSIGNED.fullmatch(text)
     if given:
         return meant(f"${given[1]} = {given[2]}", (), read)
-    if BARE.match(text) and PROPERTY.fullmatch(f"${text}"):
-        return of_expression(f"${text}", read)
+    if BARE.match(text):
+        first, _, rest = text.partition(".")
+        whole = f"{OWN_WORDS.get(first.lower(), f'${first}')}.{rest}"
+        return of_expression(whole, read) if PROPERTY.fullmatch(whole) else None
     return None
 
 
@@ -112,19 +120,29 @@ def advice(text: str) -> str:
     return of_lambdamoo(text) or of_sql(text) or expression_advice(text)
 
 
-def signs_advice(text: str) -> str:
-    """That texts are in double quotes, for a call with a single one outside of them, and how comments begin, for one with `/*`; or nothing."""
+def signs_advice(text: str, why: str) -> str:
+    """How texts, petitions and comments are written, for a call that is malformed for this reason; or nothing."""
     outside = "".join(piece for kind, piece in pieces(text) if kind == "other")
-    quotes = '; a text is in double quotes, as "Inn"' if "'" in outside else ""
-    return quotes + ("; a comment begins with // and ends with its line" if "/*" in outside else "")
+    found = WORD_OF_VALUE.match(why)
+    told = ""
+    if found and found[1].lower() in OWN_WORDS:
+        told = f"; in a call it is {OWN_WORDS[found[1].lower()]}"
+    elif found and found[1].lower() in NAMES and found[2]:
+        told = '; a call in a petition is a list, as petition({{"set", #4, "name", "Ada"}})' if call_name(text) == "petition" else NO_SUMS
+    elif "'" in outside or found and not found[2]:
+        told = f'; a text is in double quotes, as "{found[1] if found else "Inn"}", and an object is a number, as #5'
+    return told + ("; a comment begins with // and ends with its line" if "/*" in outside else "")
 
 
 def expression_advice(text: str) -> str:
     """What to write for an expression of LambdaMOO that is more than a property; or nothing."""
     if VERB.fullmatch(text):
         return NO_VERBS
-    if re.match(r"-?\d+\s*[-+*/]", text):
-        return "moo reckons nothing: a line is a call, or a property as #5.name"
+    if SUM.match(text):
+        return RECKONS
+    called = re.match(r"([A-Za-z_]+)(?:\s+(.*))?", text, re.DOTALL)
+    if called and called[1].lower() in NAMES:
+        return f"{called[1].lower()} is a call, and its values are in brackets: \\help {called[1].lower()}"
     if "/*" in text:
         return "a comment begins with // and ends with its line"
     found = re.match(rf"({THING})\.([A-Za-z_]\w*)", text)

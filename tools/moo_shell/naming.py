@@ -1,14 +1,25 @@
-"""Names with their values in a file, as `$hall = #5` on a line each."""
+"""Names: those that stand for who calls and where, those for what is made, and names with their values in a file, as `$hall = #5` on a line each."""
 
 from __future__ import annotations
 
-from collections.abc import Mapping
+import contextlib
+import itertools
+import re
+from collections.abc import Collection, Iterable, Mapping
 from pathlib import Path
+from typing import TYPE_CHECKING, Optional
 
 from moo_shell.files import read_lines
 from moolib.errors import Failed
-from moolib.lines import read_line
+from moolib.lines import did_you_mean, pieces, read_line
 from moolib.values import read
+
+if TYPE_CHECKING:
+    from moo_shell.session import Session
+
+ME, HERE = "$me", "$here"
+# In a world of at most so many objects a name without a value is looked for among the names of objects.
+MOST_LOOKED_AT = 10_000
 
 
 def is_value(text: str) -> bool:
@@ -35,3 +46,51 @@ def names_in_file(file: Path) -> dict[str, str]:
 def text_of_names(names: Mapping[str, str]) -> str:
     """The text of a file of names."""
     return "".join(f"{name} = {value}\n" for name, value in sorted(names.items()))
+
+
+def new_name(taken: Collection[str]) -> str:
+    """A name for what a command of LambdaMOO makes, that isn't taken: `$new`, `$new2` and so on."""
+    return next(name for name in (f"$new{number if number > 1 else ''}" for number in itertools.count(1)) if name not in taken)
+
+
+def with_made(text: str, made: Mapping[str, Optional[str]]) -> str:
+    """A line with the names of what the open batch makes in the place of numbers, which others may get before it is sent.
+
+    `Failed`: one has no name, or its name is that of something else at the end of the batch.
+    """
+
+    def name_of(found: re.Match[str]) -> str:
+        name = made.get(found[0], found[0])
+        if name is None:
+            raise Failed(f"{found[0]} is made by the open batch and has no name there that lasts: `end` sends the batch first")
+        return name
+
+    return "".join(piece if kind == "text" else re.sub(r"#\d+", name_of, piece) for kind, piece in pieces(text)) if made else text
+
+
+def own_values(session: Session, wanted: set[str]) -> dict[str, str]:
+    """Those of the wanted names that stand for who calls, and for the place of that."""
+    if not wanted & {ME, HERE}:
+        return {}
+    who = session.world.caller()
+    own = {ME: f"#{who}"}
+    if HERE in wanted:
+        (place,) = session.world.each([f'get(#{who}, "location")'])
+        if place.text == "#-1":
+            raise Failed("you are nowhere: move($me, #5) goes to a place")
+        own[HERE] = place.text
+    return own
+
+
+def value_for(session: Session, name: str, known: Iterable[str]) -> str:
+    """What may be meant by a name that has no value, or at a prompt how it gets one."""
+    if name in session.given:
+        return ": it is the answer of a call of this batch, and known when that is sent"
+    like = did_you_mean(name, {*known, *session.given})
+    if like or session.is_script:
+        return like
+    value = "#5"
+    with contextlib.suppress(Failed):
+        if session.world.each(["max_object()"])[0].value.number <= MOST_LOOKED_AT:
+            value = f"#{session.world.number_named(name[1:])}"
+    return f"; {name} = {value} gives it one"

@@ -4,6 +4,7 @@ from __future__ import annotations
 
 import collections
 import contextlib
+import dataclasses
 import re
 import time
 from collections.abc import Callable, Collection, Iterable, Mapping
@@ -16,21 +17,22 @@ from moo_shell.door import Door
 from moo_shell.files import write_whole
 from moo_shell.going import going, is_asked_first
 from moo_shell.including import include
+from moo_shell.losing import cut
 from moo_shell.manual import Manual
-from moo_shell.meant import advice, expression_advice, meant
-from moo_shell.naming import is_value, names_in_file, text_of_names
+from moo_shell.meant import OWN_WORDS, advice, expression_advice, meant
+from moo_shell.naming import is_value, names_in_file, new_name, own_values, text_of_names, value_for, with_made
 from moo_shell.resuming import Passing
 from moo_shell.statements import is_open, parted
 from moo_shell.told import Output
 from moo_shell.watching import only_looks
-from moo_shell.world import BUILT_IN, World
+from moo_shell.ways import putting_back, way_on
+from moo_shell.world import World
 from moolib.batches import Item
-from moolib.calls import LONGEST_CALL, READING, call_name, read_about
+from moolib.calls import LONGEST_CALL, READING, call_name
 from moolib.errors import Failed
-from moolib.lines import Line, counted, did_you_mean, filled, hint, names_in, unfinished, unquoted
+from moolib.lines import Line, counted, did_you_mean, filled, hint, names_in, pieces, unfinished, unquoted
 from moolib.values import written
 
-WHO, HERE = ("$me", "$player"), "$here"
 RunWord = Callable[["Session", str, str], None]
 
 
@@ -49,7 +51,8 @@ class Session:
     destroys; it is given the lines to show first. `is_single` is whether all calls of the scripts are one batch. `stopped_at` are the lines
     at which a script stopped: its own, then that of the file which it includes there, and so on; `passing` are those to begin at, and
     `was_resumed` is whether the names are those of a script that stopped. `has_timing` is whether the time of each line is told.
-    `last_line` is the last call, `last_look` the last line that only reads.
+    `last_line` is the last call, `last_look` the last line that only reads, and `back` the call that puts back what was done last at a
+    prompt, if one call does.
     """
 
     def __init__(
@@ -78,12 +81,18 @@ class Session:
         self.passing = Passing()
         self.was_resumed = False
         self.has_timing = False
-        self.last_line = self.last_look = ""
+        self.last_line = self.last_look = self.back = ""
+        self.made: dict[str, Optional[str]] = {}
 
     @property
     def who(self) -> int:
         """The number of the programmer who calls."""
         return self.world.who
+
+    @property
+    def given(self) -> set[str]:
+        """The names of answers of the open batch."""
+        return {item.name for item in self.open or [] if item.name}
 
     def do(self, text: str) -> None:
         """Does the calls and words of a line."""
@@ -93,12 +102,14 @@ class Session:
 
     def do_part(self, text: str) -> None:
         """Does a call or a word."""
-        same = building_lines(text, Known(self.named, self.read))
+        self.made = {}
+        same = building_lines(text, Known(self.named, self.read, new_name(self.given)))
         if same:
-            self.do_same(same)
+            self.do_same([with_made(line, self.made) for line in same])
             return
         began, had_timing = time.monotonic(), self.has_timing
         line = meant(text, self.words, self.read)
+        line = dataclasses.replace(line, text=with_made(line.text, self.made))
         self.do_line(line)
         if line.kind in ("call", "value"):
             self.last_line = text
@@ -127,8 +138,8 @@ class Session:
     def named(self, text: str) -> str:
         """An object, as people name it, as a call names it: `me` is `$me`, and an object's own name is its number."""
         text = unquoted(text)
-        if text.lower() in ("me", "here", "player"):
-            return f"${text.lower()}"
+        if text.lower() in OWN_WORDS:
+            return OWN_WORDS[text.lower()]
         return text if re.fullmatch(r"#-?\d+|\$\w+", text) else f"#{self.number(text)}"
 
     def do_line(self, line: Line) -> None:
@@ -163,9 +174,7 @@ class Session:
 
     def with_values(self, item: Item) -> Item:
         """A call of the one batch of all scripts with the values that names have now; those that are answers of the batch stay names."""
-        given = {earlier.name for earlier in self.open or [] if earlier.name}
-        values = self.values(item.names - given)
-        kept = {**values, **{name: name for name in given}}
+        kept = {**self.values(item.names - self.given), **{name: name for name in self.given}}
         return Item(item.filled(kept, LONGEST_CALL), item.name, item.place)
 
     def test_call(self, text: str) -> None:
@@ -182,36 +191,23 @@ class Session:
 
     def test_names(self, text: str) -> None:
         """Fails if a line uses a name that has no value, and that no call of the open batch has."""
-        given = {earlier.name for earlier in self.open or [] if earlier.name}
-        unknown = names_in(text) - given
-        known = {*self.values(unknown), *given}
-        for name in sorted(unknown - known):
-            raise Failed(f"{name} has no value{did_you_mean(name, known)}")
+        self.values(names_in(text) - self.given)
 
     def values(self, wanted: Iterable[str]) -> Mapping[str, str]:
         """The names with their values. Of the wanted ones that the session hasn't, `$room` is the property `room` of #0, as in LambdaMOO.
 
-        If #0 has no such property, `$me` and `$player` are the programmer who calls, and `$here` is the place of that.
+        If #0 has no such property, `$me` is the programmer who calls, and `$here` is the place of that. `Failed`: one has no value.
         """
         lacking = sorted(set(wanted) - set(self.names))
         if not lacking:
             return self.names
         answers = self.world.each([f"get(#0, {written(name[1:])})" for name in lacking])
         found = {name: answer.text for name, answer in zip(lacking, answers) if answer.is_good}
-        return {**self.own_names({*lacking} - {*found}), **found, **self.names}
-
-    def own_names(self, wanted: set[str]) -> dict[str, str]:
-        """Those of the wanted names that stand for who calls, and for the place of that."""
-        if not wanted & {*WHO, HERE}:
-            return {}
-        who = self.world.caller()
-        own = {name: f"#{who}" for name in WHO}
-        if HERE in wanted:
-            (place,) = self.world.each([f'get(#{who}, "location")'])
-            if place.text == "#-1":
-                raise Failed("you are nowhere: move($me, #5) goes to a place")
-            own[HERE] = place.text
-        return own
+        known = {**own_values(self, {*lacking} - {*found}), **found, **self.names}
+        for name in lacking:
+            if name not in known:
+                raise Failed(f"{name} has no value{value_for(self, name, known)}")
+        return known
 
     def values_for(self, items: list[Item]) -> Mapping[str, str]:
         """The names with their values for a batch, whose calls may use the answers of calls before them."""
@@ -223,8 +219,14 @@ class Session:
         return self.values(wanted)
 
     def read(self, text: str) -> str:
-        """What a reading call answers, as it is written."""
-        return self.ask([Item(text, None, self.place)], self.who).answers[0]
+        """What a reading call answers, as it is written. In an open batch it comes after the calls of that."""
+        items = [*(self.open or []), Item(text, None, self.place)]
+        done = self.ask(items, self.who if self.open is None else self.open_who)
+        names = [item.name for item in items]
+        for place, item in enumerate(items):
+            if call_name(item.text) == "create":
+                self.made[done.answers[place]] = item.name if item.name not in names[place + 1 :] else None
+        return done.answers[-1]
 
     def show_alone(self, text: str) -> None:
         """An object, or what a name stands for."""
@@ -239,7 +241,7 @@ class Session:
         assert line.name
         if self.open is not None and not self.is_single:
             raise Failed(f"a batch holds calls alone: give {line.name} its value before `begin`")
-        if any(item.name == line.name for item in self.open or []):
+        if line.name in self.given:
             raise Failed(f"{line.name} is the name of an answer of this batch: another name is wanted for the value")
         value = filled(line.text, self.values(names_in(line.text)))
         if not is_value(value):
@@ -292,6 +294,7 @@ class Session:
         """Runs a batch, takes in its names, and writes its answers. One that only reads is asked: it changes nothing, and isn't counted."""
         names = self.values_for(items)
         is_asked = only_reads(items)
+        back, was = ("", "") if is_asked or self.is_script else putting_back(self, items, names)
         try:
             done = self.batches.ask(items, who, names, at) if is_asked else self.run_confirmed(items, who, names, at)
         except Refused as refused:
@@ -306,7 +309,9 @@ class Session:
         for item, answer in zip(items, done.answers):
             if item.name:
                 self.names[item.name] = answer
-        self.write_answers(items, done, not is_asked)
+        if not is_asked:
+            self.back = f"recycle({done.answers[0]})" if back == "recycle" else back
+        self.write_answers(items, done, not is_asked, was)
 
     def run_confirmed(self, items: list[Item], who: int, names: Mapping[str, str], at: Optional[int]) -> Optional[Done]:
         """Runs a batch. At a terminal one that destroys something is shown first, and runs on the world that was shown; None: it isn't run."""
@@ -333,25 +338,19 @@ class Session:
         self.run([*items[: call - 1], item, *items[call:]], who, at)
 
     def with_help(self, refused: Refused, items: list[Item]) -> Refused:
-        """A refusal, with the name of a property that is like the one that isn't there; at a prompt else with the call that adds it."""
-        if refused.error != "E_PROPNF" or "did you mean" in refused.reason or not 0 < refused.call <= len(items):
-            return refused
-        call = read_about(items[refused.call - 1].text)
-        if call and call.property:
-            known = set(BUILT_IN) if call.name in ("get", "set") else set()
-            # An object that the batch was to make isn't there.
-            with contextlib.suppress(Failed):
-                known.update(self.world.properties(self.number(str(call.subject))))
-            like = did_you_mean(call.property, sorted(known))
-            if not like and call.name == "set" and self.door.can_name and not self.is_script:
-                like = f'; add_property({call.subject}, {written(call.property)}, VALUE, {{#{self.who}, "rc"}}) adds it'
-            refused.reason += like
+        """A refusal, with the way on."""
+        if 0 < refused.call <= len(items) and "did you mean" not in refused.reason:
+            refused.reason += way_on(self, refused, items[refused.call - 1].text, len(items) == 1)
         return refused
 
-    def write_answers(self, items: list[Item], done: Done, is_accepted: bool) -> None:
-        """Writes the answers of a batch: bare to a file or a pipe, beside their calls to a terminal, and at a prompt with its number."""
+    def write_answers(self, items: list[Item], done: Done, is_accepted: bool, was: str) -> None:
+        """Writes the answers of a batch: bare to a file or a pipe, beside their calls to a terminal, and at a prompt with its number.
+
+        `was` is the value that was replaced, if it is told.
+        """
         rows = [f"{item.name} = {answer}" if item.name else answer for item, answer in zip(items, done.answers)]
-        note = self.output.dim(f"accepted {done.seq}") if is_accepted and not self.is_script else ""
+        before = f", was {cut(was)}" if was else ""
+        note = self.output.dim(f"accepted {done.seq}{before}") if is_accepted and not self.is_script else ""
         if len(items) == 1 and not self.is_script:
             self.output.answer(f"{rows[0]}  {note}".rstrip())
             return
@@ -367,8 +366,7 @@ class Session:
 
     def number(self, text: str) -> int:
         """The number of an object that is written as `#5`, `5` or `$name`, or by its own name, which may be in quotes."""
-        if text.strip().lower() in ("me", "player", "here"):
-            text = f"${text.strip().lower()}"
+        text = OWN_WORDS.get(text.strip().lower(), text)
         value = filled(text.strip(), self.values(names_in(text)))
         found = re.fullmatch(r"#?(-?\d+)", value)
         if found:

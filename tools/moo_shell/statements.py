@@ -65,16 +65,19 @@ def joined(text: str, following: str) -> str:
 
 
 def parted(text: str) -> list[str]:
-    """The calls and words of a line, each without the `;` after it."""
+    """The calls and words of a line, each without the `;` after it. A command of LambdaMOO ends at one with another command after it."""
     if COMMENT.match(text.lstrip(BLANKS)):
         return []
+    is_command = text.lstrip(BLANKS).startswith("@")
     if is_word(text):
-        return [text.rstrip(BLANKS).rstrip(";")]
+        text = text.rstrip(BLANKS).rstrip(";")
+    if is_word(text) and not is_command:
+        return [text]
     parts = [""]
     for kind, piece in pieces(text):
-        if kind == "comment":
+        if kind == "comment" and not is_command:
             break
-        first, *others = piece.split(";") if kind == "other" else [piece]
+        first, *others = re.split(r";(?=\s*@)" if is_command else ";", piece) if kind == "other" else [piece]
         parts[-1] += first
         parts += others
     return [part for part in parts if part.strip(BLANKS)]

@@ -14,7 +14,7 @@ from moolib.errors import Failed
 from moolib.lines import unquoted
 
 RED, DIM, BOLD, PLAIN = "\x1b[31m", "\x1b[2m", "\x1b[1m", "\x1b[0m"
-PAGER = ("less", "-FRX")
+PAGER = ("less", "-FRX", "-Psmore\\: space goes on, q leaves")
 
 
 class Output:

@@ -22,6 +22,8 @@ MOST_TOLD = 10
 # The facts of an object that a batch of reading calls asks for, with the field of each.
 FACTS = {"name": 'get({}, "name")', "parent": "parent({})", "location": 'get({}, "location")', "owner": 'get({}, "owner")', "f": 'get({}, "f")'}
 BITS = ("player", "programmer", "wizard", "r", "w", "f")
+# Properties by which an object is known, that are looked for where names may not be listed.
+USUAL = ("description", "exits", "aliases")
 BUILT_IN = ("name", "owner", "location", "contents", "programmer", "wizard", "r", "w", "f")
 
 
@@ -41,13 +43,14 @@ class Thing:
 class Slot:
     """A property on an object: its value or an error, its owner and perms if they may be read, who defines it, and where the value is from.
 
-    `source` is the object that holds the value, which is None if that may not be read.
+    `definer` is None if an ancestor does whose properties may not be listed. `source` is the object that holds the value, which is None if
+    that may not be read.
     """
 
     name: str
     value: Said
     info: Said
-    definer: int
+    definer: Optional[int]
     source: Optional[int]
 
 
@@ -231,7 +234,9 @@ class World:
     def slots(self, number: int, above: list[int]) -> tuple[list[Slot], list[int]]:
         """The properties of an object, those that its ancestors define first, and the ancestors whose properties may not be listed."""
         lists = self.each([f"properties(#{definer})" for definer in above])
-        defined = [(definer, name) for definer, names in zip(above, lists) for name in names.value or []]
+        defined: list[tuple[Optional[int], str]] = [(definer, name) for definer, names in zip(above, lists) for name in names.value or []]
+        hidden = [definer for definer, names in zip(above, lists) if not names.is_good]
+        defined += [(None, name) for name in USUAL if hidden and name not in dict(map(reversed, defined))]
         calls = ("get", "property_info", "is_clear_property")
         answers = self.each([f"{call}(#{number}, {written(name)})" for _, name in defined for call in calls])
         rows = [answers[begin : begin + len(calls)] for begin in range(0, len(answers), len(calls))]
@@ -240,8 +245,9 @@ class World:
         slots = [
             Slot(name, value, info, definer, sources.get(name) if is_clear.text == "1" else number)
             for (definer, name), (value, info, is_clear) in zip(defined, rows)
+            if definer is not None or value.is_good
         ]
-        return slots, [definer for definer, names in zip(above, lists) if not names.is_good]
+        return slots, hidden
 
     def sources(self, names: list[str], above: list[int]) -> dict[str, int]:
         """For each property that is clear on an object: the ancestor that holds its value, if that may be known."""
