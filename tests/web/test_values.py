@@ -15,6 +15,7 @@ from tests.support.undoing import WORDS as UNDOING_WORDS, Generator, asked_for
 from moolib.calls import objects_in  # noqa: E402
 from moolib.values import written  # noqa: E402
 from moo_web.world import literals, touching  # noqa: E402
+from moo_web.world.dumped import Dumped, Kept  # noqa: E402
 
 SEED, WORLDS = int(os.environ.get("SEED", 20261130)), int(os.environ.get("VALUE_WORLDS", 4))
 PLACE = re.compile(r'href="/o/(\d+)/property\?name=([^"]*)">[^<]*</a>( <span class="dim">inherited)?')
@@ -142,7 +143,17 @@ class Random(ValuesTest):
                 self.some_batch(rng, places)
             for who in rng.sample(sorted(PEOPLE), 2 if part else 4):
                 self.searches(rng, readers[who], who)
+            self.same_as_a_dump()
         self.assertEqual(self.dumps, 1, "all else was learned of batches")
+
+    def same_as_a_dump(self):
+        """What is kept is what a dump of the present world says."""
+        holdings = self.pages.warming[0].__self__
+        kept, dump = holdings.literals(self.pages.index.world()), Kept()
+        holdings.asker.door.__class__.copied(self.door, "/dump", dump)
+        rows = [sorted((row.number, row.name.lower(), *row[2:]) for row in some) for some in (kept.rows(), Dumped.of(dump).rows)]
+        self.assertEqual(*rows)
+
 
     def some_batch(self, rng, places):
         """A batch by anybody, which may be refused; or a petition, and what becomes of it."""

@@ -6,6 +6,7 @@ from typing import Any, NamedTuple, Sequence
 
 from moo_web.app import Reply
 from moo_web.pages.pages import Visit
+from moo_web.pages.sorting import Wanted, orders, sorted_list
 from moo_web.world.things import NOTHING, Thing
 
 # So many objects are on one page.
@@ -30,10 +31,15 @@ def part_of(items: Sequence[Any], asked: str, size: int = PAGE) -> Part:
 
 
 def list_page(visit: Visit, title: str, told: str, numbers: Sequence[int], of: Thing | None = None) -> Reply:
-    """A page of a list of objects."""
-    part = part_of(numbers, visit.fields.get("page", ""))
+    """A page of a list of objects, as it is wanted."""
+    wanted = Wanted.of(visit.fields)
+    found = sorted_list(visit, numbers, wanted)
+    part = part_of(found.numbers, visit.fields.get("page", ""))
     things = [visit.world.things[number] for number in part.items if number in visit.world.things]
-    return visit.page("pages/list.html", heading=title, told=told, part=part, things=things, of=of)
+    return visit.page(
+        "pages/list.html", heading=title, told=told, part=part, things=things, of=of, wanted=wanted, orders=list(orders(wanted)),
+        unknown=found.unknown, count=len(numbers),
+    )  # fmt: skip
 
 
 def listed(visit: Visit, number: int, what: str) -> Reply:

@@ -15,7 +15,7 @@ from moo_web.journal.history import History
 from moo_web.journal.recent import Recent
 from moo_web.journal.writer import Writer
 from moo_web.pages import history as done
-from moo_web.pages import home, lists, maps, objects, programs, search
+from moo_web.pages import home, lists, maps, objects, programs, scripts, search
 from moo_web.pages.accounts import AccountPages
 from moo_web.pages.differences import differences
 from moo_web.pages.own import OwnPages
@@ -91,6 +91,8 @@ def add_pages_to_read(pages: Pages, history: History, names: SightNames) -> None
     pages.get("roots", lists.roots)
     pages.get("object", lambda visit, number: objects.object_page(visit, history, names, number))
     pages.get("property", lambda visit, number: objects.one_property(visit, history, number))
+    pages.get("script", scripts.page)
+    pages.get("download", scripts.file)
     pages.get("tree", lambda visit, what: maps.map_page(visit, names, what))
     pages.get("map", maps.first)
     pages.get("history", lambda visit: done.batches(visit, history))
