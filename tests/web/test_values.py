@@ -236,6 +236,15 @@ class KeptUp(ValuesTest):
         self.addCleanup(setattr, touching, "MOST_TOUCHED", most)
         self.assertEqual((self.count(), self.dumps), (31, 2))
 
+    def test_more_than_are_found_at_once(self):
+        for first in range(0, 1020, 340):
+            self.write("wizard", *(call for number in range(first, first + 340) for call in (f'add_property(#4, "n{number}", "wick", {{#3, ""}})',)))
+        page = self.reader_.get("/find?q=wick")
+        self.assertIn("Over 100 values with “wick” in them", page.text)
+        page = self.reader_.get("/find?q=wick&in=values&page=20")
+        self.assertIn("Over 1,000 values that you may read. The first 1,000 are here.", page.text)
+        self.assertEqual((len(PLACE.findall(page.source)), "Part 20 of 20" in page.text), (50, True))
+
     def test_a_batch_of_somebody_else(self):
         """It isn't told, so all is read again."""
         self.assertEqual(self.count(), 1)

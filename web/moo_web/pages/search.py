@@ -24,8 +24,8 @@ from moo_web.world.literals import STRING, spellings
 LONGEST_QUERY = 256
 # A search by name stops after so many.
 MOST_FOUND = 1000
-# So many values are beside the names that are found, and on a page of their own.
-FIRST_VALUES, VALUES = 12, 50
+# So many values are shown beside the names that are found, and so many are counted there; and so many are on a page of their own.
+FIRST_VALUES, FIRST_COUNTED, VALUES = 12, 100, 50
 # So many letters of a value are shown before what was found in it, and after.
 BEFORE, AFTER = 60, 120
 ONLY_VALUES = "values"
@@ -68,7 +68,7 @@ def find(visit: Visit, definers: Definers, holdings: Holdings) -> Reply:
 def values(visit: Visit, holdings: Holdings, word: str, size: int) -> Optional[Values]:
     """The values with a word in them, of which so many are on a page; None if they can't be searched."""
     try:
-        found = finding.with_word(visit, holdings.literals(visit.world), word)
+        found = finding.with_word(visit, holdings.literals(visit.world), word, finding.MOST_FOUND if size == VALUES else FIRST_COUNTED)
     except NoDump:
         return None
     part = part_of(found.places, visit.fields.get("page", "") if size == VALUES else "", size)

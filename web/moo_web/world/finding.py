@@ -80,7 +80,8 @@ class Finding:
 
     def __init__(self, visit: Visit, literals: Literals, is_meant: Callable[[Any], bool]) -> None:
         self.visit, self.literals, self.is_meant = visit, literals, is_meant
-        owned = () if visit.is_wizard else visit.world.owned.get(visit.number, ())
+        self.number, self.is_wizard = visit.number, visit.is_wizard
+        owned = () if self.is_wizard else visit.world.owned.get(visit.number, ())
         self.owned = list(itertools.islice(owned, MOST_OWNED))
         self.classes = self.above(self.owned)
 
@@ -104,7 +105,7 @@ class Finding:
 
     def may_read(self, row: Literal) -> bool:
         """Whether the person may read a value, by what was learned of its rights. moo decides it."""
-        return row.is_open or row.owner == self.visit.number or self.visit.is_wizard
+        return row.is_open or row.owner == self.number or self.is_wizard
 
     def note(self, row: Literal, hidden: dict[int, list[str]]) -> bool:
         """Notes a value that the person may not read, if objects of theirs may inherit it."""
