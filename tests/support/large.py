@@ -30,6 +30,9 @@ PATHS = {
     "map of inheritance": "/map/parents",
     "map of places": "/map/places", "a part of a map": f"/map/places?from={FIRST_ROOM}", "history": "/history",
     "history of an object": f"/history?o={FIRST_THING}",
+    "search by a word in values": "/find?q=stump", "all values with a word": "/find?q=stump&in=values", "values with a letter": "/find?q=e&in=values",
+    "what names an object": f"/o/{FIRST_ROOM + 5}/named", "its children by name": f"/o/{FIRST_CLASS}/children?sort=name",
+    "its children of an owner": f"/o/{FIRST_CLASS}/children?owner=%23{FIRST_PLAYER}&sort=place",
     "people": "/people", "map of exits": f"/map/exits?from={FIRST_ROOM}",
     "a form": f"/do/move?object=%23{FIRST_THING}", "a form to make objects": "/do/create",
 }  # fmt: skip
@@ -47,7 +50,8 @@ def make_large(file: pathlib.Path, count: int) -> None:
 
 
 def world_of(count: int) -> str:
-    """The text of batches that make a world of so many objects: half of the things are under one class, all are in rooms."""
+    """The text of batches that make a world of so many objects: half of the things are under one class and have descriptions, all are in
+    rooms."""
     rng, number = random.Random(SEED), FIRST_PLAYER
     lines: list[str] = []
 
@@ -76,6 +80,12 @@ def world_of(count: int) -> str:
         call(f"create(#{parent}, #{rng.randrange(FIRST_PLAYER, FIRST_CLASS)})")
         call(f'set(#{number}, "name", "{rng.choice(WORDS)} {rng.choice(WORDS)} {number}")')
         call(f"move(#{number}, #{rng.randrange(FIRST_ROOM, FIRST_THING)})")
+        if parent == FIRST_CLASS:
+            # One of ten names a room, and one of a thousand has the word that is looked for.
+            words = [rng.choice(WORDS) for _ in range(8)] + ["stump"] * (number % 1000 == 1)
+            text = f'"A {" ".join(words)} that somebody has left here."'
+            room = f"{{{text}, #{rng.randrange(FIRST_ROOM, FIRST_THING)}}}"
+            call(f'set(#{number}, "description", {room if number % 10 == 1 else text})')
         number += 1
     return "".join(lines) + "end\n"
 

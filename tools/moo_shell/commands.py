@@ -14,6 +14,7 @@ from moo_shell import including, looks
 from moo_shell.batches import Refused
 from moo_shell.editing import edit
 from moo_shell.elsewhere import of_psql
+from moo_shell.exporting import export
 from moo_shell.files import write_new
 from moo_shell.meant import meant
 from moo_shell.helping import ASIDE, TOPICS, fitted, help_on, overview
@@ -303,6 +304,7 @@ COMMANDS = {
     "names": Command("[FILE]", "the names and what they stand for; with FILE they are kept in it from now on", names),
     "seq": Command("", "the number of accepted batches", seq),
     "dump": Command("[FILE]", "the whole world as a text, for `moo load`; FILE must be new", dump),
+    "export": Command("#5 children|contents [FILE]", "a class with what inherits from it, or a room with what is in it, as a script that makes the same; FILE must be new", export),
     "include": Command("FILE", "does the lines of a file, up to the first that is refused", include),
     "list": Command("", "the calls of the open batch", list_batch),
     "undo": Command("", "drops the last call of the open batch", undo),

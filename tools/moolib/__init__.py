@@ -4,6 +4,7 @@
 `batches` has calls whose answers have names, and `names` reads these names. `json_values` has values as JSON. `errors` has what is raised, and
 the words for it. `exchange` is one request over HTTP, `service` asks a service of moo and tries again, and `front` a front. `client` has `Moo`,
 for programs: `once` lets its batches act once, `handles` puts them together, and `feed` follows changes. `copies` has the copies of a world.
+`exporting` makes a class or a room into a script, whose names and lines are those of `scripts`.
 """
 
 from moolib.calls import Call

@@ -75,7 +75,8 @@ def query_of(**given: Any) -> str:
 PATHS = {
     name: Path(text) for name, text in {
         "home": "/", "find": "/find", "nowhere": "/nowhere", "roots": "/roots", "map": "/map", "tree": "/map/<tree>",
-        "object": "/o/<number>", "list": "/o/<number>/<links>", "property": "/o/<number>/property",
+        "object": "/o/<number>", "list": "/o/<number>/<links>", "property": "/o/<number>/property", "named": "/o/<number>/named",
+        "script": "/o/<number>/script", "download": "/o/<number>/script.moo",
         "history": "/history", "batch": "/history/<batch>", "done": "/done/<batch>", "undo": "/undo/<batch>", "differences": "/differences",
         "people": "/people", "person": "/people/<name>", "deed": "/people/<name>/<key>", "link": "/link",
         "edit": "/edit/<number>", "new": "/edit/new", "class": "/class/<number>",

@@ -1,7 +1,8 @@
 """The editor of batches: calls as a text, one on each line, with the reason under the line that is wrong.
 
 A line is as `moo apply` takes it between `batch as` and `end`, and names of objects may be there in place of numbers. As in moo-shell a call
-may be given a name (`$lamp = create(#1)`), which later lines use, and what follows `//` is a remark.
+may be given a name (`$lamp = create(#1)`), which later lines use, and what follows `//` is a remark. `$me` is who sends the batch, so that a script
+that was exported can be put in.
 """
 
 from __future__ import annotations
@@ -30,7 +31,7 @@ LONGEST_WITH_CHOICES = 20_000
 BATCH = Form(
     "batch", "A batch of calls", "One call on each line. All of them are done, or none.",
     (Field("text", "Calls", "calls", 'Such as: set(#4, "name", "Lamp") or move(Old lamp, The Inn). A line such as $lamp = create(#1) gives '
-           "the new object a name for the lines after it. What follows // is a remark."),),
+           "the new object a name for the lines after it. What follows // is a remark. A script that was exported may be put in here too."),),
     (),
 )  # fmt: skip
 
@@ -93,7 +94,7 @@ def take_line(typed: str, number: int, items: list[Item], values: dict[str, str]
         raise Mistyped(wrong_letter.reason, typed.replace(line.text, wrong_letter.better, 1) if wrong_letter.better else "") from None
     if line.kind == "call" and (wrong := hint(line.text).partition("; \\help")[0]):
         raise Mistyped(f"{wrong[:1].upper()}{wrong[1:]}.")
-    known = {**values, **{item.name: item.name for item in items if item.name}}
+    known = {"$me": f"#{me.number}", **values, **{item.name: item.name for item in items if item.name}}
     text = filled(with_numbers(typed, line, names, me), known)
     if line.kind == "value":
         assert line.name

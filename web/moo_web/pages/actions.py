@@ -53,6 +53,7 @@ def more(visit: Visit, number: int, names: SightNames) -> list[Action]:
         Action("Give another parent", form_for("parent", number)), Action("Give to another owner", form_for("owner", number)),
         Action("All that is in it", url_for("form", key="many", **{"in": number})),
         Action("All its children", url_for("form", key="many", under=number)),
+        Action("Export as a script", url_for("script", number=number)),
         *(for_wizards if visit.is_wizard else []), Action("Recycle", form_for("recycle", number), is_loss=True),
     ]  # fmt: skip
 

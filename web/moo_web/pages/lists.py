@@ -1,22 +1,17 @@
-"""Pages of lists: what is found, what is under, in and of an object, and what is nowhere."""
+"""Pages of lists: what is under, in and of an object, and what is nowhere."""
 
 from __future__ import annotations
 
-import re
 from typing import Any, NamedTuple, Sequence
 
 from moo_web.app import Reply
 from moo_web.pages.pages import Visit
-from moo_web.paths import url_for
-from moo_web.world.definers import Definers
+from moo_web.pages.sorting import Wanted, orders, sorted_list
 from moo_web.world.things import NOTHING, Thing
 
 # So many objects are on one page.
 PAGE = 100
 MOST_PAGES = 1_000_000
-LONGEST_QUERY = 256
-# A search by name stops after so many.
-MOST_FOUND = 1000
 
 
 class Part(NamedTuple):
@@ -36,10 +31,15 @@ def part_of(items: Sequence[Any], asked: str, size: int = PAGE) -> Part:
 
 
 def list_page(visit: Visit, title: str, told: str, numbers: Sequence[int], of: Thing | None = None) -> Reply:
-    """A page of a list of objects."""
-    part = part_of(numbers, visit.fields.get("page", ""))
+    """A page of a list of objects, as it is wanted."""
+    wanted = Wanted.of(visit.fields)
+    found = sorted_list(visit, numbers, wanted)
+    part = part_of(found.numbers, visit.fields.get("page", ""))
     things = [visit.world.things[number] for number in part.items if number in visit.world.things]
-    return visit.page("pages/list.html", heading=title, told=told, part=part, things=things, of=of)
+    return visit.page(
+        "pages/list.html", heading=title, told=told, part=part, things=things, of=of, wanted=wanted, orders=list(orders(wanted)),
+        unknown=found.unknown, count=len(numbers),
+    )  # fmt: skip
 
 
 def listed(visit: Visit, number: int, what: str) -> Reply:
@@ -62,23 +62,3 @@ def nowhere(visit: Visit) -> Reply:
 def roots(visit: Visit) -> Reply:
     """What has no parent."""
     return list_page(visit, "Without a parent", "What inherits from nothing.", visit.world.children.get(NOTHING, ()))
-
-
-# Search
-
-
-def find(visit: Visit, definers: Definers) -> Reply:
-    """What is found for a text: an object by its number, objects by their names, and those that define a property by its name."""
-    query = visit.fields.get("q", "").strip()[:LONGEST_QUERY]
-    number = re.fullmatch(r"#\s*(\d{1,10})", query) or re.fullmatch(r"(\d{1,10})", query)
-    if number and int(number[1]) in visit.world.things:
-        return visit.go(url_for("object", number=int(number[1])))
-    is_property = query.startswith(".") and len(query) > 1
-    found = [] if is_property or not query else visit.world.names.like(query, MOST_FOUND + 1)
-    part = part_of(found[:MOST_FOUND], visit.fields.get("page", ""))
-    properties = definers.found(visit, query.removeprefix(".")) if query else []
-    return visit.page(
-        "pages/find.html", query=query, part=part, things=[visit.world.things[one] for one in part.items], properties=properties,
-        is_property=is_property, is_number=bool(number), is_more=len(found) > MOST_FOUND,
-    )  # fmt: skip
-

@@ -15,7 +15,7 @@ from moo_web.journal.history import History
 from moo_web.journal.recent import Recent
 from moo_web.journal.writer import Writer
 from moo_web.pages import history as done
-from moo_web.pages import home, lists, maps, objects, programs
+from moo_web.pages import home, lists, maps, objects, programs, scripts, search
 from moo_web.pages.accounts import AccountPages
 from moo_web.pages.differences import differences
 from moo_web.pages.own import OwnPages
@@ -25,6 +25,7 @@ from moo_web.pages.sign import Sign
 from moo_web.people.people import People
 from moo_web.world.asking import Asker
 from moo_web.world.definers import Definers
+from moo_web.world.holdings import Holdings
 from moo_web.world.index import Index
 
 
@@ -33,12 +34,16 @@ def make_pages(
 ) -> Pages:  # fmt: skip
     """The pages of a front. `names` are those of the properties that say what is seen at a place."""
     index, asker = Index(writer.door, lambda: writer.stopped is not None), Asker(writer.door)
-    writer.listeners.append(index.take)
+    holdings = Holdings(index, writer.door)
+    # What is found is of the world that the index knows, so the values are told first.
+    writer.listeners += [holdings.take, index.take]
     pages = Pages(app, people, index, asker, history, rate)
+    pages.warming.append(holdings.warm)
     pages.sight_names = names
     pages.open("GET", "programs", lambda request: programs.page(pages, request))
     add_pages_to_sign_in(pages, people)
-    add_pages_to_read(pages, history, Definers(index, asker), names)
+    add_pages_to_read(pages, history, names)
+    add_pages_to_find(pages, Definers(index, asker), holdings)
     recent = Recent(writer, history)
     previews = Previews(Questions(writer.door), writer, recent)
     add_pages_to_change(pages, previews, recent, history)
@@ -72,15 +77,22 @@ def add_pages_of_people(pages: Pages, people: People, previews: Previews, recent
     pages.post("deed", accounts.act)
 
 
-def add_pages_to_read(pages: Pages, history: History, definers: Definers, names: SightNames) -> None:
+def add_pages_to_find(pages: Pages, definers: Definers, holdings: Holdings) -> None:
+    """The pages of what is found."""
+    pages.get("find", lambda visit: search.find(visit, definers, holdings))
+    pages.get("named", lambda visit, number: search.named(visit, holdings, number))
+
+
+def add_pages_to_read(pages: Pages, history: History, names: SightNames) -> None:
     """The pages of what is there, and of what was done."""
     pages.get("home", lambda visit: home.home(visit, history, names))
-    pages.get("find", lambda visit: lists.find(visit, definers))
     pages.get("list", lists.listed)
     pages.get("nowhere", lists.nowhere)
     pages.get("roots", lists.roots)
     pages.get("object", lambda visit, number: objects.object_page(visit, history, names, number))
     pages.get("property", lambda visit, number: objects.one_property(visit, history, number))
+    pages.get("script", scripts.page)
+    pages.get("download", scripts.file)
     pages.get("tree", lambda visit, what: maps.map_page(visit, names, what))
     pages.get("map", maps.first)
     pages.get("history", lambda visit: done.batches(visit, history))

@@ -1,0 +1,46 @@
+"""The word `\\export`: a class or a room as a script."""
+
+from __future__ import annotations
+
+from pathlib import Path
+
+from moo_shell.files import write_new
+from moo_shell.session import Session
+from moolib.errors import Failed
+from moolib.exporting import WITH, TooManyObjects, exported_by
+from moolib.facts import Facts, TooMuch
+from moolib.lines import counted, unquoted
+
+# What the shell may read for one script: it has all the time of who waits.
+MOST_READ = 2_000_000
+USAGE = "\\export #5 children [FILE], or \\export #5 contents [FILE]"
+
+
+def export(session: Session, text: str) -> None:
+    """Writes the script that makes a class with all under it, or a room with all in it; to a new file, or to the terminal."""
+    words = text.split(None, 2)
+    if len(words) < 2 or words[1].lower() not in WITH:
+        raise Failed(f"{USAGE}: a class with what inherits from it, or a room with what is in it")
+    number, path = session.number(words[0]), Path(unquoted(words[2])).expanduser() if len(words) > 2 else None
+    if path and path.exists():
+        raise Failed(f"{path} is there already")
+    session.world.built_in(number)
+    facts = Facts(session.world.each, MOST_READ)
+    try:
+        made = exported_by(facts, session.world.caller(), number, words[1].lower(), f", of world number {session.door.seq()}")
+    except (TooManyObjects, TooMuch):
+        raise Failed("that is too much for one script: export parts of it") from None
+    if path is None:
+        session.output.show(made.text.rstrip("\n"))
+    elif session.is_copy:
+        session.output.note(f"{path} isn't written: this is a copy of the world")
+        return
+    else:
+        try:
+            write_new(path, made.text)
+        except OSError as error:
+            raise Failed(f"{path}: {error.strerror}") from None
+        session.output.note(f"{path} makes {counted(made.objects, 'object')} by {counted(made.calls, 'call')}")
+    if made.left_out:
+        are = "thing isn't" if len(made.left_out) == 1 else "things aren't"
+        session.output.note(f"{len(made.left_out)} {are} in it, and the script says which")
