@@ -58,7 +58,7 @@ class Forms(Scene):
                 bram.press("Ask a wizard for it instead")
                 bram.sees("A wizard would be asked for this", f"Lamp #8 is called “{name}”.")
                 bram.press("Send the petition")
-                bram.sees("A wizard is asked for it.")
+                bram.sees("It is asked for")
             bram.follow("Petitions")
             bram.sees("petition 1", "petition 2")
         with self.at("wizard") as (wizard,):

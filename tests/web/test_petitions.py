@@ -21,7 +21,7 @@ class Petitions(FormsTest):
             self.has(bram.send("Preview", name=name), "This would be refused", status=409)
             self.has(bram.send("Ask a wizard for it instead"), "A wizard would be asked for this", status=200)
             page = bram.send("Send the petition")
-            self.has(page, "A wizard is asked for it", status=200)
+            self.has(page, "It is asked for", status=200)
         page = bram.get("/petitions")
         self.has(page, "petition 1", "petition 2", "Take it back")
         self.assertNotIn("Grant", page.text)

@@ -79,7 +79,7 @@ PATHS = {
         "history": "/history", "batch": "/history/<batch>", "done": "/done/<batch>", "undo": "/undo/<batch>", "differences": "/differences",
         "people": "/people", "person": "/people/<name>", "deed": "/people/<name>/<key>", "link": "/link",
         "edit": "/edit/<number>", "new": "/edit/new", "class": "/class/<number>",
-        "forms": "/do", "form": "/do/<key>", "editor": "/batch", "petitions": "/petitions", "quotas": "/quotas",
+        "forms": "/do", "form": "/do/<key>", "editor": "/batch", "petitions": "/petitions", "petition": "/petitions/<number>", "quotas": "/quotas",
         "in": "/in", "out": "/out", "you": "/you", "password": "/you/password", "zone": "/you/zone", "token": "/you/token", "end": "/you/end",
         "programs": "/api", "sheet": "/style.css", "icon": "/icon.svg",
     }.items()

@@ -3,6 +3,7 @@
 from __future__ import annotations
 
 from moo_web.app import App
+from moo_web.forms.answers import AnswerPages
 from moo_web.forms.editor import BatchPages
 from moo_web.forms.handlers import FormPages
 from moo_web.forms.inbox import PetitionPages
@@ -106,4 +107,6 @@ def add_pages_to_change(pages: Pages, previews: Previews, recent: Recent, histor
     pages.post("editor", editor.edit, is_kept=True)
     pages.get("undo", UndoPages(previews, recent, history.one).undo)
     pages.get("petitions", petitions.inbox)
+    pages.get("petition", petitions.one)
+    pages.post("petition", AnswerPages(petitions).answer, is_kept=True)
     pages.get("quotas", petitions.quotas)
