@@ -160,7 +160,7 @@ class Quotas(FormsTest):
         page = ada.send("Preview", names="One\nTwo")
         self.has(page, "The quota is used up", "E_QUOTA", "Ask for a higher quota", status=409)
         ada.get(next(link for link in page.links if link.startswith("/do/quota")))
-        self.has(ada.send("Ask a wizard for it", quota="20"), "The property “ownership_quota” of Ada #4 becomes 20.", status=200)
+        self.has(ada.send("Ask a wizard for it", quota="20"), "Ada #4 may make 20 more objects: the property “ownership_quota” says so.", status=200)
         ada.get("/do/create?parent=%236")
         page = ada.send("Preview", names="One")
         self.is_done(ada.send("Do it"))

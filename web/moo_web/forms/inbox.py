@@ -169,6 +169,9 @@ class PetitionPages:
 def row_of(visit: Visit, petition: Petition, talk: Optional[Talk], outcome: Outcome) -> Row:
     """A petition with what the person could do about it."""
     seen, grant = visible(visit, petition), outcome.grant
+    if talk is not None and (talk.asked.programmer, list(map(str, talk.calls))) != (petition.who, petition.calls):
+        # The world was loaded from a dump, and the number was given again.
+        talk = None
     row = Row(petition, seen, talk, [] if seen.hidden else owners_asked(visit, petition.calls, petition.who), outcome.decline, grant)
     if grant is None:
         return row

@@ -28,8 +28,8 @@ MARKS = (
     ("f", "Everybody may make objects under it (fertile)"),
 )
 OTHERS, MARKED = "Other properties", "What others may do"
-EDITED = "What you leave as it is stays as it is, whatever others do meanwhile. All that you change is one batch."
-MADE_NEW = "What you leave as it is, it has from its parent. All of it is one batch."
+EDITED = "What you leave as it is stays as it is, whatever others do meanwhile. All that you change is done together, or nothing of it."
+MADE_NEW = "What you leave as it is, it has from its parent. All of it is done together, or nothing of it."
 
 
 @dataclasses.dataclass(frozen=True)

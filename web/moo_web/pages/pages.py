@@ -24,10 +24,11 @@ from moolib.service import Said
 from moo_web.app import App, Reply, Request, TooLarge
 from moo_web.journal.history import History
 from moo_web.pages import links
+from moo_web.pages.glossary import named, rights, term
 from moo_web.pages.moments import Zone, zone_of
 from moo_web.pages.sentences import in_words
 from moo_web.pages.waiting import Waiting, waiting
-from moo_web.pages.words import ERROR_TEXTS, FOR_WIZARDS, MENU, PASSING, SAID
+from moo_web.pages.words import ERROR_TEXTS, FOR_WIZARDS, MENU, PASSING, REPLIES, SAID
 from moo_web import paths
 from moo_web.paths import PATHS, form_for, query_of, url_for
 from moo_web.people import sessions
@@ -205,7 +206,7 @@ class Pages:
         )
         self.templates.globals |= {
             "whole": links.WHOLE, "in_words": in_words, "url_for": url_for, "form_for": form_for,
-            "query_of": query_of,
+            "query_of": query_of, "replies": REPLIES, "term": term, "named": named, "rights": rights,
         }  # fmt: skip
         self.sheet = (HERE / "static" / "style.css").read_bytes()
         self.mark = hashlib.sha256(self.sheet).hexdigest()[:12]
@@ -258,10 +259,13 @@ class Pages:
         """A page for who is signed in, or the one to sign in."""
         if refusal := self.flooded(request):
             return refusal
-        session = self.people.session(sessions.secret_of(request))
-        if session is None:
-            return self.sign_in(request, 401, wanted_of(request))
-        self.app.admit(session.person, sessions.secret_of(request))
+        secret = sessions.secret_of(request)
+        session = self.people.session(secret)
+        return self.shown(request, session, secret, handler, parts) if session else self.sign_in(request, 401, wanted_of(request))
+
+    def shown(self, request: Request, session: Session, secret: str, handler: PageHandler, parts: tuple[Any, ...]) -> Reply:
+        """A page for somebody with whom this secret came."""
+        self.app.admit(session.person, secret)
         for attempt in range(TRIES):
             # The whole page is of one number of the world, so it is made anew if the world has moved on.
             try:

@@ -4,9 +4,11 @@ from __future__ import annotations
 
 # What the navigation shows: the name of an address, and a word. What is in `FOR_WIZARDS` comes last, for them.
 MENU = (
-    ("home", "World"), ("map", "Maps"), ("forms", "Change"), ("editor", "Batch"), ("petitions", "Petitions"), ("history", "History"),
+    ("home", "World"), ("map", "Maps"), ("forms", "Change"), ("petitions", "Petitions"), ("history", "History"),
 )  # fmt: skip
 FOR_WIZARDS = (("people", "People"),)
+# What somebody says to a petition, by the word in the journal: after their name.
+REPLIES = {"done": "has done it.", "yes": "agrees: a wizard may do it.", "no": "says no."}
 # What a page says after something was done, by the word in its address.
 SAID = {
     "out": "You are signed out.",
