@@ -64,7 +64,7 @@ MAKING = (
             Field("names", "Names", "lines", "One on each line: an object is made for each of them.", is_needed=False),
             Field("place", "Put into", "place", "The place has to accept it. Empty: nowhere.", is_needed=False),
             Field("fertile", "Everybody may make objects of it (it is a class)", "flag", is_needed=False, section="More"),
-            Field("listed", "Everybody may list its properties and verbs", "flag", is_needed=False, section="More"),
+            Field("listed", "Everybody may list what it has", "flag", is_needed=False, section="More"),
             Field("accepts", "Accepts", "objects", "It is a place or a container for these and what is under them: objects, with commas "
                   "between them. Empty: it accepts what its parent does.", is_needed=False, section="More"),
             Field("owner", "Owner", "place", "Empty: you. Only a wizard may name somebody else, or: nothing, so that it owns itself.",
@@ -108,15 +108,15 @@ CHANGING = (
     ),
     Form(
         "owner", "Give to another owner",
-        "Whose the object is. Only a wizard may do this. The properties and verbs on it keep their owners.",
+        "Whose the object is. Only a wizard may do this. What it has keeps its owners.",
         (OBJECT, Field("owner", "Owner", "object", "Who gets it.", now='get(<object>, "owner")')),
         (Step('set(<object>, "owner", <owner>)'),), who="wizards", blame={"set E_INVARG": "owner", "set": "object"},
     ),
     Form(
         "marks", "What others may do", "Its marks: whether everybody may see what it has (r), change what it has (w), and make objects of it (f).",
         (
-            OBJECT, mark("r", "r: everybody may list its properties and verbs"),
-            mark("w", "w: everybody may add and delete its properties and verbs"),
+            OBJECT, mark("r", "r: everybody may list what it has"),
+            mark("w", "w: everybody may add to what it has, and take away from it"),
             mark("f", "f: everybody may make objects under it (it is fertile)"),
         ),
         tuple(Step(f'set(<object>, "{letter}", <{letter}>)', given=letter) for letter in "rwf"), blame={"set": "object"},
@@ -234,7 +234,7 @@ VERBS = (
         blame={"add_verb E_INVARG": "names", "add_verb E_PERM": "object"},
     ),
     Form(
-        "verb-rights", "Names and rights of a verb", "What it is called, who may read and change it, and whose it is.",
+        "verb-rights", "Names and rights of a verb", "What this word is called that people could type at it, who may read and change it, and whose it is.",
         (
             OBJECT, VERB, Field("names", "Names", "name", "Words with spaces between them.", now="verb_info(<object>, <verb>)", part=2),
             letters(VERB_LETTERS, "verb_info(<object>, <verb>)"), owner("verb_info(<object>, <verb>)"),
@@ -243,13 +243,13 @@ VERBS = (
         blame={"set_verb_info E_VERBNF": "verb", "set_verb_info E_INVARG": "names", "set_verb_info E_PERM": "verb"},
     ),
     Form(
-        "verb-args", "Arguments of a verb", "What has to be typed with it.",
+        "verb-args", "Arguments of a verb", "What has to be typed with this word.",
         (OBJECT, VERB, *arguments("verb_args(<object>, <verb>)")),
         (Step('set_verb_args(<object>, <verb>, {"<dobj>", "<prep>", "<iobj>"})'),),
         blame={"set_verb_args E_INVARG": "prep", "set_verb_args": "verb"},
     ),
     Form(
-        "delete-verb", "Delete a verb", "Those after it move down by one.",
+        "delete-verb", "Delete a verb", "It is a word that people could type at the object. Those after it move down by one.",
         (OBJECT, VERB), (Step("delete_verb(<object>, <verb>)"),), is_loss=True, blame={"delete_verb": "verb"},
     ),
 )  # fmt: skip

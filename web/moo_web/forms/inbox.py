@@ -102,7 +102,7 @@ class PetitionPages:
     def outcomes(visit: Visit, petitions: list[Petition], said: Optional[Said]) -> dict[int, Outcome]:
         """What the person could do about these petitions, by their numbers."""
         if visit.is_wizard and said is not None:
-            found = outcomes_of(visit.said, visit.number, said, petitions, visit.world.seq)
+            found = outcomes_of(visit.said, visit.number, said, petitions, visit.world)
             return {one.number: outcome for one, outcome in zip(petitions, found)}
         mine = [one for one in petitions if visit.is_wizard or one.who == visit.number]
         return ends_of(visit.said, mine, visit.world.seq)

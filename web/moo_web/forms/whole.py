@@ -23,8 +23,8 @@ from moo_web.world.things import NOTHING, Thing
 MOST = 60
 NEW = "$new"
 MARKS = (
-    ("r", "Everybody may list its properties and verbs (readable)"),
-    ("w", "Everybody may add and delete its properties and verbs (writable)"),
+    ("r", "Everybody may list what it has (readable)"),
+    ("w", "Everybody may add to what it has, and take away from it (writable)"),
     ("f", "Everybody may make objects under it (fertile)"),
 )
 OTHERS, MARKED = "Other properties", "What others may do"
