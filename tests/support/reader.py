@@ -215,7 +215,7 @@ class Reader:
         lines = {"Content-Type": FORM_TYPE, "Sec-Fetch-Site": "same-origin", "Referer": f"http://{HOST}{self.page.path}"}
         return self.asked("POST", path, urllib.parse.urlencode(fields), lines | head)
 
-    def send(self, words: str, **typed: Optional[str]) -> Page:
+    def send(self, words: str, /, **typed: Optional[str]) -> Page:
         """Presses the button with these words on the last page, after this was typed. None takes a tick away; `__` in a name is a dot."""
         form, button = self.page.form_with(words)
         fields = dict(form.fields)

@@ -58,7 +58,7 @@ class Forms(Scene):
                 bram.press("Ask a wizard for it instead")
                 bram.sees("A wizard would be asked for this", f"Lamp #8 is called “{name}”.")
                 bram.press("Send the petition")
-                bram.sees("A wizard is asked for it.")
+                bram.sees("It is asked for")
             bram.follow("Petitions")
             bram.sees("petition 1", "petition 2")
         with self.at("wizard") as (wizard,):
@@ -87,7 +87,8 @@ class Forms(Scene):
             ada.press("Preview")
             ada.press("Do it")
             ada.sees("Made: Cafe #9")
-            ada.follow("Batch")
+            ada.follow("Change")
+            ada.follow("A batch of calls")
             ada.fill("f-text", "$new = create(#6)\ue007set($new, \"nmae\", \"Key\")")
             ada.press("Preview")
             ada.sees("The object has no property of that name.", "Line 2")

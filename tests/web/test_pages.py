@@ -249,7 +249,7 @@ class Looks(SiteTest):
             with self.subTest(text=text):
                 self.assertIn(text, answer.text)
         self.assertIn("What inherits from it Ada's chest #8 small box #9", self.reader("ada").get("/o/6").text)
-        self.assertIn("Marks readable everybody may list its properties and verbs fertile", self.reader("ada").get("/o/6").text)
+        self.assertIn("Marks readable everybody may list what it has fertile", self.reader("ada").get("/o/6").text)
         self.assertIn("Where Ada's chest #8 in The Hall #7", self.reader("ada").get("/o/9").text)
 
     def test_what_is_asked_for_an_object(self):

@@ -15,7 +15,7 @@ from moo_web.forms.catalogue import FORMS  # noqa: E402
 from moo_web.forms.excuses import excuse  # noqa: E402
 from moo_web.forms.forms import Me  # noqa: E402
 from moo_web.forms.input import Mistyped  # noqa: E402
-from moo_web.forms.petitions import asked_of, petition_item, petitions_of  # noqa: E402
+from moo_web.forms.petitions import asked_of, petition_item, petitions_in  # noqa: E402
 from moo_web.forms.previews import Done, NotSent, Previews  # noqa: E402
 from moo_web.forms.questions import Questions, reads_before  # noqa: E402
 from moo_web.journal.journal import Journal  # noqa: E402
@@ -86,6 +86,10 @@ class WithWorld(unittest.TestCase):
 
     def read(self, call, who=3):
         return self.questions.read_now(who, call).text
+
+    def petitions_of(self, who):
+        """The petitions that this programmer sees."""
+        return petitions_in(self.questions.read_now(who, "petitions()"))
 
     def apply(self, person, calls, look=None):
         """What comes of calls that were looked at before."""
@@ -308,9 +312,9 @@ class Asking(WithWorld):
         asked = asked_of(items('set(#6, "name", "Thing")', "create(#1)"), Me(5))
         self.assertEqual(asked, (['set(#6, "name", "Thing")', "create(#1, #5)"], []))
         self.assertEqual(self.apply(BRAM, [petition_item(asked.calls)]).answers, ["1"])
-        (petition,) = petitions_of(self.questions, 3)
+        (petition,) = self.petitions_of(3)
         self.assertEqual(petition, (1, 5, asked.calls))
-        self.assertEqual((petitions_of(self.questions, 4), petitions_of(self.questions, 5)), ([], [petition]))
+        self.assertEqual((self.petitions_of(4), self.petitions_of(5)), ([], [petition]))
         preview = self.previews.of(WIZARD, items("grant(1)"))
         self.assertEqual([(each.call, each.answer) for each in preview.inner], [(asked.calls[0], "0"), (asked.calls[1], "#8")])
         self.assertIsInstance(self.apply(WIZARD, items("grant(1)"), seen(preview)), Done)
@@ -345,7 +349,7 @@ class Asking(WithWorld):
     def test_all_of_a_value_comes_through(self):
         call = r'set(#5, "name", {1, #-1, "a \"b\" \\", E_PERM, {}})'
         self.apply(BRAM, [petition_item([call])])
-        self.assertEqual(petitions_of(self.questions, 5)[0].calls, [call])
+        self.assertEqual(self.petitions_of(5)[0].calls, [call])
 
 
 class Sums(unittest.TestCase):

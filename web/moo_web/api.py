@@ -136,7 +136,11 @@ class Api:
             # moo says what is wrong with it.
             refusal = self.question("/ask?why", sent.body())
             return passed_on(refusal) if refusal.status != 200 else BAD_REQUEST
-        return replied(sent, self.writer.write(sent.person.name, sent.person.number, sent.calls, sent.at, sent.items))
+        try:
+            note = sent.note
+        except BadBody as bad:
+            return bad.reply
+        return replied(sent, self.writer.write(sent.person.name, sent.person.number, sent.calls, sent.at, sent.items, note))
 
     def ask(self, request: Request) -> Reply:
         """What a batch would answer."""

@@ -78,11 +78,12 @@ PATHS = {
         "object": "/o/<number>", "list": "/o/<number>/<links>", "property": "/o/<number>/property", "named": "/o/<number>/named",
         "script": "/o/<number>/script", "download": "/o/<number>/script.moo",
         "history": "/history", "batch": "/history/<batch>", "done": "/done/<batch>", "undo": "/undo/<batch>", "differences": "/differences",
+        "feed": "/feed", "feed_person": "/feed/people/<name>", "feed_object": "/feed/o/<number>",
         "people": "/people", "person": "/people/<name>", "deed": "/people/<name>/<key>", "link": "/link",
         "edit": "/edit/<number>", "new": "/edit/new", "class": "/class/<number>",
-        "forms": "/do", "form": "/do/<key>", "editor": "/batch", "petitions": "/petitions", "quotas": "/quotas",
+        "forms": "/do", "form": "/do/<key>", "editor": "/batch", "petitions": "/petitions", "petition": "/petitions/<number>", "quotas": "/quotas",
         "in": "/in", "out": "/out", "you": "/you", "password": "/you/password", "zone": "/you/zone", "token": "/you/token", "end": "/you/end",
-        "programs": "/api", "sheet": "/style.css", "icon": "/icon.svg",
+        "programs": "/api", "about": "/about", "sheet": "/style.css", "icon": "/icon.svg",
     }.items()
 }  # fmt: skip
 

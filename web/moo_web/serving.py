@@ -59,7 +59,7 @@ NO_PAGES = "there are no pages, since python3-jinja2 is missing: apt-get install
 
 USAGE = (
     "moo-web FOLDER --moo-port M [--port P] [--journal FOLDER2] [--proxy ADDRESS | --proxy-socket PATH] [--host NAME].. [--share S,R,B]"
-    " [--daily-bytes N] [--full FILE] [--description NAME] [--exits NAME] [--status-port P2] [--access-log FILE] [--metrics FILE] [--rebase]"
+    " [--daily-bytes N] [--full FILE] [--description NAME] [--exits NAME] [--about TEXT] [--status-port P2] [--access-log FILE] [--metrics FILE] [--rebase]"
 )
 MORE = """
 It needs a world that `moo serve FILE M` keeps, and that nobody else writes to. FOLDER has the accounts and the journal. It prints
@@ -89,6 +89,8 @@ def read_words(words: list[str]) -> argparse.Namespace:
     parser.add_argument("--description", metavar="NAME", default="description", help=told)
     told = 'the name of the property that has the exits of a place, such as {{"west", #7}} (exits)'
     parser.add_argument("--exits", metavar="NAME", default="exits", help=told)
+    told = "a text of what this place is, which anybody may read; without it there is one of our own"
+    parser.add_argument("--about", metavar="TEXT", type=Path, help=told)
     told = "the port of this machine that tells how the front is: /health, /ready, /metrics, /activity; 0 is a free one"
     parser.add_argument("--status-port", metavar="P2", type=port_number, help=told)
     told = "a line of JSON for each request is appended to this file, which is opened anew after SIGHUP"
@@ -119,6 +121,7 @@ def add_pages(app: App, people: People, writer: Writer, history: History, said: 
     sys.path.append(DEBIANS_MODULES)
     try:
         from moo_web.world.properties import SightNames
+        from moo_web.pages.about import BadText, text_in
         from moo_web.pages.site import make_pages
     except ModuleNotFoundError as error:
         if error.name not in ("jinja2", "markupsafe"):
@@ -126,7 +129,11 @@ def add_pages(app: App, people: People, writer: Writer, history: History, said: 
         tell(f"{NO_PAGES}. What programs ask for at /api is served")
         app.for_people = lambda request, reply, parts: Reply(503, f"{NO_PAGES}.\n".encode(), "text/plain; charset=utf-8")
         return None
-    return make_pages(app, people, writer, history, said.rate, SightNames(said.description, said.exits))
+    try:
+        text_in(said.about) if said.about else ""
+    except BadText as bad:
+        raise Failed(str(bad)) from None
+    return make_pages(app, people, writer, history, said.rate, SightNames(said.description, said.exits), said.about)
 
 
 def whose_of(app: App, channel: Any) -> Visitor:

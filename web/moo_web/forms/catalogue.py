@@ -60,11 +60,11 @@ MAKING = (
     Form(
         "create", "Make objects", "A new object inherits from its parent what that has.",
         (
-            Field("parent", "Parent", "place", "What it inherits from: an object that is fertile or yours, or: nothing."),
+            Field("parent", "Parent", "place", "What it inherits from: an object of which everybody may make others (it is fertile), or yours, or: nothing."),
             Field("names", "Names", "lines", "One on each line: an object is made for each of them.", is_needed=False),
             Field("place", "Put into", "place", "The place has to accept it. Empty: nowhere.", is_needed=False),
             Field("fertile", "Everybody may make objects of it (it is a class)", "flag", is_needed=False, section="More"),
-            Field("listed", "Everybody may list its properties and verbs", "flag", is_needed=False, section="More"),
+            Field("listed", "Everybody may list what it has", "flag", is_needed=False, section="More"),
             Field("accepts", "Accepts", "objects", "It is a place or a container for these and what is under them: objects, with commas "
                   "between them. Empty: it accepts what its parent does.", is_needed=False, section="More"),
             Field("owner", "Owner", "place", "Empty: you. Only a wizard may name somebody else, or: nothing, so that it owns itself.",
@@ -103,20 +103,20 @@ CHANGING = (
     Form(
         "parent", "Give another parent", "What it inherits from. Properties that it doesn’t inherit any more are lost, on all that is "
         "under it too.",
-        (OBJECT, Field("parent", "Parent", "place", "An object that is fertile or yours, or: nothing.", now="parent(<object>)")),
+        (OBJECT, Field("parent", "Parent", "place", "An object of which everybody may make others (it is fertile), or yours, or: nothing.", now="parent(<object>)")),
         (Step("chparent(<object>, <parent>)"),), blame={"chparent": "parent"},
     ),
     Form(
         "owner", "Give to another owner",
-        "Whose the object is. Only a wizard may do this. The properties and verbs on it keep their owners.",
+        "Whose the object is. Only a wizard may do this. What it has keeps its owners.",
         (OBJECT, Field("owner", "Owner", "object", "Who gets it.", now='get(<object>, "owner")')),
         (Step('set(<object>, "owner", <owner>)'),), who="wizards", blame={"set E_INVARG": "owner", "set": "object"},
     ),
     Form(
-        "marks", "What others may do", "The marks r, w and f of the object.",
+        "marks", "What others may do", "Its marks: whether everybody may see what it has (r), change what it has (w), and make objects of it (f).",
         (
-            OBJECT, mark("r", "r: everybody may list its properties and verbs"),
-            mark("w", "w: everybody may add and delete its properties and verbs"),
+            OBJECT, mark("r", "r: everybody may list what it has"),
+            mark("w", "w: everybody may add to what it has, and take away from it"),
             mark("f", "f: everybody may make objects under it (it is fertile)"),
         ),
         tuple(Step(f'set(<object>, "{letter}", <{letter}>)', given=letter) for letter in "rwf"), blame={"set": "object"},
@@ -150,8 +150,9 @@ CHANGING = (
         (
             Field("object", "Whose", "object", "A person’s object: its number, or its name."),
             Field("quota", "May make", "number", "How many more objects.", now=f"get(<object>, {QUOTA})"),
-            Field("how", "Kept", "choice", "Somebody without a quota may make as many objects as they like.", default="set", section="More",
-                  options=(("set", "in the property ownership_quota, which is there already"), ("add", "in a new property of theirs"))),
+            Field("how", "What they have now", "choice", "Without a quota one may make as many objects as one likes. In the manual it is the "
+                  "property ownership_quota.", default="set", section="More",
+                  options=(("set", "a quota, which becomes another"), ("add", "no quota: they get one"))),
         ),
         (
             Step(f"set(<object>, {QUOTA}, <quota>)", given="how=set"),
@@ -163,10 +164,10 @@ CHANGING = (
         "player", "A player’s object", "With its quota, and without an account. You own both: people who own their object can rid it of its quota.",
         (
             Field("name", "Name", "text", "What the object is called."),
-            Field("parent", "Parent", "place", "What it inherits from: an object that is fertile or yours.", default="#1"),
+            Field("parent", "Parent", "place", "What it inherits from: an object of which everybody may make others (it is fertile), or yours.", default="#1"),
             Field("quota", "May make", "number", "How many objects.", default=FIRST_QUOTA),
-            Field("how", "Kept", "choice", "", default="add",
-                  options=(("add", "in a new property ownership_quota"), ("set", "in the property ownership_quota of the parent"))),
+            Field("how", "What the parent has", "choice", "", default="add",
+                  options=(("add", "no quota"), ("set", "a quota (in the manual the property ownership_quota), of which it gets one of its own"))),
         ),
         (
             Step("create(<parent>)", is_new=True), Step('set(<new>, "name", <name>)'), Step("set_player_flag(<new>, 1)"),
@@ -223,7 +224,7 @@ PROPERTIES = (
 )  # fmt: skip
 VERBS = (
     Form(
-        "add-verb", "Add a verb", "A name, rights and arguments. moo keeps verbs, and runs none.",
+        "add-verb", "Add a verb", "A word that people could type at it, such as: light. It is kept for other programs: nothing here runs it.",
         (
             OBJECT, Field("names", "Names", "name", "Words with spaces between them, such as: get take. A star, as in foo*bar, stands "
                           "after the letters that have to be typed."),
@@ -233,7 +234,7 @@ VERBS = (
         blame={"add_verb E_INVARG": "names", "add_verb E_PERM": "object"},
     ),
     Form(
-        "verb-rights", "Names and rights of a verb", "What it is called, who may read and change it, and whose it is.",
+        "verb-rights", "Names and rights of a verb", "What this word is called that people could type at it, who may read and change it, and whose it is.",
         (
             OBJECT, VERB, Field("names", "Names", "name", "Words with spaces between them.", now="verb_info(<object>, <verb>)", part=2),
             letters(VERB_LETTERS, "verb_info(<object>, <verb>)"), owner("verb_info(<object>, <verb>)"),
@@ -242,19 +243,19 @@ VERBS = (
         blame={"set_verb_info E_VERBNF": "verb", "set_verb_info E_INVARG": "names", "set_verb_info E_PERM": "verb"},
     ),
     Form(
-        "verb-args", "Arguments of a verb", "What has to be typed with it.",
+        "verb-args", "Arguments of a verb", "What has to be typed with this word.",
         (OBJECT, VERB, *arguments("verb_args(<object>, <verb>)")),
         (Step('set_verb_args(<object>, <verb>, {"<dobj>", "<prep>", "<iobj>"})'),),
         blame={"set_verb_args E_INVARG": "prep", "set_verb_args": "verb"},
     ),
     Form(
-        "delete-verb", "Delete a verb", "Those after it move down by one.",
+        "delete-verb", "Delete a verb", "It is a word that people could type at the object. Those after it move down by one.",
         (OBJECT, VERB), (Step("delete_verb(<object>, <verb>)"),), is_loss=True, blame={"delete_verb": "verb"},
     ),
 )  # fmt: skip
 SEVERAL = (
     Form(
-        "many", "Several objects at once", "All of them, or none: it is one batch.",
+        "many", "Several objects at once", "All of them, or none.",
         (
             Field("objects", "Objects", "objects", "Numbers or names, with commas or line ends between them."),
             Field("what", "What to do with them", "choice", default="move",

@@ -19,10 +19,13 @@ from moo_web.forms import catalogue
 from moo_web.forms.excuses import Excuse, excuse
 from moo_web.forms.forms import Form, Me, Mistake, items_of, read_form
 from moo_web.forms.input import Mistyped
+from moo_web.forms.owners import owners_asked
 from moo_web.forms.petitions import asked_of, petition_item
-from moo_web.forms.previews import Change, Done, Preview, Previews
+from moo_web.forms.previewing import Change, Preview
+from moo_web.forms.previews import Done, Previews
 from moo_web.forms.untouched import is_untouched
 from moo_web.forms.views import NamesOf, Offer, chosen_of, known_values, reads_at_first, typed_at_first, view_of
+from moo_web.journal.notes import LONGEST_WORDS, NO_NOTE, Note, Unfit, words_in
 from moo_web.journal.recent import Recent, Seen
 from moo_web.journal.segments import Accepted
 from moo_web.journal.jobs import Busy, Stopped, TooMuch, Unknown
@@ -72,6 +75,10 @@ class FormResult:
     left_out: tuple[str, ...] = ()
     asked: tuple[Change, ...] = ()
     is_asking: bool = False
+    # The words that go with it, as they were typed, and what is wrong with them; the owners who are asked besides the wizards.
+    words: str = ""
+    wrong_words: str = ""
+    owners: tuple[int, ...] = ()
     trouble: str = ""
     is_unknown: bool = False
     seen: Seen | None = None
@@ -135,7 +142,7 @@ class FormPages:
             found = FormResult(trouble=TROUBLES["too much"].format(why=much.why[:1].upper() + much.why[1:]), status=429)
         except Unknown as unknown:
             found = FormResult(trouble=TROUBLES["unknown"].format(at=unknown.at, next=unknown.at + 1), is_unknown=True, status=503)
-        found.seen, found.is_asking = Seen.read(visit.form), go == "petition"
+        found.seen, found.is_asking, found.words = Seen.read(visit.form), go == "petition", visit.form.get("words", "")
         return self.page(visit, form, typed, {}, found)
 
     def acted(self, visit: Visit, form: Form, typed: dict[str, str], go: str) -> Reply:
@@ -156,15 +163,16 @@ class FormPages:
 
     def sent(self, visit: Visit, form: Form, typed: dict[str, str], items: list[Item], go: str) -> Reply:
         """Previews or applies calls, or the petition of them."""
-        found = FormResult(is_asking=go in ("ask", "petition"))
-        seen, person = Seen.read(visit.form), visit.session.person
+        found = FormResult(is_asking=go in ("ask", "petition"), words=visit.form.get("words", ""))
+        seen, person, note = Seen.read(visit.form), visit.session.person, note_typed(found)
         try:
             if found.is_asking:
                 asked = asked_of(items, me_of(visit))
                 items, found.left_out = [petition_item(asked.calls)], tuple(asked.left_out)
                 found.asked = tuple(Change(call, "") for call in asked.calls)
-            if go in ("apply", "petition") and seen:
-                outcome = self.previews.apply(person, items, seen)
+                found.owners = tuple(owners_asked(visit, asked.calls, visit.number))
+            if go in ("apply", "petition") and seen and not found.wrong_words:
+                outcome = self.previews.apply(person, items, seen, note)
                 if isinstance(outcome, Done):
                     return self.went(visit, form, outcome, found)
                 found.preview, found.trouble, found.status = outcome.preview, TROUBLES["moved"], 409
@@ -210,7 +218,7 @@ class FormPages:
         view = view_of(form, typed, mistakes, names, me, offers)
         return visit.page(
             self.template, found.status, KEPT_BY_BROWSER, view=view, found=found, about=about, path_of=self.path(form),
-            told=lambda call: told(call, link), is_grave=is_grave, values=values_before,
+            told=lambda call: told(call, link), is_grave=is_grave, values=values_before, longest_words=LONGEST_WORDS,
             quota=self.quota(visit) if form.key in MAKING and not found.trouble else None,
             accepts=accepting(visit, about) if about >= 0 and form.key == "accept" and not found.trouble else None,
             siblings=siblings_of(form, typed), **self.more(form, typed, mistakes, found),
@@ -244,6 +252,15 @@ class FormPages:
         """How many more objects the person may make; None if that isn't bounded."""
         (answer,) = visit.answers([f'get(#{visit.number}, "ownership_quota")'])
         return answer if isinstance(answer, int) else None
+
+
+def note_typed(found: FormResult) -> Note:
+    """The words that go with a form that was sent. If they can't be kept the result says why."""
+    try:
+        return Note(words_in(found.words))
+    except Unfit as unfit:
+        found.wrong_words, found.status = f"{str(unfit)[:1].upper()}{str(unfit)[1:]}.", 422
+        return NO_NOTE
 
 
 def siblings_of(form: Form, typed: Mapping[str, str]) -> list[tuple[str, str]]:

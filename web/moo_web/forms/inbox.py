@@ -1,38 +1,63 @@
-"""Petitions: a wizard's inbox with the calls whole and what granting each would do, and one's own list."""
+"""The pages of petitions: a wizard's inbox with what granting each would do, what an owner is asked for, one's own, and one by itself."""
 
 from __future__ import annotations
 
 import dataclasses
-from typing import Callable
+from typing import Any, Callable, Optional
 
 from markupsafe import Markup
 from moolib.batches import Item
-from moolib.calls import Call
+from moolib.calls import read_or_none
+from moolib.service import Said
 
 from moo_web.app import Reply
 from moo_web.forms.excuses import Excuse
+from moo_web.forms.granting import Outcome, ends_of, outcomes_of
 from moo_web.forms.handlers import excuse_of, values_before
-from moo_web.forms.petitions import Petition, petitions_of
-from moo_web.forms.previews import Preview, Previews
-from moo_web.journal.history import Decided, History
+from moo_web.forms.owners import Visible, of_others, owners_asked, visible
+from moo_web.forms.petitions import Petition, petitions_in
+from moo_web.forms.previewing import Preview
+from moo_web.forms.previews import Previews
+from moo_web.journal.history import History
+from moo_web.journal.notes import LONGEST_WORDS
+from moo_web.journal.talks import Talk, decided_of, talks_of
+from moo_web.pages.batches import readable
 from moo_web.pages.pages import Visit
 from moo_web.pages.sentences import is_grave, linked, told
 from moo_web.world.door import TooLong
 
-# Previews ask moo several times, so a page has few.
 ON_A_PAGE = 10
 MOST_DECIDED = 10
+PETITIONS = "petitions()"
 
 
 @dataclasses.dataclass(frozen=True)
 class Row:
-    """A petition with what granting it would do, for a wizard, in words too (`told`), and what ending it would."""
+    """A petition as a person sees it: its calls, what was said of it, the owners who are asked, and what they can do about it.
+
+    `grant` is what granting it would do, for a wizard, in words too (`told`). `decline` is None for who may not end it. `accept` is what its
+    calls would do by the rights of an owner who is asked: it is made for the page of one petition alone.
+    """
 
     petition: Petition
-    decline: Preview
+    seen: Visible
+    talk: Optional[Talk]
+    owners: list[int]
+    decline: Preview | None = None
     grant: Preview | None = None
+    accept: Preview | None = None
     excuse: Excuse | None = None
     told: Callable[[str], Markup] | None = None
+
+    @property
+    def is_asked(self) -> bool:
+        """Whether the person is asked as an owner, and sees any of it."""
+        return self.decline is None
+
+    @property
+    def is_over(self) -> bool:
+        """Whether an owner has done what it asks for, so that nothing is left to be done."""
+        return self.talk is not None and self.talk.done_by is not None
 
 
 class PetitionPages:
@@ -41,21 +66,46 @@ class PetitionPages:
     def __init__(self, previews: Previews, history: History) -> None:
         self.previews, self.history = previews, history
 
+    # The list
+
     def inbox(self, visit: Visit) -> Reply:
         """The petitions that the person may see, the oldest first."""
         first, of = number_in(visit, "after"), number_in(visit, "of") if visit.is_wizard else 0
         try:
-            # A wizard may see everybody's, so also those of one person alone.
-            found = [one for one in petitions_of(self.previews.questions, of or visit.number) if one.number > first]
+            listed, told_all = self.listed(visit, of)
         except TooLong:
             return self.too_long(visit, of)
-        rows = [self.row(visit, one, not of) for one in found[:ON_A_PAGE]]
-        more = len(found) - len(rows)
+        found = [one for one in listed if one.number > first]
+        rows = self.rows(visit, found[:ON_A_PAGE], None if of else told_all)
         return visit.page(
-            "forms/petitions.html", rows=rows, more=more, last=rows[-1].petition.number if rows else 0, first=first, of=of or None,
-            told=lambda call: told(call, visit.link), is_grave=is_grave, values=values_before,
-            decided=[] if first or of else self.decided(visit),
+            "forms/petitions.html", rows=rows, more=len(found) - len(rows), last=rows[-1].petition.number if rows else 0, first=first,
+            of=of or None, decided=[] if first or of else self.decided(visit), **self.words(visit),
         )  # fmt: skip
+
+    def listed(self, visit: Visit, of: int = 0) -> tuple[list[Petition], Said]:
+        """The open petitions that a person may see: all, or their own and those about what is theirs; or those of one player alone.
+
+        They come with what `petitions()` answers. `TooLong`: they are too long to be shown together.
+        """
+        (said,) = self.previews.questions.read(of, [PETITIONS], visit.world.seq) if of else visit.said([PETITIONS])
+        others = [] if visit.is_wizard else of_others(visit, self.previews.overseeing)
+        return sorted([*petitions_in(said), *others]), said
+
+    def rows(self, visit: Visit, petitions: list[Petition], said: Optional[Said]) -> list[Row]:
+        """These petitions with what can be done about each. Without what `petitions()` answers none can be granted: no preview is made."""
+        ask_for_all(visit, petitions)
+        talks = talks_of(self.history, [one.number for one in petitions])
+        outcomes = self.outcomes(visit, petitions, said)
+        return [row_of(visit, one, talks.get(one.number), outcomes.get(one.number, Outcome())) for one in petitions]
+
+    @staticmethod
+    def outcomes(visit: Visit, petitions: list[Petition], said: Optional[Said]) -> dict[int, Outcome]:
+        """What the person could do about these petitions, by their numbers."""
+        if visit.is_wizard and said is not None:
+            found = outcomes_of(visit.said, visit.number, said, petitions, visit.world)
+            return {one.number: outcome for one, outcome in zip(petitions, found)}
+        mine = [one for one in petitions if visit.is_wizard or one.who == visit.number]
+        return ends_of(visit.said, mine, visit.world.seq)
 
     @staticmethod
     def too_long(visit: Visit, of: int) -> Reply:
@@ -63,20 +113,45 @@ class PetitionPages:
         players = [visit.world.things[number] for number in visit.world.with_bit("player")] if visit.is_wizard and not of else []
         return visit.page("forms/too_long.html", 413, players=players, of=of or None)
 
-    def decided(self, visit: Visit) -> list[tuple[Decided, list[str]]]:
-        """The person's own petitions that were decided lately, each with its calls."""
-        found = self.history.decided(visit.name, MOST_DECIDED)
-        return [(one, list(map(str, Call.read(one.call).asked)) if one.call else []) for one in found]
+    def decided(self, visit: Visit) -> list[Talk]:
+        """The person's own petitions that were decided lately, the newest first."""
+        return [talk for talk in decided_of(self.history, visit.name, MOST_DECIDED) if talk.decided]
 
-    def row(self, visit: Visit, petition: Petition, is_grantable: bool) -> Row:
-        """A petition, with what can be done about it. One of a list that isn't whole can't be granted: its preview isn't made."""
-        person = visit.session.person
-        decline = self.previews.of(person, [Item(f"decline({petition.number})")])
-        if not visit.is_wizard or not is_grantable:
-            return Row(petition, decline)
-        grant = self.previews.of(person, [Item(f"grant({petition.number})")])
-        link = linked(visit.link, [(change.call, change.answer) for change in grant.inner])
-        return Row(petition, decline, grant, excuse_of(None, grant), lambda call: told(call, link))
+    # One petition
+
+    def one(self, visit: Visit, number: int) -> Reply:
+        """One petition: open, or how it ended. It isn't there for those whom it doesn't concern."""
+        try:
+            listed, said = self.listed(visit)
+        except TooLong:
+            return self.too_long(visit, 0)
+        if found := [one for one in listed if one.number == number]:
+            (row,) = self.rows(visit, found, said)
+            return self.page_of(visit, self.with_acceptance(visit, row))
+        talk = talks_of(self.history, [number]).get(number)
+        if talk is None or talk.decided is None or not (visit.is_wizard or talk.asked.who.lower() == visit.name.lower()):
+            return visit.refused("not found", 404)
+        calls = list(map(str, talk.calls))
+        return visit.page("forms/decided.html", one=talk.decided, talk=talk, calls=calls, **self.words(visit))
+
+    def page_of(self, visit: Visit, row: Row, status: int = 200, wrong: str = "", typed: str = "") -> Reply:
+        """The page of an open petition. `wrong` is what is wrong with the words that were typed."""
+        return visit.page("forms/petition.html", status, row=row, wrong=wrong, typed=typed, **self.words(visit))
+
+    def with_acceptance(self, visit: Visit, row: Row) -> Row:
+        """The same for an owner who is asked, with what its calls would do by their own rights, if they may see all of them."""
+        if not row.is_asked or row.seen.hidden or row.is_over:
+            return row
+        accept = self.previews.of(visit.session.person, items_of(row.petition))
+        link = linked(visit.link, [(change.call, change.answer) for change in accept.changes])
+        return dataclasses.replace(row, accept=accept, excuse=excuse_of(None, accept), told=lambda call: told(call, link))
+
+    @staticmethod
+    def words(visit: Visit) -> dict[str, Any]:
+        """What the templates of these pages use."""
+        return {"told": lambda call: told(call, visit.link), "is_grave": is_grave, "values": values_before, "longest": LONGEST_WORDS}
+
+    # Quotas
 
     def quotas(self, visit: Visit) -> Reply:
         """How many objects each player may make, for wizards."""
@@ -89,6 +164,30 @@ class PetitionPages:
             (thing, answer if isinstance(answer, int) else None, len(owned.get(thing.number, ()))) for thing, answer in zip(players, answers)
         ]
         return visit.page("forms/quotas.html", rows=rows)
+
+
+def row_of(visit: Visit, petition: Petition, talk: Optional[Talk], outcome: Outcome) -> Row:
+    """A petition with what the person could do about it."""
+    seen, grant = visible(visit, petition), outcome.grant
+    if talk is not None and (talk.asked.programmer, list(map(str, talk.calls))) != (petition.who, petition.calls):
+        # The world was loaded from a dump, and the number was given again.
+        talk = None
+    row = Row(petition, seen, talk, [] if seen.hidden else owners_asked(visit, petition.calls, petition.who), outcome.decline, grant)
+    if grant is None:
+        return row
+    link = linked(visit.link, [(change.call, change.answer) for change in grant.inner])
+    return dataclasses.replace(row, excuse=excuse_of(None, grant), told=lambda call: told(call, link))
+
+
+def ask_for_all(visit: Visit, petitions: list[Petition]) -> None:
+    """Asks at once what tells which calls of these petitions a person may read."""
+    if not visit.is_wizard:
+        readable(visit, [read_or_none(text) for one in petitions if one.who != visit.number for text in one.calls])
+
+
+def items_of(petition: Petition) -> list[Item]:
+    """The calls of a petition as a batch."""
+    return [Item(call) for call in petition.calls]
 
 
 def number_in(visit: Visit, field: str) -> int:

@@ -149,7 +149,7 @@ def why_unreadable(text: str) -> str:
             return f"{word} isn’t an error. They are: {', '.join(ERRORS)}."
     if re.fullmatch(r"[A-Za-z][\w ]*", text):
         return f"“{clipped(text)}” isn’t a value as it is written. Choose ‘a text’ above, or put quotes round it: \"{clipped(text)}\"."
-    return f"“{clipped(text)}” isn’t a value: those are 12, #4, \"a text\", E_PERM and lists such as {{1, #2, \"a\"}}."
+    return f"“{clipped(text)}” isn’t a value: those are 12, #4, \"a text\", an error such as E_PERM, and lists such as {{1, #2, \"a\"}}."
 
 
 def typed_as(value: object) -> tuple[str, str]:

@@ -3,7 +3,7 @@
 from __future__ import annotations
 
 import re
-from typing import NamedTuple
+from typing import Any, NamedTuple
 
 from moolib.batches import Item
 from moolib.calls import Call, read_or_none
@@ -78,13 +78,13 @@ def petitions_at(questions: Questions, programmer: int, at: int) -> list[Petitio
     return petitions_in(questions.read(programmer, ["petitions()"], at)[0])
 
 
-def petitions_of(questions: Questions, programmer: int) -> list[Petition]:
-    """The same of the world as it is now. `TooLong`: as `petitions_in`."""
-    return petitions_in(questions.read_now(programmer, "petitions()"))
-
-
 def petitions_in(said: Said) -> list[Petition]:
     """The petitions that a call of `petitions` answers. `TooLong`: they are too long to be shown together."""
     if not said.is_good:
         raise TooLong
-    return [Petition(number, who.number, [str(Call.of(call)) for call in calls]) for number, who, calls in said.value]
+    return petitions_told(said.value)
+
+
+def petitions_told(told: list[Any]) -> list[Petition]:
+    """The petitions of a value that it answers."""
+    return [Petition(number, who.number, [str(Call.of(call)) for call in calls]) for number, who, calls in told]

@@ -17,13 +17,14 @@ import time
 
 from moolib.batches import Item, local_names, resolved, written_calls
 from moolib.calls import read_or_none
-from moolib.losses import Losses
 from moolib.service import Said
 
+from moo_web.forms.granting import TOP, inner_changes
 from moo_web.forms.petitions import petitions_at
-from moo_web.forms.questions import Before, Questions, reads_before
+from moo_web.forms.previewing import BatchRefusal, Change, Preview
+from moo_web.forms.questions import Before, Questions, befores_of
+from moo_web.journal.notes import NO_NOTE, Note
 from moo_web.journal.recent import Recent, Seen
-from moo_web.journal.tables import sum_of
 from moo_web.journal.jobs import Busy, Unknown
 from moo_web.journal.writer import Writer
 from moo_web.people.person import Person
@@ -34,61 +35,7 @@ from moo_web.world.overseeing import Overseeing
 
 TRIES = 20
 MOST_CALLS = 1000
-# Of how many calls it is read what is there before them.
-MOST_BEFORE = 300
 APPLYING = 10.0
-
-
-@dataclasses.dataclass(frozen=True)
-class BatchRefusal:
-    """Why a batch would be refused: the number of the call, from 1 on, or 0; the error, and moo's sentence. `why` may be empty."""
-
-    call: int
-    error: str
-    why: str
-
-
-@dataclasses.dataclass(frozen=True)
-class Change:
-    """A call, what it would answer, and what is there before it: each with its words. The answer is empty if the batch is refused."""
-
-    call: str
-    answer: str
-    before: tuple[tuple[Before, Said], ...] = ()
-
-
-@dataclasses.dataclass(frozen=True)
-class Preview:
-    """What a batch would do to the world of the number `seq`. `inner` are the calls of a petition that it grants.
-
-    `losses` are the values that it would destroy or replace.
-    """
-
-    seq: int
-    changes: tuple[Change, ...]
-    refusal: BatchRefusal | None = None
-    inner: tuple[Change, ...] = ()
-    losses: Losses = Losses()
-
-    @property
-    def calls(self) -> list[str]:
-        """The calls, as they would be sent."""
-        return [change.call for change in self.changes]
-
-    @property
-    def seen(self) -> str:
-        """A sum of all that is shown of it, but for the world's number."""
-        rows = [
-            [change.call, change.answer, [[before.call, said.text, said.is_good] for before, said in change.before]] for change in (
-                *self.changes, *self.inner
-            )
-        ]
-        return sum_of([rows, dataclasses.astuple(self.refusal) if self.refusal else None, self.losses.rows])
-
-    @property
-    def sent(self) -> str:
-        """A sum of the calls."""
-        return sum_of(self.calls)
 
 
 @dataclasses.dataclass(frozen=True)
@@ -136,21 +83,22 @@ class Previews:
         ]
         if answer.status == 200:
             losses = losses_of(self.overseeing, person.number, calls, answers, seq)
-            return Preview(seq, tuple(changes), None, self.granted(person, calls, seq), losses)
+            return Preview(seq, tuple(changes), None, self.granted(person, calls, seq, True), losses)
         said = answer.said
         refusal = BatchRefusal(int(said.get("call", 0)), answer.error, str(said.get("why", "")))
-        return Preview(seq, tuple(changes), refusal, self.granted(person, calls, seq))
+        return Preview(seq, tuple(changes), refusal, self.granted(person, calls, seq, False))
 
-    def granted(self, person: Person, calls: list[str], seq: int) -> tuple[Change, ...]:
+    def granted(self, person: Person, calls: list[str], seq: int, is_done: bool) -> tuple[Change, ...]:
         """What the calls of a petition would do, if these calls grant one: as if the person made them."""
         call = read_or_none(calls[0]) if len(calls) == 1 else None
         if call is None or call.name != "grant" or call.petition is None:
             return ()
         asked: list[str] = next((each.calls for each in petitions_at(self.questions, person.number, seq) if each.number == call.petition), [])
-        answer = self.questions.ask(person.number, asked, seq) if asked else None
-        answers = answer.said["answers"] if answer and answer.status == 200 else []
-        befores = self.befores(person.number, asked, seq)
-        return tuple(Change(call, answers[place] if answers else "", befores[place]) for place, call in enumerate(asked))
+        if not asked:
+            return ()
+        befores = befores_of(asked)
+        wanted = list(dict.fromkeys([TOP, *(before.call for each in befores for before in each)]))
+        return inner_changes(asked, befores, dict(zip(wanted, self.questions.read(person.number, wanted, seq))), is_done)
 
     def resolved(self, programmer: int, items: list[Item]) -> tuple[list[str], Answer, int]:
         """The calls with the values of their names, what moo answers to them, and the world's number."""
@@ -165,7 +113,7 @@ class Previews:
 
     def befores(self, programmer: int, calls: list[str], seq: int) -> list[tuple[tuple[Before, Said], ...]]:
         """What is there before each of the calls."""
-        reads = [reads_before(call) for call in calls[:MOST_BEFORE]] + [[] for _ in calls[MOST_BEFORE:]]
+        reads = befores_of(calls)
         distinct = list(dict.fromkeys(before.call for each in reads for before in each))
         found = dict(zip(distinct, self.questions.read(programmer, distinct, seq)))
         return [tuple((before, found[before.call]) for before in each) for each in reads]
@@ -180,7 +128,7 @@ class Previews:
         except Busy:
             raise Unknown(seq - 1) from None
 
-    def apply(self, person: Person, items: list[Item], seen: Seen) -> Done | NotSent:
+    def apply(self, person: Person, items: list[Item], seen: Seen, note: Note = NO_NOTE) -> Done | NotSent:
         """Sends the calls, if their preview is the one that was seen. What is raised is `Writer.write`'s, and `of`'s."""
         end = time.monotonic() + APPLYING
         while True:
@@ -193,7 +141,7 @@ class Previews:
                 return Done(mine.seq, mine.calls, mine.answers, True)
             if preview.refusal or preview.seen != seen.seen:
                 return NotSent(preview, preview.seq != seen.at)
-            answer = self.writer.write(person.name, person.number, preview.calls, preview.seq)
+            answer = self.writer.write(person.name, person.number, preview.calls, preview.seq, note=note)
             if answer.status == 200:
                 return Done(answer.said["seq"], preview.calls, answer.said["answers"])
             if answer.error != "stale" or time.monotonic() > end:

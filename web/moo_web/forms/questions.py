@@ -16,6 +16,8 @@ from moo_web.world.door import Answer, Door, Unreachable, batch_body
 PATIENCE = 10.0
 TRIES = 20
 LONGEST_WORD = 60
+# Of how many calls it is read what is there before them.
+MOST_BEFORE = 300
 
 
 class Questions:
@@ -93,3 +95,8 @@ def reads_before(text: str) -> list[Before]:
         return []
     given = [written(value) for value in call.values[:2]]
     return [Before(read.format(*given), words or str(about)[:LONGEST_WORD]) for read, words in reads]
+
+
+def befores_of(calls: list[str]) -> list[list[Before]]:
+    """The same of each of these calls; of those after the first 300 nothing is asked."""
+    return [reads_before(call) for call in calls[:MOST_BEFORE]] + [[] for _ in calls[MOST_BEFORE:]]

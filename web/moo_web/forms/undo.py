@@ -16,7 +16,8 @@ from moo_web.app import Reply
 from moo_web.forms.editor import BATCH, BatchPages
 from moo_web.forms.forms import Form
 from moo_web.forms.handlers import FormResult, me_of
-from moo_web.forms.previews import Preview, Previews
+from moo_web.forms.previewing import Preview
+from moo_web.forms.previews import Previews
 from moo_web.forms.unread import is_of_value, items_of_lines, readable_lines
 from moo_web.journal.recent import Recent
 from moo_web.journal.segments import Accepted

@@ -23,13 +23,13 @@ from moo_web.world.things import NOTHING, Thing
 MOST = 60
 NEW = "$new"
 MARKS = (
-    ("r", "Everybody may list its properties and verbs (readable)"),
-    ("w", "Everybody may add and delete its properties and verbs (writable)"),
+    ("r", "Everybody may list what it has (readable)"),
+    ("w", "Everybody may add to what it has, and take away from it (writable)"),
     ("f", "Everybody may make objects under it (fertile)"),
 )
 OTHERS, MARKED = "Other properties", "What others may do"
-EDITED = "What you leave as it is stays as it is, whatever others do meanwhile. All that you change is one batch."
-MADE_NEW = "What you leave as it is, it has from its parent. All of it is one batch."
+EDITED = "What you leave as it is stays as it is, whatever others do meanwhile. All that you change is done together, or nothing of it."
+MADE_NEW = "What you leave as it is, it has from its parent. All of it is done together, or nothing of it."
 
 
 @dataclasses.dataclass(frozen=True)

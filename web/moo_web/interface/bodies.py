@@ -11,6 +11,7 @@ from moolib.names import NoName, have_names, names_of, read_items
 from moolib.values import read
 
 from moo_web.app import Reply, Request, in_json
+from moo_web.journal.notes import Note, Unfit, words_in
 from moo_web.people.person import Person
 from moo_web.world.door import Answer
 
@@ -46,6 +47,17 @@ class Sent(NamedTuple):
         """The number of the world for which they are."""
         at: int | None = self.said.get("at")
         return at
+
+    @property
+    def note(self) -> Note:
+        """The words that came with it. `BadBody`: they can't be kept."""
+        words = self.said.get("words", "")
+        if not isinstance(words, str):
+            raise BadBody(in_json(400, error="bad request", why="the value of words isn't a string"))
+        try:
+            return Note(words_in(words))
+        except Unfit as unfit:
+            raise BadBody(in_json(400, error="bad request", why=str(unfit))) from None
 
     @property
     def is_batch(self) -> bool:

@@ -40,7 +40,9 @@ BATCH = {
 LOSS = shape_of({"object": NUMBER, "property": {"type": "string"}, "value": {"type": "string"}})
 SHAPES: dict[str, dict[str, Any]] = {
     "calls": shape_of(
-        {"calls": {**many(CALL), "maxItems": 1000}}, at={**COUNT, "nullable": True}, **{"as": {**NUMBER, "description": "one's own number"}}
+        {"calls": {**many(CALL), "maxItems": 1000}}, at={**COUNT, "nullable": True},
+        words={"type": "string", "maxLength": 1000, "description": "for /api/batch: why it is sent"},
+        **{"as": {**NUMBER, "description": "one's own number"}},
     ),
     "answers": shape_of(
         {"answers": many(VALUE), "seq": COUNT}, names={"type": "object", "additionalProperties": VALUE}, losses=many(LOSS),

@@ -17,9 +17,10 @@ from typing import Any, BinaryIO, Callable, Collection, Iterator, NamedTuple, Se
 
 from moolib.calls import Call, call_name
 
+from moo_web.journal.ledger import Ledger
 from moo_web.journal.prefixes import is_as_it_was, put_prefix, read_prefix
 from moo_web.journal.segments import LONGEST_LINE, SUM_LENGTH, Accepted, Damaged, Segment, accepted_of, segments_of
-from moo_web.journal.tables import Growing, Kept, PetitionEvent, named_in, numbers_in, sum_of_calls
+from moo_web.journal.tables import Growing, Kept, named_in, numbers_in, sum_of_calls
 
 READING = 10.0
 LOOK_EVERY = 60.0
@@ -72,6 +73,11 @@ class Decided(NamedTuple):
         """The call that made it."""
         answers = self.asked.answers or []
         return next((call for call, answer in zip(self.asked.calls, answers) if answer == str(self.number)), "")
+
+    @property
+    def word(self) -> str:
+        """The word that came with its end; empty if there was none."""
+        return self.ended.note.words
 
     @property
     def is_granted(self) -> bool:
@@ -152,14 +158,8 @@ class History:
         # The segments that were read, in their order; and up to where the file beside the last one goes.
         self.parts: list[SegmentBatches] = []
         self.kept = 0
-        # What a petition names, by its number, for its grant.
-        self.petitions: dict[int, set[int]] = {}
-        # By a person's name the petitions that they made, each with its batch; by a petition's number the batch that made it, and the one that
-        # ended it.
-        self.asked: dict[str, list[tuple[int, int]]] = {}
-        self.made: dict[int, int] = {}
-        self.ended: dict[int, int] = {}
-        # How many events of the last segment are in these, and which segment is to be checked again.
+        self.ledger = Ledger()
+        # How many events of the last segment are in it, and which segment is to be checked again.
         self.noted, self.next_check = 0, 0
 
     # What pages ask
@@ -190,10 +190,9 @@ class History:
         with self.caught_up(patience) as is_read:
             if not is_read:
                 return []
-            numbers = [(number, place) for number, place in reversed(self.asked.get(who.lower(), [])) if number in self.ended][:count]
             found = []
-            for number, place in numbers:
-                batches = [batch for _, batch in self.read([place, self.ended[number]])]
+            for number, place in self.ledger.decided_of(who, count):
+                batches = [batch for _, batch in self.read([place, self.ledger.ended[number]])]
                 if len(batches) == 2:
                     found.append(Decided(number, batches[0], batches[1]))
             return found
@@ -213,12 +212,12 @@ class History:
 
     def named(self, accepted: Accepted) -> set[int]:
         """The objects that a batch names, those that it made, and those of the petitions that it granted."""
-        return named_in(accepted, self.petitions)
+        return named_in(accepted, self.ledger.named)
 
     def petition(self, number: int) -> Petition | None:
         """The petition of this number, as it was made; None if it isn't known."""
         with self.caught_up() as is_read:
-            place = self.made.get(number) if is_read else None
+            place = self.ledger.made.get(number) if is_read else None
             batch = None if place is None else next((batch for _, batch in self.read([place])), None)
         if batch is None:
             return None
@@ -329,9 +328,9 @@ class History:
         except (OSError, ValueError, KeyError, TypeError):
             kept, is_whole = None, False
         if kept is None:
-            return Growing(segment, self.petitions)
+            return Growing(segment, self.ledger.named)
         self.kept = kept.prefix.end
-        return kept if is_whole and not is_last else Growing.of(kept, self.petitions)
+        return kept if is_whole and not is_last else Growing.of(kept, self.ledger.named)
 
     def put(self, part: SegmentBatches, batches: Growing, is_last: bool) -> None:
         """Writes the file beside a segment, if it is time. If it can't be, the batches stay in memory."""
@@ -362,20 +361,10 @@ class History:
                     self.put_files(last.batches)
 
     def note(self, part: SegmentBatches) -> None:
-        """Notes the petitions that were made and ended in the part that is read, as far as it wasn't done yet."""
+        """Notes the petitions that were made, answered and ended in the part that is read, as far as it wasn't done yet."""
         for event in part.batches.events[self.noted :]:
-            self.note_event(event, part.first + event.place)
+            self.ledger.take(event, part.first + event.place)
         self.noted = len(part.batches.events)
-
-    def note_event(self, event: PetitionEvent, place: int) -> None:
-        """Notes a petition that was made or ended."""
-        if event.who:
-            self.petitions[event.number] = set(event.named)
-            self.asked.setdefault(event.who, []).append((event.number, place))
-            self.made[event.number] = place
-            self.ended.pop(event.number, None)
-        else:
-            self.ended[event.number] = place
 
 
 def line_at(file: BinaryIO, place: int) -> dict[str, Any]:

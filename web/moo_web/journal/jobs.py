@@ -8,6 +8,7 @@ import time
 
 from moolib.batches import Item
 
+from moo_web.journal.notes import NO_NOTE, Note
 from moo_web.traffic.visitors import present
 from moo_web.world.door import Answer
 
@@ -47,9 +48,10 @@ class Job:
     """A batch that somebody waits for. With `items` its calls have names, and `calls` are made of them when its turn comes."""
 
     def __init__(
-        self, who: str, programmer: int, calls: list[str], at: int | None, patience: float, items: list[Item] | None = None
+        self, who: str, programmer: int, calls: list[str], at: int | None, patience: float, items: list[Item] | None = None,
+        note: Note = NO_NOTE,
     ) -> None:  # fmt: skip
-        self.who, self.programmer, self.calls, self.at, self.items = who, programmer, calls, at, items
+        self.who, self.programmer, self.calls, self.at, self.items, self.note = who, programmer, calls, at, items, note
         self.visitor = present()
         self.end = time.monotonic() + patience
         self.lock, self.decided, self.recorded = threading.Lock(), threading.Event(), threading.Event()

@@ -13,6 +13,8 @@ import re
 from pathlib import Path
 from typing import Any, Iterable, Iterator, NamedTuple
 
+from moo_web.journal.notes import NO_NOTE, Note, note_of
+
 VERSION = 2
 # Those that can be read: the lines of the first are without what `memory` keeps.
 VERSIONS = (1, 2)
@@ -218,7 +220,8 @@ def memory_of(intent: dict[str, Any]) -> Kept | None:
 class Accepted(NamedTuple):
     """An accepted batch: it was sent to the world of number `at`, at the moment `t` (seconds since 1970), for `who`, as the programmer.
 
-    `kept` is what `kept_of` makes of its answers. `memory` is what was kept to undo it; None of a journal of version 1.
+    `kept` is what `kept_of` makes of its answers. `memory` is what was kept to undo it; None of a journal of version 1. `note` has the words
+    that came with it.
     """
 
     at: int
@@ -228,6 +231,7 @@ class Accepted(NamedTuple):
     calls: list[str]
     kept: dict[str, Any]
     memory: Kept | None = None
+    note: Note = NO_NOTE
 
     @property
     def answers(self) -> list[str] | None:
@@ -244,7 +248,7 @@ def accepted_of(intent: dict[str, Any], done: dict[str, Any]) -> Accepted:
     """The accepted batch that an intent and its outcome tell."""
     told = done if "answers" in done or "answers_sum" in done else intent
     kept = {key: told[key] for key in ("answers", "answers_sum") if key in told}
-    return Accepted(intent["at"], intent["t"], intent["who"], intent["as"], intent["calls"], kept, memory_of(intent))
+    return Accepted(intent["at"], intent["t"], intent["who"], intent["as"], intent["calls"], kept, memory_of(intent), note_of(intent))
 
 
 class Outcomes:

@@ -59,12 +59,13 @@ def named_in(accepted: Accepted, asked: dict[int, set[int]]) -> set[int]:
 
 
 class PetitionEvent(NamedTuple):
-    """A batch makes a petition that names these objects, or ends it: then `who` is empty."""
+    """A batch makes a petition that names these objects, or ends it: then `who` is empty. Or `who` answers it: then there is `says`."""
 
     number: int
     place: int
     who: str
     named: list[int]
+    says: str = ""
 
 
 class Open(NamedTuple):
@@ -164,7 +165,10 @@ class Growing:
             self.of_objects.setdefault(number, array.array(PLACES)).append(place)
 
     def note_petitions(self, accepted: Accepted, place: int) -> None:
-        """Notes the petitions that a batch makes and ends."""
+        """Notes the petitions that a batch makes, ends and answers."""
+        note = accepted.note
+        if note.says:
+            self.events.append(PetitionEvent(note.petition, place, accepted.who.lower(), [], note.says))
         for call, answer in zip(accepted.calls, accepted.answers or []):
             name = call_name(call)
             if name == "petition" and answer.isdigit():
@@ -190,7 +194,10 @@ class Growing:
         """The tables of the file beside the segment."""
         objects, people = sorted(self.of_objects), sorted(self.of_people)
         of_objects, of_people = [self.of_objects[one] for one in objects], [self.of_people[one] for one in people]
-        words = json.dumps({"people": people, "events": self.events}, separators=(",", ":")).encode()
+        # Events of four parts are those that an older program knows.
+        events = [event[:4] for event in self.events if not event.says]
+        answers = [(event.number, event.place, event.who, event.says) for event in self.events if event.says]
+        words = json.dumps({"people": people, "events": events, "answers": answers}, separators=(",", ":")).encode()
         sizes = [len(self), len(objects), len(people), sum(map(len, of_objects)), sum(map(len, of_people)), len(words)]
         parts: list[array.array[int]] = [
             array.array(NUMBERS, sizes), self.intents, self.outcomes, self.sums, array.array(NUMBERS, objects),
@@ -218,7 +225,8 @@ class Kept:
         self.in_objects, self.in_people = self.places(of_objects), self.places(of_people)
         said = json.loads(bytes(view[self.at : self.at + words]))
         self.people: list[str] = said["people"]
-        self.events = [PetitionEvent(*event) for event in said["events"]]
+        answers = [PetitionEvent(number, place, who, [], says) for number, place, who, says in said.get("answers", ())]
+        self.events = [*(PetitionEvent(*event) for event in said["events"]), *answers]
 
     def numbers(self, count: int) -> memoryview:
         """The next so many numbers of the file."""

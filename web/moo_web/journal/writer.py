@@ -22,6 +22,7 @@ from moolib.service import FIRST_PAUSE, LONGEST_PAUSE
 from moo_web.journal.jobs import Barred, Busy, Job, Stopped, TooMuch, Unknown
 from moo_web.journal.journal import Broken, Journal, NoRoom
 from moo_web.journal.memory import Memory
+from moo_web.journal.notes import NO_NOTE, Note
 from moo_web.journal.segments import Accepted, accepted_of, kept_of
 from moo_web.people.person import Person
 from moo_web.traffic.turns import NobodyWaits
@@ -62,14 +63,16 @@ class Writer:
 
     # For those who wait
 
-    def write(self, who: str, programmer: int, calls: list[str], at: int | None = None, items: list[Item] | None = None) -> Answer:
+    def write(
+        self, who: str, programmer: int, calls: list[str], at: int | None = None, items: list[Item] | None = None, note: Note = NO_NOTE
+    ) -> Answer:  # fmt: skip
         """Runs a batch at most once, and gives moo's answer. It is journaled as `who`'s. `items` are calls with names in place of `calls`.
 
         `Busy`: nothing was sent. `Unknown`: it was sent and isn't decided yet. `Stopped`: writing has stopped. `TooLong`: nothing was sent,
         since the answer would be too long. `Barred`, `Spent`, `TooMuch`: nothing was sent, since who wrote it may not, or may not add so much.
         """
         self.watch.begin(present(), Person(who, programmer))
-        job = Job(who, programmer, calls, at, self.patience, items)
+        job = Job(who, programmer, calls, at, self.patience, items, note)
         with self.wake:
             if self.stopped:
                 raise Stopped(self.stopped)
@@ -180,7 +183,7 @@ class Writer:
             return
         intent = {
             "k": "intent", "at": self.seq, "t": self.moment(), "who": job.who, "as": job.programmer,
-            "calls": job.calls, **kept_of(asked.said["answers"]), **memory,
+            "calls": job.calls, **kept_of(asked.said["answers"]), **memory, **job.note.keys,
         }  # fmt: skip
         job.would = asked.said["answers"]
         if self.record(job, intent):

@@ -46,7 +46,7 @@ def more(visit: Visit, number: int, names: SightNames) -> list[Action]:
     for_wizards = [Action("Player and wizard", form_for("powers", number)), Action("Quota", form_for("quota", number))]
     return [
         Action("Set a property", form_for("set", number)), Action("Add a property", form_for("add-property", number)),
-        Action("Add a verb", form_for("add-verb", number)), Action("Make one under it", url_for("new", parent=number)),
+        Action("Add a word to type (verb)", form_for("add-verb", number)), Action("Make one under it", url_for("new", parent=number)),
         Action("Make objects under it", form_for("create", number, "parent")), *rooms,
         Action("Its children as a table", url_for("class", number=number)),
         Action("What others may do", form_for("marks", number)), Action("What it accepts", form_for("accept", number)),

@@ -20,10 +20,12 @@ from moo_web.journal.aspects import VERB_WORDS, Aspect, aspect_of
 from moo_web.journal.history import Batches, History, call_about
 from moo_web.journal.segments import Accepted
 from moo_web.journal.undoing import MOST_CALLS, undone
+from moo_web.forms.input import clipped
 from moo_web.forms.unread import is_of_value, readable_lines
 from moo_web.pages.links import UNNAMED
 from moo_web.pages.pages import Visit
 from moo_web.pages.sentences import Link, in_words, told_call
+from moo_web.pages.words import REPLIES
 from moo_web.paths import url_for
 from moo_web.world.asking import READING, Moved, Refusal
 from moo_web.world.door import Answer, batch_body
@@ -124,14 +126,30 @@ class Telling:
         """The batch in a line of a list: its first call about an object, or of no object its first one, among those that may be read."""
         text = call_about(self.batch, number) if self.is_own else self.readable_about(number)
         if not text:
-            return ListedBatch(Markup("no call" if self.is_own else "something that you may not read"), len(self.calls) - 1, [])
+            return ListedBatch(self.without_call() if self.is_own else Markup("something that you may not read"), len(self.calls) - 1, [])
         asked, who = self.asked_by(read_or_none(text))
-        words = self.sentence(text)
+        words = self.sentence(text) + self.reason
         if asked:
             done = [each for each, is_shown in zip(asked, readable(self.visit, list(asked))) if self.is_own or is_shown]
             inner = Markup(" ").join(told_call(each, self.link) or escape(str(each)) for each in done[:FEW])
             words += Markup(" <span class='dim'>{}’s petition:</span> {}{}").format(who, inner, " …" if len(done) > FEW else "")
         return ListedBatch(words, len(self.calls) - 1, self.first_sentences() if len(self.calls) > 1 else [])
+
+    @property
+    def count(self) -> int:
+        """How many calls of it the person may read."""
+        return len(self.calls) if self.is_own else sum(readable(self.visit, self.calls))
+
+    @property
+    def reason(self) -> Markup:
+        """The words that came with it, for who made it and for wizards."""
+        words = self.batch.note.words if self.is_own else ""
+        return Markup(" <q>{}</q>").format(clipped(words)) if words else Markup()
+
+    def without_call(self) -> Markup:
+        """A batch that has no call: an answer to a petition, or nothing."""
+        note = self.batch.note
+        return Markup("Petition {} is answered: {}{}").format(note.petition, REPLIES[note.says], self.reason) if note.says else Markup("no call")
 
     def sentence(self, text: str) -> Markup:
         """A call in words, or as it is written."""

@@ -8,6 +8,7 @@ from typing import Any
 from markupsafe import Markup, escape
 from moolib.values import written
 
+from moo_web.pages.glossary import named
 from moo_web.paths import url_for
 from moo_web.world.things import Thing, World
 
@@ -61,6 +62,9 @@ def call(world: World, text: str, longest: int = LONGEST_VALUE) -> Markup:
         if place % 2 and piece.startswith("#") and int(piece[1:]) in world.things:
             shown += link(world, int(piece[1:]))
             left -= len(piece) + len(world.things[int(piece[1:])].name)
+        elif place % 2 and piece == "#-1":
+            shown += named(piece)
+            left -= len(piece)
         else:
             shown += escape(piece[:left])
             left -= len(piece)

@@ -29,8 +29,8 @@ FLAGS = {
     "player": ("player", "it is a player"),
     "programmer": ("programmer", "it has the mark of a programmer, which nothing looks at"),
     "wizard": ("wizard", "it has every right"),
-    "r": ("readable", "everybody may list its properties and verbs"),
-    "w": ("writable", "everybody may add and delete its properties and verbs"),
+    "r": ("readable", "everybody may list what it has"),
+    "w": ("writable", "everybody may add to what it has, and take away from it"),
     "f": ("fertile", "everybody may make objects under it"),
 }
 

@@ -19,13 +19,16 @@ from typing import Any, Callable
 
 import jinja2
 from markupsafe import Markup
+from moolib.service import Said
 
 from moo_web.app import App, Reply, Request, TooLarge
 from moo_web.journal.history import History
 from moo_web.pages import links
+from moo_web.pages.glossary import named, rights, term
 from moo_web.pages.moments import Zone, zone_of
 from moo_web.pages.sentences import in_words
-from moo_web.pages.words import ERROR_TEXTS, FOR_WIZARDS, MENU, PASSING, SAID
+from moo_web.pages.waiting import Waiting, waiting
+from moo_web.pages.words import ERROR_TEXTS, FOR_WIZARDS, MENU, PASSING, REPLIES, SAID
 from moo_web import paths
 from moo_web.paths import PATHS, form_for, query_of, url_for
 from moo_web.people import sessions
@@ -106,11 +109,19 @@ class Visit:
         return self.world.is_wizard(self.number)
 
     @property
-    def places(self) -> list[tuple[str, str]]:
-        """What the navigation shows the person, by what is known of the world without asking: addresses, each with its word."""
-        known = self.seen or self.index.kept
+    def waiting(self) -> Waiting | None:
+        """How many petitions wait for the person, by what is known without asking."""
+        return waiting(self.index, self.pages.history, self.name, self.number, self.seen or self.index.kept)
+
+    @property
+    def places(self) -> list[tuple[str, str, int]]:
+        """What the navigation shows the person, by what is known of the world without asking: addresses, each with its word.
+
+        With each comes how many things wait there.
+        """
+        known, waits = self.seen or self.index.kept, self.waiting
         shown = MENU + (FOR_WIZARDS if known and known.is_wizard(self.number) else ())
-        return [(url_for(name), word) for name, word in shown]
+        return [(url_for(name), word, waits.answer if waits and name == "petitions" else 0) for name, word in shown]
 
     def answers(self, calls: list[str]) -> list[Any]:
         """What each call answers the person in the world of this page: a value, or a `Refusal`. `Moved`: the world has moved on.
@@ -123,6 +134,13 @@ class Visit:
         if new:
             self.told.update(zip(new, self.asker.answers(self.number, new, self.told_seq)))
         return [self.told[call] for call in calls]
+
+    def said(self, calls: list[str]) -> list[Said]:
+        """The same as moo writes it. These calls are asked each time."""
+        found = self.asker.said(self.number, calls, self.world.seq)
+        # moo has told that it has this number.
+        self.is_trusting = False
+        return found
 
     def short(self, number: int) -> str:
         """The name of an object, cut if it is long; its number, if it isn't there."""
@@ -190,7 +208,7 @@ class Pages:
         )
         self.templates.globals |= {
             "whole": links.WHOLE, "in_words": in_words, "url_for": url_for, "form_for": form_for,
-            "query_of": query_of,
+            "query_of": query_of, "replies": REPLIES, "term": term, "named": named, "rights": rights,
         }  # fmt: skip
         self.sheet = (HERE / "static" / "style.css").read_bytes()
         self.mark = hashlib.sha256(self.sheet).hexdigest()[:12]
@@ -245,10 +263,13 @@ class Pages:
         """A page for who is signed in, or the one to sign in."""
         if refusal := self.flooded(request):
             return refusal
-        session = self.people.session(sessions.secret_of(request))
-        if session is None:
-            return self.sign_in(request, 401, wanted_of(request))
-        self.app.admit(session.person, sessions.secret_of(request))
+        secret = sessions.secret_of(request)
+        session = self.people.session(secret)
+        return self.shown(request, session, secret, handler, parts) if session else self.sign_in(request, 401, wanted_of(request))
+
+    def shown(self, request: Request, session: Session, secret: str, handler: PageHandler, parts: tuple[Any, ...]) -> Reply:
+        """A page for somebody with whom this secret came."""
+        self.app.admit(session.person, secret)
         for attempt in range(TRIES):
             # The whole page is of one number of the world, so it is made anew if the world has moved on.
             try:

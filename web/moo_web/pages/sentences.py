@@ -8,11 +8,13 @@ from typing import Any, Callable
 
 from markupsafe import Markup, escape
 from moolib.calls import Call, read_or_none
-from moolib.values import Obj, written
+from moolib.values import Obj, Value, written
 
 from moo_web.forms.input import clipped
+from moo_web.pages.glossary import LETTERS
 
 Link = Callable[[int], Markup]
+QUOTA = "ownership_quota"
 # So many calls of a petition are told one by one.
 FEW = 3
 LONGEST_OF_MANY = 1000
@@ -26,12 +28,12 @@ SENTENCES = {
     "set": "The property {1} of {0} becomes {2}.",
     "add_property": "{0}, and all under it, get a property {1} with the value {2}.",
     "delete_property": "{0}, and all under it, lose the property {1} with its values.",
-    "set_property_info": "The owner and rights of the property {1} of {0} become {2}.",
+    "set_property_info": "The property {1} of {0} gets the owner and the rights: {2}.",
     "clear_property": "The property {1} of {0} reads its parent’s value again.",
-    "add_verb": "{0} gets a verb: {1}, {2}.",
-    "delete_verb": "{0} loses the verb {1}.",
-    "set_verb_info": "The owner, rights and names of the verb {1} of {0} become {2}.",
-    "set_verb_args": "The arguments of the verb {1} of {0} become {2}.",
+    "add_verb": "{0} gets a verb, a word to type: {1}, {2}.",
+    "delete_verb": "{0} loses the verb {1}, a word to type.",
+    "set_verb_info": "The owner, rights and names of the verb {1}, a word to type, of {0} become {2}.",
+    "set_verb_args": "The arguments of the verb {1}, a word to type, of {0} become {2}.",
     "petition": "A wizard is asked for {0}.",
     "grant": "Petition {0} is granted.",
     "decline": "Petition {0} is gone.",
@@ -41,9 +43,9 @@ BUILT_IN = {
     "name": "{0} is called {2}.",
     "owner": "{0} is given to {2}.",
     "wizard": "{0} becomes a wizard, who has every right.|{0} isn’t a wizard any more.",
-    "programmer": "{0} gets the mark of a programmer.|{0} loses the mark of a programmer.",
-    "r": "Everybody may list the properties and verbs of {0}.|Others may not list the properties and verbs of {0} any more.",
-    "w": "Everybody may add and delete properties and verbs of {0}.|Others may not add or delete properties and verbs of {0} any more.",
+    "programmer": "{0} gets the mark of a programmer, at which nothing looks.|{0} loses the mark of a programmer.",
+    "r": "Everybody may list what {0} has.|Others may not list what {0} has any more.",
+    "w": "Everybody may add to what {0} has, and take away from it.|Others may not add to what {0} has any more, or take away from it.",
     "f": "Everybody may make objects under {0}.|Others may not make objects under {0} any more.",
 }
 
@@ -73,9 +75,21 @@ def value_in_words(value: Any, link: Link) -> Markup:
     return escape(written(value))
 
 
+def rights_in_words(given: Value, link: Link) -> Markup:
+    """The owner and rights that a property gets, with the manual's letters beside them."""
+    if not isinstance(given, list) or len(given) < 2 or not isinstance(given[1], str):
+        return value_in_words(given, link)
+    letters = [letter for letter in given[1].lower() if letter in LETTERS]
+    means = ", ".join(LETTERS[letter] for letter in letters) or "nobody else may read or write it"
+    name = Markup("; it is called “{}” then").format(clipped(str(given[2]))) if len(given) > 2 else ""
+    return Markup("{}; {} ({}){}").format(value_in_words(given[0], link), means, given[1] or "no letter", name)
+
+
 def sentence_of(call: Call) -> str:
     """The sentence for a call."""
     name, given = call.name, list(call.values)
+    if name in ("set", "add_property") and len(given) > 2 and str(given[1]).lower() == QUOTA and isinstance(given[2], int):
+        return "{0} may make {2} more objects: the property {1} says so."
     if name == "set" and len(given) == 3 and isinstance(given[1], str) and given[1].lower() in BUILT_IN:
         good, _, other = BUILT_IN[given[1].lower()].partition("|")
         return good if given[2] not in (0, "", []) or not other else other
@@ -116,7 +130,10 @@ def told_call(call: Call, link: Link) -> Markup:
         return Markup()
     if call.name == "petition" and isinstance(given[0], list):
         return told_petition(given[0], call.asked, link)
-    words = str(Markup(sentence).format(*(value_in_words(value, link) for value in given)))
+    in_order = [value_in_words(value, link) for value in given]
+    if call.name == "set_property_info" and len(given) > 2:
+        in_order[2] = rights_in_words(given[2], link)
+    words = str(Markup(sentence).format(*in_order))
     # A text that ends as a sentence does needs no second full stop.
     return Markup(re.sub(r"^<b>the", "<b>The", re.sub(r"([.!?]”)\.$", r"\1", words)))
 

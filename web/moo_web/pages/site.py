@@ -2,7 +2,11 @@
 
 from __future__ import annotations
 
+from pathlib import Path
+from typing import Optional
+
 from moo_web.app import App
+from moo_web.forms.answers import AnswerPages
 from moo_web.forms.editor import BatchPages
 from moo_web.forms.handlers import FormPages
 from moo_web.forms.inbox import PetitionPages
@@ -16,8 +20,10 @@ from moo_web.journal.recent import Recent
 from moo_web.journal.writer import Writer
 from moo_web.pages import history as done
 from moo_web.pages import home, lists, maps, objects, programs, scripts, search
+from moo_web.pages.about import About
 from moo_web.pages.accounts import AccountPages
 from moo_web.pages.differences import differences
+from moo_web.pages.feeds import FeedPages
 from moo_web.pages.own import OwnPages
 from moo_web.pages.pages import Pages
 from moo_web.world.properties import SightNames
@@ -30,9 +36,10 @@ from moo_web.world.index import Index
 
 
 def make_pages(
-    app: App, people: People, writer: Writer, history: History, rate: float, names: SightNames = SightNames()
+    app: App, people: People, writer: Writer, history: History, rate: float, names: SightNames = SightNames(),
+    about: Optional[Path] = None
 ) -> Pages:  # fmt: skip
-    """The pages of a front. `names` are those of the properties that say what is seen at a place."""
+    """The pages of a front. `names` are those of the properties that say what is seen at a place; `about` is the text of what it is."""
     index, asker = Index(writer.door, lambda: writer.stopped is not None), Asker(writer.door)
     holdings = Holdings(index, writer.door)
     # What is found is of the world that the index knows, so the values are told first.
@@ -41,6 +48,8 @@ def make_pages(
     pages.warming.append(holdings.warm)
     pages.sight_names = names
     pages.open("GET", "programs", lambda request: programs.page(pages, request))
+    text = About(about, app.tell)
+    pages.open("GET", "about", lambda request: text.page(pages, request))
     add_pages_to_sign_in(pages, people)
     add_pages_to_read(pages, history, names)
     add_pages_to_find(pages, Definers(index, asker), holdings)
@@ -118,4 +127,14 @@ def add_pages_to_change(pages: Pages, previews: Previews, recent: Recent, histor
     pages.post("editor", editor.edit, is_kept=True)
     pages.get("undo", UndoPages(previews, recent, history.one).undo)
     pages.get("petitions", petitions.inbox)
+    pages.get("petition", petitions.one)
+    pages.post("petition", AnswerPages(petitions).answer, is_kept=True)
+    add_feeds(FeedPages(pages, petitions, history))
     pages.get("quotas", petitions.quotas)
+
+
+def add_feeds(feeds: FeedPages) -> None:
+    """The feeds, which programs may read by a token."""
+    feeds.add("feed", feeds.inbox)
+    feeds.add("feed_person", feeds.of_person)
+    feeds.add("feed_object", feeds.of_object)

@@ -4,16 +4,21 @@ from __future__ import annotations
 
 # What the navigation shows: the name of an address, and a word. What is in `FOR_WIZARDS` comes last, for them.
 MENU = (
-    ("home", "World"), ("map", "Maps"), ("forms", "Change"), ("editor", "Batch"), ("petitions", "Petitions"), ("history", "History"),
+    ("home", "World"), ("map", "Maps"), ("forms", "Change"), ("petitions", "Petitions"), ("history", "History"),
 )  # fmt: skip
 FOR_WIZARDS = (("people", "People"),)
+# What somebody says to a petition, by the word in the journal: after their name.
+REPLIES = {"done": "has done it.", "yes": "agrees: a wizard may do it.", "no": "says no."}
 # What a page says after something was done, by the word in its address.
 SAID = {
     "out": "You are signed out.",
     "password": "Your password is changed, and all your sessions have ended. Sign in with the new one.",
     "zone": "Times are shown in this zone from now on.",
     "again": "This was done already, and wasn’t done a second time.",
-    "asked": "A wizard is asked for it. You find it under Petitions until it is decided.",
+    "asked": "It is asked for: you find it under Petitions, with the answers.",
+    "says-yes": "Your answer is there for who asked, and for the wizards.",
+    "says-no": "Your answer is there for who asked. A wizard could still grant it.",
+    "says-done": "It is done. Who asked reads that, and your words.",
     "granted": "The petition is granted: all of it was done.",
     "declined": "The petition is gone, and nothing else has changed.",
     "ended": "It has ended.",

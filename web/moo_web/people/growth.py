@@ -4,7 +4,7 @@
     writer.bound = growth.test
     writer.listeners.append(growth.take)
 
-Bytes are those of accepted batches: of their calls, and of the answers that the journal keeps. What wasn't accepted costs nothing. Wizards
+Bytes are those of accepted batches: of their calls and words, and of the answers that the journal keeps. What wasn't accepted costs nothing. Wizards
 may add ten times as many. All bytes of a day may be added at once, and then as many as time brings back. A front that is started anew has forgotten what was added. A world is full while there is a file that says so:
 `moo-watch` makes it when the service takes three quarters of the memory that it may have.
 """
@@ -91,7 +91,8 @@ class Growth:
         """Counts a batch that was accepted. A wizard's bytes are those of a person first."""
         name = accepted.who.lower()
         allowance = self.of_wizards if self.of_people.wait(name) else self.of_people
-        allowance.take(name, sum(map(len, accepted.calls)) + sum(map(len, accepted.answers or [])))
+        bytes_ = len(accepted.note.words.encode()) + sum(map(len, accepted.calls)) + sum(map(len, accepted.answers or []))
+        allowance.take(name, bytes_)
 
     def test_petitions(self, programmer: int, asked: list[str]) -> None:
         """`TooMuch`: these petitions are too many, or too long, with those that the programmer has made and that aren't decided."""

@@ -21,6 +21,7 @@ from moolib.values import read
 
 from moo_web.journal.segments import Accepted
 from moo_web.world.door import Answer, Door, TooLong, Unreachable, batch_body
+from moo_web.world.petitioned import OpenPetitions
 from moo_web.world.things import BITS, Thing, World, number_in, thing_of
 
 READING = 10.0
@@ -75,6 +76,7 @@ class Index:
         self.changes = Changes()
         # What open petitions would change, by their numbers.
         self.petitions: dict[int, Changes] = {}
+        self.opened = OpenPetitions()
         # The objects that may define other properties than when `taken_definers` was called last; None: any of them.
         self.definers: set[int] | None = None
 
@@ -82,6 +84,7 @@ class Index:
 
     def take(self, accepted: Accepted) -> None:
         """Notes what an accepted batch may have changed."""
+        self.opened.take(accepted)
         with self.told:
             if accepted.at > self.told_seq:
                 self.changes.is_all = True
@@ -192,6 +195,7 @@ class Index:
     def read_whole(self, end: float) -> World:
         """Reads all objects. Of batches that come meanwhile it may have a part: they are told, and read again."""
         self.taken()
+        self.opened.forget()
         self.forget_definers()
         things: dict[int, Thing] = {}
         first, seq = 0, -1
@@ -220,6 +224,7 @@ class Index:
             return
         if answer.status == 200:
             told: Any = read(answer.said["answers"][0])
+            self.opened.learn(told)
             known = {number: changes_of(calls_in(calls)) for number, _, calls in told}
             with self.told:
                 self.petitions = known | self.petitions
