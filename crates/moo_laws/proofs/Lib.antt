@@ -1,3 +1,4 @@
 pub mod ObjectNumbers
 pub mod Numbered
 pub mod Ranks
+pub mod Asking
