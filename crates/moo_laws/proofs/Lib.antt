@@ -2,3 +2,4 @@ pub mod ObjectNumbers
 pub mod Numbered
 pub mod Ranks
 pub mod Asking
+pub mod HiddenValues

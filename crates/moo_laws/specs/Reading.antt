@@ -6,11 +6,11 @@ use Rattle.moo_rows.specs.declared.row.SlotState.TheVariants.{Clear}
 use Rattle.moo_world.specs.declared.name.CallName.{CallName}
 use Rattle.moo_world.specs.declared.name.CallName.TheVariants.{Valid, Parent, Children, IsPlayer, Players, MaxObject, Get, Properties}
 use Rattle.moo_world.specs.declared.name.CallName.TheVariants.{PropertyInfo, IsClearProperty, Verbs, VerbInfo, VerbArgs, AcceptList}
-use Rattle.moo_world.specs.Objects.{Name}
+use Rattle.moo_world.specs.Objects.{Name, folded, is_among}
 use Rattle.moo_world.specs.Outcomes.{Outcome, Done, Failed, Full}
 use Rattle.moo_world.specs.PropertyCalls.{is_clear}
 use Rattle.moo_world.specs.Rights.{may_read_slot}
-use Rattle.moo_world.specs.World.{World, Slot, SameButSlots, slot_of, read_of}
+use Rattle.moo_world.specs.World.{World, Slot, SameButSlots, chain, slot_of, read_of}
 
 -- a call on the world that changes nothing
 abbrev pub is_question : CallName → Bool
@@ -52,3 +52,8 @@ SameAnswer (Done answer next) (Done other_answer other_next) = other_answer ≡ 
 SameAnswer (Failed code) (Failed other_code) = other_code ≡ code
 SameAnswer Full Full = ⊤
 SameAnswer outcome other = ⊥
+
+-- of the object and the objects under it the programmer may read no slot of this name
+abbrev pub IsHidden : World → ObjNo → ObjNo → Name → Type 0
+IsHidden world programmer object name = (under : ObjNo) (slot : Slot) → is_among object (chain world under) ≡ true →
+    slot_of world under (folded name) ≡ Some slot → may_read_slot world programmer slot ≡ false
