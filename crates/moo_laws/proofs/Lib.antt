@@ -1,3 +1,5 @@
 pub mod ObjectNumbers
 pub mod Numbered
 pub mod Ranks
+pub mod Asking
+pub mod HiddenValues

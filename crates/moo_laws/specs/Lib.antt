@@ -1,2 +1,3 @@
 pub mod NobodyRises
 pub mod ObjectNumbers
+pub mod Reading

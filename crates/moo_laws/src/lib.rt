@@ -1,10 +1,12 @@
-//! The laws of the model over whole runs: what holds of any batches, one after another, whoever sends them.
+//! Laws of the model: what holds of any batches, one after another, whoever sends them; and what calls tell.
 //!
 //! No crate uses these laws, so a new one costs the check of this crate alone.
 #![tactic(auto)]
 
 mod numbers;
+mod questions;
 mod rights;
 
 pub use numbers::object_numbers_stay;
+pub use questions::questions_tell_no_more;
 pub use rights::nobody_rises;

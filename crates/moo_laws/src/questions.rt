@@ -1,0 +1,23 @@
+//! What somebody learns by calls that only read.
+
+ghost use Rattle.std.specs.Prelude.{◌≡◌, true};
+ghost use Rattle.moo_value.specs.declared.value.ObjNo.{ObjNo};
+ghost use Rattle.moo_value.specs.declared.value.Value.{Value};
+ghost use Rattle.moo_world.specs.declared.call.Call.{Call};
+ghost use Rattle.moo_world.specs.Changes.{value_set};
+ghost use Rattle.moo_world.specs.Objects.{Name};
+ghost use Rattle.moo_world.specs.World.{World, IsWellFormed};
+ghost use Rattle.moo_world.specs.Calls.{world_call};
+ghost use Rattle.moo_laws.specs.Reading.{is_question, IsHidden, LookAlike, SameAnswer};
+
+/// What a call that only reads answers depends on no value that the programmer may not read: in two worlds that look alike to a programmer,
+/// it has one answer or one error. What a call that changes something tells isn't said here.
+///
+/// LambdaMOO Programmer's Manual, 'Properties on Objects' in the chapter on the database.
+pub fn questions_tell_no_more()
+    ensures answers { (programmer : ObjNo) (world other : World) (call : Call) → LookAlike programmer world other →
+        is_question call.name ≡ true → SameAnswer (world_call world programmer call) (world_call other programmer call) }
+    // A value that is hidden from the programmer may be any: the world looks alike with another one.
+    ensures hidden { (programmer object : ObjNo) (name : Name) (value : Value) (world : World) → IsWellFormed world →
+        IsHidden world programmer object name → LookAlike programmer world (value_set world object name value) }
+{}
