@@ -1,38 +1,135 @@
 -- What a desk does, joined from its steps.
-use Rattle.std.proofs.Common.{◌≡◌, ℤ, List, [], ◌∷◌, ◌++◌, refl, sym, ap, subst, ◌∙◌, append-nil}
+use Rattle.std.proofs.Common.{◌≡◌, ◌<◌, ℕ, ℤ, zero, suc, List, [], ◌∷◌, ◌++◌, length, take, drop, get_or, set, refl, sym, ap, subst, ◌∙◌, append-nil, arith}
+use Rattle.std.proofs.KnownBytes.{Keeps-refl}
+use Rattle.std.proofs.lemmas.List.{with_items_is}
+use Rattle.std.specs.Io.KnownBytes.{Keeps, prepend_known}
+use Rattle.std.specs.Prelude.{Vec, vec_len, false, true}
+use Rattle.std.specs.Vec.{with_items}
+use Rattle.std.proofs.lemmas.Bool.{true≢false}
+use Rattle.std.specs.declared.io.Read as Reading
 use Rattle.std.specs.declared.io.Write as Writing
+use Rattle.moo_http_request.specs.declared.incoming.Incoming as Incoming
+use Rattle.moo_desk.specs.declared.gate.Inward as Inward
+use Rattle.moo_desk.specs.declared.gate.Outward as Outward
+use Rattle.moo_desk.specs.declared.held.Held.{Held}
 use Rattle.moo_desk.specs.declared.leaving.Leaving.{Leaving}
 use Rattle.moo_desk.specs.declared.losses.Losses.{Losses}
+use Rattle.moo_desk.specs.declared.slot.Slot.{Slot}
 use Rattle.moo_desk.specs.Each.{Each, TakesOut}
-use Rattle.moo_desk.specs.Later.{IsLater}
-use Rattle.moo_desk.specs.Deeds.{sends, ends, LetsGo, Keep}
-use Rattle.moo_desk.proofs.Onward.{each_same, each_more, later_same}
+use Rattle.moo_desk.specs.Later.{IsGathered, IsLater}
+use Rattle.moo_desk.specs.Deeds.{Book, book_of, Deed, takes, steps, ends, After, Keep, Goes, LetsGo, IsFresh}
+use Rattle.moo_desk.specs.Exchange.{with_back}
+use Rattle.moo_desk.proofs.Onward.{each_same, each_more, each_set, later_same, later_joined, gathered_same, gathered_joined}
+
+-- a list is what stands before a place, what stands there, and what stands behind it
+pub taken_out : {A : Type 0} (xs : List A) (at : ℕ) (x : A) → at < length xs → get_or xs at x ≡ x → xs ≡ take at xs ++ x ∷ drop (suc at) xs
+taken_out [] at x few is = absurd (omega (arith, few))
+taken_out (y ∷ xs) zero x few is = ap (λ a. a ∷ xs) is
+taken_out (y ∷ xs) (suc at) x few is = ap (λ l. y ∷ l) (taken_out xs at x (omega (arith, few)) is)
+
+-- whatever an index gave for want of an item, this is the item there
+pub get_or_same : {A : Type 0} (xs : List A) (at : ℕ) (x y : A) → at < length xs → get_or xs at x ≡ get_or xs at y
+get_or_same [] at x y few = absurd (omega (arith, few))
+get_or_same (z ∷ xs) zero x y few = refl
+get_or_same (z ∷ xs) (suc at) x y few = get_or_same xs at x y (omega (arith, few))
+
+each_length : {A : Type 0} (Holds : A → A → Type 0) (xs ys : List A) → Each Holds xs ys → length ys ≡ length xs
+each_length Holds [] [] it = refl
+each_length Holds [] (y ∷ ys) it = absurd it
+each_length Holds (x ∷ xs) [] it = absurd it
+each_length Holds (x ∷ xs) (y ∷ ys) it = ap suc (each_length Holds xs ys it.1)
+
+-- what was done with a slice of a list was done with the list
+pub each_written : {A Z : Type 0} (Holds : A → A → Type 0) (v : Vec A Z) (now ws : List A) → now ≡ v.items → Each Holds now ws → Each Holds v.items (with_items v ws).items
+each_written Holds v now ws is it =
+    let same = subst (λ l. Each Holds l ws) is it in
+    subst (λ l. Each Holds v.items l) (sym (with_items_is v ws (each_length Holds v.items ws same ∙ sym v.ok.0))) same
 
 module _ {R W : Type 0} (writer : Writing.Ghosts W) (to : W → ℤ) where
-  pub keep_none : (olds : List (Leaving R W)) (old : Losses) → Keep writer to olds old olds old
-  keep_none olds old = ([], (refl, refl))
-
-  -- more is sent
-  pub keep_on : (olds held news : List (Leaving R W)) (old noted : Losses) → Keep writer to olds old held noted → Each (IsLater writer to) held news → Keep writer to olds old news noted
-  keep_on olds held news old noted (deeds, done) later = (sends ∷ deeds, (held, noted, done, (later, refl)))
-
-  -- one is let go
-  pub keep_end : (olds held news : List (Leaving R W)) (old noted new : Losses) (it : Leaving R W) → Keep writer to olds old held noted → TakesOut held it news → LetsGo it noted new → Keep writer to olds old news new
-  keep_end olds held news old noted new it (deeds, done) out end = (ends it ∷ deeds, (held, noted, done, (out, end)))
+  pub same_leaving : (xs ys : List (Leaving R W)) → ys ≡ xs → Each (IsLater writer to) xs ys
+  same_leaving xs ys same = subst (λ l. Each (IsLater writer to) xs l) (sym same) (each_same (IsLater writer to) (later_same writer to) xs)
 
   -- the last one is sent on
   pub last_later : (held : List (Leaving R W)) (it then : Leaving R W) → IsLater writer to it then → Each (IsLater writer to) (held ++ it ∷ []) (held ++ then ∷ [])
-  last_later held it then later = each_more (IsLater writer to) held held (it ∷ []) (then ∷ []) (each_same (IsLater writer to) (later_same writer to) held) (later, tt)
+  last_later held it then later = each_more (IsLater writer to) held held (it ∷ []) (then ∷ []) (same_leaving held held refl) (later, tt)
+
+module _ {R W : Type 0} {inward : Inward.Ghosts R} {incoming : Incoming.Ghosts R} {reader : Reading.Ghosts R} {outward : Outward.Ghosts W} {writer : Writing.Ghosts W} where
+  after_joined : (later earlier : List (Deed (Slot R W inward incoming reader outward writer) R W)) (a b c : Book (Slot R W inward incoming reader outward writer) R W) → After earlier a b → After later b c → After (later ++ earlier) a c
+  after_joined [] earlier a b c p q = subst (λ x. After earlier a x) (sym q) p
+  after_joined (deed ∷ later) earlier a b c p (between, q, does) = (between, after_joined later earlier a b between p q, does)
+
+  pub keeps_same : (a b : Book (Slot R W inward incoming reader outward writer) R W) → b ≡ a → Keep a b
+  keeps_same a b same = record { deeds = []; after = same }
+
+  pub keeps_joined : (a b c : Book (Slot R W inward incoming reader outward writer) R W) → Keep a b → Keep b c → Keep a c
+  keeps_joined a b c p q = record { deeds = q.deeds ++ p.deeds; after = after_joined q.deeds p.deeds a b c p.after q.after }
+
+  -- more is gathered, and sent
+  pub keeps_steps : (a b : Book (Slot R W inward incoming reader outward writer) R W) → Each IsGathered a.slots b.slots → Each (IsLater writer outward.peer) a.leaving b.leaving → b.losses ≡ a.losses → Keep a b
+  keeps_steps a b gathered later same = record { deeds = steps ∷ []; after = (a, refl, (gathered, later, same)) }
+
+  pub same_slots : (xs ys : List (Slot R W inward incoming reader outward writer)) → ys ≡ xs → Each IsGathered xs ys
+  same_slots xs ys same = subst (λ l. Each IsGathered xs l) (sym same) (each_same IsGathered gathered_same xs)
+
+  -- one comes
+  pub keeps_taken : (a b : Book (Slot R W inward incoming reader outward writer) R W) (slot : Slot R W inward incoming reader outward writer) → IsFresh slot → b.slots ≡ a.slots ++ slot ∷ [] → b.leaving ≡ a.leaving → b.losses ≡ a.losses → Keep a b
+  keeps_taken a b slot fresh is leaving losses = record { deeds = takes slot ∷ []; after = (a, refl, (fresh, is, leaving, losses)) }
+
+  -- one is let go
+  pub keeps_end : (a b : Book (Slot R W inward incoming reader outward writer) R W) (it : Leaving R W) → b.slots ≡ a.slots → TakesOut a.leaving it b.leaving → LetsGo it a.losses b.losses → Keep a b
+  keeps_end a b it slots out gone = record { deeds = ends it ∷ []; after = (a, refl, (slots, out, gone)) }
+
+  -- a connection is given back, and sent on
+  pub keeps_back : (a : Book (Slot R W inward incoming reader outward writer) R W) (it then : Leaving R W) → IsLater writer outward.peer it then → Keep (with_back a it) (with_back a then)
+  keeps_back a it then later = keeps_steps (with_back a it) (with_back a then) (same_slots a.slots a.slots refl) (last_later writer outward.peer a.leaving it then later) refl
 
   -- a connection is given back, sent on and held
-  pub keep_held : (held mid news : List (Leaving R W)) (old new : Losses) (it then : Leaving R W) → mid ≡ held → news ≡ mid ++ then ∷ [] → new ≡ old → IsLater writer to it then → Keep writer to (held ++ it ∷ []) old news new
-  keep_held held mid news old new it then stays is same later =
-      subst (λ l. Keep writer to (held ++ it ∷ []) old l new) (sym (is ∙ ap (λ l. l ++ then ∷ []) stays)) (subst (λ l. Keep writer to (held ++ it ∷ []) old (held ++ then ∷ []) l) (sym same)
-      (keep_on (held ++ it ∷ []) (held ++ it ∷ []) (held ++ then ∷ []) old old (keep_none (held ++ it ∷ []) old) (last_later held it then later)))
+  pub keeps_held : (a b : Book (Slot R W inward incoming reader outward writer) R W) (mid : List (Leaving R W)) (it then : Leaving R W) → IsLater writer outward.peer it then → b.slots ≡ a.slots → mid ≡ a.leaving → b.leaving ≡ mid ++ then ∷ [] → b.losses ≡ a.losses → Keep (with_back a it) b
+  keeps_held a b mid it then later slots stays is same =
+      keeps_steps (with_back a it) b (same_slots a.slots b.slots slots) (subst (λ l. Each (IsLater writer outward.peer) (a.leaving ++ it ∷ []) l) (sym (is ∙ ap (λ l. l ++ then ∷ []) stays)) (last_later writer outward.peer a.leaving it then later)) same
 
   -- a connection is given back, sent on and let go
-  pub keep_let_go : (held news : List (Leaving R W)) (old new : Losses) (it then : Leaving R W) → IsLater writer to it then → news ≡ held → LetsGo then old new → Keep writer to (held ++ it ∷ []) old news new
-  keep_let_go held news old new it then later is gone =
-      keep_end (held ++ it ∷ []) (held ++ then ∷ []) news old old new then
-      (keep_on (held ++ it ∷ []) (held ++ it ∷ []) (held ++ then ∷ []) old old (keep_none (held ++ it ∷ []) old) (last_later held it then later))
-      (held, [], refl, is ∙ sym (append-nil held)) gone
+  pub keeps_let_go : (a b : Book (Slot R W inward incoming reader outward writer) R W) (it then : Leaving R W) → IsLater writer outward.peer it then → b.slots ≡ a.slots → b.leaving ≡ a.leaving → LetsGo then a.losses b.losses → Keep (with_back a it) b
+  keeps_let_go a b it then later slots is gone =
+      keeps_joined (with_back a it) (with_back a then) b (keeps_back a it then later)
+      (keeps_end (with_back a then) b then slots (a.leaving, [], refl, is ∙ sym (append-nil a.leaving)) gone)
+
+  -- an answer goes on, at its place
+  pub keeps_set : (a b : Book (Slot R W inward incoming reader outward writer) R W) (place : ℕ) (was z : Leaving R W) → place < length a.leaving → was ≡ get_or a.leaving place was → IsLater writer outward.peer was z → b.slots ≡ a.slots → b.leaving ≡ set a.leaving place z → b.losses ≡ a.losses → Keep a b
+  keeps_set a b place was z few there later slots is same =
+      keeps_steps a b (same_slots a.slots b.slots slots) (subst (λ l. Each (IsLater writer outward.peer) a.leaving l) (sym is)
+      (each_set (IsLater writer outward.peer) (later_joined writer outward.peer) a.leaving a.leaving place was z (same_leaving writer outward.peer a.leaving a.leaving refl) few (subst (λ it. IsLater writer outward.peer it z) there later))) same
+
+  -- an unfinished request is given up, at its place
+  pub keeps_slot_set : (a b : Book (Slot R W inward incoming reader outward writer) R W) (place : ℕ) (was z : Slot R W inward incoming reader outward writer) → place < length a.slots → was ≡ get_or a.slots place was → IsGathered was z → b.slots ≡ set a.slots place z → b.leaving ≡ a.leaving → b.losses ≡ a.losses → Keep a b
+  keeps_slot_set a b place was z few there gathered is leaving same =
+      keeps_steps a b (subst (λ l. Each IsGathered a.slots l) (sym is) (each_set IsGathered gathered_joined a.slots a.slots place was z (same_slots a.slots a.slots refl) few (subst (λ it. IsGathered it z) there gathered)))
+      (same_leaving writer outward.peer a.leaving b.leaving leaving) same
+
+  pub gathered_given_up : (old new : Slot R W inward incoming reader outward writer) → old.rests ≡ false → new.reader.bytes ≡ old.reader.bytes → new.reader.at ≡ old.reader.at → new.reader.reader ≡ old.reader.reader → new.writer ≡ old.writer → new.is_limited ≡ old.is_limited → IsGathered old new
+  gathered_given_up old new unfinished bytes at same answer limited = record {
+    request = subst (λ r. Keeps (prepend_known (drop old.reader.at old.reader.bytes.items) (reader.remaining old.reader.reader)) (prepend_known (drop new.reader.at new.reader.bytes.items) (reader.remaining r))) (sym same)
+        (subst (λ n. Keeps (prepend_known (drop old.reader.at old.reader.bytes.items) (reader.remaining old.reader.reader)) (prepend_known (drop n new.reader.bytes.items) (reader.remaining old.reader.reader))) (sym at)
+        (subst (λ b. Keeps (prepend_known (drop old.reader.at old.reader.bytes.items) (reader.remaining old.reader.reader)) (prepend_known (drop old.reader.at b.items) (reader.remaining old.reader.reader))) (sym bytes) (Keeps-refl _)));
+    peer = ap (λ r. inward.peer r) same;
+    answer = answer;
+    limited = limited;
+    rests = λ is. absurd (true≢false (sym is ∙ unfinished));
+  }
+
+  -- one is let go, at its place
+  pub keeps_end_at : (a b : Book (Slot R W inward incoming reader outward writer) R W) (place : ℕ) (it : Leaving R W) → place < length a.leaving → it ≡ get_or a.leaving place it → b.slots ≡ a.slots → b.leaving ≡ take place a.leaving ++ drop (suc place) a.leaving → LetsGo it a.losses b.losses → Keep a b
+  keeps_end_at a b place it few is slots out gone =
+      keeps_end a b it slots (take place a.leaving, drop (suc place) a.leaving, taken_out a.leaving place it few (sym is), out) gone
+
+  -- three in turn
+  pub keeps_thrice : (a b c d : Book (Slot R W inward incoming reader outward writer) R W) → Keep a b → Keep b c → Keep c d → Keep a d
+  keeps_thrice a b c d p q r = keeps_joined a b d p (keeps_joined b c d q r)
+
+  -- the last answer is given up, and let go
+  pub keeps_last : (a b : Book (Slot R W inward incoming reader outward writer) R W) (rest : List (Leaving R W)) (it then : Leaving R W) → a.leaving ≡ rest ++ it ∷ [] → IsLater writer outward.peer it then → b.slots ≡ a.slots → b.leaving ≡ rest → LetsGo then a.losses b.losses → Keep a b
+  keeps_last a b rest it then last later slots is gone =
+      let mid : Book (Slot R W inward incoming reader outward writer) R W = record { slots = a.slots; leaving = rest ++ then ∷ []; losses = a.losses } in
+      keeps_joined a mid b
+      (keeps_steps a mid (same_slots a.slots a.slots refl) (subst (λ l. Each (IsLater writer outward.peer) l (rest ++ then ∷ [])) (sym last) (last_later writer outward.peer rest it then later)) refl)
+      (keeps_end mid b then slots (rest, [], refl, is ∙ sym (append-nil rest)) gone)

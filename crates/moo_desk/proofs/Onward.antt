@@ -1,11 +1,16 @@
 -- Connections stay the same from step to step.
 use Rattle.std.proofs.Common.{◌≡◌, ◌<◌, ℕ, ℤ, zero, suc, List, [], ◌∷◌, ◌++◌, length, drop, get_or, set, refl, sym, ap, subst, ◌∙◌, arith}
-use Rattle.std.specs.Io.KnownBytes.{Keeps, append_known}
+use Rattle.std.specs.Io.KnownBytes.{Keeps, append_known, prepend_known}
 use Rattle.std.proofs.KnownBytes.{Keeps-refl, Keeps-trans}
+use Rattle.std.specs.declared.io.Read as Reading
 use Rattle.std.specs.declared.io.Write as Writing
+use Rattle.moo_http_request.specs.declared.incoming.Incoming as Incoming
+use Rattle.moo_desk.specs.declared.gate.Inward as Inward
+use Rattle.moo_desk.specs.declared.gate.Outward as Outward
+use Rattle.moo_desk.specs.declared.slot.Slot.{Slot}
 use Rattle.moo_desk.specs.declared.leaving.Leaving.{Leaving}
 use Rattle.moo_desk.specs.Each.{Each}
-use Rattle.moo_desk.specs.Later.{IsLater}
+use Rattle.moo_desk.specs.Later.{IsGathered, IsLater, IsOnlyWoken}
 
 -- ---- two lists
 
@@ -49,4 +54,31 @@ module _ {R W : Type 0} (writer : Writing.Ghosts W) (to : W → ℤ) where
     answer = (ap (λ it. it.text.items) same, subst (λ it. Keeps (append_known (writer.contents old.writer.writer) (drop old.writer.sent old.writer.text.items)) (append_known (writer.contents it.writer) (drop it.sent it.text.items))) (sym same) (Keeps-refl _));
     peer = ap (λ it. to it.writer) same;
     route = route;
+  }
+
+-- ---- one connection whose request is gathered
+
+module _ {R W : Type 0} {inward : Inward.Ghosts R} {incoming : Incoming.Ghosts R} {reader : Reading.Ghosts R} {outward : Outward.Ghosts W} {writer : Writing.Ghosts W} where
+  pub gathered_same : (it : Slot R W inward incoming reader outward writer) → IsGathered it it
+  gathered_same it = record { request = Keeps-refl _; peer = refl; answer = refl; limited = refl; rests = λ is. (is, refl, refl) }
+
+  pub gathered_joined : (a b c : Slot R W inward incoming reader outward writer) → IsGathered a b → IsGathered b c → IsGathered a c
+  gathered_joined a b c p q = record {
+    request = Keeps-trans _ _ _ p.request q.request;
+    peer = q.peer ∙ p.peer;
+    answer = q.answer ∙ p.answer;
+    limited = q.limited ∙ p.limited;
+    rests = λ is.
+        let first = p.rests is in
+        let then = q.rests first.0 in
+        (then.0, then.1 ∙ first.1, then.2 ∙ first.2);
+  }
+
+  pub gathered_untouched : (old new : Slot R W inward incoming reader outward writer) → IsOnlyWoken old new → IsGathered old new
+  gathered_untouched old new (same, writes, limited, rests, cause) = record {
+    request = subst (λ it. Keeps (prepend_known (drop old.reader.at old.reader.bytes.items) (reader.remaining old.reader.reader)) (prepend_known (drop it.at it.bytes.items) (reader.remaining it.reader))) (sym same) (Keeps-refl _);
+    peer = ap (λ it. inward.peer it.reader) same;
+    answer = writes;
+    limited = limited;
+    rests = λ is. (rests ∙ is, same, cause);
   }

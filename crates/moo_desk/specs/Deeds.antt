@@ -1,21 +1,19 @@
--- What a desk does for connections whose requests were judged.
-use Rattle.std.specs.Prelude.{◌≡◌, ◌⊎◌, ℤ, List, [], ◌∷◌, length}
+-- What a desk does with the connections that it holds.
+use Rattle.std.specs.Prelude.{◌≡◌, ◌⊎◌, ◌++◌, true, List, [], ◌∷◌, length}
+use Rattle.std.specs.declared.io.Read as Reading
 use Rattle.std.specs.declared.io.Write as Writing
-use Rattle.moo_arrivals.specs.declared.arrivals.Connection.{Connection}
 use Rattle.moo_arrivals.specs.declared.cause.Cause.{Cause}
-use Rattle.moo_desk.specs.declared.gathered.Gathered.{Gathered}
-use Rattle.moo_desk.specs.declared.outgoing.Outgoing.{Outgoing}
+use Rattle.moo_http_request.specs.declared.incoming.Incoming as Incoming
+use Rattle.moo_desk.specs.declared.gate.Inward as Inward
+use Rattle.moo_desk.specs.declared.gate.Outward as Outward
+use Rattle.moo_desk.specs.declared.held.Held.{Held}
 use Rattle.moo_desk.specs.declared.leaving.Leaving.{Leaving}
-use Rattle.moo_desk.specs.declared.leaving.Stage.TheVariants.{Sending, Done, Lost}
+use Rattle.moo_desk.specs.declared.leaving.Stage.TheVariants.{Done, Lost}
 use Rattle.moo_desk.specs.declared.losses.Losses.{Losses}
+use Rattle.moo_desk.specs.declared.slot.Slot.{Slot}
 use Rattle.moo_desk.specs.Each.{Each, TakesOut}
-use Rattle.moo_desk.specs.Later.{IsLater}
+use Rattle.moo_desk.specs.Later.{IsGathered, IsLater}
 use Rattle.moo_desk.specs.Told.{NotesLoss}
-
--- more is sent of each answer, or nothing of it; or a connection is let go
-pub data Deed (R W : Type 0) : Type 0 where
-  sends : Deed R W
-  ends : Leaving R W → Deed R W
 
 -- A connection is let go: all of its answer was sent; or its answer was lost, and that is noted once, with its route and cause.
 abbrev pub LetsGo : {R W : Type 0} → Leaving R W → Losses → Losses → Type 0
@@ -23,22 +21,52 @@ LetsGo it old new =
     ((it.stage ≡ Done) × (it.writer.sent ≡ length it.writer.text.items) × (new ≡ old))
     ⊎ ((cause : Cause) × (it.stage ≡ Lost cause) × NotesLoss old (record { route = it.route; cause = cause }) new)
 
-module _ {R W : Type 0} (writer : Writing.Ghosts W) (to : W → ℤ) where
-  -- from connections and noted losses to those after it
-  abbrev pub Does : Deed R W → List (Leaving R W) → Losses → List (Leaving R W) → Losses → Type 0
-  Does sends olds old news new = Each (IsLater writer to) olds news × (new ≡ old)
-  Does (ends it) olds old news new = TakesOut olds it news × LetsGo it old new
+-- the connections whose requests are gathered, those that were judged, and the losses that are noted
+pub record Book (S R W : Type 0) : Type 0 where
+  pub slots : List S
+  pub leaving : List (Leaving R W)
+  pub losses : Losses
+
+-- a connection comes; more is gathered of requests, and sent of answers; or a connection is let go
+pub data Deed (S R W : Type 0) : Type 0 where
+  takes : S → Deed S R W
+  steps : Deed S R W
+  ends : Leaving R W → Deed S R W
+
+module _ {R W : Type 0}
+    {inward : Inward.Ghosts R} {incoming : Incoming.Ghosts R} {reader : Reading.Ghosts R} {outward : Outward.Ghosts W}
+    {writer : Writing.Ghosts W} where
+  abbrev pub book_of : Held R W inward incoming reader outward writer → Book (Slot R W inward incoming reader outward writer) R W
+  book_of held = record { slots = held.slots.items; leaving = held.leaving.items; losses = held.losses }
+
+  abbrev pub HoldsNone : Held R W inward incoming reader outward writer → Type 0
+  HoldsNone held = (held.slots.items ≡ []) × (held.leaving.items ≡ []) × (held.losses.all.items ≡ []) × (held.losses.more ≡ 0)
+
+  -- nothing was read of it, and nothing is to be sent
+  abbrev pub IsFresh : Slot R W inward incoming reader outward writer → Type 0
+  IsFresh slot = (slot.reader.bytes.items ≡ []) × (slot.writer.text.items ≡ [])
+
+  abbrev pub Does : Deed (Slot R W inward incoming reader outward writer) R W
+      → Book (Slot R W inward incoming reader outward writer) R W → Book (Slot R W inward incoming reader outward writer) R W → Type 0
+  Does (takes slot) old new =
+      IsFresh slot × (new.slots ≡ old.slots ++ slot ∷ []) × (new.leaving ≡ old.leaving) × (new.losses ≡ old.losses)
+  Does steps old new =
+      Each IsGathered old.slots new.slots × Each (IsLater writer outward.peer) old.leaving new.leaving × (new.losses ≡ old.losses)
+  Does (ends it) old new =
+      (new.slots ≡ old.slots) × TakesOut old.leaving it new.leaving × LetsGo it old.losses new.losses
 
   -- deeds one after another; the head of the list is the last one
-  abbrev pub After : List (Deed R W) → List (Leaving R W) → Losses → List (Leaving R W) → Losses → Type 0
-  After [] olds old news new = (news ≡ olds) × (new ≡ old)
-  After (deed ∷ earlier) olds old news new =
-      (held : List (Leaving R W)) × (noted : Losses) × After earlier olds old held noted × Does deed held noted news new
+  abbrev pub After : List (Deed (Slot R W inward incoming reader outward writer) R W)
+      → Book (Slot R W inward incoming reader outward writer) R W → Book (Slot R W inward incoming reader outward writer) R W → Type 0
+  After [] old new = new ≡ old
+  After (deed ∷ earlier) old new =
+      (between : Book (Slot R W inward incoming reader outward writer) R W) × After earlier old between × Does deed between new
 
-  -- Nothing happens to connections and losses but deeds: each is held until all of its answer was sent, or its loss is noted.
-  abbrev pub Keep : List (Leaving R W) → Losses → List (Leaving R W) → Losses → Type 0
-  Keep olds old news new = (deeds : List (Deed R W)) × After deeds olds old news new
+  -- Nothing happens but deeds: each connection that came is held until it is handed out, and each that is given back until all of its
+  -- answer was sent, or its loss is noted.
+  pub record Keep (old new : Book (Slot R W inward incoming reader outward writer) R W) : Type 0 where
+    pub deeds : List (Deed (Slot R W inward incoming reader outward writer) R W)
+    pub after : After deeds old new
 
--- A connection that is given back, as it is when nothing was sent yet.
-abbrev pub Begins : {R W : Type 0} → Connection (Gathered R) (Outgoing W) → Leaving R W → Type 0
-Begins given it = (it.reader ≡ given.reader) × (it.writer ≡ given.writer) × (it.stage ≡ Sending)
+  abbrev pub Goes : Held R W inward incoming reader outward writer → Held R W inward incoming reader outward writer → Type 0
+  Goes old new = Keep (book_of old) (book_of new)

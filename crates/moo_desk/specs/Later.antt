@@ -1,9 +1,21 @@
--- A connection whose request was judged, and the same one later.
-use Rattle.std.specs.Prelude.{◌≡◌, ℤ, drop}
-use Rattle.std.specs.Io.KnownBytes.{Keeps, append_known}
+-- A connection of a desk, and the same one later.
+use Rattle.std.specs.Prelude.{◌≡◌, ℤ, true, drop}
+use Rattle.std.specs.Io.KnownBytes.{Keeps, append_known, prepend_known}
+use Rattle.std.specs.declared.io.Read as Reading
 use Rattle.std.specs.declared.io.Write as Writing
+use Rattle.moo_http_request.specs.declared.incoming.Incoming as Incoming
+use Rattle.moo_desk.specs.declared.gate.Inward as Inward
+use Rattle.moo_desk.specs.declared.gate.Outward as Outward
+use Rattle.moo_desk.specs.declared.gathered.Gathered.{Gathered}
 use Rattle.moo_desk.specs.declared.leaving.Leaving.{Leaving}
 use Rattle.moo_desk.specs.declared.outgoing.Outgoing.{Outgoing}
+use Rattle.moo_desk.specs.declared.slot.Slot.{Slot}
+
+-- More of a request was gathered: whoever reads sees no difference.
+abbrev pub GathersOn : {R : Type 0} → Reading.Ghosts R → Gathered R → Gathered R → Type 0
+GathersOn reader old new =
+    Keeps (prepend_known (drop old.at old.bytes.items) (reader.remaining old.reader))
+    (prepend_known (drop new.at new.bytes.items) (reader.remaining new.reader))
 
 -- More of an answer was sent: it is the same answer, and what its peer took of it and then what waits to be sent stays the same.
 abbrev pub SendsOn : {W : Type 0} → Writing.Ghosts W → Outgoing W → Outgoing W → Type 0
@@ -11,6 +23,23 @@ SendsOn writer old new =
     (new.text.items ≡ old.text.items)
     × Keeps (append_known (writer.contents old.writer) (drop old.sent old.text.items))
     (append_known (writer.contents new.writer) (drop new.sent new.text.items))
+
+module _ {R W : Type 0}
+    {inward : Inward.Ghosts R} {incoming : Incoming.Ghosts R} {reader : Reading.Ghosts R} {outward : Outward.Ghosts W}
+    {writer : Writing.Ghosts W} where
+  -- at most whether it is looked at changed
+  abbrev pub IsOnlyWoken : Slot R W inward incoming reader outward writer → Slot R W inward incoming reader outward writer → Type 0
+  IsOnlyWoken old new =
+      (new.reader ≡ old.reader) × (new.writer ≡ old.writer) × (new.is_limited ≡ old.is_limited) × (new.rests ≡ old.rests)
+      × (new.cause ≡ old.cause)
+
+  -- The same connection while its request is gathered. Once it is to be handed out nothing more is read of it, and it isn't given up.
+  pub record IsGathered (old new : Slot R W inward incoming reader outward writer) : Type 0 where
+    pub request : GathersOn reader old.reader new.reader
+    pub peer : inward.peer new.reader.reader ≡ inward.peer old.reader.reader
+    pub answer : new.writer ≡ old.writer
+    pub limited : new.is_limited ≡ old.is_limited
+    pub rests : old.rests ≡ true → (new.rests ≡ true) × (new.reader ≡ old.reader) × (new.cause ≡ old.cause)
 
 -- The same connection after its request was judged, with the answer to this peer.
 pub record IsLater {R W : Type 0} (writer : Writing.Ghosts W) (to : W → ℤ) (old new : Leaving R W) : Type 0 where

@@ -6,3 +6,4 @@ pub mod Later
 pub mod Pairs
 pub mod Told
 pub mod Deeds
+pub mod Exchange

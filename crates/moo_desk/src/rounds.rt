@@ -1,7 +1,7 @@
 //! What is done for all connections in a round.
 
 ghost use Rattle.moo_desk.specs.Each.{Each};
-ghost use Rattle.moo_desk.specs.Later.{IsLater};
+ghost use Rattle.moo_desk.specs.Later.{IsGathered, IsLater};
 
 use crate::gate::{Gate, Inward, Outward};
 use crate::leaving::Leaving;
@@ -18,7 +18,9 @@ pub fn gather_all<R: Inward, W: Outward>(
     slots: &mut [Slot<R, W>],
     routes: &Routes,
     now: Duration,
-) -> bool {
+) -> bool
+    ensures { Each IsGathered slots.old slots.new }
+{
     let is_full = gathered(slots) >= BUDGET;
     let mut changed = false;
     let mut is_first = true;
@@ -63,14 +65,18 @@ pub fn held<R: Inward + OpenStream, W: Outward + OpenStream>(leaving: &[Leaving<
 }
 
 /// Has a wait end when bytes come of any whose request isn't whole.
-pub fn watch_all<G: Gate>(gate: &mut G, slots: &mut [Slot<G::Reader, G::Writer>]) {
+pub fn watch_all<G: Gate>(gate: &mut G, slots: &mut [Slot<G::Reader, G::Writer>])
+    ensures { Each IsGathered slots.old slots.new }
+{
     for slot in slots {
         slot.watch(gate);
     }
 }
 
 /// Has those requests be looked at that have this mark.
-pub fn wake_slots<R: Inward, W: Outward>(slots: &mut [Slot<R, W>], mark: usize) {
+pub fn wake_slots<R: Inward, W: Outward>(slots: &mut [Slot<R, W>], mark: usize)
+    ensures { Each IsGathered slots.old slots.new }
+{
     for slot in slots {
         slot.wake_at(mark);
     }
@@ -86,7 +92,9 @@ pub fn wake_leaving<R, W: Outward>(leaving: &mut [Leaving<R, W>], mark: usize)
 }
 
 /// Has each request be looked at.
-pub fn wake_all_slots<R: Inward, W: Outward>(slots: &mut [Slot<R, W>]) {
+pub fn wake_all_slots<R: Inward, W: Outward>(slots: &mut [Slot<R, W>])
+    ensures { Each IsGathered slots.old slots.new }
+{
     for slot in slots {
         slot.wake();
     }

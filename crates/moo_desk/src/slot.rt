@@ -92,21 +92,24 @@ impl<R: Inward, W: Outward> Slot<R, W> {
 
     /// It is looked at, since bytes may have come.
     pub fn wake(&mut self)
-        ensures { (self.new.reader ≡ self.old.reader) × (self.new.writer ≡ self.old.writer) × (self.new.is_due ≡ true) }
+        ensures { (self.new.reader ≡ self.old.reader) × (self.new.writer ≡ self.old.writer)
+            × (self.new.is_limited ≡ self.old.is_limited) × (self.new.rests ≡ self.old.rests) × (self.new.cause ≡ self.old.cause) }
     {
         self.is_due = true;
     }
 
     /// It is looked at if it has this mark.
     pub fn wake_at(&mut self, mark: usize)
-        ensures { (self.new.reader ≡ self.old.reader) × (self.new.writer ≡ self.old.writer) }
+        ensures { (self.new.reader ≡ self.old.reader) × (self.new.writer ≡ self.old.writer)
+            × (self.new.is_limited ≡ self.old.is_limited) × (self.new.rests ≡ self.old.rests) × (self.new.cause ≡ self.old.cause) }
     {
         self.is_due |= self.mark == mark;
     }
 
     /// From now on a wait ends when bytes come, if more are waited for and it can be watched.
     pub fn watch<G: Gate<Reader = R, Writer = W>>(&mut self, gate: &mut G)
-        ensures { (self.new.reader ≡ self.old.reader) × (self.new.writer ≡ self.old.writer) }
+        ensures { (self.new.reader ≡ self.old.reader) × (self.new.writer ≡ self.old.writer)
+            × (self.new.is_limited ≡ self.old.is_limited) × (self.new.rests ≡ self.old.rests) × (self.new.cause ≡ self.old.cause) }
     {
         if !self.rests && !self.is_watched {
             self.is_watched = gate.watch(&self.reader.reader, self.mark);
@@ -116,7 +119,8 @@ impl<R: Inward, W: Outward> Slot<R, W> {
     /// Nothing more is waited for, for this cause. What came of the request isn't judged, unless it is whole.
     pub fn give_up(&mut self, cause: Cause)
         ensures stays { (self.new.reader.bytes ≡ self.old.reader.bytes) × (self.new.reader.at ≡ self.old.reader.at)
-            × (self.new.reader.reader ≡ self.old.reader.reader) × (self.new.writer ≡ self.old.writer) }
+            × (self.new.reader.reader ≡ self.old.reader.reader) × (self.new.writer ≡ self.old.writer)
+            × (self.new.is_limited ≡ self.old.is_limited) }
         ensures ends { (self.new.reader.coming ≡ Unread) × (self.new.rests ≡ true) × (self.new.cause ≡ cause) }
     {
         self.reader.coming = Coming::Unread;
@@ -127,7 +131,8 @@ impl<R: Inward, W: Outward> Slot<R, W> {
     /// Its peer has ended. What came is judged.
     fn end(&mut self)
         ensures stays { (self.new.reader.bytes ≡ self.old.reader.bytes) × (self.new.reader.at ≡ self.old.reader.at)
-            × (self.new.reader.reader ≡ self.old.reader.reader) × (self.new.writer ≡ self.old.writer) }
+            × (self.new.reader.reader ≡ self.old.reader.reader) × (self.new.writer ≡ self.old.writer)
+            × (self.new.is_limited ≡ self.old.is_limited) }
     {
         self.reader.coming = Coming::Nothing;
         self.rests = true;
@@ -173,7 +178,9 @@ impl<R: Inward, W: Outward> Slot<R, W> {
         ensures invisible { Keeps (prepend_known (drop self.old.reader.at self.old.reader.bytes.items) (R.remaining self.old.reader.reader))
             (prepend_known (drop self.new.reader.at self.new.reader.bytes.items) (R.remaining self.new.reader.reader)) }
         ensures peer { R.peer self.new.reader.reader ≡ R.peer self.old.reader.reader }
-        ensures writer { self.new.writer ≡ self.old.writer }
+        ensures writer { (self.new.writer ≡ self.old.writer) × (self.new.is_limited ≡ self.old.is_limited) }
+        ensures rests { self.old.rests ≡ true →
+            (self.new.rests ≡ true) × (self.new.reader ≡ self.old.reader) × (self.new.cause ≡ self.old.cause) }
     {
         if self.rests {
             return false;
@@ -213,7 +220,9 @@ impl<R: Inward, W: Outward> Slot<R, W> {
         ensures invisible { Keeps (prepend_known (drop self.old.reader.at self.old.reader.bytes.items) (R.remaining self.old.reader.reader))
             (prepend_known (drop self.new.reader.at self.new.reader.bytes.items) (R.remaining self.new.reader.reader)) }
         ensures peer { R.peer self.new.reader.reader ≡ R.peer self.old.reader.reader }
-        ensures writer { self.new.writer ≡ self.old.writer }
+        ensures writer { (self.new.writer ≡ self.old.writer) × (self.new.is_limited ≡ self.old.is_limited) }
+        ensures rests { self.old.rests ≡ true →
+            (self.new.rests ≡ true) × (self.new.reader ≡ self.old.reader) × (self.new.cause ≡ self.old.cause) }
     {
         may && self.is_due && self.step(routes, now)
     }

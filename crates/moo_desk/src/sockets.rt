@@ -1,13 +1,10 @@
 //! The one place with sockets.
 
-ghost use Rattle.std.specs.Prelude.{◌≡◌, ◌++◌, ◌∷◌, [], IfSome};
-ghost use Rattle.moo_desk.specs.declared.losses.Losses.{Losses as Noted};
-ghost use Rattle.moo_desk.specs.Ripe.{IsRipe};
-ghost use Rattle.moo_desk.specs.Told.{TellsOf};
-ghost use Rattle.moo_desk.specs.Deeds.{Keep, Begins};
+ghost use Rattle.std.specs.Prelude.{◌≡◌, [], true};
+ghost use Rattle.moo_desk.specs.Exchange.{GetsBack, Hands, TakesBack, TellsNext};
 
 use crate::desk::Desk;
-use crate::gate::{Gate, Inward, NEWS, Outward, Taken};
+use crate::gate::{Gate, NEWS, Taken};
 use crate::gathered::Gathered;
 use crate::half::Half;
 use crate::outgoing::Outgoing;
@@ -16,7 +13,7 @@ use mio::{Events, Interest, Poll, Token};
 use moo_arrivals::{Arrivals, Closing, Connection, Loss, Route};
 use moo_http_request::Routes;
 use std::alloc::Global;
-use std::io::{Error, ErrorKind, Result, Write};
+use std::io::{Error, ErrorKind, Result};
 use std::net::{Ipv4Addr, TcpListener};
 use std::os::fd::AsRawFd;
 use std::time::Duration;
@@ -146,13 +143,11 @@ impl<'a> SocketDesk<'a> {
 
 // The desk's promises, of sockets.
 impl<'a> Arrivals for SocketDesk<'a> {
-    ghost hands_out = { λ _ handed _. IfSome handed (λ it. ∥ IsRipe it.is_limited it.reader.coming it.reader.bytes.items ∥₁
-        × (⟦<Half as Inward>⟧.peer it.reader.reader ≡ ⟦<Half as Outward>⟧.peer it.writer.writer)) };
+    ghost hands_out = { λ old handed new. Hands old.desk.held handed new.desk.held };
 
-    ghost takes_back = { λ old given new. (it : _) × Begins given it
-        × Keep ⟦<Half as Write>⟧ ⟦<Half as Outward>⟧.peer (old.desk.leaving.items ++ it ∷ []) old.desk.losses new.desk.leaving.items new.desk.losses };
+    ghost takes_back = { λ old given new. TakesBack old.desk.held given new.desk.held };
 
-    ghost loses = { λ _ told new. (noted : Noted) × TellsOf noted told new.desk.losses };
+    ghost loses = { λ old told new. TellsNext old.desk.held told new.desk.held };
 
     type Reader = Gathered<Half>;
 
@@ -163,8 +158,7 @@ impl<'a> Arrivals for SocketDesk<'a> {
         routes: &Routes,
         left: u32,
     ) -> Option<Connection<Gathered<Half>, Outgoing<Half>>>
-        ensures ripe { IfSome result (λ it. ∥ IsRipe it.is_limited it.reader.coming it.reader.bytes.items ∥₁
-            × (⟦<Half as Inward>⟧.peer it.reader.reader ≡ ⟦<Half as Outward>⟧.peer it.writer.writer)) }
+        ensures hands { Hands self.old.desk.held result self.new.desk.held }
     {
         self.desk.accept(routes, left)
     }
@@ -175,18 +169,17 @@ impl<'a> Arrivals for SocketDesk<'a> {
         closing: Closing,
         route: Route,
     )
-        ensures back { (it : _) × Begins connection it
-            × Keep ⟦<Half as Write>⟧ ⟦<Half as Outward>⟧.peer (self.old.desk.leaving.items ++ it ∷ []) self.old.desk.losses self.new.desk.leaving.items self.new.desk.losses }
+        ensures back { TakesBack self.old.desk.held connection self.new.desk.held }
 
         // It is held with this route, and closed so.
-        ensures asked { (it : _) × (it.route ≡ route) × (it.closing ≡ closing) × Begins connection it
-            × Keep ⟦<Half as Write>⟧ ⟦<Half as Outward>⟧.peer (self.old.desk.leaving.items ++ it ∷ []) self.old.desk.losses self.new.desk.leaving.items self.new.desk.losses }
+        ensures gets { GetsBack self.old.desk.held connection closing route self.new.desk.held }
     {
         self.desk.close(connection, closing, route)
     }
 
     fn settle(&mut self, is_last: bool) -> Option<Loss>
-        ensures told { (noted : Noted) × TellsOf noted result self.new.desk.losses }
+        ensures tells { TellsNext self.old.desk.held result self.new.desk.held }
+        ensures last { is_last ≡ true → self.new.desk.held.leaving.items ≡ [] }
     {
         self.desk.settle(is_last)
     }

@@ -1,0 +1,6 @@
+use Rattle.moo_desk.specs.Each.{Each}
+use Rattle.moo_desk.specs.Later.{IsGathered}
+use Rattle.moo_desk.proofs.rounds.gather_all.Given as goal
+
+abbrev pub invariant-loop-slot : goal.invariant-loop-slot
+invariant-loop-slot g l = Each IsGathered l.fn.slots l.slot-items

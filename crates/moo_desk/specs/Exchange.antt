@@ -1,0 +1,81 @@
+-- What a desk hands out, is given back, and tells of.
+use Rattle.std.specs.Prelude.{◌≡◌, ◌++◌, true, List, [], ◌∷◌, Option, Some, None}
+use Rattle.std.specs.declared.io.Read as Reading
+use Rattle.std.specs.declared.io.Write as Writing
+use Rattle.moo_arrivals.specs.declared.arrivals.Closing.{Closing}
+use Rattle.moo_arrivals.specs.declared.arrivals.Connection.{Connection}
+use Rattle.moo_arrivals.specs.declared.cause.Loss.{Loss}
+use Rattle.moo_arrivals.specs.declared.route.Route.{Route}
+use Rattle.moo_http_request.specs.declared.incoming.Incoming as Incoming
+use Rattle.moo_desk.specs.declared.gate.Inward as Inward
+use Rattle.moo_desk.specs.declared.gate.Outward as Outward
+use Rattle.moo_desk.specs.declared.gathered.Gathered.{Gathered}
+use Rattle.moo_desk.specs.declared.held.Held.{Held}
+use Rattle.moo_desk.specs.declared.leaving.Leaving.{Leaving}
+use Rattle.moo_desk.specs.declared.leaving.Stage.TheVariants.{Sending}
+use Rattle.moo_desk.specs.declared.outgoing.Outgoing.{Outgoing}
+use Rattle.moo_desk.specs.declared.slot.Slot.{Slot}
+use Rattle.moo_desk.specs.Each.{TakesOut}
+use Rattle.moo_desk.specs.Deeds.{Book, book_of, Keep, Goes}
+use Rattle.moo_desk.specs.Ripe.{IsRipe}
+use Rattle.moo_desk.specs.Told.{TellsOf}
+
+-- A connection that is given back, as it is when nothing was sent yet.
+pub record Begins {R W : Type 0} (given : Connection (Gathered R) (Outgoing W))
+    (closing : Closing) (route : Route) (it : Leaving R W) : Type 0 where
+  pub reader : it.reader ≡ given.reader
+  pub writer : it.writer ≡ given.writer
+  pub stage : it.stage ≡ Sending
+  pub closes : it.closing ≡ closing
+  pub asks : it.route ≡ route
+
+module _ {R W : Type 0}
+    {inward : Inward.Ghosts R} {incoming : Incoming.Ghosts R} {reader : Reading.Ghosts R} {outward : Outward.Ghosts W}
+    {writer : Writing.Ghosts W} where
+  -- This connection is handed out as it was gathered: its request is whole, or nothing more of it comes, and its reader and writer are of
+  -- one peer.
+  pub record IsHandedOut (slot : Slot R W inward incoming reader outward writer)
+      (it : Connection (Gathered R) (Outgoing W)) : Type 0 where
+    pub rests : slot.rests ≡ true
+    pub same : (it.reader ≡ slot.reader) × (it.writer ≡ slot.writer) × (it.is_limited ≡ slot.is_limited) × (it.cause ≡ slot.cause)
+    pub ripe : ∥ IsRipe it.is_limited it.reader.coming it.reader.bytes.items ∥₁
+    pub peer : inward.peer it.reader.reader ≡ outward.peer it.writer.writer
+
+  -- one that came isn't held any more, or there is none
+  abbrev pub TakesSlot : Book (Slot R W inward incoming reader outward writer) R W
+      → Option (Slot R W inward incoming reader outward writer) → Book (Slot R W inward incoming reader outward writer) R W → Type 0
+  TakesSlot old None new = new ≡ old
+  TakesSlot old (Some slot) new =
+      (slot.rests ≡ true) × TakesOut old.slots slot new.slots × (new.leaving ≡ old.leaving) × (new.losses ≡ old.losses)
+
+  -- A connection is handed out, and isn't held any more; all others are.
+  abbrev pub Hands : Held R W inward incoming reader outward writer → Option (Connection (Gathered R) (Outgoing W))
+      → Held R W inward incoming reader outward writer → Type 0
+  Hands old None new = Goes old new
+  Hands old (Some it) new =
+      (slot : Slot R W inward incoming reader outward writer) × (between : Book (Slot R W inward incoming reader outward writer) R W)
+      × Keep (book_of old) between × TakesSlot between (Some slot) (book_of new) × IsHandedOut slot it
+
+  -- this one is held too
+  abbrev pub with_back : Book (Slot R W inward incoming reader outward writer) R W → Leaving R W
+      → Book (Slot R W inward incoming reader outward writer) R W
+  with_back book it = record { slots = book.slots; leaving = book.leaving ++ it ∷ []; losses = book.losses }
+
+  -- A connection is given back, to be closed so.
+  abbrev pub GetsBack : Held R W inward incoming reader outward writer → Connection (Gathered R) (Outgoing W) → Closing → Route
+      → Held R W inward incoming reader outward writer → Type 0
+  GetsBack old given closing route new =
+      (it : Leaving R W) × Begins given closing route it × Keep (with_back (book_of old) it) (book_of new)
+
+  -- a connection is given back, to be closed in some way
+  abbrev pub TakesBack : Held R W inward incoming reader outward writer → Connection (Gathered R) (Outgoing W)
+      → Held R W inward incoming reader outward writer → Type 0
+  TakesBack old given new = (closing : Closing) × (route : Route) × GetsBack old given closing route new
+
+  -- A loss that was noted is told of, or none if none is noted.
+  abbrev pub TellsNext : Held R W inward incoming reader outward writer → Option Loss → Held R W inward incoming reader outward writer
+      → Type 0
+  TellsNext old told new =
+      (between : Book (Slot R W inward incoming reader outward writer) R W) × Keep (book_of old) between
+      × (new.slots.items ≡ between.slots) × (new.leaving.items ≡ between.leaving)
+      × TellsOf between.losses told new.losses

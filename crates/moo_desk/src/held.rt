@@ -1,0 +1,218 @@
+//! The connections that a desk holds: those whose requests are gathered, those whose answers are sent, and the losses that were noted.
+
+ghost use Rattle.std.specs.Prelude.{◌≡◌, ◌⊎◌, [], IfOk};
+ghost use Rattle.moo_arrivals.specs.declared.cause.Cause.{Cause as Why};
+ghost use Rattle.moo_desk.specs.declared.leaving.Stage.TheVariants.{Done, Lost};
+ghost use Rattle.moo_desk.specs.Deeds.{LetsGo, Goes, HoldsNone, book_of};
+ghost use Rattle.moo_desk.specs.Exchange.{TakesSlot};
+
+use crate::gate::{Inward, Outward};
+use crate::leaving::Leaving;
+use crate::losses::Losses;
+use crate::rounds::{
+    BUDGET, gather_all, held, step_all, wake_all_leaving, wake_all_slots, wake_leaving, wake_slots,
+};
+use crate::slot::Slot;
+use moo_arrivals::Cause;
+use moo_http_request::Routes;
+use std::alloc::{AllocError, Global};
+use std::net::OpenStream;
+use std::time::Duration;
+
+/// How many connections may be open at once.
+pub const MOST: usize = 64;
+
+/// After how many milliseconds an unfinished request may be ended if all slots are taken.
+pub const GRACE: u64 = 200;
+
+/// The connections that a desk holds, and the losses that it noted.
+#[derive(Drop)]
+pub struct Held<R: Inward, W: Outward> {
+    /// Those whose requests are gathered, in the order in which they came.
+    pub slots: Vec<Slot<R, W>>,
+    /// Those whose requests were judged.
+    pub leaving: Vec<Leaving<R, W>>,
+    pub losses: Losses,
+}
+
+impl<R: Inward + OpenStream + Drop, W: Outward + OpenStream + Drop> Held<R, W> {
+    /// No connections, and room for all that may be held.
+    pub fn new(alloc: Global) -> Result<Held<R, W>, AllocError>
+        ensures { IfOk result (λ held. HoldsNone held) }
+    {
+        Ok(Held {
+            slots: Vec::with_capacity(alloc, MOST + 1)?,
+            leaving: Vec::with_capacity(alloc, MOST + 1)?,
+            losses: Losses::new(alloc, 2 * MOST)?,
+        })
+    }
+
+    pub fn is_full(&self) -> bool {
+        self.slots.len().saturating_add(self.leaving.len()) >= MOST
+    }
+
+    /// The place of the oldest unfinished request that may be ended.
+    fn stale(&self, now: Duration) -> Option<usize> {
+        self.slots
+            .iter()
+            .position(|slot| slot.is_older(now, Duration::from_millis(GRACE)))
+    }
+
+    /// The place of a connection that only waits for its peer's last bytes.
+    fn lingering(&self) -> Option<usize> {
+        self.leaving
+            .iter()
+            .position(|connection| connection.is_lingering())
+    }
+
+    /// Whether a connection can be ended to make room for another.
+    pub fn has_spare(&self, now: Duration) -> bool {
+        self.lingering().is_some() || self.stale(now).is_some()
+    }
+
+    /// Ends the connection that can best be spared, if one can be: one that lingers, or else the oldest unfinished request.
+    pub fn shed(&mut self, now: Duration)
+        ensures { Goes self.old self.new }
+    {
+        if let Some(place) = self.lingering() {
+            self.cut_answer(place);
+        } else if let Some(place) = self.stale(now) {
+            self.cut_request(place);
+        }
+    }
+
+    /// Gives up the answer at this place.
+    fn cut_answer(&mut self, place: usize)
+        ensures { Goes self.old self.new }
+    {
+        if place < self.leaving.len() {
+            self.leaving[place].give_up(Cause::Crowded);
+        }
+    }
+
+    /// Gives up the request at this place, if it is unfinished. It isn't read any more, and handed out so.
+    fn cut_request(&mut self, place: usize)
+        ensures { Goes self.old self.new }
+    {
+        if place < self.slots.len() && !self.slots[place].rests {
+            self.slots[place].give_up(Cause::Crowded);
+        }
+    }
+
+    /// Does what can be done for those that were judged; whether anything changed.
+    pub fn send_all(&mut self, now: Duration) -> bool
+        ensures { Goes self.old self.new }
+    {
+        let mut changed = step_all(&mut self.leaving, now);
+        for _ in 0..=MOST {
+            if !self.end_one() {
+                return changed;
+            }
+            changed = true;
+        }
+        changed
+    }
+
+    /// Lets one go that is over; whether there was any.
+    fn end_one(&mut self) -> bool
+        ensures { Goes self.old self.new }
+    {
+        let Some(place) = self.leaving.iter().position(|it| it.is_over()) else {
+            return false;
+        };
+        if place < self.leaving.len() && self.leaving[place].is_over() {
+            let over = self.leaving.remove(place);
+            self.note(over);
+            return true;
+        }
+        false
+    }
+
+    /// Notes whether the answer of a connection that is over was lost.
+    pub fn note(&mut self, over: Leaving<R, W>)
+        ensures ends { (over.stage ≡ Done) ⊎ ((cause : Why) × (over.stage ≡ Lost cause)) →
+            LetsGo over self.old.losses self.new.losses }
+        ensures same { (self.new.leaving ≡ self.old.leaving) × (self.new.slots ≡ self.old.slots) }
+    {
+        if let Some(loss) = over.loss() {
+            self.losses.add(loss);
+        }
+    }
+
+    /// Gives up each answer that is held. After that none is.
+    pub fn give_up_all(&mut self)
+        ensures all { Goes self.old self.new }
+        ensures none { self.new.leaving.items ≡ [] }
+    {
+        while let Some(last) = self.leaving.pop() {
+            let mut lost = last;
+            lost.give_up(Cause::Late);
+            self.note(lost);
+        }
+    }
+
+    /// Whether one is to be handed out.
+    pub fn has_whole(&self) -> bool {
+        held(&self.leaving) < BUDGET && self.slots.iter().any(|slot| slot.rests)
+    }
+
+    /// The longest connected one whose request is whole, or of which nothing more comes. None while too much of answers is held.
+    pub fn next_whole(&mut self) -> Option<Slot<R, W>>
+        ensures { TakesSlot (book_of self.old) result (book_of self.new) }
+    {
+        if held(&self.leaving) >= BUDGET {
+            return None;
+        }
+        let place = self.slots.iter().position(|slot| slot.rests)?;
+        if place < self.slots.len() && self.slots[place].rests {
+            return Some(self.slots.remove(place));
+        }
+        None
+    }
+
+    /// For how long the oldest unfinished request can't be ended yet. None if it can be, or if there is none.
+    pub fn spared(&self, now: Duration) -> Option<Duration> {
+        let place = self.slots.iter().position(|slot| !slot.rests)?;
+        if place >= self.slots.len() {
+            return None;
+        }
+        let age = now.saturating_sub(self.slots[place].since);
+        let left = Duration::from_millis(GRACE + 1).saturating_sub(age);
+        if left.is_zero() { None } else { Some(left) }
+    }
+
+    /// Gathers what is there; whether anything changed.
+    pub fn gather(&mut self, routes: &Routes, now: Duration) -> bool
+        ensures { Goes self.old self.new }
+    {
+        gather_all(&mut self.slots, routes, now)
+    }
+
+    /// Has those be looked at that have this mark.
+    pub fn wake_at(&mut self, mark: usize)
+        ensures { Goes self.old self.new }
+    {
+        wake_slots(&mut self.slots, mark);
+        wake_leaving(&mut self.leaving, mark);
+    }
+
+    /// Has each be looked at.
+    pub fn wake_all(&mut self)
+        ensures { Goes self.old self.new }
+    {
+        wake_all_slots(&mut self.slots);
+        wake_all_leaving(&mut self.leaving);
+    }
+
+    /// If too much of answers is held and a request is whole, gives up an answer of which its peer took nothing for a while.
+    pub fn relieve(&mut self, now: Duration)
+        ensures { Goes self.old self.new }
+    {
+        if held(&self.leaving) < BUDGET || !self.slots.iter().any(|slot| slot.rests) {
+            return;
+        }
+        if let Some(place) = self.leaving.iter().position(|it| it.is_stuck(now)) {
+            self.cut_answer(place);
+        }
+    }
+}
