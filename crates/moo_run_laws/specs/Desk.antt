@@ -45,10 +45,11 @@ pub record PassesDesk {R W : Type 0}
 module _ {R W : Type 0}
     {inward : Inward.Ghosts R} {incoming : Incoming.Ghosts R} {reader : Reading.Ghosts R} {outward : Outward.Ghosts W}
     {writer : Writing.Ghosts W} where
-  -- What the peer of the connection that came sees: whoever gets the answer is who asked.
+  -- whoever gets the answer is who asked
   abbrev pub IsAsker : Slot R W inward incoming reader outward writer → Leaving R W → Type 0
   IsAsker came last = outward.peer last.writer.writer ≡ inward.peer came.reader.reader
 
+  -- what the peer of the connection that came sees of it
   abbrev pub peer_of : Reading.Ghosts (Gathered R) → Slot R W inward incoming reader outward writer → Connection (Gathered R)
       (Outgoing W) → Leaving R W → Traffic
   peer_of gathered came closed last = record {
@@ -61,25 +62,26 @@ module _ {R W : Type 0}
 -- a reader and a writer of a peer, by whose they are, and what a desk makes of them
 module _ {R W : Type 0} (from : R → ℤ) (fails : R → R → Type 0) (reader : Reading.Ghosts R) (gathered : Reading.Ghosts (Gathered R))
     (to : W → ℤ) (writer : Writing.Ghosts W) (outgoing : Writing.Ghosts (Outgoing W)) where
-  abbrev pub Gathering : Type 0
-  Gathering = Slot R W (record { peer = from }) (record { fails = fails }) reader (record { peer = to }) writer
+  -- a connection whose request is gathered, with these words for its reader and its writer
+  abbrev pub PeerSlot : Type 0
+  PeerSlot = Slot R W (record { peer = from }) (record { fails = fails }) reader (record { peer = to }) writer
 
   -- An answer that was sent whole is the answer to what its peer asked.
   abbrev pub DeskAnswers : Type 0
-  DeskAnswers = (old new : Stand) (ledger : Ledger) (came slot : Gathering) (opened closed : Connection (Gathered R) (Outgoing W)) →
+  DeskAnswers = (old new : Stand) (ledger : Ledger) (came slot : PeerSlot) (opened closed : Connection (Gathered R) (Outgoing W)) →
       (back last : Leaving R W) → PassesDesk came slot opened closed back last → last.writer.sent ≡ length last.writer.text.items →
       Exchanged (Ok tt) old new (traffic_of gathered outgoing opened closed) ledger →
       Exchanged (Ok tt) old new (peer_of gathered came closed last) ledger × IsAsker came last
 
   -- Of another its peer has a front.
   abbrev pub DeskFronts : Type 0
-  DeskFronts = (old new : Stand) (ledger : Ledger) (came slot : Gathering) (opened closed : Connection (Gathered R) (Outgoing W)) →
+  DeskFronts = (old new : Stand) (ledger : Ledger) (came slot : PeerSlot) (opened closed : Connection (Gathered R) (Outgoing W)) →
       (back last : Leaving R W) → PassesDesk came slot opened closed back last →
       Exchanged (Ok tt) old new (traffic_of gathered outgoing opened closed) ledger →
       Exchanged (Err Write) old new (peer_of gathered came closed last) ledger × IsAsker came last
 
   abbrev pub DeskFaults : Type 0
-  DeskFaults = (fault : ServeFault) (old new : Stand) (ledger : Ledger) (came slot : Gathering) →
+  DeskFaults = (fault : ServeFault) (old new : Stand) (ledger : Ledger) (came slot : PeerSlot) →
       (opened closed : Connection (Gathered R) (Outgoing W)) (back last : Leaving R W) → PassesDesk came slot opened closed back last →
       Exchanged (Err fault) old new (traffic_of gathered outgoing opened closed) ledger →
       FailedThrough fault old new (peer_of gathered came closed last) ledger × IsAsker came last
