@@ -1,5 +1,5 @@
 -- The petitions that a programmer may see are all that the list of them depends on.
-use Rattle.moo_world.{proofs.Lemmas.{◌≡◌, Bool, true, false, arith, refl, sym, ap, ◌∙◌, ◌||◌, cond, T, Option, Some, None, is_some, if◌then◌else◌, option_and_then, List, FinMap, entries, entries_sorted, get, get-entries, insert, get-insert, eq_by_cmp, is_sorted, filter, ObjNo, same_object, PetitionId, PetitionRow, petition_cmp, petition_total, petition_exact, State, is_wizard}, proofs.Shown.EntriesInOrder.{own_entries, filter_alike, all_weaker}, proofs.Shown.MapLaws.{key-Decides}}
+use Rattle.moo_world.{proofs.Lemmas.{◌≡◌, Bool, true, false, refl, sym, ap, ◌∙◌, ◌||◌, cond, T, Option, Some, None, is_some, if◌then◌else◌, option_and_then, List, FinMap, entries, entries_sorted, get, get-entries, is_sorted, filter, ObjNo, same_object, PetitionId, PetitionRow, petition_cmp, petition_total, petition_exact, State, is_wizard}, proofs.Shown.EntriesInOrder.{own_entries, filter_alike, all_weaker}}
 use Rattle.std.specs.FinMap.{from_sorted, entries-from_sorted, get-from_sorted, same_map}
 use Rattle.std.specs.FinMap.Entries.{find, where_key, is_sorted-where_key, find-where_key}
 use Rattle.moo_laws.specs.Agreeing.{may_see_petition, seen_petition}

@@ -1,16 +1,15 @@
 -- Batches that only read have the same verdicts from states that agree.
-use Rattle.moo_world.{proofs.Form.Passing.{each_check}, proofs.Lemmas.{◌≡◌, ◌≢◌, ℕ, Bool, true, false, ◌&&◌, ◌||◌, List, [], ◌∷◌, arith, refl, sym, ap, subst, ◌∙◌, Option, Some, None, Result, Ok, ◌+◌, if◌then◌else◌, map, nat_lt, list_all, false≢true, and_parts, Code, ObjNo, Value, Name, PetitionId, PetitionRow, same_object, same_object-Decides, State, World, IsWellFormed, is_object, is_wizard, Outcome, Done, Failed, Full, Holds, of_done, check, named_call, in_world, petition_call, petition_call_by, no_values, list_of, batch_call}, specs.declared.name.CallName.{CallName}, specs.declared.call.Call.{Call}, specs.declared.call.Batch.{Batch}}
+use Rattle.moo_world.{proofs.Form.Passing.{each_check}, proofs.Lemmas.{◌≡◌, Bool, true, false, ◌||◌, List, [], ◌∷◌, arith, refl, sym, ap, subst, Option, Some, None, Result, Ok, ◌+◌, if◌then◌else◌, map, nat_lt, list_all, false≢true, and_parts, Code, ObjNo, Value, same_object, same_object-Decides, State, World, is_object, Outcome, Done, Failed, Full, Holds, check, named_call, in_world, petition_call, petition_call_by, no_values, list_of, batch_call}, specs.declared.name.CallName.{CallName}, specs.declared.call.Call.{Call}, specs.declared.call.Batch.{Batch}}
 use Rattle.std.specs.Prelude.{Err}
 use Rattle.moo_world.specs.Outcomes.{given}
 use Rattle.moo_world.specs.Requests.{listed}
 use Rattle.moo_world.specs.declared.name.PetitionCall.{PetitionCall}
 use Rattle.moo_world.specs.declared.name.CallName.TheVariants.{Valid, Parent, Children, IsPlayer, Players, MaxObject, Get, Properties, PropertyInfo, IsClearProperty, Verbs, VerbInfo, VerbArgs, AcceptList, Create, Chparent, Recycle, Move, SetPlayerFlag, Set, AddProperty, DeleteProperty, SetPropertyInfo, ClearProperty, AddVerb, DeleteVerb, SetVerbInfo, SetVerbArgs, SetAccept, Petition, Petitions, Grant, Decline}
 use Rattle.moo_world.specs.declared.name.PetitionCall.TheVariants.{Petitions as to_list}
-use Rattle.moo_world.specs.Judge.{Ran, Through, FailedAt, FullAt, Verdict, Accepted, Refused, NoRoom, Stale, after_one, run_calls, is_due, last_seq, verdict_of, judge, left_by, verdicts}
-use Rattle.moo_laws.specs.Reading.{is_question, LookAlike, SameAnswer, IsHidden}
-use Rattle.moo_laws.specs.Agreeing.{AgreeFor, SameVerdict, TellTheSame, lists_petitions, only_reads, with_value}
+use Rattle.moo_world.specs.Judge.{Ran, Through, FailedAt, FullAt, Verdict, NoRoom, Stale, after_one, run_calls, is_due, last_seq, verdict_of, judge, left_by}
+use Rattle.moo_laws.specs.Reading.{is_question, SameAnswer}
+use Rattle.moo_laws.specs.Agreeing.{AgreeFor, SameVerdict, TellTheSame, lists_petitions, only_reads}
 use Rattle.moo_laws.proofs.Asking.{there, asked}
-use Rattle.moo_laws.proofs.HiddenValues.{hidden_look_alike}
 use Rattle.moo_laws.proofs.PetitionsSeen.{same_list}
 
 -- ---- what a call that only reads leaves
@@ -130,9 +129,6 @@ module _ (p : ObjNo) (s t : State) where
     runs [] h = (refl, (refl, refl))
     runs (call ∷ calls) h = let parts = and_parts _ _ h in by (batch_call s p call) (batch_call t p call) (step call parts.0) (runs calls parts.1)
       where
-        Then : State → Outcome State → Ran
-        Then z o = elim o [ Done v next ↦ after_one v (run_calls next p calls) | Failed code ↦ FailedAt 1 code | Full ↦ FullAt 1 ]
-
         by : (o q : Outcome State) → SameStep o q → SameRun (run_calls s p calls) (run_calls t p calls) → SameRun (elim o [ Done v next ↦ after_one v (run_calls next p calls) | Failed code ↦ FailedAt 1 code | Full ↦ FullAt 1 ]) (elim q [ Done v next ↦ after_one v (run_calls next p calls) | Failed code ↦ FailedAt 1 code | Full ↦ FullAt 1 ])
         by (Done a x) (Done b y) (e, (f, g)) rest =
             subst (λ z. SameRun (after_one a (run_calls z p calls)) (after_one b (run_calls y p calls))) (sym f)

@@ -1,8 +1,8 @@
--- A value and a petition that a programmer may not see may be any.
-use Rattle.moo_world.{proofs.Lemmas.{◌≡◌, ◌≢◌, Bool, true, false, ◌||◌, arith, refl, sym, ap, ◌∙◌, cond, Option, Some, None, is_some, if◌then◌else◌, option_and_then, get, insert, get-insert, eq_by_cmp, ObjNo, Value, Name, PetitionId, PetitionRow, petition_cmp, petition_total, petition_exact, same_object, same_object-Decides, Slot, same_Some, State, IsWellFormed, is_wizard, false_from_ne_true}, proofs.Shown.MapLaws.{key-Decides}}
-use Rattle.moo_world.specs.PropertyCalls.{is_clear}
+-- A value, and petitions, that a programmer may not see may be any.
+use Rattle.moo_world.proofs.Lemmas.{◌≡◌, Bool, true, false, ◌||◌, refl, sym, ap, ◌∙◌, ◌⊎◌, inl, inr, Option, Some, None, if◌then◌else◌, option_and_then, get, ObjNo, Value, Name, PetitionId, PetitionRow, same_object, same_object-Decides, State, IsWellFormed, is_wizard}
+use Rattle.std.specs.Prelude.{◌↔◌}
 use Rattle.moo_laws.specs.Reading.{LookAlike, IsHidden}
-use Rattle.moo_laws.specs.Agreeing.{AgreeFor, may_see_petition, seen_petition, with_value, with_petition}
+use Rattle.moo_laws.specs.Agreeing.{AgreeFor, SameOwnPetitions, seen_petition, with_value}
 use Rattle.moo_laws.proofs.Asking.{passes}
 use Rattle.moo_laws.proofs.HiddenValues.{hidden_look_alike}
 
@@ -15,21 +15,34 @@ other_value p x n value s wf hidden =
       accepted = refl;
     }
 
-itself : (p : ObjNo) (s : State) → LookAlike p s.world s.world
-itself p s = record { rest = refl; slots = λ x n. refl; values = λ x n a b e d may. (ap (λ (slot : Slot). is_clear slot.state) (same_Some b a (sym d ∙ e)), refl) }
+-- ---- petitions of others
 
-pub other_petition : (p : ObjNo) (id : PetitionId) (row : PetitionRow) (s : State) → is_wizard s.world p ≡ false → row.who ≢ p → seen_petition s p id ≡ None → AgreeFor p s (with_petition s id row)
-other_petition p id row s plain others none = record { worlds = itself p s; petitions = same; accepted = refl }
-  where
-    see : Option PetitionRow → Option PetitionRow
-    see o = option_and_then (λ row. if may_see_petition s p row then Some row else None) o
+module _ (p : ObjNo) where
+  abbrev own : Option PetitionRow → Option PetitionRow
+  own o = option_and_then (λ row. if same_object row.who p then Some row else None) o
 
-    unseen : see (Some row) ≡ None
-    unseen = ap (λ b. if b || same_object row.who p then Some row else None) plain ∙ ap (λ b. if b then Some row else None) (false_from_ne_true _ (λ e. others ((same_object-Decides row.who p).0 e)))
+  own_or_none : (o : Option PetitionRow) → ((row : PetitionRow) × ((row.who ≡ p) × (o ≡ Some row))) ⊎ (own o ≡ None)
+  own_or_none None = inr refl
+  own_or_none (Some row) = by (same_object row.who p) refl
+    where
+      by : (b : Bool) → same_object row.who p ≡ b → ((r : PetitionRow) × ((r.who ≡ p) × (Some row ≡ Some r))) ⊎ ((if b then Some row else None) ≡ None)
+      by true e = inl (row, ((same_object-Decides row.who p).0 e, refl))
+      by false e = inr refl
 
-    same : (q : PetitionId) → seen_petition (with_petition s id row) p q ≡ seen_petition s p q
-    same q = ap see (get-insert petition_total s.petitions id row q) ∙ by (eq_by_cmp petition_cmp q id) refl
-      where
-        by : (b : Bool) → eq_by_cmp petition_cmp q id ≡ b → see (cond b (Some row) (get s.petitions q)) ≡ seen_petition s p q
-        by false e = refl
-        by true e = unseen ∙ sym none ∙ ap (seen_petition s p) (sym ((key-Decides petition_cmp petition_total petition_exact q id).0 e))
+  same_own : (o q : Option PetitionRow) → ((row : PetitionRow) → row.who ≡ p → q ≡ Some row ↔ o ≡ Some row) → own q ≡ own o
+  same_own o q h = by (own_or_none o) (own_or_none q)
+    where
+      by : ((row : PetitionRow) × ((row.who ≡ p) × (o ≡ Some row))) ⊎ (own o ≡ None) → ((row : PetitionRow) × ((row.who ≡ p) × (q ≡ Some row))) ⊎ (own q ≡ None) → own q ≡ own o
+      by (inl (row, (theirs, e))) right = ap own ((h row theirs).1 e ∙ sym e)
+      by (inr none) (inl (row, (theirs, e))) = ap own (e ∙ sym ((h row theirs).0 e))
+      by (inr none) (inr neither) = neither ∙ sym none
+
+  pub own_agree : (s t : State) → is_wizard s.world p ≡ false → LookAlike p s.world t.world → t.seq ≡ s.seq → SameOwnPetitions p s t → AgreeFor p s t
+  own_agree s t plain alike seq same = record {
+    worlds = alike;
+    petitions = λ id. seen t id (ap (λ f. f p) (passes p s.world t.world alike (λ r. r.wizard)) ∙ plain) ∙ same_own (get s.petitions id) (get t.petitions id) (same id) ∙ sym (seen s id plain);
+    accepted = seq;
+  }
+    where
+      seen : (u : State) (id : PetitionId) → is_wizard u.world p ≡ false → seen_petition u p id ≡ own (get u.petitions id)
+      seen u id e = ap (λ b. option_and_then (λ row. if b || same_object row.who p then Some row else None) (get u.petitions id)) e

@@ -1,8 +1,8 @@
 -- What two states have to share for a programmer, so that no batch of theirs that only reads tells them apart.
-use Rattle.std.specs.Prelude.{◌≡◌, Bool, true, false, ◌&&◌, ◌||◌, List, Option, Some, None, if◌then◌else◌}
+use Rattle.std.specs.Prelude.{◌≡◌, ◌↔◌, Bool, true, false, ◌&&◌, ◌||◌, List, Option, Some, None, if◌then◌else◌}
 use Rattle.std.specs.Option.{option_and_then}
 use Rattle.std.specs.List.{list_all, AllZip}
-use Rattle.std.specs.FinMap.{get, insert}
+use Rattle.std.specs.FinMap.{get}
 use Rattle.moo_value.specs.declared.value.ObjNo.{ObjNo}
 use Rattle.moo_value.specs.declared.value.Value.{Value}
 use Rattle.moo_rows.specs.declared.row.PetitionId.{PetitionId}
@@ -45,6 +45,11 @@ pub record AgreeFor (programmer : ObjNo) (state other : State) : Type 0 where
   pub petitions : (id : PetitionId) → seen_petition other programmer id ≡ seen_petition state programmer id
   pub accepted : other.seq ≡ state.seq
 
+-- the same petitions of the programmer stand in both states, whatever others stand beside them
+abbrev pub SameOwnPetitions : ObjNo → State → State → Type 0
+SameOwnPetitions programmer state other = (id : PetitionId) (row : PetitionRow) → row.who ≡ programmer →
+    get other.petitions id ≡ Some row ↔ get state.petitions id ≡ Some row
+
 -- ---- what is told
 
 -- two verdicts tell the same: the same answers, or the same refusal at the same call
@@ -59,12 +64,6 @@ SameVerdict verdict other = ⊥
 abbrev pub TellTheSame : List Batch → State → State → Type 0
 TellTheSame batches state other = AllZip SameVerdict (verdicts state batches) (verdicts other batches)
 
--- ---- what may be any
-
--- the state with this value there
+-- the state with another value there
 abbrev pub with_value : State → ObjNo → Name → Value → State
 with_value state object name value = record state { world = value_set state.world object name value }
-
--- the state with this petition under that number
-abbrev pub with_petition : State → PetitionId → PetitionRow → State
-with_petition state id row = record state { petitions = insert state.petitions id row }
