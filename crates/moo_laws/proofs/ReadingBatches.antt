@@ -8,7 +8,7 @@ use Rattle.moo_world.specs.declared.name.CallName.TheVariants.{Valid, Parent, Ch
 use Rattle.moo_world.specs.declared.name.PetitionCall.TheVariants.{Petitions as to_list}
 use Rattle.moo_world.specs.Judge.{Ran, Through, FailedAt, FullAt, Verdict, NoRoom, Stale, after_one, run_calls, is_due, last_seq, verdict_of, judge, left_by}
 use Rattle.moo_laws.specs.Reading.{is_question, SameAnswer}
-use Rattle.moo_laws.specs.Agreeing.{AgreeFor, SameVerdict, TellTheSame, lists_petitions, only_reads}
+use Rattle.moo_laws.specs.Agreeing.{AgreeFor, SameVerdict, TellTheSame, lists_petitions, only_asks}
 use Rattle.moo_laws.proofs.Asking.{there, asked}
 use Rattle.moo_laws.proofs.PetitionsSeen.{same_list}
 
@@ -167,7 +167,7 @@ module _ (p : ObjNo) (s t : State) where
     weighed true false r q h = (refl, agree)
     weighed false room r q h = (agree.accepted, agree)
 
-    pub judged : (b : Batch) → only_reads p b ≡ true → Judged (judge s b) (judge t b)
+    pub judged : (b : Batch) → only_asks p b ≡ true → Judged (judge s b) (judge t b)
     unfolding judge
     judged b h =
         let parts = and_parts (same_object b.programmer p) _ h in
@@ -177,9 +177,9 @@ module _ (p : ObjNo) (s t : State) where
 
 -- ---- batches, one after another
 
-pub told : (p : ObjNo) (s t : State) (bs : List Batch) → AgreeFor p s t → list_all (only_reads p) bs ≡ true → TellTheSame bs s t
+pub told : (p : ObjNo) (s t : State) (bs : List Batch) → AgreeFor p s t → list_all (only_asks p) bs ≡ true → TellTheSame bs s t
 told p s t [] agree h = tt
 told p s t (b ∷ bs) agree h =
-    let parts = and_parts (only_reads p b) _ h in
+    let parts = and_parts (only_asks p b) _ h in
     let one = judged p s t agree b parts.0 in
     (one.0, told p (left_by s (judge s b)) (left_by t (judge t b)) bs one.1 parts.1)

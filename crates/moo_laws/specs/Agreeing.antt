@@ -23,8 +23,8 @@ abbrev pub lists_petitions : CallName → Bool
 lists_petitions name = elim name [ Petitions ↦ true | _ ↦ false ]
 
 -- a batch of this programmer, each of whose calls is a question about the world or lists petitions
-abbrev pub only_reads : ObjNo → Batch → Bool
-only_reads programmer batch = same_object batch.programmer programmer
+abbrev pub only_asks : ObjNo → Batch → Bool
+only_asks programmer batch = same_object batch.programmer programmer
     && list_all (λ call. is_question call.name || lists_petitions call.name) batch.calls
 
 -- ---- states that agree

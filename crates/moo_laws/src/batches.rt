@@ -9,7 +9,7 @@ ghost use Rattle.moo_world.specs.Judge.{State, judge, left_by};
 ghost use Rattle.moo_world.specs.Objects.{Name};
 ghost use Rattle.moo_world.specs.Rights.{is_wizard};
 ghost use Rattle.moo_world.specs.World.{IsWellFormed};
-ghost use Rattle.moo_laws.specs.Agreeing.{AgreeFor, SameVerdict, TellTheSame, SameOwnPetitions, only_reads, with_value};
+ghost use Rattle.moo_laws.specs.Agreeing.{AgreeFor, SameVerdict, TellTheSame, SameOwnPetitions, only_asks, with_value};
 ghost use Rattle.moo_laws.specs.Reading.{IsHidden, LookAlike};
 
 /// What batches of calls that only read tell their programmer depends on no value and on no petition that the programmer may not see: from
@@ -19,16 +19,16 @@ ghost use Rattle.moo_laws.specs.Reading.{IsHidden, LookAlike};
 /// LambdaMOO Programmer's Manual, 'Properties on Objects' in the chapter on the database. Petitions are this server's own.
 pub fn reading_batches_tell_no_more()
     ensures batch { (programmer : ObjNo) (state other : State) (batch : Batch) → AgreeFor programmer state other →
-        only_reads programmer batch ≡ true → SameVerdict (judge state batch) (judge other batch) }
+        only_asks programmer batch ≡ true → SameVerdict (judge state batch) (judge other batch) }
     // The states agree after it too.
     ensures after { (programmer : ObjNo) (state other : State) (batch : Batch) → AgreeFor programmer state other →
-        only_reads programmer batch ≡ true →
+        only_asks programmer batch ≡ true →
         AgreeFor programmer (left_by state (judge state batch)) (left_by other (judge other batch)) }
     ensures batches { (programmer : ObjNo) (state other : State) (batches : List Batch) → AgreeFor programmer state other →
-        list_all (only_reads programmer) batches ≡ true → TellTheSame batches state other }
+        list_all (only_asks programmer) batches ≡ true → TellTheSame batches state other }
     // Whoever may not read a value learns nothing of it: with another value there, each verdict is the same.
     ensures values { (programmer object : ObjNo) (name : Name) (value : Value) (state : State) (batches : List Batch) →
-        IsWellFormed state.world → IsHidden state.world programmer object name → list_all (only_reads programmer) batches ≡ true →
+        IsWellFormed state.world → IsHidden state.world programmer object name → list_all (only_asks programmer) batches ≡ true →
         TellTheSame batches state (with_value state object name value) }
     // Of somebody who isn't a wizard only their own petitions have to be the same, whatever the others are.
     ensures petitions { (programmer : ObjNo) (state other : State) → is_wizard state.world programmer ≡ false →
