@@ -323,7 +323,7 @@ class Holders(ServingTest):
                 whole = got(peer)
                 self.assertEqual(int(whole.split()[1]), wanted)
                 self.assertEqual(whole.count(b"&#34;"), letters if letters <= 1 << 16 else 0)
-                self.assertEqual(b"What you typed is too long to be kept here" in whole, letters > 1 << 16)
+                self.assertEqual(b"What you typed is too long to be kept here" in whole, letters > 1 << 16 and wanted == 403)
 
 
 if __name__ == "__main__":
