@@ -58,7 +58,7 @@ class Orders(ListTest):
         for query, wanted in (
             ("", [5, 9, 10, 11, 12]), ("?sort=number", [5, 9, 10, 11, 12]), ("?down=on", [12, 11, 10, 9, 5]),
             ("?sort=name", [11, 10, 12, 5, 9]), ("?sort=name&down=on", [9, 5, 12, 10, 11]),
-            ("?sort=owner", [10, 11, 9, 5, 12]), ("?sort=place", [5, 9, 10, 11, 12]), ("?sort=place&down=on", [12, 11, 10, 9, 5]),
+            ("?sort=owner", [10, 11, 9, 5, 12]), ("?sort=where", [5, 9, 10, 11, 12]), ("?sort=where&down=on", [12, 11, 10, 9, 5]),
             ("?sort=nonsense&down=1", [5, 9, 10, 11, 12]),
         ):
             with self.subTest(query):

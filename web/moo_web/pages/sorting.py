@@ -12,7 +12,7 @@ from moo_web.world.things import Thing, World
 
 LONGEST = 256
 # The orders of a list, each with its word. The first is that of a list that says none.
-ORDERS = {"number": "Number", "name": "Name", "kind": "Kind", "place": "Place", "owner": "Owner"}
+ORDERS = {"number": "Number", "name": "Name", "kind": "Kind", "where": "Where", "owner": "Owner"}
 # The fields by which objects are left out.
 FILTERS = ("name", "owner", "kind")
 
@@ -111,7 +111,7 @@ def key_of(world: World, order: str) -> Callable[[int], Any]:
     if order == "name":
         return lambda number: (name(number), number)
     of: Callable[[Thing], int] = {
-        "kind": lambda thing: thing.parent, "place": lambda thing: thing.location, "owner": lambda thing: thing.owner
+        "kind": lambda thing: thing.parent, "where": lambda thing: thing.location, "owner": lambda thing: thing.owner
     }[order]
     return lambda number: (name(of(world.things[number])), of(world.things[number]), number)
 
