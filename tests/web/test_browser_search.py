@@ -115,7 +115,7 @@ class Walks(SearchTest):
             self.front = self.fronts[1]
             ben = self.person(by_keys=by_keys)
             ben.open("/batch")
-            ben.fill("text", script)
+            ben.fill("f-text", script.replace("\n", "\ue007"))
             ben.press("Preview")
             ben.press("Do it")
             ben.open("/find?q=stump")

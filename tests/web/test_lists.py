@@ -2,8 +2,12 @@
 
 import re
 import unittest
+from unittest import mock
 
-from tests.support.pages import PagesTest, tidied
+from tests.support.pages import PagesTest, lacking, tidied
+
+if not lacking():
+    from moo_web.pages import scripts
 
 NUMBERS = re.compile(r'<tr role="row"><td role="cell"><a href="/o/(\d+)"')
 # #4 is a class with the classes #5 and #6 under it; the players Ada #7 and Ben #8; then things of theirs, #9 to #14.
@@ -142,8 +146,9 @@ class Scripts(ListTest):
         self.assertEqual(self.write("ben", f'get(#{made.number}, "taste")'), ['"sweet, says #9"'])
 
     def test_too_much_for_a_page(self):
-        for _ in range(3):
-            self.write("wizard", *("create(#4)" for _ in range(900)))
+        patch = mock.patch.object(scripts, "MOST_READ", 20)
+        patch.start()
+        self.addCleanup(patch.stop)
         page = self.reader("wizard").get("/o/4/script")
         self.assertIn("That is too much for a page. In moo-shell \\export #4 children FILE writes it to a file.", page.text)
         self.assertEqual(self.reader("wizard").get("/o/4/script.moo").status, 200)
