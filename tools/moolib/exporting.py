@@ -68,7 +68,7 @@ class Export:
         self.is_wizard = facts.value(MARKS["wizard"].format(person)) == 1
         self.order = list(self.ordered())
         self.inside = set(self.order)
-        self.names = ObjectNames(person, lambda number: self.facts.value(MARKS["name"].format(number)))
+        self.names = ObjectNames(person, self.own_name)
         for number in self.order:
             self.names.add(number)
         self.above = {number: self.chain(number) for number in self.order}
@@ -168,13 +168,18 @@ class Export:
 
     def named(self, number: int) -> str:
         """An object as people know it."""
-        name = self.mark(number, "name")
+        name = self.own_name(number)
         return f"{name} #{number}" if name else f"#{number}"
+
+    def own_name(self, number: int) -> Optional[str]:
+        """The name that an object has; None if it isn't there."""
+        name: Optional[str] = self.facts.value(MARKS["name"].format(number))
+        return name
 
     def known_as(self, number: int) -> str:
         """The name of an object that the script doesn't make, for a remark."""
-        name = self.mark(number, "name")
-        return "there is no such object" if name is None else str(name) or "unnamed"
+        name = self.own_name(number)
+        return "there is no such object" if name is None else name or "unnamed"
 
     def leave_out(self, why: str) -> None:
         """Notes that something isn't in the script."""
