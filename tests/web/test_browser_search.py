@@ -79,7 +79,7 @@ class Walks(SearchTest):
             self.assertNotIn("business", ada.text())
             ada.follow("tallow candle")
             ada.follow("what names it")
-            ada.sees("1 value and list", "church candle", "stands beside")
+            ada.sees("1 place that you may read", "church candle", "stands beside")
             ada.follow("church candle")
             ada.sees("church candle #16")
 
@@ -115,7 +115,7 @@ class Walks(SearchTest):
             self.front = self.fronts[1]
             ben = self.person(by_keys=by_keys)
             ben.open("/batch")
-            ben.fill("text", script)
+            ben.fill("f-text", script.replace("\n", "\ue007"))
             ben.press("Preview")
             ben.press("Do it")
             ben.open("/find?q=stump")

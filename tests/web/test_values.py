@@ -19,7 +19,7 @@ from moo_web.world.dumped import Dumped, Kept  # noqa: E402
 
 SEED, WORLDS = int(os.environ.get("SEED", 20261130)), int(os.environ.get("VALUE_WORLDS", 4))
 PLACE = re.compile(r'href="/o/(\d+)/property\?name=([^"]*)">[^<]*</a>( <span class="dim">inherited)?')
-COUNT = re.compile(r"(Over )?([\d,]+) values? ")
+COUNT = re.compile(r"(Over )?([\d,]+) (?:value|place)s? ")
 WORDS = ("a", "ab", '"', "\\", 'b"', ",", "{", "E_P", "$(", "-7", "A b", '\\"', "#", "zzz")
 PEOPLE = {"wizard": 3, "ada": 4, "ben": 5, "cleo": 6}
 
