@@ -24,9 +24,9 @@ WORDS = {
     "r": (r"(?<![\w(])r(?=[:,)])|\(r\)", "list|see what it has|read it|read"),
     "w": (r"(?<![\w(])w(?=[:,)])|\(w\)", "add to|change what|change that|write it|write"),
     "f": (r"(?<![\w(])f(?=[:,)])|\(f\)", "make objects"),
-    "rc": (r"\brc\b", "may read it"),
+    "rc": (r"\brc\b", "read it"),
     "rwc": (r"\brwc\b", "may read it"),
-    "E_PERM": (r"\bE_PERM\b", "[Yy]ou may not|error"),
+    "E_PERM": (r"\bE_PERM\b", "[Yy]ou may not|error|isn’t yours|[Pp]ermission"),
     "#-1": (r"#-1\b", "nothing"),
     "it answers": (r"\bit answers\b", "says"),
     "Kept": (r"\bKept\b", "quota"),
@@ -79,6 +79,8 @@ def unexplained(source):
     for text, title in texts:
         titles += [title] * (len(text) + 1)
         whole += text + " "
+    # What is between quotes is a value of the world's.
+    whole = re.sub("“[^”]*”", lambda found: "“" + "_" * (len(found[0]) - 2) + "”", whole)
     found = []
     for word, (pattern, means) in WORDS.items():
         first = re.search(pattern, whole)
