@@ -1,4 +1,4 @@
-"""The words of pages: those that a newcomer doesn't know are explained where they first stand; and the page that says what this place is."""
+"""The words of pages: those that a newcomer doesn't know are explained where they first come; and the page that says what this place is."""
 
 import html.parser
 import re
@@ -48,7 +48,7 @@ PATHS = (
 
 
 class Texts(html.parser.HTMLParser):
-    """The texts of a page in their order, each with the title under which it stands. Calls as they are written, and what was typed, are left out."""
+    """The texts of a page in their order, each with the titles of the elements around it. Calls as they are written, and what was typed, are left out."""
 
     VOID = ("meta", "link", "input", "br", "img", "wbr")
 
@@ -73,7 +73,7 @@ class Texts(html.parser.HTMLParser):
 
 
 def unexplained(source):
-    """The words that stand on a page without a line that explains them."""
+    """The words on a page without a line that explains them."""
     texts = Texts(source).texts
     whole, titles = "", []
     for text, title in texts:
