@@ -104,7 +104,7 @@ class Reasons(AskingTest):
             bram.send("Ask a wizard for it", text="move(#8, #7)")
             page = bram.send("Send the petition", words=why)
             self.has(page, words, "Send the petition", status=422)
-            self.assertEqual(bram.typed("Send the petition")["words"], why)
+            self.assertEqual(bram.typed("Send the petition")["words"], why.replace("\x07", "").replace("\ufffe", ""))
         self.assertEqual(self.open_ones(), [])
         self.has(self.ask(why="x" * 1000), "It is asked for", status=200)
 

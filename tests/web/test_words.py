@@ -80,7 +80,7 @@ def unexplained(source):
         titles += [title] * (len(text) + 1)
         whole += text + " "
     # What is between quotes is a value of the world's.
-    whole = re.sub("“[^”]*”", lambda found: "“" + "_" * (len(found[0]) - 2) + "”", whole)
+    whole = re.sub("“[^”]*”|\"[^\"]*\"", lambda found: "_" * len(found[0]), whole)
     found = []
     for word, (pattern, means) in WORDS.items():
         first = re.search(pattern, whole)
