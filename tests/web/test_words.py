@@ -26,7 +26,7 @@ WORDS = {
     "f": (r"(?<![\w(])f(?=[:,)])|\(f\)", "make objects"),
     "rc": (r"\brc\b", "read it"),
     "rwc": (r"\brwc\b", "may read it"),
-    "E_PERM": (r"\bE_PERM\b", "[Yy]ou may not|error|isn’t yours|[Pp]ermission"),
+    "E_PERM": (r"\bE_PERM\b", "[Yy]ou may not|error|isn’t yours|[Pp]ermission|no right"),
     "#-1": (r"#-1\b", "nothing"),
     "it answers": (r"\bit answers\b", "says"),
     "Kept": (r"\bKept\b", "quota"),
