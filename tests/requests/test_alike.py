@@ -52,6 +52,14 @@ def batches_of(random: Random, plot: Plot) -> list[str]:
     return [text_of(batch, f"#{plot.programmer}") for batch in batches]
 
 
+def reads_of(plot: Plot) -> list[str]:
+    """Calls that read each slot, verb and petition of a plot."""
+    calls = ["petitions()"]
+    for found in plot.definitions:
+        calls += [f'{name}(#{number}, "{found.name}")' for number in found.slots for name in ("get", "property_info", "is_clear_property")]
+    return calls + [f"{name}(#{number}, 1)" for number in plot.things for name in ("verb_info", "verb_args")]
+
+
 class Alike(ProgramTest):
     limit = 36000
 
@@ -145,3 +153,42 @@ class Alike(ProgramTest):
         print(f"requests.alike: SEED={SEED} {pairs} pairs over HTTP, hidden {dict(self.kinds)}, afterwards {self.hidden} lines, {dict(self.answered)}")
         self.case("something differs in the worlds afterwards", self.hidden > pairs, True)
         self.case("some are accepted and some refused", {"200", "409"} <= {*self.answered}, True)
+
+    def answers(self, who, plots):
+        """How many reads of all that is in the first of two plots somebody is answered otherwise in the second, how many reads there are, and where
+        the dumps aren't alike to the programmer."""
+        sides = WebSide(), WebSide()
+        reads = reads_of(plots[0])
+        for side, plot in zip(sides, plots):
+            side.make(making(plot))
+        one, other = [side.each(who, reads) for side in sides]
+        found = sum(mine != theirs for mine, theirs in zip(one, other))
+        dumps = [Dump(side.body("/dump")) for side in sides]
+        for side in sides:
+            side.service.kill()
+        return found, len(one), list(differences(plots[0].programmer, *dumps))
+
+    def test_what_is_hidden_is_there(self):
+        """A wizard is answered otherwise in the second world of a pair, and the programmer isn't."""
+        found = 0
+        for number in range(4):
+            pair = drawn_pair(Random(f"hidden {number}"), 3)
+            plots = pair.one, pair.other
+            by_wizard, count, _ = self.answers(3, plots)
+            found += by_wizard
+            self.case(f"{number}: the programmer", self.answers(pair.one.programmer, plots), (0, count, []))
+        self.case("the wizard", found > 4, True)
+
+    def test_what_can_be_read_is_told(self):
+        """Two worlds that aren't alike are told from each other by the programmer's reads, and by their dumps."""
+        found = 0
+        for number in range(4):
+            plot = drawn(Random(f"readable {number}"), 3)
+            other = readable(Random(number), plot)
+            if other is None:
+                continue
+            found += 1
+            told, _, apart = self.answers(plot.programmer, (plot, other))
+            self.case(f"{number}: a read tells", told > 0, True)
+            self.case(f"{number}: a line differs", len(apart) > 0, True)
+        self.case("there are such pairs", found > 0, True)

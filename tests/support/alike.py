@@ -102,6 +102,12 @@ class Plot:
         """An object and all under it."""
         return [each for each in self.things if number in self.chain(each)]
 
+    def twin(self) -> Plot:
+        """The same plot, whose slots, verbs and petitions may be changed."""
+        definitions = [Definition(each.definer, each.name, {at: copy.copy(slot) for at, slot in each.slots.items()}) for each in self.definitions]
+        verbs, petitions = [copy.copy(verb) for verb in self.verbs], [copy.copy(petition) for petition in self.petitions]
+        return dataclasses.replace(self, definitions=definitions, verbs=verbs, petitions=petitions)
+
     def strangers(self) -> list[int]:
         """Whoever may own something that isn't the programmer's."""
         return [*self.others, self.wizard, WIZARD]
@@ -212,7 +218,7 @@ def feeds_quota(plot: Plot, found: Definition, number: int) -> bool:
 
 def other_than(random: Random, plot: Plot) -> tuple[Plot, list[str]]:
     """A plot that is alike to the programmer, and of what kind each difference is."""
-    other, kinds = copy.deepcopy(plot), []
+    other, kinds = plot.twin(), []
     other.gone = random.choice([0, 1, GONE])
     for found, twin in zip(plot.definitions, other.definitions):
         for number, slot in found.slots.items():
@@ -252,7 +258,7 @@ def change_slot(random: Random, plot: Plot, at: tuple[Definition, int], twin: Sl
 
 def readable(random: Random, plot: Plot) -> Optional[Plot]:
     """A plot that isn't alike to the programmer: a value that they may read is another one. None if there is none."""
-    other = copy.deepcopy(plot)
+    other = plot.twin()
     slots = [slot for found in other.definitions for slot in found.slots.values() if slot.value is not None]
     seen = [slot for slot in slots if slot.owner == plot.programmer or "r" in slot.perms]
     if not seen:

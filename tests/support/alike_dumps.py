@@ -1,45 +1,53 @@
-"""What two dumps show: whether their worlds are alike to a programmer, and in how many lines they differ all the same."""
+"""What two dumps show: whether their worlds are alike to a programmer, and in how many lines they differ all the same.
+
+A dump writes each value in one way, so that two values are the same if their texts are.
+"""
 
 from __future__ import annotations
 
-from typing import Any, Iterator, NamedTuple, Optional
+import re
+from typing import Iterator, NamedTuple, Optional
 
-from moolib import values
+STRING = r'"(?:[^"\\]|\\.)*"'
+# A number, a name, an owner and a parent; an object, a definer, a name, an owner, perms, and a value if there is one; an object, names, an owner
+# and perms; a number and who made it.
+OBJECT = re.compile(rf"object \{{#(-?\d+), {STRING}, #-?\d+, #(-?\d+),")
+SLOT = re.compile(rf"slot \{{#(-?\d+), #(-?\d+), ({STRING}), #(-?\d+), \"([rwc]*)\", [01](?:, (.*))?\}}")
+VERB = re.compile(rf"verb \{{(#-?\d+, {STRING}), #(-?\d+), \"([rwxd]*)\",")
+PETITION = re.compile(r"petition \{(\d+), #(-?\d+),")
 
 
-class Line(NamedTuple):
-    """A line of a dump: its word, and its values, with the numbers of objects as integers."""
+class SlotLine(NamedTuple):
+    """A slot: where it is and what it is of, its owner, its perms, and its value; None if it is clear."""
 
-    word: str
-    parts: list[Any]
-    text: str
+    object: int
+    of: tuple[str, str]
+    owner: int
+    perms: str
+    value: Optional[str]
 
 
-def read_line(text: str) -> Line:
-    """A line of a dump."""
-    word, _, given = text.partition(" ")
-    parts = values.read(given) if given.startswith("{") else []
-    assert isinstance(parts, list)
-    return Line(word, [int(part) if isinstance(part, values.Obj) else part for part in parts], text)
+def read_slot(line: str) -> SlotLine:
+    """A line of a slot."""
+    found = SLOT.fullmatch(line)
+    assert found, line
+    return SlotLine(int(found[1]), (found[2], found[3]), int(found[4]), found[5], found[6])
 
 
 class Dump:
-    """A dump, read."""
+    """A dump, read: its lines, the parents of objects, and its slots by their lines."""
 
     def __init__(self, text: str) -> None:
-        self.lines = [read_line(line) for line in text.splitlines()]
-        self.parents = {line.parts[0]: line.parts[3] for line in self.lines if line.word == "object"}
-        self.slots = {(line.parts[0], line.parts[1], line.parts[2]): line.parts for line in self.lines if line.word == "slot"}
+        self.lines = text.splitlines()
+        self.parents = {int(found[1]): int(found[2]) for found in map(OBJECT.match, self.lines) if found}
+        self.slots = {line: read_slot(line) for line in self.lines if line.startswith("slot ")}
+        self.at = {(slot.object, slot.of): slot for slot in self.slots.values()}
 
-    def read(self, slot: list[Any]) -> object:
+    def read(self, slot: SlotLine) -> str:
         """What a slot reads: its value, or that of the nearest ancestor that has one."""
-        number, definer, name = slot[:3]
-        found: Optional[list[Any]] = slot
-        while found is not None and not found[5]:
-            number = self.parents[number]
-            found = self.slots.get((number, definer, name))
-        assert found is not None
-        return found[6]
+        while slot.value is None:
+            slot = self.at[self.parents[slot.object], slot.of]
+        return slot.value
 
 
 def differences(programmer: int, one: Dump, other: Dump) -> Iterator[str]:
@@ -48,28 +56,35 @@ def differences(programmer: int, one: Dump, other: Dump) -> Iterator[str]:
         yield f"{len(one.lines)} lines and {len(other.lines)}"
         return
     for line, twin in zip(one.lines, other.lines):
-        if not is_alike(programmer, one, other, line, twin):
-            yield f"{line.text} / {twin.text}"
+        if line.startswith("slot ") and twin.startswith("slot "):
+            is_alike = slots_alike(programmer, one, other, (one.slots[line], other.slots[twin]))
+        else:
+            is_alike = line == twin or is_secret(programmer, line, twin)
+        if not is_alike:
+            yield f"{line} / {twin}"
 
 
-def is_alike(programmer: int, one: Dump, other: Dump, line: Line, twin: Line) -> bool:
-    """Whether two lines are alike: the same, but for what the programmer may not read."""
-    if line.word != twin.word:
+def slots_alike(programmer: int, one: Dump, other: Dump, both: tuple[SlotLine, SlotLine]) -> bool:
+    """Whether two slots are the same, and read the same, but for what the programmer may not read."""
+    slot, twin = both
+    if slot[:2] != twin[:2]:
         return False
-    both = (line.parts, twin.parts)
-    if line.word == "slot":
-        if any(parts[3] == programmer or "r" in parts[4] for parts in both):
-            return line.parts[:6] == twin.parts[:6] and one.read(line.parts) == other.read(twin.parts)
-        return line.parts[:3] == twin.parts[:3] and ("w" in line.parts[4]) == ("w" in twin.parts[4])
-    if line.word == "verb":
-        if any(parts[2] == programmer or {"r", "w"} & {*parts[3]} for parts in both):
-            return line.text == twin.text
-        return line.parts[:2] == twin.parts[:2]
-    if line.word == "petition":
-        return line.text == twin.text if programmer in (line.parts[1], twin.parts[1]) else line.parts[:1] == twin.parts[:1]
-    return line.text == twin.text
+    if any(each.owner == programmer or "r" in each.perms for each in both):
+        return slot[2:4] == twin[2:4] and (slot.value is None) == (twin.value is None) and one.read(slot) == other.read(twin)
+    return ("w" in slot.perms) == ("w" in twin.perms)
+
+
+def is_secret(programmer: int, line: str, twin: str) -> bool:
+    """Whether two lines are of one verb that the programmer may neither read nor write, or of one petition of others."""
+    verbs = VERB.match(line), VERB.match(twin)
+    if verbs[0] and verbs[1]:
+        return verbs[0][1] == verbs[1][1] and not any(found and (int(found[2]) == programmer or {"r", "w"} & {*found[3]}) for found in verbs)
+    petitions = PETITION.match(line), PETITION.match(twin)
+    if petitions[0] and petitions[1]:
+        return petitions[0][1] == petitions[1][1] and str(programmer) not in (petitions[0][2], petitions[1][2])
+    return False
 
 
 def hidden(one: Dump, other: Dump) -> int:
     """In how many lines two dumps differ."""
-    return sum(line.text != twin.text for line, twin in zip(one.lines, other.lines))
+    return sum(line != twin for line, twin in zip(one.lines, other.lines))

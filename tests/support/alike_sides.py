@@ -56,6 +56,11 @@ class WebSide:
         """The bytes that answer calls."""
         return self.service.ask(post(path, json.dumps({"as": f"#{who}", "calls": calls})))
 
+    def each(self, who: int, calls: list[str]) -> list[dict[str, str]]:
+        """What each call alone would answer."""
+        found: list[dict[str, str]] = json.loads(self.ask("/each", who, calls).partition(b"\r\n\r\n")[2])["each"]
+        return found
+
     def body(self, path: str) -> str:
         """The body of what answers a path."""
         return self.service.ask(get(path)).decode().partition("\r\n\r\n")[2]
