@@ -109,7 +109,7 @@ class Walks(SearchTest):
             ada.open("/o/14")
             ada.act_on(ada.driver.find_element("css selector", ".menu summary"), "\ue007")
             ada.follow("Export as a script")
-            ada.sees("4 objects", "isn’t in it" if "isn’t in it" in ada.text() else "aren’t in it", "note, on 1 of the objects: you may not read it")
+            ada.sees("4 objects", "What differs, or isn’t in it: 5", "note, on 1 of the objects: you may not read it")
             script = ada.driver.find_element("id", "script").get_attribute("value")
             self.assertNotIn("business", script)
             self.front = self.fronts[1]

@@ -206,7 +206,7 @@ class Export:
         lines = [
             f"// {self.named(self.first)} and {WITH[self.what][1]}: {count} object{'' if count == 1 else 's'}{told}.",
             f"// {how} $me is who does it.",
-            *(("// Not in it:", *(f"//   {why}" for why in self.left_out)) if self.left_out else ()),
+            *(("// What differs, or isn't in it:", *(f"//   {why}" for why in self.left_out)) if self.left_out else ()),
         ]  # fmt: skip
         if self.names.outside:
             lines += ["// These objects have to be there, with the properties that are set below. If they have other numbers, write those here."]
