@@ -183,7 +183,8 @@ class Session:
                 raise Failed(told)
             self.test_names(text)
             shown = text if len(text) <= 80 else text[:78] + ".."
-            raise Failed(f"malformed: {shown} isn't a call: {hint(text)}")
+            named = f"; `show {text}` shows an object of that name" if re.fullmatch(r"[A-Za-z][\w' ]*", text) and not self.is_script else ""
+            raise Failed(f"malformed: {shown} isn't a call: {hint(text)}{named}")
         if is_open(text):
             raise Failed(f"malformed: {text}: {unfinished(text)}")
 

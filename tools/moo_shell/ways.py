@@ -38,7 +38,7 @@ def way_on(session: Session, refused: Refused, text: str, is_alone: bool) -> str
         return like
     told = ""
     with contextlib.suppress(Failed):
-        told = {"E_PROPNF": adding, "E_PERM": asking, "E_QUOTA": more, "E_NACC": accepting}.get(refused.error, nothing)(session, refused.reason, text)
+        told = {"E_PROPNF": adding, "E_TYPE": numbering, "E_PERM": asking, "E_QUOTA": more, "E_NACC": accepting}.get(refused.error, nothing)(session, refused.reason, text)
     return f"; {told if is_alone or told[:8] != 'petition' else f'{FIX} {told}'}" if told else ""
 
 
@@ -65,6 +65,12 @@ def adding(session: Session, _: str, text: str) -> str:
     if not found or call_name(text) != "set":
         return ""
     return f'add_property({found[1]}, "{found[2]}", {found[3]}, {{#{session.world.caller()}, "rc"}}) adds it'
+
+
+def numbering(_session: Session, _reason: str, text: str) -> str:
+    """How the number of an object is written that a call is given as a number or a text."""
+    found = re.match(r'\s*\w+\s*\(\s*(?:"#?(\d+)"|(\d+))\s*[,)]', text)
+    return f"an object is written #{found[1] or found[2]}" if found else ""
 
 
 def asking(_: Session, reason: str, text: str) -> str:
