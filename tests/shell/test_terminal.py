@@ -194,6 +194,7 @@ class Lines(Typed):
             self.case(f"what puts back {line}", self.done(shell, "undo"), [back.format(call)])
         self.case("a name without a value", self.done(shell, "$lamp.name"), ["$lamp has no value; $lamp = #4 gives it one"])
         self.case("a number in the place of an object", self.done(shell, 'get(4, "name")')[0].endswith("; an object is written #4"), True)
+        self.case("a property that is begun", self.done(shell, "#4.desc")[0].endswith("(did you mean description?)"), True)
         self.case("a word alone", self.done(shell, "lamp")[0].endswith("; `show lamp` shows an object of that name"), True)
         self.case("a name of nothing", self.done(shell, "$nothing"), ["$nothing has no value; $nothing = #5 gives it one"])
         self.done(shell, "begin", "   1> ")

@@ -55,6 +55,10 @@ SQL = {
     "copy": "\\dump FILE writes the whole world, and \\i FILE does the calls of a file",
     "vacuum": "after the service has ended, `sqlite3 FILE VACUUM` makes the file smaller",
     "analyze": "nothing has to be done for speed",
+    "replace": '#5.name = "Inn" sets a property',
+    "listen": "\\watch LINE does a line that only reads again and again",
+    ".tables": "\\classes lists the objects that others are under",
+    ".schema": "\\show #5 shows an object with its properties",
 }
 # Words that are SQL only with one of these after them.
 WITH_KIND = re.compile(r"(create|grant|table|set|show)\s+(?:table|view|index|schema|database|role|user|select|insert|update|all|\w+\s+to)\b.*", re.I | re.S)
