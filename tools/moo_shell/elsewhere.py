@@ -27,8 +27,8 @@ SENTENCES = {
 }
 SAME = {
     "make-player": "newplayer", "rmalias": "addalias", "unlock": "lock", "notedit": "edit", "ways": "exits", "entrances": "exits",
-    "add-exit": "exits", "addexit": "exits", "dump-database": "shutdown", "gripe": "mail", "send": "mail", "news": "mail", "where": "who", "users": "who", "boot": "who", "shout": "who",
-    "sethome": "home", "eject": "home", "check-property": "check", "check-chparent": "check", "check-prop": "check", "check-p": "check",
+    "add-exit": "exits", "addexit": "exits", "dump-database": "shutdown", "gripe": "mail", "send": "mail", "news": "mail",
+    "where": "who", "users": "who", "boot": "who", "shout": "who", "sethome": "home", "eject": "home", "check-property": "check", "check-chparent": "check", "check-prop": "check", "check-p": "check",
 }  # fmt: skip
 # Words and signs with which people play a game.
 PLAYING = re.compile(
@@ -132,9 +132,10 @@ OPTIONS = {
 }
 # The same options in whole words.
 WHOLE = {
-    "--dbname": "-d", "--username": "-U", "--password": "-W", "--no-password": "-w", "--list": "-l", "--output": "-o", "--variable": "-v", "--set": "-v",
+    "--dbname": "-d", "--username": "-U", "--password": "-W", "--no-password": "-w", "--list": "-l", "--output": "-o", "--variable": "-v",
+    "--set": "-v",
     "--echo-all": "-a", "--echo-queries": "-e", "--echo-errors": "-b", "--no-align": "-A", "--tuples-only": "-t", "--no-psqlrc": "-X", "--html": "-H",
-    "--field-separator": "-F", "--log-file": "-L", "--single-step": "-s", "--command": "-c", "--csv": "--csv",
+    "--field-separator": "-F", "--log-file": "-L", "--single-step": "-s",
 }  # fmt: skip
 
 
