@@ -243,6 +243,7 @@ class Parts(ProgramTest):
             (":x", "a name is written $x, and nobody plays at this prompt"),
             ("/* words */", "a comment begins with // and ends with its line"),
             ("select", f"moo has no SQL; {elsewhere.SQL['select']}"),
+            (".tables", f"moo has no SQL; {elsewhere.SQL['.tables']}"),
             ("create table inn (a int)", f"moo has no SQL; {elsewhere.KINDS['create']}"),
             ("nothing", ""),
             ("#5.name \\watch 1", "a word of the shell begins its line: \\watch 1 #5.name"),

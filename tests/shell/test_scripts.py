@@ -381,7 +381,7 @@ class Mistakes(OnWorld):
             ("create(#1", ["malformed: "]),
             ("create #1", ["create is a call, and its values are in brackets"]),
             ("@describe #4 as \"a\" and \"b\"", ["isn't one text"]),
-            ("begin\n$x = create(#1)\n#4.name = $y", ["$y has no value"]),
+            ("begin\n#4.name = $y", ["$y has no value"]),
             ("length({})", ["'length' names no call: moo reckons nothing"]),
             ("set_accept(#4, {1, 2)", ["malformed: "]),
             ('set(#4, "name, 3)', ["malformed: "]),

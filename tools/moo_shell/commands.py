@@ -26,7 +26,7 @@ from moo_shell.session import Session
 from moo_shell.watching import watch
 from moo_shell.ways import how_to_undo
 from moolib.batches import Item
-from moolib.errors import Failed
+from moolib.errors import TROUBLES, Failed
 from moolib.lines import Line, counted, did_you_mean, filled, names_in, unquoted
 from moolib.values import written
 
@@ -253,7 +253,11 @@ def dump(session: Session, text: str) -> None:
 
 def dump_of(session: Session) -> str:
     """The dump of the world, by the service's route, or by the program if the service is the shell's own and has no such route."""
-    reply = session.door.tried("GET", "/dump")
+    try:
+        reply = session.door.tried("GET", "/dump")
+    except Failed as failed:
+        wizards = "; a front gives the whole world to wizards alone" if failed.reason == TROUBLES["forbidden"] else ""
+        raise Failed(f"\\dump: {failed.reason}{wizards}") from None
     if reply.is_good:
         return reply.text
     if not reply.is_missing:

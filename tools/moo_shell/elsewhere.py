@@ -27,8 +27,8 @@ SENTENCES = {
 }
 SAME = {
     "make-player": "newplayer", "rmalias": "addalias", "unlock": "lock", "notedit": "edit", "ways": "exits", "entrances": "exits",
-    "add-exit": "exits", "addexit": "exits", "dump-database": "shutdown", "gripe": "mail", "send": "mail", "news": "mail", "where": "who", "users": "who", "boot": "who", "shout": "who",
-    "sethome": "home", "eject": "home", "check-property": "check", "check-chparent": "check", "check-prop": "check", "check-p": "check",
+    "add-exit": "exits", "addexit": "exits", "dump-database": "shutdown", "gripe": "mail", "send": "mail", "news": "mail",
+    "where": "who", "users": "who", "boot": "who", "shout": "who", "sethome": "home", "eject": "home", "check-property": "check", "check-chparent": "check", "check-prop": "check", "check-p": "check",
 }  # fmt: skip
 # Words and signs with which people play a game.
 PLAYING = re.compile(
@@ -55,6 +55,10 @@ SQL = {
     "copy": "\\dump FILE writes the whole world, and \\i FILE does the calls of a file",
     "vacuum": "after the service has ended, `sqlite3 FILE VACUUM` makes the file smaller",
     "analyze": "nothing has to be done for speed",
+    "replace": '#5.name = "Inn" sets a property',
+    "listen": "\\watch LINE does a line that only reads again and again",
+    ".tables": "\\classes lists the objects that others are under",
+    ".schema": "\\show #5 shows an object with its properties",
 }
 # Words that are SQL only with one of these after them.
 WITH_KIND = re.compile(r"(create|grant|table|set|show)\s+(?:table|view|index|schema|database|role|user|select|insert|update|all|\w+\s+to)\b.*", re.I | re.S)
@@ -128,9 +132,10 @@ OPTIONS = {
 }
 # The same options in whole words.
 WHOLE = {
-    "--dbname": "-d", "--username": "-U", "--password": "-W", "--no-password": "-w", "--list": "-l", "--output": "-o", "--variable": "-v", "--set": "-v",
+    "--dbname": "-d", "--username": "-U", "--password": "-W", "--no-password": "-w", "--list": "-l", "--output": "-o", "--variable": "-v",
+    "--set": "-v",
     "--echo-all": "-a", "--echo-queries": "-e", "--echo-errors": "-b", "--no-align": "-A", "--tuples-only": "-t", "--no-psqlrc": "-X", "--html": "-H",
-    "--field-separator": "-F", "--log-file": "-L", "--single-step": "-s", "--command": "-c", "--csv": "--csv",
+    "--field-separator": "-F", "--log-file": "-L", "--single-step": "-s",
 }  # fmt: skip
 
 

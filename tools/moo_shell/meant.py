@@ -26,7 +26,9 @@ EVALUATED = re.compile(r"(?:eval|return)\s+(.*)", re.IGNORECASE | re.DOTALL)
 WORD = re.compile(r"[@.]?([A-Za-z]+)(?:\s+(.*))?", re.DOTALL)
 
 # An expression that moo would have to reckon, and the word with which a value that isn't one begins, in the words of moo.
-SUM = re.compile(r'(?:-?\d+|"(?:[^"\\]|\\.)*"|[#$]\w+(?:\.\w+)*|\{.*\})\s*[-+*/%<>=?[]|(?:for|if|while|fork|try|return)\b', re.DOTALL)
+SUM = re.compile(
+    r'(?:-?\d+|"(?:[^"\\]|\\.)*"|[#$]\w+(?:\.\w+)*|\{.*\})\s*[-+*/%<>=?[]|(?:for|if|while|fork|try|return)\b', re.DOTALL
+)
 RECKONS = "moo reckons nothing: a line is a call, or a property as #5.name"
 NO_SUMS = "; a call isn't a value of another one: $x = CALL gives its answer a name"
 WORD_OF_VALUE = re.compile(r"(?:.*: )?'([A-Za-z]\w*)(\()?[^']*' isn't a value")

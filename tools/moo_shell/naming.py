@@ -1,4 +1,4 @@
-"""Names: those that stand for who calls and where, those for what is made, and names with their values in a file, as `$hall = #5` on a line each."""
+"""Names: those for who calls and where, those for what is made, and names with their values in a file, as `$hall = #5` on a line each."""
 
 from __future__ import annotations
 

@@ -3,7 +3,6 @@
 from __future__ import annotations
 
 import collections
-import contextlib
 import dataclasses
 import re
 import time
@@ -30,7 +29,7 @@ from moo_shell.world import World
 from moolib.batches import Item
 from moolib.calls import LONGEST_CALL, call_name, read_or_none
 from moolib.errors import Failed
-from moolib.lines import Line, counted, did_you_mean, filled, hint, names_in, pieces, unfinished, unquoted
+from moolib.lines import Line, filled, hint, names_in, unfinished, unquoted
 from moolib.values import written
 
 RunWord = Callable[["Session", str, str], None]
@@ -183,7 +182,8 @@ class Session:
                 raise Failed(told)
             self.test_names(text)
             shown = text if len(text) <= 80 else text[:78] + ".."
-            raise Failed(f"malformed: {shown} isn't a call: {hint(text)}")
+            named = f"; `show {text}` shows an object of that name" if re.fullmatch(r"[A-Za-z][\w' ]*", text) and not self.is_script else ""
+            raise Failed(f"malformed: {shown} isn't a call: {hint(text)}{named}")
         if is_open(text):
             raise Failed(f"malformed: {text}: {unfinished(text)}")
 
