@@ -218,7 +218,8 @@ def feeds_quota(plot: Plot, found: Definition, number: int) -> bool:
 
 def other_than(random: Random, plot: Plot) -> tuple[Plot, list[str]]:
     """A plot that is alike to the programmer, and of what kind each difference is."""
-    other, kinds = plot.twin(), []
+    other = plot.twin()
+    kinds: list[str] = []
     other.gone = random.choice([0, 1, GONE])
     for found, twin in zip(plot.definitions, other.definitions):
         for number, slot in found.slots.items():
