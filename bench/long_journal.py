@@ -3,15 +3,17 @@
     python3 bench/long_journal.py PROGRAM [BATCHES ..] [--folder FOLDER]
 
 For each number of batches (300,000 and 3,000,000) it makes a world of 1,000 objects whose number is that, and the journal of 20 people who
-gave these their names, by segments of 64 MiB. Then it prints for each of them, in turn in one run: the seconds in which the files beside the
-segments are made, as by a front that has none; and of a front that finds them, from its start to its first line, the first page of
-`/history`, the first page of the history of one object, and the batch of the first number, in seconds on the clock and of processor time; and
-the memory of the front after its start and in the end. Each is measured three times, and the median is printed. Before each start the system
-is asked to forget what it has of the journal in memory.
+gave these their names, by segments of 64 MiB, with the files beside them. Of a short journal it tests that these are as a front makes them.
+Then it prints for each of them, in turn in one run: from the start of a front to its first line, the first page of `/history`, the first page
+of the history of one object, and the batch of the first number, in seconds on the clock and of processor time; and the memory of the front after
+its start and in the end. Each is measured three times, and the median is printed. Before each start the system is asked to forget what it has
+of the journal in memory.
 """
 from __future__ import annotations
 
 import argparse
+import array
+import json
 import os
 import pathlib
 import statistics
@@ -33,11 +35,14 @@ from tests.support.web import Front, add_person  # noqa: E402
 
 from moo_web.journal.history import History  # noqa: E402
 from moo_web.journal.journal import SEGMENT_BYTES  # noqa: E402
-from moo_web.journal.segments import FIRST_SUM, VERSION, line_of  # noqa: E402
+from moo_web.journal.prefixes import LinePlace, put_prefix  # noqa: E402
+from moo_web.journal.segments import FIRST_SUM, SUM_LENGTH, VERSION, Segment, sum_after  # noqa: E402
+from moo_web.journal.tables import PLACES, Growing, sum_of, sum_of_calls  # noqa: E402
 
 PEOPLE, OBJECTS, FIRST_OBJECT = 20, 1000, 4
 FIRST_MOMENT = 1_700_000_000.0
 TRIES = 3
+MOST_TESTED = 30_000
 # A batch is of the wizard's, and so are its pages.
 WIZARD = 3
 PAGES = (
@@ -61,44 +66,59 @@ def make_world_at(file: pathlib.Path, seq: int) -> None:
 
 
 class Written:
-    """A journal as a front writes it, without a sync of each line."""
+    """A journal as a front writes it, and the files beside its segments, which say what those hold."""
 
     def __init__(self, folder: pathlib.Path) -> None:
-        self.folder, self.sum, self.segment, self.size = folder, FIRST_SUM, 0, SEGMENT_BYTES
+        self.folder, self.sum, self.moment = folder, FIRST_SUM, FIRST_MOMENT
         self.file: BinaryIO | None = None
+        self.held: Growing | None = None
 
-    def put(self, line: dict[str, object]) -> None:
-        """Appends a line."""
-        assert self.file
-        self.sum, text = line_of(self.sum, line)
-        self.file.write(text)
-        self.size += len(text)
+    def put(self, text: str) -> int:
+        """Appends a line of this JSON, and gives its place."""
+        assert self.file and self.held is not None
+        self.sum, start = sum_after(self.sum, text.encode()), self.held.end
+        self.file.write(f"{self.sum} {text}\n".encode())
+        self.held.last.append(LinePlace(start, self.sum))
+        self.held.end, self.held.lines, self.held.sum = start + SUM_LENGTH + len(text) + 2, self.held.lines + 1, self.sum
+        return start
 
-    def begin(self, seq: int, moment: float) -> None:
+    def begin(self, seq: int) -> None:
         """Begins a segment."""
+        number, former, why = (1 if self.held is None else self.held.segment.number + 1), self.sum, "full" if seq else "new"
         self.close()
-        self.file, self.size, self.segment = open(self.folder / f"journal-{seq}", "xb"), 0, self.segment + 1
-        why, former = "full" if seq else "new", self.sum
-        self.put({"k": "base", "version": VERSION, "segment": self.segment, "seq": seq, "former": former, "t": moment, "why": why, "branch": FIRST_SUM})
+        path = self.folder / f"journal-{seq}"
+        self.file, self.held = open(path, "xb"), Growing(Segment(path, number, former, VERSION, why, FIRST_SUM, seq), {})
+        self.held.seq, self.held.base, self.held.why = seq, seq, why
+        said = {"k": "base", "version": VERSION, "segment": number, "seq": seq, "former": former, "t": self.moment, "why": why, "branch": FIRST_SUM}
+        self.put(json.dumps(said, separators=(",", ":")))
 
     def close(self) -> None:
-        """Brings the present segment onto the disk."""
-        if self.file:
+        """Brings the present segment onto the disk, and the file beside it."""
+        if self.file and self.held is not None:
             self.file.flush()
             os.fsync(self.file.fileno())
             self.file.close()
+            self.held.moment = self.moment
+            put_prefix(self.held.segment, self.held.prefix(), self.held.tables())
 
     def batch(self, at: int) -> None:
         """A batch in which somebody gives an object another name."""
-        moment, one = FIRST_MOMENT + at, f"#{FIRST_OBJECT + at * 7919 % OBJECTS}"
-        if self.size >= SEGMENT_BYTES:
-            self.begin(at, moment)
-        new, old = (f'set({one}, "name", "lantern {number}, lit at dusk")' for number in (at, at - OBJECTS))
-        self.put({
-            "k": "intent", "at": at, "t": moment, "who": f"person{at % PEOPLE}", "as": WIZARD, "calls": [new], "answers": ["0"],
-            "before": [[old]], "names": {one: f"lantern {at - OBJECTS}, lit at dusk"},
-        })  # fmt: skip
-        self.put({"k": "done", "seq": at + 1})
+        number, who = FIRST_OBJECT + at * 7919 % OBJECTS, f"person{at % PEOPLE}"
+        if self.held is None or self.held.end >= SEGMENT_BYTES:
+            self.begin(at)
+        held, self.moment = self.held, FIRST_MOMENT + at
+        assert held is not None
+        new, old = (f'set(#{number}, \\"name\\", \\"lantern {one}, lit at dusk\\")' for one in (at, at - OBJECTS))
+        held.intents.append(self.put(
+            f'{{"k":"intent","at":{at},"t":{self.moment},"who":"{who}","as":{WIZARD},"calls":["{new}"],"answers":["0"],'
+            f'"before":[["{old}"]],"names":{{"#{number}":"lantern {at - OBJECTS}, lit at dusk"}}}}'
+        ))  # fmt: skip
+        held.outcomes.append(self.put(f'{{"k":"done","seq":{at + 1}}}'))
+        held.sums.append(sum_of_calls(who, sum_of([new.replace("\\", "")])))
+        place = len(held) - 1
+        held.of_people.setdefault(who, array.array(PLACES)).append(place)
+        held.of_objects.setdefault(number, array.array(PLACES)).append(place)
+        held.seq = at + 1
 
 
 def make_journal(folder: pathlib.Path, count: int) -> None:
@@ -107,6 +127,19 @@ def make_journal(folder: pathlib.Path, count: int) -> None:
     for at in range(count):
         written.batch(at)
     written.close()
+
+
+def test_files(folder: pathlib.Path) -> None:
+    """The files beside the segments have to be those that a front makes which finds none."""
+    files = {path: path.read_bytes() for path in folder.glob("index-*")}
+    for path in files:
+        path.unlink()
+    history = History(folder, least=1)
+    history.found(None, None, 1)
+    history.end()
+    for path, text in files.items():
+        if path.read_bytes() != text:
+            raise AssertionError(f"{path} isn't as a front makes it")
 
 
 def forget(folder: pathlib.Path) -> None:
@@ -130,11 +163,8 @@ class Journal:
         self.moo = KeptService(world)
         add_person(self.front, "wizard", WIZARD)
         self.seconds = time.monotonic() - began
-        began = time.process_time()
-        history = History(self.front)
-        history.found(None, None, 1)
-        history.end()
-        self.made = time.process_time() - began
+        if count <= MOST_TESTED:
+            test_files(self.front)
         self.guest = Guest(0)
         front = Front(self.front, self.moo.port)
         self.guest.port = front.port
@@ -165,7 +195,7 @@ class Journal:
 
     def tell(self) -> None:
         """Prints what was measured."""
-        print(f"{self.count:,} batches, {self.bytes >> 20} MB, made in {self.seconds:.0f} s; the files beside them in {self.made:.1f} s of the processor")
+        print(f"{self.count:,} batches, {self.bytes >> 20} MB, made in {self.seconds:.0f} s")
         for name, tries in self.figures.items():
             clock, processor = (statistics.median(each) for each in zip(*tries))
             print(f"    {name:28}{clock:8.2f} s{processor:8.2f} s of the processor")

@@ -12,7 +12,7 @@ _moo_shell()
         -p | --port | --web | --as | -c | --call | --from-line) return ;;
     esac
     case $word in
-        -*) mapfile -t COMPREPLY < <(compgen -W "--port -p --web --token --as --file -f --call -c --single -1 --from-line --dry-run --quiet -q --names --moo --help" -- "$word") ;;
+        -*) mapfile -t COMPREPLY < <(compgen -W "--port -p --web --token --as --file -f --call -c --single --single-transaction -1 --from-line --dry-run --quiet -q --names --moo --version --help" -- "$word") ;;
         *) mapfile -t COMPREPLY < <(compgen -f -- "$word") ;;
     esac
 }

@@ -1,11 +1,26 @@
-"""That the mutants still fit: each text that one replaces is in its file once; and mutants/gate names mutants that there are."""
+"""That the mutants still fit: each text that one replaces is in its file once; and mutants/gate names mutants that there are.
+
+A mutant that does something only if a list has a certain length, as `ALL.len() == 33`, does nothing once the list has another one. That is
+looked for too. The gate finds any such mutant among those that it tries, since the checker proves it.
+"""
 from __future__ import annotations
 
+import re
 from pathlib import Path
 from typing import Iterator, Optional, Union
 
 TOP = Path(__file__).resolve().parents[2]
 MUTANTS = TOP / "mutants"
+ASKED = re.compile(r"\b([A-Z][A-Z_]*)\.len\(\) == (\d+)")
+
+
+def never_taken(new: str, source: str) -> Optional[str]:
+    """The length that a new text asks of a list of its file, if the list has another one."""
+    for name, length in ASKED.findall(new):
+        known = re.search(rf"\b{name}: \[\w+; (\d+)\]", source)
+        if not known or known[1] != length:
+            return f"{name}.len() == {length} is never so: it is {known[1] if known else 'not a list of the file'}"
+    return None
 
 
 def misfit(edit: Path) -> Optional[str]:
@@ -27,6 +42,8 @@ def misfit(edit: Path) -> Optional[str]:
                 return "a text comes before its file"
             if texts[file].count(old) != 1:
                 return f"{old!r} is {texts[file].count(old)} times in {file.name}"
+            if never := never_taken(rest, texts[file]):
+                return never
             texts[file] = texts[file].replace(old, rest)
             old = None
     return None if texts else "it changes nothing"

@@ -4,7 +4,7 @@ What a name in a body means is read off the imports of its file. The type of a m
 are taken, of the crates that the caller uses: a function may pass for reached that isn't.
 
 A `surface.rt` has calls that the program leaves out: none of them is reached, and no page names one but PROMISES, which says of each call
-that the program leaves out that it doesn't call it.
+that the program leaves out that it is unused.
 """
 from __future__ import annotations
 
@@ -19,7 +19,7 @@ TOUR = TOP / "docs/TOUR.md"
 WAY_ENDS = "\n## Where the meaning is\n"
 PAGES = ("README.md", "CONTRIBUTING.md", "docs/*.md")
 # What a row of PROMISES says of a call that the program leaves out.
-SAYS_IT = "which the program doesn't call"
+SAYS_IT = "(unused)"
 SURFACE = "surface"
 SAYS_SO = "//! The program doesn't come this way."
 PRELUDE = {"Box", "Option", "Result", "Some", "String", "Vec"}

@@ -31,6 +31,7 @@ ALONE = {
     "tools.moolib": SECONDS,
     "web.alone": KILLS,
     "web.browser": BROWSER,
+    "web.browser_asking": BROWSER,
     "web.browser_edit": BROWSER,
     "web.browser_forms": BROWSER,
     "web.browser_undo": BROWSER,

@@ -35,16 +35,23 @@ def group_for(name: str) -> Path | None:
 
 
 class Machine:
-    """A new machine. `other` plays another machine, with the sources and with copies. `disk2` is a disk that outlives it."""
+    """A new machine. `other` plays another machine, with the sources and with copies. `disk2` is a disk that outlives it.
+
+    Its disk, `root`, is Debian's files with what is its own over them, which is in `own`.
+    """
 
     def __init__(self, folder: Path, name: str, disk2: str = "disk2") -> None:
-        self.root, self.name, self.log = folder / name, name, folder / f"{name}.log"
+        self.base, self.root, self.own = folder / "base", folder / name, folder / f"{name}.own"
+        self.name, self.log = name, folder / f"{name}.log"
         self.other, self.disk2 = folder / "other", folder / disk2
         self.first: int | None = None
-        shutil.rmtree(self.root, ignore_errors=True)
-        subprocess.run(["cp", "--archive", folder / "base", self.root], check=True)
+        shutil.rmtree(self.own, ignore_errors=True)
+        for each in (self.root, self.own / "files", self.own / "work"):
+            each.mkdir(parents=True, exist_ok=True)
+        layers = f"lowerdir={self.base},upperdir={self.own / 'files'},workdir={self.own / 'work'}"
+        subprocess.run(["mount", "-t", "overlay", "overlay", "-o", layers, self.root], check=True)
+        atexit.register(self.leave)
         (self.root / "srv/journal2").mkdir(exist_ok=True)
-        atexit.register(self.kill)
         self.boot()
 
     def boot(self) -> None:
@@ -107,10 +114,16 @@ class Machine:
             os.kill(self.first, signal.SIGKILL)
             self.process.wait(SECONDS)
 
+    def leave(self) -> None:
+        """Kills it. What is its own stays to be looked at."""
+        self.kill()
+        if os.path.ismount(self.root):
+            subprocess.run(["umount", "--lazy", self.root], check=True)
+
     def lose(self) -> None:
         """Kills it and deletes its disk."""
-        self.kill()
-        shutil.rmtree(self.root)
+        self.leave()
+        shutil.rmtree(self.own)
 
 
 def make_base(folder: Path) -> None:

@@ -74,6 +74,18 @@ class Matched(ProgramTest):
         self.case("it has its own program", found, [["b"], ["c"]])
         self.case("it is told", "first at #0:0, line 4, which was 'b'\n" in said, True)
 
+    def test_a_verb_renamed_to_a_deleted_one(self) -> None:
+        """If the last verb may have been added, the verb before it may have had that one's program."""
+        before = [Verb("open", 0, "rd", NONE, ["1"]), Verb("look", 0, "rd", NONE, ["2"])]
+        kind = "programs given by their names to a verb that may be the one renamed, if the one after it was added: 1, first at #0:{}, line {}\n"
+        for names, args, place in (("stow", ANY, 0), ("look", ANY, 0)):
+            found, said = self.given(before, [Verb("open", 0, "rd", NONE), Verb(names, 0, "rd", args)])
+            self.case(f"{names} after it", (found, kind.format(place, 4 + place) in said), ([["1"], ["2"]], True))
+        found, said = self.given(before, [Verb("stow", 0, "rd", NONE), Verb("look", 0, "rd", NONE)])
+        self.case("or the last one may be an added one with its names", (found, kind.format(1, 5) in said), ([["1"], ["2"]], True))
+        found, said = self.given([Verb("open", 0, "rd", ANY, ["1"]), before[1]], [Verb("open", 0, "rd", ANY), Verb("stow", 0, "rd", ANY)])
+        self.case("not if its arguments say that it can't be that one", kind[:60] in said, False)
+
     def test_twins(self) -> None:
         twins = [Verb("open", 0, "rd", NONE, ["1"]), Verb("open", 0, "rd", NONE, ["2"])]
         kind = "programs given by their order to one of several verbs of the same names and arguments"

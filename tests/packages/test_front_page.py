@@ -31,7 +31,7 @@ ELSEWHERE = {
     "man packaging/moo-shell.1": "packages.install",
     "./moo init village.db": "packages.front_page",
     "tools/moo-shell -f examples/village.moo village.db": "packages.front_page",
-    "./moo apply world.db examples/lantern.txt": "packages.front_page",
+    "./moo apply :memory: examples/lantern.txt": "packages.front_page",
     "./moo --help": "packages.front_page",
 }
 
@@ -108,8 +108,7 @@ class FrontPage(ProgramTest):
     def test_commands_in_the_text(self) -> None:
         self.case("a world for the village", run("init", "village.db"), (0, "created\n"))
         self.case("the village", run_shell("-f", "examples/village.moo", "village.db").status, 0)
-        self.case("a world for the lantern", run("init", "world.db"), (0, "created\n"))
-        came = self.shown("./moo apply world.db examples/lantern.txt")
+        came = self.shown("./moo apply :memory: examples/lantern.txt")
         self.case("a text of batches", came, (TOP / "examples/lantern.replies").read_text().splitlines())
         self.case("the help", self.shown("./moo --help")[0] != "", True)
 

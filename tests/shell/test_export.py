@@ -137,6 +137,21 @@ class Same(ExportTest):
             with self.subTest(seed=seed, what=KINDS[seed % 2]):
                 self.one(random.Random(seed), KINDS[seed % 2])
 
+    def test_more_than_a_batch_holds(self) -> None:
+        first = int(self.run_batch(f"create(#{THING})")[0][1:])
+        for begin in range(0, 400, 200):
+            numbers = range(first + begin + 1, first + begin + 201)
+            self.run_batch(*(f"create(#{first})" for _ in numbers), *(f'set(#{number}, "size", {number})' for number in numbers))
+            self.run_batch(*(f'set(#{number}, "name", "one of many")' for number in numbers))
+        exported = self.export(first, "children")
+        self.assertEqual((exported.objects, exported.calls, exported.text.count("\nbegin\n")), (401, 1201, 2))
+        self.assertIn("takes 1,000 calls at most, and this has 1,201", exported.text)
+        names = self.imported(exported.text)
+        last = max(names.values())
+        asked = [f'get(#{last}, "size")', f'get(#{last}, "name")', f"children(#{last - 400})"]
+        size, name, children = (said.value for said in self.target.alone(3, asked))
+        self.assertEqual((size, name, len(children)), (first + 400, "one of many", 400))
+
     def one(self, rng: random.Random, what: str) -> None:
         """A class or a room that many random calls have made, exported and imported."""
         first, inside = self.made(rng, what)

@@ -87,4 +87,5 @@ class AtAFront(RoomTest):
         self.assertEqual([row[-1] if row[0] else "".join(row) for row in rows], [
             "wizard as #3", 'set(#6, "name", "blue box")', "ada as #5", "create(#4)", 'set(#6, "name", "red box")',
         ])  # fmt: skip
+        self.assertIn("/undo/2 undoes it in a browser", self.shell("ada", "\\undo 2\n").complaint)
         self.assertIn("\\history: a front tells it to wizards alone", self.shell("ada", "\\history #6\n").complaint)

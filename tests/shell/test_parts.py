@@ -128,6 +128,8 @@ class Parts(ProgramTest):
             ("eval #5.name", Line("call", 'get(#5, "name")')),
             ("inventory", Line("command", "$me", word="places")),
             ("player", Line("alone", "$me")),
+            ("#5.name \\gx", Line("call", 'get(#5, "name")')),
+            ("\\echo \\g", Line("command", "\\g", word="echo")),
         )
         for text, wanted in cases:
             self.case(f"what {text} means", meant.meant(text, ("show", "tree"), answers.__getitem__), wanted)
@@ -241,8 +243,11 @@ class Parts(ProgramTest):
             (":x", "a name is written $x, and nobody plays at this prompt"),
             ("/* words */", "a comment begins with // and ends with its line"),
             ("select", f"moo has no SQL; {elsewhere.SQL['select']}"),
+            (".tables", f"moo has no SQL; {elsewhere.SQL['.tables']}"),
             ("create table inn (a int)", f"moo has no SQL; {elsewhere.KINDS['create']}"),
             ("nothing", ""),
+            ("#5.name \\watch 1", "a word of the shell begins its line: \\watch 1 #5.name"),
+            ("#5.name \\gset", elsewhere.PSQL["gset"]),
         )
         for text, wanted in cases:
             self.case(f"the advice of {text}", meant.advice(text), wanted)
@@ -254,11 +259,15 @@ class Parts(ProgramTest):
             ("move(#5, me)", "me)", "in a call it is $me"),
             ('petition(set(#5, "w", 1))', "set(#5,", "a call in a petition is a list"),
             ("move(create(#1), #2)", "create(#1),", "a call isn't a value of another one"),
+            ("move(:x, #2)", ":x,", "a name is written $x"),
         ):
             self.case(f"the advice of {text}", wanted in meant.signs_advice(text, wrong.format(of_value)), True)
         for word, begins in (("x", "\\show #5"), ("dv+", "\\show #5"), ("df", "\\help calls"), ("dus", "\\show #5"), ("nosuch", "")):
             self.case(f"the advice of \\{word}", elsewhere.of_psql(word)[: len(begins)] if begins else elsewhere.of_psql(word), begins)
-        for options, begins in ((["-A"], "-A: answers of a script are bare"), (["-Ubob"], "-U: --as N"), (["--attempt"], "")):
+        for options, begins in (
+            (["-A"], "-A: answers of a script are bare"), (["-Ubob"], "-U: --as N"), (["--attempt"], ""), (["--csv"], "--csv: answers of a script are bare"),
+            (["--username=bob"], "--username: --as N"), (["-v", "ON_ERROR_STOP=1"], "ON_ERROR_STOP: a script always stops"),
+        ):  # fmt: skip
             self.case(f"the advice of {options}", elsewhere.of_options(options)[: len(begins) or 9], begins)
 
     def test_the_examples_of_advice(self) -> None:

@@ -159,9 +159,9 @@ class Lines(Typed):
         shell = self.shell(EDITOR="sed -i s/dull/bright/")
         self.case("a command is shown as its calls", self.done(shell, "@chmod #4.weight +w"), ['set_property_info(#4, "weight", {#3, "rw"})', "0  accepted 2"])
         told = self.done(shell, '$me.smell = "salt"')[0]
-        self.case("a property that isn't there", '; add_property($me, "smell", VALUE, {#3, "rc"}) adds it' in told, True)
+        self.case("a property that isn't there", '; add_property($me, "smell", "salt", {#3, "rc"}) adds it' in told, True)
         self.done(shell, '#5.description = "dull"')
-        self.case("an editor", "0  accepted 4" in self.done(shell, "\\e"), True)
+        self.case("an editor", '0  accepted 4, was "dull"' in self.done(shell, "\\e"), True)
         self.case("what it left is done", self.done(shell, "#5.description"), ['"bright"'])
         self.case("nothing else", self.done(shell, "\\e")[0], "nothing was changed in it, and nothing is done")
         self.case("again and again", self.done(shell, "\\watch i=0 c=2 #5.weight")[1::2], ["1", "1"])
@@ -177,6 +177,56 @@ class Lines(Typed):
         self.case("classes", [line.split("  ")[0] for line in self.done(shell, "\\classes")], ['#1 "Root Class"', '#4 "Lantern"'])
         self.leave(shell)
 
+    def test_the_way_on(self) -> None:
+        """A slip says how it is put back, and a refusal what to type."""
+        shell = self.shell()
+        back = "no batch is open; {} puts back what was done last"
+        self.case("nothing is undone yet", "\\ask LINE" in self.done(shell, "\\undo")[0], True)
+        self.case("what is replaced is told", self.done(shell, '#4.name = "Lamp"'), ['0  accepted 2, was "Lantern"'])
+        self.case("and how it is put back", self.done(shell, "\\undo"), [back.format('set(#4, "name", "Lantern")')])
+        for line, call in (
+            ("#5.weight = 3", 'clear_property(#5, "weight")'),
+            ("clear_property(#5, \"weight\")", 'set(#5, "weight", 3)'),
+            ("@create #4 named Box", "recycle(#6)"),
+            ("move(#6, #2)", "move(#6, #-1)"),
+        ):
+            self.done(shell, line)
+            self.case(f"what puts back {line}", self.done(shell, "undo"), [back.format(call)])
+        self.case("a name without a value", self.done(shell, "$lamp.name"), ["$lamp has no value; $lamp = #4 gives it one"])
+        self.case("a number in the place of an object", self.done(shell, 'get(4, "name")')[0].endswith("; an object is written #4"), True)
+        self.case("a property that is begun", self.done(shell, "#4.desc")[0].endswith("(did you mean description?)"), True)
+        self.case("a word alone", self.done(shell, "lamp")[0].endswith("; `show lamp` shows an object of that name"), True)
+        self.case("a name of nothing", self.done(shell, "$nothing"), ["$nothing has no value; $nothing = #5 gives it one"])
+        self.done(shell, "begin", "   1> ")
+        told = self.done(shell, "#4.name", "   2> ")
+        self.case("a call that can't be one isn't in it", "in double quotes" in self.done(shell, "set(#4, 'name', 1)", "   2> ")[0], True)
+        self.case("a read in a batch", told, ['it is answered at `end`; \\ask get(#4, "name") answers now'])
+        self.done(shell, "\\abandon")
+        self.done(shell, "\\as 6", "#6> ")
+        for line, wanted in (
+            ("#4.weight = 2", 'petition({{"set", #4, "weight", 2}}) asks a wizard for it'),
+            ("$mine = create(#1); move($mine, #4)", "set_accept(#4, {#7}) sets that"),
+            ("begin; create(#1); #4.weight = 2; end", '\\fix petition({{"set", #4, "weight", 2}}) asks a wizard for it'),
+        ):
+            told = self.done(shell, line, "#6> ")
+            self.case(f"after {line}", any(wanted in row for row in told), True)
+        self.leave(shell)
+
+    def test_commands_in_a_batch(self) -> None:
+        """A command reads what the calls before it will have done, and names what they make."""
+        shell = self.shell()
+        for line in ("@property #1.exits {} rc", "@move me to #2"):
+            self.done(shell, line)
+        self.done(shell, "begin", "   1> ")
+        self.done(shell, "@dig up|down to Attic", "   5> ")
+        told = self.done(shell, "@dig north|south to Yard", "   9> ")
+        self.case("the second has a name of its own", '$here.exits = {{"up", $new}, {"north", $new2}}' in told[0], True)
+        self.done(shell, "end")
+        self.case("no exit is lost", self.done(shell, "here.exits"), ['{{"up", #6}, {"north", #7}}'])
+        self.done(shell, "@go north; @go south")
+        self.case("which may be walked", self.done(shell, "me.location"), ["#2"])
+        self.leave(shell)
+
     def test_help(self) -> None:
         shell = self.shell()
         for line in ("help", "\\help"):
@@ -186,6 +236,9 @@ class Lines(Typed):
         self.case("of a call it is the program's own", words_of(self.done(shell, "\\help create")), words_of(self.lines_of_help("  create(")))
         self.case("of an error too", self.done(shell, "\\help e_args"), ["  E_ARGS  too many values, or too few"])
         self.case("an unknown word", self.done(shell, "\\help creat"), ["there is no help on creat (did you mean create?)"])
+        self.case("a command without its @", self.done(shell, "\\help dig"), ['  @dig north|south to "Attic"'])
+        self.case("a word of a topic", "; the word is in \\help classes" in self.done(shell, "\\help perms")[0], True)
+        self.case("no word of one", "; \\help lists what there is" in self.done(shell, "\\help frobnicate")[0], True)
         self.leave(shell)
 
     def lines_of_help(self, begins: str) -> list[str]:
@@ -225,6 +278,9 @@ class Completion(Typed):
             ("\\help reset", "\\help reset"),
             ("\\help recy", "\\help recycle"),
             ("include wor", "include world.db"),
+            ("\\i wor", "\\i world.db"),
+            ("#4.des", "#4.description"),
+            ("$lantern.we", "$lantern.weight"),
         )
         for text, wanted in cases:
             self.case(f"{text} becomes {wanted}", self.completed(shell, text), wanted)
@@ -243,7 +299,10 @@ class History(Typed):
         shell = self.shell()
         shell.type(UP + "\n")
         self.case("also in the next session", '"Lantern"\n' in shell.until("\n#3> "), True)
+        self.done(shell, "\\s typed.moo")
         self.leave(shell)
+        with open("typed.moo") as file:
+            self.case("it may be written to a file", file.read().split("\n")[0], 'get(#4, "name")')
 
 
 class Shown(Typed):
@@ -284,6 +343,7 @@ class Shown(Typed):
         told = self.done(shell, "\\show #4", "#5> ")
         self.case("what may not be listed is said to be so", "    (the properties that #4 defines may not be listed)" in told, True)
         self.case("the verbs too", "  verbs     may not be listed" in told, True)
+        self.case("what may be read is shown", '    description = "dull"  (defined above; #3 "rc")' in told, True)
         self.leave(shell)
 
 

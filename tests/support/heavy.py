@@ -106,7 +106,7 @@ def added(count: int, target: int = TOP) -> list[str]:
 def of_classes(sizes: Sizes) -> list[Request]:
     """The requests about classes."""
     wide, wider, few = family(sizes.wide, sizes.properties), family(sizes.wider), family(sizes.few)
-    numbers = ", ".join(["1"] * sizes.values)
+    numbers = ",".join(["1"] * sizes.values)
     return [
         Request("a class under many properties and back", wide, "/ask?why", there_and_back(1, wide)),
         Request("5 times", wide, "/ask?why", there_and_back(5, wide)),

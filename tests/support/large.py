@@ -32,7 +32,7 @@ PATHS = {
     "history of an object": f"/history?o={FIRST_THING}",
     "search by a word in values": "/find?q=stump", "all values with a word": "/find?q=stump&in=values", "values with a letter": "/find?q=e&in=values",
     "what names an object": f"/o/{FIRST_ROOM + 5}/named", "its children by name": f"/o/{FIRST_CLASS}/children?sort=name",
-    "its children of an owner": f"/o/{FIRST_CLASS}/children?owner=%23{FIRST_PLAYER}&sort=place",
+    "its children of an owner": f"/o/{FIRST_CLASS}/children?owner=%23{FIRST_PLAYER}&sort=where",
     "people": "/people", "map of exits": f"/map/exits?from={FIRST_ROOM}",
     "a form": f"/do/move?object=%23{FIRST_THING}", "a form to make objects": "/do/create",
 }  # fmt: skip

@@ -174,14 +174,17 @@ class NothingElse(FeedsTest):
         """Whether a call of somebody's would be accepted."""
         return self.door.asked("POST", "/ask", batch_body(self.numbers[who], [call]), time.monotonic() + 60).status == 200
 
-    def may_read(self, who, author, call, reason_of):
+    def may_read(self, who, author, call, is_asked, reason_of=None):
         """Whether somebody may read a word of this call; of a reason, if they may read any of its calls that is about what is theirs."""
-        if who in ("wizard", author):
+        if who == author:
             return True
         if reason_of is not None:
-            return any(self.is_of(who, each) and self.may_read(who, author, each, None) for each in reason_of)
-        number, name = int(call[0]), call[1]
-        return name == "name" and self.is_of(who, call) or name != "name" and self.answers(who, f'property_info(#{number}, "{name}")')
+            return any(self.is_of(who, each) and self.may_read(who, author, each, True) for each in reason_of)
+        number, name = call
+        # What something was called everybody could read; what it is to be called only its owner is asked.
+        if name == "name":
+            return not is_asked or self.is_of(who, call)
+        return self.answers(who, f'property_info(#{number}, "{name}")')
 
     def is_of(self, who, call):
         """Whether the object of a call is somebody's."""
@@ -203,18 +206,16 @@ class NothingElse(FeedsTest):
             token = self.people.make_token(by, Terms(days=1))
             body = json.dumps({"calls": batch, "words": reason}).encode()
             self.assertEqual(Reader(self.app).asked("POST", "/api/batch", body, HTTP_AUTHORIZATION=f"Bearer {token}").status, 200)
-            told |= {word: (by, (number, name), None) for number, name, word in calls}
-            told[reason] = (by, None, calls if is_asked else [])
+            told |= {word: (by, (number, name), is_asked) for number, name, word in calls}
+            told[reason] = (by, None, is_asked, [(number, name) for number, name, _ in calls] if is_asked else [])
         seen = 0
         for who in ("ada", "bram", "cleo"):
             reader = self.somebody(who)
             texts = {path: self.of(who, path).source for path in FEEDS} | {path: reader.get(path).text for path in self.PAGES}
             for path, text in texts.items():
                 for word in set(re.findall(r"\bw\d+x\d+q\b|\br\d+q\b", text)) & told.keys():
-                    author, call, reason_of = told[word]
-                    is_public = call is not None and call[1] == "name" and self.answered(f'get(#{call[0]}, "name")') == f'"{word}"'
-                    self.assertTrue(is_public or self.may_read(who, author, call, reason_of), f"{who} reads {word} at {path}: {told[word]}")
-                    seen += author != who
+                    self.assertTrue(self.may_read(who, *told[word]), f"{who} reads {word} at {path}: {told[word]}")
+                    seen += told[word][0] != who
         self.assertGreater(seen, 10)
 
 

@@ -92,7 +92,7 @@ class Walks(PlaceTest):
             ada.act_on(ada.driver.find_element("css selector", ".menu summary"), "\ue007")
             ada.sees("Give another parent", "Recycle")
             ada.follow("What others may do")
-            ada.sees("The marks r, w and f of the object.")
+            ada.sees("Its marks: whether everybody may see what it has (r)")
             ada.open("/")
             self.assertNotIn("Who inherits from whom", ada.text())
             ada.act_on(ada.driver.find_element("css selector", ".browse > summary"), " ")

@@ -86,7 +86,7 @@ class Undoing(Scene):
         with self.at("bram", "wizard") as (bram, wizard):
             bram.open("/batch")
             bram.fill("f-text", 'set(#8, "name", "Bram\'s lamp")')
-            bram.press("Ask a wizard for it")
+            bram.press("Ask for it")
             bram.press("Send the petition")
             wizard.open("/petitions")
             wizard.press("Grant petition 1")

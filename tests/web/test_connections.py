@@ -22,6 +22,8 @@ from moo_web.traffic.visitors import Visitor  # noqa: E402
 
 LARGE = b"x" * 20_000_000
 LEAST = 1 << 16
+# Far sooner than peers that do nothing are let go, also on a busy machine.
+SOON = SECONDS / 4
 
 
 def got(peer):
@@ -129,7 +131,7 @@ class OneAtATime(ChannelTest):
         for _ in range(PLACES + 2):
             self.peer(b"GET /large HTTP/1.1\r\n\r\n" + b"GET /next HTTP/1.1\r\n\r\n")
         self.until(lambda: len(self.seen) >= 10)
-        self.assertLess(self.honest(), 5)
+        self.assertLess(self.honest(), SOON)
 
 
 class Many(ChannelTest):
@@ -266,7 +268,7 @@ class Held(ChannelTest):
         self.assertLessEqual(self.room_for_bytes.total, self.most)
         self.assertLessEqual(self.files_held(), self.most)
         self.assertEqual(self.ended(peers), 5)
-        self.assertLess(self.honest(), 5)
+        self.assertLess(self.honest(), SOON)
 
     @staticmethod
     def files_held():
@@ -323,7 +325,7 @@ class Holders(ServingTest):
                 whole = got(peer)
                 self.assertEqual(int(whole.split()[1]), wanted)
                 self.assertEqual(whole.count(b"&#34;"), letters if letters <= 1 << 16 else 0)
-                self.assertEqual(b"What you typed is too long to be kept here" in whole, letters > 1 << 16)
+                self.assertEqual(b"What you typed is too long to be kept here" in whole, letters > 1 << 16 and wanted == 403)
 
 
 if __name__ == "__main__":

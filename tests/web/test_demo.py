@@ -84,7 +84,7 @@ class Runs(DemoTest):
             for (name, password, _), batches in zip(people, (10, 4, 3, 3)):
                 status, text = self.sign_in(port, name, password)
                 self.assertEqual(status, 200)
-                self.assertIn(f"{batches} batch", text)
+                self.assertIn(f"{batches} batch", re.sub("<[^>]+>", "", text))
             self.assertEqual(self.sign_in(port, "ada", people[0][1])[0], 401)
             self.assertEqual(len([words for words in self.running() if " serve " in words or "moo-web" in words]), 2)
             # Ctrl-C goes to every process of the terminal.

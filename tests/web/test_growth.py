@@ -68,7 +68,7 @@ class OfPetitions(GrowthTest):
         self.assertEqual(self.batch("bram", call)[0], 200)
         bram = self.somebody("bram")
         bram.get("/batch")
-        self.has(bram.send("Ask a wizard for it", text="move(#8, #7)"), "A wizard would be asked for this")
+        self.has(bram.send("Ask for it", text="move(#8, #7)"), "This would be asked for")
         self.has(bram.send("Send the petition"), "At most 100 petitions of yours", "what you typed is still here", status=429)
 
     def test_256_kB_wait(self):

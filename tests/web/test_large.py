@@ -17,7 +17,10 @@ from tests.support.web import add_person, lacking
 COUNT = 100_000
 # In readings of the whole world by a plain client. One takes 0.8 s of an idle core.
 FIRST_PAGE, EACH_PAGE, AFTER_A_BATCH = 5.0, 0.1, 0.025
-GOALS = {"a form": 0.015, "a form to make objects": 0.015, "search by a letter": 0.03, "search by name": 0.03}
+GOALS = {
+    "a form": 0.015, "a form to make objects": 0.015, "search by a letter": 0.03, "search by name": 0.03, "values with a letter": 0.2,
+    "its children by name": 0.25, "its children of an owner": 0.25,
+}  # fmt: skip
 MOST_MEMORY = 1.3
 
 

@@ -2,8 +2,12 @@
 
 import re
 import unittest
+from unittest import mock
 
-from tests.support.pages import PagesTest, tidied
+from tests.support.pages import PagesTest, lacking, tidied
+
+if not lacking():
+    from moo_web.pages import scripts
 
 NUMBERS = re.compile(r'<tr role="row"><td role="cell"><a href="/o/(\d+)"')
 # #4 is a class with the classes #5 and #6 under it; the players Ada #7 and Ben #8; then things of theirs, #9 to #14.
@@ -58,7 +62,7 @@ class Orders(ListTest):
         for query, wanted in (
             ("", [5, 9, 10, 11, 12]), ("?sort=number", [5, 9, 10, 11, 12]), ("?down=on", [12, 11, 10, 9, 5]),
             ("?sort=name", [11, 10, 12, 5, 9]), ("?sort=name&down=on", [9, 5, 12, 10, 11]),
-            ("?sort=owner", [10, 11, 9, 5, 12]), ("?sort=place", [5, 9, 10, 11, 12]), ("?sort=place&down=on", [12, 11, 10, 9, 5]),
+            ("?sort=owner", [10, 11, 9, 5, 12]), ("?sort=where", [5, 9, 10, 11, 12]), ("?sort=where&down=on", [12, 11, 10, 9, 5]),
             ("?sort=nonsense&down=1", [5, 9, 10, 11, 12]),
         ):
             with self.subTest(query):
@@ -142,8 +146,9 @@ class Scripts(ListTest):
         self.assertEqual(self.write("ben", f'get(#{made.number}, "taste")'), ['"sweet, says #9"'])
 
     def test_too_much_for_a_page(self):
-        for _ in range(3):
-            self.write("wizard", *("create(#4)" for _ in range(900)))
+        patch = mock.patch.object(scripts, "MOST_READ", 20)
+        patch.start()
+        self.addCleanup(patch.stop)
         page = self.reader("wizard").get("/o/4/script")
         self.assertIn("That is too much for a page. In moo-shell \\export #4 children FILE writes it to a file.", page.text)
         self.assertEqual(self.reader("wizard").get("/o/4/script.moo").status, 200)

@@ -232,7 +232,7 @@ class Mistakes(OneFormTest):
         self.has(page, "This would be refused.", "The place doesn’t accept it.", "E_NACC", status=409)
         self.assertIn('id="f-place-wrong"', page.html)
         self.assertEqual((ada.typed()["name"], ada.typed()["place"]), ("pear", "The Chapel"))
-        self.has(ada.send("Ask a wizard for it"), "A wizard would be asked for this", status=200)
+        self.has(ada.send("Ask for it"), "This would be asked for", status=200)
 
 
 class Exits(OneFormTest):

@@ -19,7 +19,7 @@ class Petitions(FormsTest):
         for name in ("Bram's lamp", "No lamp"):
             bram.get("/do/rename?object=%238")
             self.has(bram.send("Preview", name=name), "This would be refused", status=409)
-            self.has(bram.send("Ask a wizard for it instead"), "A wizard would be asked for this", status=200)
+            self.has(bram.send("Ask for it instead"), "This would be asked for", status=200)
             page = bram.send("Send the petition")
             self.has(page, "It is asked for", status=200)
         page = bram.get("/petitions")
@@ -27,7 +27,7 @@ class Petitions(FormsTest):
         self.assertNotIn("Grant", page.text)
         page = wizard.get("/petitions")
         self.has(
-            page, "Bram #5 asks for 1 call petition 1", "Lamp #8 is called “Bram's lamp”.", 'name now: "Lamp"', "It can be granted whole."
+            page, "Bram #5 asks for 1 change petition 1", "Lamp #8 is called “Bram's lamp”.", 'name now: "Lamp"', "It can be granted whole."
         )
         page = wizard.send("Grant petition 1")
         self.has(page, "The petition is granted", status=200)
@@ -42,7 +42,7 @@ class Petitions(FormsTest):
     def test_what_granting_would_do_by_now_is_shown_again(self):
         bram, wizard, ada = self.somebody("bram"), self.somebody("wizard"), self.somebody("ada")
         bram.get("/do/rename?object=%238")
-        bram.send("Ask a wizard for it", name="Bram's lamp")
+        bram.send("Ask for it", name="Bram's lamp")
         bram.send("Send the petition")
         wizard.get("/petitions")
         self.change(ada, "rename", "?object=%238", name="Mine for good")
@@ -54,10 +54,10 @@ class Petitions(FormsTest):
     def test_a_petition_that_cant_be_granted_and_rights_that_are_asked_for(self):
         bram, wizard = self.somebody("bram"), self.somebody("wizard")
         bram.get("/batch")
-        self.has(bram.send("Ask a wizard for it", text="recycle(#8)\nchparent(#6, #8)"), "A wizard would be asked for this")
+        self.has(bram.send("Ask for it", text="recycle(#8)\nchparent(#6, #8)"), "This would be asked for")
         bram.send("Send the petition")
         bram.get("/batch")
-        bram.send("Ask a wizard for it", text='set(#5, "wizard", 1)')
+        bram.send("Ask for it", text='set(#5, "wizard", 1)')
         bram.send("Send the petition")
         page = wizard.get("/petitions")
         self.has(
@@ -77,7 +77,7 @@ class Petitions(FormsTest):
             'set_verb_info(#8, 1, {#5, "rw", "light"})', 'delete_verb(#8, 1)',
         )  # fmt: skip
         harmless = ('set(#8, "weight", 2)', 'set(#8, "name", "Lamp, take two")', "move(#8, #7)")
-        self.has(bram.send("Ask a wizard for it", text="\n".join(calls + harmless)), "A wizard would be asked for this")
+        self.has(bram.send("Ask for it", text="\n".join(calls + harmless)), "This would be asked for")
         bram.send("Send the petition")
         self.assertEqual(wizard.get("/petitions").text.count("take care"), len(calls))
 
@@ -86,7 +86,7 @@ class Petitions(FormsTest):
         bram, wizard = self.somebody("bram"), self.somebody("wizard")
         call = f'add_property(#8, "diary", "{"so long " * 5000}", {{#5, "rw"}})'
         bram.get("/batch")
-        bram.send("Ask a wizard for it", text=call)
+        bram.send("Ask for it", text=call)
         bram.send("Send the petition")
         whole = re.compile(r'Lamp #8 ?, "diary", "(so long ){5000}", {Bram #5 ?, "rw"}')
         for reader, path in ((wizard, "/petitions"), (bram, "/petitions"), (bram, "/history/2")):
@@ -96,8 +96,8 @@ class Petitions(FormsTest):
     def test_one_takes_ones_own_back(self):
         bram = self.somebody("bram")
         bram.get("/do/create?parent=%236")
-        page = bram.send("Ask a wizard for it", names="Key")
-        self.has(page, "A wizard would be asked for this", "These can’t be asked for", "(the new object)")
+        page = bram.send("Ask for it", names="Key")
+        self.has(page, "This would be asked for", "These can’t be asked for", "(the new object)")
         bram.send("Send the petition")
         page = bram.get("/petitions")
         self.has(page, "for Bram #5")
@@ -160,7 +160,7 @@ class Quotas(FormsTest):
         page = ada.send("Preview", names="One\nTwo")
         self.has(page, "The quota is used up", "E_QUOTA", "Ask for a higher quota", status=409)
         ada.get(next(link for link in page.links if link.startswith("/do/quota")))
-        self.has(ada.send("Ask a wizard for it", quota="20"), "Ada #4 may make 20 more objects: the property “ownership_quota” says so.", status=200)
+        self.has(ada.send("Ask for it", quota="20"), "Ada #4 may make 20 more objects: the property “ownership_quota” says so.", status=200)
         ada.get("/do/create?parent=%236")
         page = ada.send("Preview", names="One")
         self.is_done(ada.send("Do it"))

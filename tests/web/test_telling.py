@@ -1,6 +1,7 @@
 """Calls as pages show them: in plain words, and as they are written with their objects as links (`sentences` and `links` in web/moo_web/pages/)."""
 
 import random
+import re
 import unittest
 
 from tests.support.pages import lacking
@@ -79,7 +80,8 @@ class Telling(unittest.TestCase):
                 call = call[:place] + chance.choice(('"', "{", ")", "#", "#5", "#5#", "9" * 20)) + call[place + chance.randrange(3) :]
             self.sentences.is_grave(call)
             self.assertNotIn("<script>", self.sentences.told(call, lambda one: self.links.link(self.world, one)))
-            self.assertEqual(self.links.call(nobody, call, 10**6).unescape(), call)
+            shown = self.links.call(nobody, call, 10**6)
+            self.assertEqual(type(shown)(re.sub('<abbr title="nothing[^"]*">(#-1)</abbr>', r"\1", shown)).unescape(), call)
             self.assertNotIn("<script>", self.links.call(self.world, call, 10**6))
 
 

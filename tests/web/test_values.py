@@ -16,10 +16,11 @@ from moolib.calls import objects_in  # noqa: E402
 from moolib.values import written  # noqa: E402
 from moo_web.world import literals, touching  # noqa: E402
 from moo_web.world.dumped import Dumped, Kept  # noqa: E402
+from moo_web.world.holdings import Holdings  # noqa: E402
 
 SEED, WORLDS = int(os.environ.get("SEED", 20261130)), int(os.environ.get("VALUE_WORLDS", 4))
 PLACE = re.compile(r'href="/o/(\d+)/property\?name=([^"]*)">[^<]*</a>( <span class="dim">inherited)?')
-COUNT = re.compile(r"(Over )?([\d,]+) values? ")
+COUNT = re.compile(r"(Over )?([\d,]+) (?:value|place)s? ")
 WORDS = ("a", "ab", '"', "\\", 'b"', ",", "{", "E_P", "$(", "-7", "A b", '\\"', "#", "zzz")
 PEOPLE = {"wizard": 3, "ada": 4, "ben": 5, "cleo": 6}
 
@@ -148,7 +149,7 @@ class Random(ValuesTest):
 
     def same_as_a_dump(self):
         """What is kept is what a dump of the present world says."""
-        holdings = self.pages.warming[0].__self__
+        holdings = next(take.__self__ for take in self.writer.listeners if isinstance(getattr(take, "__self__", None), Holdings))
         kept, dump = holdings.literals(self.pages.index.world()), Kept()
         holdings.asker.door.__class__.copied(self.door, "/dump", dump)
         rows = [sorted((row.number, row.name.lower(), *row[2:]) for row in some) for some in (kept.rows(), Dumped.of(dump).rows)]
@@ -260,11 +261,15 @@ class KeptUp(ValuesTest):
             self.assertEqual(self.count(), number - 3)
         self.assertEqual(self.dumps, 1)
 
-    def test_moo_without_a_dump(self):
-        self.door.copied = lambda *given: self.door.sent("GET", "/nothing")
-        page = self.reader_.get("/find?q=stump")
-        self.assertIn("this moo gives no dump", page.text)
+    def test_moo_that_gives_no_dump(self):
+        """The page says so, and finds what it can. A dump isn't asked for again at once."""
+        asked = []
+        self.door.copied = lambda *given: asked.append(given) or self.door.sent("GET", "/nothing")
+        page = self.reader_.get("/find?q=oo")
+        self.assertIn("moo gives no dump", page.text)
+        self.assertIn("Root Class", page.text)
         self.assertIn("gives no dump", self.reader_.get("/o/4/named").text)
+        self.assertEqual(len(asked), 1)
 
 
 if __name__ == "__main__":

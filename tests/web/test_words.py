@@ -1,4 +1,4 @@
-"""The words of pages: those that a newcomer doesn't know are explained where they first stand; and the page that says what this place is."""
+"""The words of pages: those that a newcomer doesn't know are explained where they first come; and the page that says what this place is."""
 
 import html.parser
 import re
@@ -24,9 +24,9 @@ WORDS = {
     "r": (r"(?<![\w(])r(?=[:,)])|\(r\)", "list|see what it has|read it|read"),
     "w": (r"(?<![\w(])w(?=[:,)])|\(w\)", "add to|change what|change that|write it|write"),
     "f": (r"(?<![\w(])f(?=[:,)])|\(f\)", "make objects"),
-    "rc": (r"\brc\b", "may read it"),
+    "rc": (r"\brc\b", "read it"),
     "rwc": (r"\brwc\b", "may read it"),
-    "E_PERM": (r"\bE_PERM\b", "[Yy]ou may not|error"),
+    "E_PERM": (r"\bE_PERM\b", "[Yy]ou may not|error|isn’t yours|[Pp]ermission|no right"),
     "#-1": (r"#-1\b", "nothing"),
     "it answers": (r"\bit answers\b", "says"),
     "Kept": (r"\bKept\b", "quota"),
@@ -48,7 +48,7 @@ PATHS = (
 
 
 class Texts(html.parser.HTMLParser):
-    """The texts of a page in their order, each with the title under which it stands. Calls as they are written, and what was typed, are left out."""
+    """The texts of a page in their order, each with the titles of the elements around it. Calls as they are written, and what was typed, are left out."""
 
     VOID = ("meta", "link", "input", "br", "img", "wbr")
 
@@ -73,12 +73,14 @@ class Texts(html.parser.HTMLParser):
 
 
 def unexplained(source):
-    """The words that stand on a page without a line that explains them."""
+    """The words on a page without a line that explains them."""
     texts = Texts(source).texts
     whole, titles = "", []
     for text, title in texts:
         titles += [title] * (len(text) + 1)
         whole += text + " "
+    # What is between quotes is a value of the world's.
+    whole = re.sub("“[^”]*”|\"[^\"]*\"", lambda found: "_" * len(found[0]), whole)
     found = []
     for word, (pattern, means) in WORDS.items():
         first = re.search(pattern, whole)
@@ -105,7 +107,7 @@ class Explained(FormsTest):
                 with self.subTest(path=path, name=name):
                     self.assertEqual(unexplained(page.html), [])
                     count += page.status == 200
-        self.assertGreater(count, 60)
+        self.assertGreater(count, 50)
 
     def test_previews_and_refusals(self):
         ada = self.somebody("ada")

@@ -8,7 +8,7 @@ from __future__ import annotations
 from collections.abc import Callable, Hashable
 from typing import NamedTuple, Optional
 
-from lambdamoo.losses import BY_NAMES, BY_PLACE, MOVED, NAMESAKES, TWINS, Kind
+from lambdamoo.losses import BY_NAMES, BY_PLACE, MOVED, NAMESAKES, SHIFTED, TWINS, Kind
 
 # The bits of a verb's number above its rights: its direct and indirect objects.
 ARGUMENTS_SHIFT = 4
@@ -47,6 +47,7 @@ class Matching:
         self.doubt_twins()
         self.match_by(lambda header: header.names, BY_NAMES)
         self.match_by_place()
+        self.doubt_renamed()
         self.doubt_order()
 
     @property
@@ -100,6 +101,20 @@ class Matching:
         if len(alike) == 1:
             return alike[0]
         return place if place in self.left else None
+
+    def doubt_renamed(self) -> None:
+        """If the last verb was added, the one before it may be the verb whose program the last one has, and so on, one of them renamed.
+
+        A verb that is renamed keeps its arguments, and its place among the others.
+        """
+        run: list[int] = []
+        for place in sorted(self.places, reverse=True):
+            if run and self.now[place].arguments != self.before[self.places[run[-1]]].arguments:
+                break
+            run.append(place)
+        if any(self.doubts.get(place) in (BY_NAMES, BY_PLACE) for place in run):
+            for place in run:
+                self.doubts.setdefault(place, SHIFTED)
 
     def doubt_order(self) -> None:
         """A verb that has a later place, or another one among the others, was deleted and added, or others were renamed."""

@@ -3,7 +3,7 @@
 from __future__ import annotations
 
 import dataclasses
-from collections.abc import Mapping
+from collections.abc import Iterable, Mapping
 from typing import Optional
 
 from moo_shell.door import PATIENCE, Door
@@ -12,7 +12,7 @@ from moo_shell.manual import Manual
 from moo_shell.meant import signs_advice
 from moolib import errors
 from moolib.batches import LONGEST_BATCH, Item, local_names, resolved, written_calls
-from moolib.calls import call_name
+from moolib.calls import READING, call_name
 from moolib.errors import Failed, Stale
 from moolib.lines import did_you_mean, hint, strange_letter
 from moolib.service import Answer, Patience
@@ -43,6 +43,12 @@ class Unsure(Failed):
             "look at the world before you go on"
         )
         self.at = at
+
+
+def only_reads(items: Iterable[Item]) -> bool:
+    """Whether there are calls, and none of them changes anything."""
+    names = [call_name(item.text) for item in items]
+    return bool(names) and all(name in READING for name in names)
 
 
 def stale(moved: Stale, at: int) -> Refused:

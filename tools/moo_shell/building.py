@@ -9,7 +9,7 @@ from __future__ import annotations
 import contextlib
 import re
 from collections.abc import Callable
-from typing import NamedTuple, Optional, Union
+from typing import NamedTuple, Union
 
 from moo_shell.naming import is_value
 from moolib.errors import Failed
@@ -138,7 +138,8 @@ def exits(place: str, known: Known) -> list[Value]:
     try:
         return known.value(f'get({place}, "exits")')
     except Failed as failed:
-        raise Failed(f"{failed.reason}; @property {place}.exits {{}} rc adds it, or to all rooms @property #5.exits {{}} rc to their class #5") from None
+        way = f"@property {place}.exits {{}} rc adds it, or to all rooms @property #5.exits {{}} rc to their class #5"
+        raise Failed(f"{failed.reason}; {way}") from None
 
 
 def leading(value: list[Value]) -> dict[str, str]:

@@ -4,6 +4,7 @@ from __future__ import annotations
 
 import dataclasses
 import os
+import re
 import subprocess
 import sys
 from collections.abc import Callable
@@ -13,10 +14,11 @@ from typing import Optional
 from moo_shell import including, looks
 from moo_shell.batches import Refused
 from moo_shell.editing import edit
-from moo_shell.elsewhere import of_psql
+from moo_shell.elsewhere import STOPS, of_psql
 from moo_shell.exporting import export
-from moo_shell.files import write_new
+from moo_shell.files import history_file, write_new
 from moo_shell.meant import meant
+from moo_shell.naming import is_value
 from moo_shell.helping import ASIDE, TOPICS, fitted, help_on, overview
 from moo_shell.history import history
 from moo_shell.service import OwnService
@@ -24,8 +26,9 @@ from moo_shell.session import Session
 from moo_shell.watching import watch
 from moo_shell.ways import how_to_undo
 from moolib.batches import Item
-from moolib.errors import Failed
+from moolib.errors import TROUBLES, Failed
 from moolib.lines import Line, counted, did_you_mean, filled, names_in, unquoted
+from moolib.values import written
 
 
 @dataclasses.dataclass(frozen=True)
@@ -63,7 +66,7 @@ def find(session: Session, text: str) -> None:
     """The objects with a word in their names."""
     if not text:
         raise Failed("\\find WORD: which word?")
-    found = looks.found(session.world.things(), unquoted(text))
+    found = looks.found(session.world.things(), unquoted(text).strip("*"))
     session.output.show(found or f"no name has {unquoted(text)}")
 
 
@@ -76,6 +79,9 @@ def owned(session: Session, text: str) -> None:
 def echo(session: Session, text: str) -> None:
     """A text, with the values of names outside of quotes."""
     session.output.show(unquoted(filled(text, session.values(names_in(text)))))
+    of_psql_names = [word for word in re.findall(r"(?<!\S):([A-Za-z_]\w*)", text) if f"${word}" in session.names]
+    if of_psql_names:
+        session.output.note(f"a name is written ${of_psql_names[0]}")
 
 
 def conninfo(session: Session, _: str) -> None:
@@ -91,7 +97,11 @@ def set_name(session: Session, text: str) -> None:
         return
     if name in SETTINGS:
         raise Failed(SETTINGS[name])
-    session.take_value(Line("value", value.strip(), f"${name.lstrip('$')}"))
+    value = value.strip()
+    quoted = re.fullmatch(r"'(.*)'|([A-Za-z][\w .-]*)", value)
+    if quoted and not is_value(value):
+        value = written(quoted[2] or quoted[1].replace("''", "'"))
+    session.take_value(Line("value", value, f"${name.lstrip('$')}"))
 
 
 def system(session: Session, text: str) -> None:
@@ -105,12 +115,27 @@ def system(session: Session, text: str) -> None:
 
 def classes(session: Session, text: str) -> None:
     """The objects that others are under."""
-    session.output.show(looks.classes(session.world.things(), unquoted(text)) or f"no class has {unquoted(text)} in its name")
+    session.output.show(looks.classes(session.world.things(), unquoted(text).strip("*")) or f"no class has {unquoted(text)} in its name")
 
 
 def show_history(session: Session, text: str) -> None:
     """What was done with an object."""
     session.output.show(history(session.door, session.number(text)))
+
+
+def typed(session: Session, text: str) -> None:
+    """The lines that were typed, or a new file with them."""
+    if text and session.is_copy:
+        session.output.note(f"{text} isn't written: this is a copy of the world")
+        return
+    try:
+        lines = history_file().read_text()
+        if text:
+            write_new(Path(unquoted(text)).expanduser(), lines)
+    except OSError as error:
+        raise Failed(f"{error.filename}: {error.strerror}") from None
+    if not text:
+        session.output.show(lines.rstrip("\n") or "no line was typed yet")
 
 
 def timing(session: Session, text: str) -> None:
@@ -228,7 +253,11 @@ def dump(session: Session, text: str) -> None:
 
 def dump_of(session: Session) -> str:
     """The dump of the world, by the service's route, or by the program if the service is the shell's own and has no such route."""
-    reply = session.door.tried("GET", "/dump")
+    try:
+        reply = session.door.tried("GET", "/dump")
+    except Failed as failed:
+        wizards = "; a front gives the whole world to wizards alone" if failed.reason == TROUBLES["forbidden"] else ""
+        raise Failed(f"\\dump: {failed.reason}{wizards}") from None
     if reply.is_good:
         return reply.text
     if not reply.is_missing:
@@ -312,6 +341,7 @@ COMMANDS = {
     "fix": Command("CALL", "sends the batch that was refused again, with CALL in the place of the refused call", fix),
     "e": Command("", "the open batch, the refused one or the last call in an editor; it is done when that ends", edit),
     "o": Command("[FILE]", "answers go to the end of FILE from now on, or with |COMMAND to a command; without FILE they are shown again", output),
+    "s": Command("[FILE]", "the lines that were typed; with FILE they are written to it, which must be new", typed),
     "echo": Command("TEXT", "writes a text; names outside of quotes are their values", echo),
     "watch": Command("[i=2] [c=N] [LINE]", "does a line that only reads every 2 seconds, N times or until Ctrl-C", watch),
     "conninfo": Command("", "which world this is, its number, and who calls", conninfo),
@@ -323,7 +353,7 @@ COMMANDS = {
 # What psql sets, and how it is here.
 SETTINGS = {
     "AUTOCOMMIT": "a call is a batch of its own, and `begin` opens one of several",
-    "ON_ERROR_STOP": "a script always stops at the first line that is refused",
+    "ON_ERROR_STOP": STOPS,
 }
 # Words of other prompts.
 ALIASES = {

@@ -27,8 +27,8 @@ SENTENCES = {
 }
 SAME = {
     "make-player": "newplayer", "rmalias": "addalias", "unlock": "lock", "notedit": "edit", "ways": "exits", "entrances": "exits",
-    "add-exit": "exits", "addexit": "exits", "dump-database": "shutdown", "gripe": "mail", "send": "mail", "news": "mail", "where": "who", "users": "who", "boot": "who", "shout": "who",
-    "sethome": "home", "eject": "home", "check-property": "check", "check-chparent": "check", "check-prop": "check", "check-p": "check",
+    "add-exit": "exits", "addexit": "exits", "dump-database": "shutdown", "gripe": "mail", "send": "mail", "news": "mail",
+    "where": "who", "users": "who", "boot": "who", "shout": "who", "sethome": "home", "eject": "home", "check-property": "check", "check-chparent": "check", "check-prop": "check", "check-p": "check",
 }  # fmt: skip
 # Words and signs with which people play a game.
 PLAYING = re.compile(
@@ -38,7 +38,7 @@ PLAYING = re.compile(
 
 # What to write for a statement of SQL.
 SQL = {
-    "select": "#5.name reads a property, \\show #5 shows an object, and \\find WORD finds objects by their names",
+    "select": "#5.name reads a property, \\show #5 shows an object, \\tree #5 lists what is under one, and \\find WORD finds objects by their names",
     "insert": "$thing = create(#1) makes an object",
     "update": '#5.name = "Inn" sets a property',
     "delete": "recycle(#5) takes an object away",
@@ -55,6 +55,10 @@ SQL = {
     "copy": "\\dump FILE writes the whole world, and \\i FILE does the calls of a file",
     "vacuum": "after the service has ended, `sqlite3 FILE VACUUM` makes the file smaller",
     "analyze": "nothing has to be done for speed",
+    "replace": '#5.name = "Inn" sets a property',
+    "listen": "\\watch LINE does a line that only reads again and again",
+    ".tables": "\\classes lists the objects that others are under",
+    ".schema": "\\show #5 shows an object with its properties",
 }
 # Words that are SQL only with one of these after them.
 WITH_KIND = re.compile(r"(create|grant|table|set|show)\s+(?:table|view|index|schema|database|role|user|select|insert|update|all|\w+\s+to)\b.*", re.I | re.S)
@@ -77,13 +81,12 @@ PSQL = {
     "dv": SHOWN,
     "di": SHOWN,
     "x": "\\show #5 always has a line for each property",
-    "s": "the arrow keys and Ctrl-R find earlier lines",
     "unset": "a name can get another value: $x = 5",
     "g": "a line is done at Enter",
     "gx": "a line is done at Enter",
     "gset": "$x = CALL gives the answer a name",
     "gexec": "\\include FILE does the lines of a file",
-    "w": "\\e writes the open batch in an editor",
+    "w": "\\s FILE writes the lines that were typed, and \\e has the open batch in an editor",
     "copy": "\\dump FILE writes the whole world, and \\i FILE does the calls of a file",
     "pset": f"{ONE_WAY}; PAGER=cat moo-shell has no pager",
     "a": ONE_WAY,
@@ -104,7 +107,8 @@ PSQL = {
     "warn": "\\echo TEXT writes a line",
     "qecho": "\\echo TEXT writes a line, to the file of \\o too",
 }
-BARE = "answers of a script are bare already"
+BARE = "answers of a script are bare already, one on a line; -q -c '$x = #5.name; \\echo $x' writes a text without its quotes"
+STOPS = "a script always stops at the first line that is refused, with status 1"
 # What to write for an option of psql.
 OPTIONS = {
     "-A": BARE,
@@ -119,7 +123,20 @@ OPTIONS = {
     "-v": "-c '$x = 5' before the other words gives a name to a value",
     "-e": "standard error names the line that is refused",
     "-a": "standard error names the line that is refused",
+    "-F": BARE,
+    "-H": BARE,
+    "-L": "\\o FILE writes answers to a file",
+    "-b": "standard error names the line that is refused",
+    "-s": "\\ask CALL tells what a call would answer, and --dry-run what a script would do",
+    "--csv": BARE,
 }
+# The same options in whole words.
+WHOLE = {
+    "--dbname": "-d", "--username": "-U", "--password": "-W", "--no-password": "-w", "--list": "-l", "--output": "-o", "--variable": "-v",
+    "--set": "-v",
+    "--echo-all": "-a", "--echo-queries": "-e", "--echo-errors": "-b", "--no-align": "-A", "--tuples-only": "-t", "--no-psqlrc": "-X", "--html": "-H",
+    "--field-separator": "-F", "--log-file": "-L", "--single-step": "-s",
+}  # fmt: skip
 
 
 def of_lambdamoo(text: str) -> str:
@@ -150,5 +167,11 @@ def of_psql(word: str) -> str:
 
 def of_options(words: list[str]) -> str:
     """What to write for the first of some options that is psql's. Others give an empty text."""
-    found = next((word[:2] for word in words if word[:2] in OPTIONS and not word.startswith("--")), "")
-    return f"{found}: {OPTIONS[found]}" if found else ""
+    if any("ON_ERROR_STOP" in word for word in words):
+        return f"ON_ERROR_STOP: {STOPS}"
+    for word in words:
+        option = word.partition("=")[0] if word.startswith("--") else word[:2]
+        told = OPTIONS.get(WHOLE.get(option, option))
+        if told:
+            return f"{option}: {told}"
+    return ""

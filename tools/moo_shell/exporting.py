@@ -42,5 +42,5 @@ def export(session: Session, text: str) -> None:
             raise Failed(f"{path}: {error.strerror}") from None
         session.output.note(f"{path} makes {counted(made.objects, 'object')} by {counted(made.calls, 'call')}")
     if made.left_out:
-        are = "thing isn't" if len(made.left_out) == 1 else "things aren't"
-        session.output.note(f"{len(made.left_out)} {are} in it, and the script says which")
+        differ = "thing differs or isn't" if len(made.left_out) == 1 else "things differ or aren't"
+        session.output.note(f"{len(made.left_out)} {differ} in it: the script says which")

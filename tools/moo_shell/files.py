@@ -16,6 +16,11 @@ from moolib.errors import Failed
 SHARED_FIRST, SHARED_SIZE = 0x40000002, 510
 
 
+def history_file() -> Path:
+    """Where the lines are kept that were typed."""
+    return Path(os.environ.get("MOO_SHELL_HISTORY") or Path.home() / ".moo_shell_history")
+
+
 def read_lines(path: Path) -> list[str]:
     """The lines of a file; their ends may be those of Unix, of Windows or of old Macs."""
     try:

@@ -6,7 +6,7 @@ import re
 from collections.abc import Callable, Collection
 from typing import Optional
 
-from moo_shell.elsewhere import NO_VERBS, of_lambdamoo, of_sql
+from moo_shell.elsewhere import NO_VERBS, of_lambdamoo, of_psql, of_sql
 from moolib.calls import NAMES, call_name
 from moolib.lines import Line, pieces, read_line
 from moolib.values import written
@@ -26,10 +26,15 @@ EVALUATED = re.compile(r"(?:eval|return)\s+(.*)", re.IGNORECASE | re.DOTALL)
 WORD = re.compile(r"[@.]?([A-Za-z]+)(?:\s+(.*))?", re.DOTALL)
 
 # An expression that moo would have to reckon, and the word with which a value that isn't one begins, in the words of moo.
-SUM = re.compile(r'(?:-?\d+|"(?:[^"\\]|\\.)*"|[#$]\w+(?:\.\w+)*|\{.*\})\s*[-+*/%<>=?[]|(?:for|if|while|fork|try|return)\b', re.DOTALL)
+SUM = re.compile(
+    r'(?:-?\d+|"(?:[^"\\]|\\.)*"|[#$]\w+(?:\.\w+)*|\{.*\})\s*[-+*/%<>=?[]|(?:for|if|while|fork|try|return)\b', re.DOTALL
+)
 RECKONS = "moo reckons nothing: a line is a call, or a property as #5.name"
 NO_SUMS = "; a call isn't a value of another one: $x = CALL gives its answer a name"
 WORD_OF_VALUE = re.compile(r"(?:.*: )?'([A-Za-z]\w*)(\()?[^']*' isn't a value")
+# What ends a line of psql; and a word of the shell after a call.
+GO = re.compile(r"(?<=\S)\s*\\gx?\s*$")
+LATE_WORD = re.compile(r'([^"]*\S)\s+\\(\w+)(.*)', re.DOTALL)
 # Words of other prompts that end a batch or drop it, and the word of the shell for each.
 BATCH_WORDS = {"commit": "end", "rollback": "abandon", "abort": "abandon"}
 SHOWING = ("look", "examine", "exam", "display")
@@ -45,7 +50,7 @@ def meant(text: str, words: Collection[str], read: Read) -> Line:
     A line of other prompts is read as the line of the shell that does the same: a property as `get` or `set`, a word without its `\\` as that
     word, `x = 5` as `$x = 5`, `x.name` as `$x.name`. An object or a name alone is a line of the kind `alone`. `Failed`: an object of a chain can't be read.
     """
-    line = read_line(text)
+    line = read_line(text if text.lstrip().startswith("\\") else GO.sub("", text))
     if line.kind == "value":
         found = PROPERTY.fullmatch(line.text)
         return Line("call", property_call(found, read), line.name) if found and not found[3] else line
@@ -115,6 +120,9 @@ def advice(text: str) -> str:
         return f"`{first}` stands alone on its line"
     if first == "batch":
         return "`batch as #3` begins a batch of #3"
+    late = LATE_WORD.fullmatch(text)
+    if late:
+        return of_psql(late[2]) or f"a word of the shell begins its line: \\{late[2]}{late[3]} {late[1]}"
     if re.fullmatch(r":[A-Za-z]\w*", text):
         return f"a name is written ${text[1:]}, and nobody plays at this prompt"
     return of_lambdamoo(text) or of_sql(text) or expression_advice(text)
@@ -130,7 +138,10 @@ def signs_advice(text: str, why: str) -> str:
     elif found and found[1].lower() in NAMES and found[2]:
         told = '; a call in a petition is a list, as petition({{"set", #4, "name", "Ada"}})' if call_name(text) == "petition" else NO_SUMS
     elif "'" in outside or found and not found[2]:
+        found = found or re.search(r"'([^'\"]+)'", outside)
         told = f'; a text is in double quotes, as "{found[1] if found else "Inn"}", and an object is a number, as #5'
+    named = re.search(r"(?<![\w:]):([A-Za-z]\w*)", outside)
+    told += f"; a name is written ${named[1]}" if named else ""
     return told + ("; a comment begins with // and ends with its line" if "/*" in outside else "")
 
 
@@ -138,12 +149,12 @@ def expression_advice(text: str) -> str:
     """What to write for an expression of LambdaMOO that is more than a property; or nothing."""
     if VERB.fullmatch(text):
         return NO_VERBS
+    if "/*" in text:
+        return "a comment begins with // and ends with its line"
     if SUM.match(text):
         return RECKONS
     called = re.match(r"([A-Za-z_]+)(?:\s+(.*))?", text, re.DOTALL)
     if called and called[1].lower() in NAMES:
         return f"{called[1].lower()} is a call, and its values are in brackets: \\help {called[1].lower()}"
-    if "/*" in text:
-        return "a comment begins with // and ends with its line"
     found = re.match(rf"({THING})\.([A-Za-z_]\w*)", text)
     return f'a property is read by get({found[1]}, "{found[2]}")' if found else ""

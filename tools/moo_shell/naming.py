@@ -1,4 +1,4 @@
-"""Names: those that stand for who calls and where, those for what is made, and names with their values in a file, as `$hall = #5` on a line each."""
+"""Names: those for who calls and where, those for what is made, and names with their values in a file, as `$hall = #5` on a line each."""
 
 from __future__ import annotations
 
@@ -20,6 +20,8 @@ if TYPE_CHECKING:
 ME, HERE = "$me", "$here"
 # In a world of at most so many objects a name without a value is looked for among the names of objects.
 MOST_LOOKED_AT = 10_000
+# A shorter one is in too many names by chance.
+SHORTEST_PART = 3
 
 
 def is_value(text: str) -> bool:
@@ -91,6 +93,6 @@ def value_for(session: Session, name: str, known: Iterable[str]) -> str:
         return like
     value = "#5"
     with contextlib.suppress(Failed):
-        if session.world.each(["max_object()"])[0].value.number <= MOST_LOOKED_AT:
+        if len(name) > SHORTEST_PART and session.world.each(["max_object()"])[0].value.number <= MOST_LOOKED_AT:
             value = f"#{session.world.number_named(name[1:])}"
     return f"; {name} = {value} gives it one"

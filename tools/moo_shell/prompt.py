@@ -11,6 +11,7 @@ from typing import Optional
 from moo_shell import building
 from moo_shell.batches import Refused
 from moo_shell.commands import COMMANDS
+from moo_shell.files import history_file
 from moo_shell.helping import TOPICS
 from moo_shell.session import Session
 from moo_shell.statements import goes_on, statements
@@ -28,16 +29,11 @@ except ImportError:  # a Python without it has neither history nor completion
 
 DELIMITERS = " \t,(){}="
 LONGEST_HISTORY = 2000
-OF_FILES = ("include", "dump", "names", "o")
+OF_FILES = ("include", "dump", "names", "o", "s", "i", "ir")
 # The prompt for a line on which a call goes on.
 GOING_ON = "  ..> "
 # Lines that drop one that goes on, as in psql: those of the first group end the shell too.
 LEAVING = re.compile(r"(\\(?:q|quit|exit))|\\(?:r|reset|abandon)", re.IGNORECASE)
-
-
-def history_file() -> Path:
-    """Where the lines are kept that were typed."""
-    return Path(os.environ.get("MOO_SHELL_HISTORY") or Path.home() / ".moo_shell_history")
 
 
 class Completion:
@@ -70,6 +66,9 @@ class Completion:
         if command and command[1] == "help":
             known = [*COMMANDS, *TOPICS, *self.session.manual.calls, *self.session.manual.reasons]
             return sorted(each for each in known if each.startswith(word))
+        of_property = re.fullmatch(r'([^"]+)\.(\w*)', word)
+        if of_property:
+            return self.offered_properties(of_property[1], of_property[2])
         if word.startswith("$"):
             return sorted(name for name in self.all_names() if name.startswith(word))
         inside = call_at(before)
@@ -88,6 +87,11 @@ class Completion:
         calls = [f"{name}(" for name in self.session.manual.calls if name.startswith(word.lower())]
         words = [] if start else [each for each in ("begin", "end", "include ") if each.startswith(word)]
         return sorted(calls + words)
+
+    def offered_properties(self, thing: str, begun: str) -> list[str]:
+        """The properties of an object, as people name it, each after that name."""
+        names = [*self.listed(self.session.number(thing), "properties"), *BUILT_IN]
+        return sorted({f"{thing}.{name}" for name in names if name.lower().startswith(begun.lower())})
 
     def offered_texts(self, inside: tuple[str, list[str]], word: str) -> list[str]:
         """Names of the properties or verbs of the object that a call is about."""
@@ -241,7 +245,9 @@ class Prompt:
             self.tell_failed(failed)
         except KeyboardInterrupt:
             print()
-            self.session.output.note("stopped; a batch that was sent already may have been done: \\seq tells the number")
+            was = self.session.batches.seq
+            before = "" if was is None else f", which was {was}"
+            self.session.output.note(f"stopped; a batch that was sent already may have been done: \\seq tells the number{before}")
 
     def confirmed(self, lines: list[str]) -> bool:
         """Whether something is done after these lines were shown. Anything but a yes is a no."""
@@ -261,6 +267,8 @@ class Prompt:
         refused = self.session.refused
         if not isinstance(failed, Refused) or failed.place or refused is None or len(refused[0]) < 2:
             self.session.output.complain(str(failed))
+            if failed.place:
+                self.session.output.note("what came before that line stays")
             return
         self.session.output.complain(f"call {failed.call}: {failed}")
         self.session.output.note("nothing of it was done; \\fix CALL sends it with another call in that place")

@@ -3,7 +3,6 @@
 from __future__ import annotations
 
 import collections
-import contextlib
 import dataclasses
 import re
 import time
@@ -11,7 +10,7 @@ from collections.abc import Callable, Collection, Iterable, Mapping
 from pathlib import Path
 from typing import Optional
 
-from moo_shell.batches import Batches, Done, Refused
+from moo_shell.batches import Batches, Done, Refused, only_reads
 from moo_shell.building import Known, building_lines
 from moo_shell.door import Door
 from moo_shell.files import write_whole
@@ -19,7 +18,7 @@ from moo_shell.going import going, is_asked_first
 from moo_shell.including import include
 from moo_shell.losing import cut
 from moo_shell.manual import Manual
-from moo_shell.meant import OWN_WORDS, advice, expression_advice, meant
+from moo_shell.meant import OWN_WORDS, advice, expression_advice, meant, signs_advice
 from moo_shell.naming import is_value, names_in_file, new_name, own_values, text_of_names, value_for, with_made
 from moo_shell.resuming import Passing
 from moo_shell.statements import is_open, parted
@@ -28,18 +27,12 @@ from moo_shell.watching import only_looks
 from moo_shell.ways import putting_back, way_on
 from moo_shell.world import World
 from moolib.batches import Item
-from moolib.calls import LONGEST_CALL, READING, call_name
+from moolib.calls import LONGEST_CALL, call_name, read_or_none
 from moolib.errors import Failed
-from moolib.lines import Line, counted, did_you_mean, filled, hint, names_in, pieces, unfinished, unquoted
+from moolib.lines import Line, filled, hint, names_in, unfinished, unquoted
 from moolib.values import written
 
 RunWord = Callable[["Session", str, str], None]
-
-
-def only_reads(items: Iterable[Item]) -> bool:
-    """Whether there are calls, and none of them changes anything."""
-    names = [call_name(item.text) for item in items]
-    return bool(names) and all(name in READING for name in names)
 
 
 class Session:
@@ -115,7 +108,7 @@ class Session:
             self.last_line = text
         if only_looks(line):
             self.last_look = text
-        if had_timing and self.has_timing and line.kind != "empty":
+        if had_timing and self.has_timing and line.kind != "empty" and not self.is_over:
             self.output.note(f"{(time.monotonic() - began) * 1000:.1f} ms")
 
     def do_same(self, lines: list[str]) -> None:
@@ -170,7 +163,11 @@ class Session:
             self.run([item], self.who, None)
             return
         self.test_names(item.text)
+        if not self.is_script and read_or_none(filled(item.text, dict.fromkeys(item.names, "#0"))) is None:
+            raise Failed(f"malformed: {item.text} isn't a call with values: \\help values{signs_advice(item.text, '')}")
         self.open.append(self.with_values(item) if self.is_single else item)
+        if not self.is_script and only_reads([item]):
+            self.output.note(f"it is answered at `end`; \\ask {item.text} answers now")
 
     def with_values(self, item: Item) -> Item:
         """A call of the one batch of all scripts with the values that names have now; those that are answers of the batch stay names."""
@@ -185,7 +182,8 @@ class Session:
                 raise Failed(told)
             self.test_names(text)
             shown = text if len(text) <= 80 else text[:78] + ".."
-            raise Failed(f"malformed: {shown} isn't a call: {hint(text)}")
+            named = f"; `show {text}` shows an object of that name" if re.fullmatch(r"[A-Za-z][\w' ]*", text) and not self.is_script else ""
+            raise Failed(f"malformed: {shown} isn't a call: {hint(text)}{named}")
         if is_open(text):
             raise Failed(f"malformed: {text}: {unfinished(text)}")
 

@@ -4,7 +4,7 @@ from __future__ import annotations
 
 import contextlib
 import re
-from collections.abc import Mapping
+from collections.abc import Callable, Mapping
 from typing import TYPE_CHECKING
 
 from moo_shell.world import BUILT_IN
@@ -23,7 +23,6 @@ WHOLE = re.compile(r"\s*(\w+)\s*\((.*)\)\s*", re.DOTALL)
 OF_PROPERTY = re.compile(r'\s*\w+\s*\(\s*(#\d+|\$\w+)\s*,\s*"([^"\\]*)"\s*(?:,\s*(.*))?\)\s*', re.DOTALL)
 # A petition that is longer isn't written out.
 LONGEST = 300
-FIX = "\\fix"
 ASKED = re.compile(r"nor is a wizard|only a wizard")
 NOT_TAKEN = re.compile(r"(#\d+) doesn't accept (#\d+)")
 USED_UP = re.compile(r"the ownership_quota of (#\d+) is used up")
@@ -31,24 +30,8 @@ USED_UP = re.compile(r"the ownership_quota of (#\d+) is used up")
 EMPTY: tuple[Value, ...] = ("", 0, [], Obj(-1))
 
 
-def way_on(session: Session, refused: Refused, text: str, is_alone: bool) -> str:
-    """What to add to the reason of a refused call: a name that is like its property, or at a prompt what to type."""
-    like = like_property(session, text) if refused.error == "E_PROPNF" else ""
-    if like or session.is_script:
-        return like
-    told = ""
-    with contextlib.suppress(Failed):
-        told = {"E_PROPNF": adding, "E_PERM": asking, "E_QUOTA": more, "E_NACC": accepting}.get(refused.error, nothing)(session, refused.reason, text)
-    return f"; {told if is_alone or told[:8] != 'petition' else f'{FIX} {told}'}" if told else ""
-
-
-def nothing(_session: Session, _reason: str, _text: str) -> str:
-    """No way on."""
-    return ""
-
-
 def like_property(session: Session, text: str) -> str:
-    """A property of the object of a call that is like the one that isn't there."""
+    """A property of the object of a call that is like the one that isn't there, or the only one that begins so."""
     found = OF_PROPERTY.fullmatch(text)
     if not found:
         return ""
@@ -56,7 +39,8 @@ def like_property(session: Session, text: str) -> str:
     # An object that the batch was to make isn't there.
     with contextlib.suppress(Failed):
         known.update(session.world.properties(session.number(found[1])))
-    return did_you_mean(found[2], sorted(known))
+    begun = [name for name in known if found[2] and name.startswith(found[2])]
+    return f" (did you mean {begun[0]}?)" if len(begun) == 1 else did_you_mean(found[2], sorted(known))
 
 
 def adding(session: Session, _: str, text: str) -> str:
@@ -65,6 +49,12 @@ def adding(session: Session, _: str, text: str) -> str:
     if not found or call_name(text) != "set":
         return ""
     return f'add_property({found[1]}, "{found[2]}", {found[3]}, {{#{session.world.caller()}, "rc"}}) adds it'
+
+
+def numbering(_session: Session, _reason: str, text: str) -> str:
+    """How the number of an object is written that a call is given as a number or a text."""
+    found = re.match(r'\s*\w+\s*\(\s*(?:"#?(\d+)"|(\d+))\s*[,)]', text)
+    return f"an object is written #{found[1] or found[2]}" if found else ""
 
 
 def asking(_: Session, reason: str, text: str) -> str:
@@ -90,6 +80,25 @@ def accepting(_session: Session, reason: str, _text: str) -> str:
     """How an object takes another one."""
     found = NOT_TAKEN.search(reason)
     return f"\\show {found[1]} tells what it accepts, and set_accept({found[1]}, {{{found[2]}}}) sets that" if found else ""
+
+
+# The way on after each error that has one.
+WAYS: dict[str, Callable[["Session", str, str], str]] = {
+    "E_PROPNF": adding, "E_TYPE": numbering, "E_PERM": asking, "E_QUOTA": more, "E_NACC": accepting,
+}  # fmt: skip
+
+
+def way_on(session: Session, refused: Refused, text: str, is_alone: bool) -> str:
+    """What to add to the reason of a refused call: a name that is like its property, or at a prompt what to type."""
+    like = like_property(session, text) if refused.error == "E_PROPNF" else ""
+    if like or session.is_script or refused.error not in WAYS:
+        return like
+    told = ""
+    with contextlib.suppress(Failed):
+        told = WAYS[refused.error](session, refused.reason, text)
+    if told.startswith("petition") and not is_alone:
+        told = f"\\fix {told}"
+    return f"; {told}" if told else ""
 
 
 def putting_back(session: Session, items: list[Item], names: Mapping[str, str]) -> tuple[str, str]:

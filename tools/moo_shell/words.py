@@ -7,6 +7,7 @@ import contextlib
 import getpass
 import os
 import signal
+import subprocess
 import sys
 import tempfile
 from pathlib import Path
@@ -52,18 +53,21 @@ def read_words(words: list[str]) -> argparse.Namespace:
     parser.add_argument(
         "-f", "--file", dest="scripts", metavar="SCRIPT", action="append", type=Script.of_file, help="do the lines of SCRIPT and end"
     )
-    parser.add_argument("-1", "--single", action="store_true", help="make one batch of all: all of it acts, or none")
+    parser.add_argument("-1", "--single", "--single-transaction", action="store_true", help="make one batch of all: all of it acts, or none")
     parser.add_argument("--from-line", dest="starts", metavar="N", type=starts_of, help="begin at line N of the first SCRIPT")
     parser.add_argument("--dry-run", action="store_true", help="do all on a copy, say what it would make, and change nothing")
     parser.add_argument("-q", "--quiet", action="store_true", help="write no answers of calls")
     parser.add_argument("--names", metavar="FILE", type=Path, help="keep the names in FILE")
+    parser.add_argument("--version", action="store_true", help="write the version of the program moo and end")
     parser.add_argument("--moo", metavar="PROGRAM", help="the program moo, which serves FILE and gives help")
     said, others = parser.parse_known_args(words)
     if others:
         parser.error(of_options(others) or f"unrecognized arguments: {' '.join(others)}")
     given = [each for each in (said.world, said.port, said.web) if each is not None]
+    if said.version:
+        return said
     if len(given) != 1:
-        parser.error("one of FILE, --port PORT and --web URL is wanted")
+        parser.error("FILE, --port and --web each name a world: give one" if given else "one of FILE, --port PORT and --web URL is wanted")
     if said.port is not None and not 0 < said.port < 65536:
         parser.error("PORT must be from 1 to 65535")
     if said.who is not None and said.web:
@@ -128,6 +132,9 @@ def opened(stack: contextlib.ExitStack, said: argparse.Namespace, program: Optio
 def run(said: argparse.Namespace) -> None:
     """Opens the world, and does scripts or what is typed."""
     program = find_program(said.moo)
+    if said.version:
+        subprocess.run([needed(program), "--version"], check=True)
+        return
     with contextlib.ExitStack() as stack:
         is_typed = not said.scripts and sys.stdin.isatty()
         door = opened(stack, said, program)

@@ -236,7 +236,8 @@ class World:
         lists = self.each([f"properties(#{definer})" for definer in above])
         defined: list[tuple[Optional[int], str]] = [(definer, name) for definer, names in zip(above, lists) for name in names.value or []]
         hidden = [definer for definer, names in zip(above, lists) if not names.is_good]
-        defined += [(None, name) for name in USUAL if hidden and name not in dict(map(reversed, defined))]
+        listed = {name for _, name in defined}
+        defined += [(None, name) for name in USUAL if hidden and name not in listed]
         calls = ("get", "property_info", "is_clear_property")
         answers = self.each([f"{call}(#{number}, {written(name)})" for _, name in defined for call in calls])
         rows = [answers[begin : begin + len(calls)] for begin in range(0, len(answers), len(calls))]

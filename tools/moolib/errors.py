@@ -205,7 +205,7 @@ WORDS = {
     "E_INVARG": "Something in it can’t be used here.",
     "E_INVIND": "There is no such object.",
     "E_PROPNF": "The object has no property of that name.",
-    "E_VERBNF": "The object has no such verb.",
+    "E_VERBNF": "The object has no such verb, a word to type.",
     "E_ARGS": "The call has too many values, or too few.",
     "E_TYPE": "A value is of another kind than the call takes.",
     "E_QUOTA": "The quota of the new object’s owner is used up.",

@@ -12,8 +12,9 @@ from __future__ import annotations
 
 import collections
 from collections.abc import Iterator
-from typing import NamedTuple, Optional
+from typing import Any, NamedTuple, Optional
 
+from moolib.calls import objects_in
 from moolib.facts import Facts
 from moolib.scripts import MOST_CALLS, ObjectNames, calls_in_batches
 from moolib.slots import MARKS, PROPERTY_LETTERS, VERB_LETTERS, letters_of, slot_calls
@@ -66,16 +67,17 @@ class Export:
         self.read_up({*self.numbers, *(self.linked(number, "location") for number in self.numbers)} - {NOTHING})
         self.is_wizard = facts.value(MARKS["wizard"].format(person)) == 1
         self.order = list(self.ordered())
-        self.names = ObjectNames(person)
+        self.inside = set(self.order)
+        self.names = ObjectNames(person, self.own_name)
         for number in self.order:
-            self.names.known.pop(number, None)
-            self.names.add(number, self.mark(number, "name"))
+            self.names.add(number)
         self.above = {number: self.chain(number) for number in self.order}
         every = dict.fromkeys(one for number in self.order for one in self.above[number])
         facts.read(call for one in every for call in (f"properties(#{one})", f"verbs(#{one})"))
         self.defined = {one: facts.value(f"properties(#{one})") for one in every}
         facts.read(call for number in self.order for _, name in self.properties(number) for call in slot_calls(number, name))
         self.read_outside()
+        self.read_names()
         # Whose each object is when it is made, and after all are.
         self.owners: dict[int, int] = {}
         self.given: dict[int, int] = {}
@@ -139,11 +141,23 @@ class Export:
 
     def read_outside(self) -> None:
         """Reads what the parents that aren't made have, and whether the owners are there."""
-        parents = {self.linked(number, "parent") for number in self.order} - set(self.order) - {NOTHING}
+        parents = {self.linked(number, "parent") for number in self.order} - self.inside - {NOTHING}
         self.facts.read(slot_calls(one, name)[0] for one in parents for above in self.chain(one) for name in self.defined[above] or ())
         owners = {self.linked(number, "owner") for number in self.order}
         owners |= {info.owner for number in self.order for _, name in self.properties(number) if (info := self.rights(number, name))}
+        owners |= {info[0].number for info in self.verb_infos() if info}
         self.facts.read(f"valid(#{owner})" for owner in sorted(owners))
+
+    def verb_infos(self) -> list[Any]:
+        """What is told of the verbs, after they were read."""
+        places = [(number, place) for number in self.order for place in range(1, len(self.facts.value(f"verbs(#{number})") or ()) + 1)]
+        self.facts.read(f"{call}(#{number}, {place})" for number, place in places for call in ("verb_info", "verb_args"))
+        return [self.facts.value(f"verb_info(#{number}, {place})") for number, place in places]
+
+    def read_names(self) -> None:
+        """Reads the names of all objects that may be in the script."""
+        mentioned = {number for value in self.facts.known.values() if value is not None for number in objects_in([value])}
+        self.facts.read(MARKS["name"].format(number) for number in sorted(mentioned) if number >= 0)
 
     def rights(self, number: int, name: str) -> Optional[Rights]:
         """Whose a property is on an object, and its letters; None if they may not be read."""
@@ -154,8 +168,18 @@ class Export:
 
     def named(self, number: int) -> str:
         """An object as people know it."""
-        name = self.mark(number, "name")
+        name = self.own_name(number)
         return f"{name} #{number}" if name else f"#{number}"
+
+    def own_name(self, number: int) -> Optional[str]:
+        """The name that an object has; None if it isn't there."""
+        name: Optional[str] = self.facts.value(MARKS["name"].format(number))
+        return name
+
+    def known_as(self, number: int) -> str:
+        """The name of an object that the script doesn't make, for a remark."""
+        name = self.own_name(number)
+        return "there is no such object" if name is None else name or "unnamed"
 
     def leave_out(self, why: str) -> None:
         """Notes that something isn't in the script."""
@@ -163,7 +187,7 @@ class Export:
 
     def may_give(self, owner: int, what: str) -> int:
         """Whose something becomes: an owner's, if who exports may give it away and the owner is there; else one's own, which is noted."""
-        if owner == self.person or (self.is_wizard and (owner in self.order or self.facts.value(f"valid(#{owner})") == 1)):
+        if owner == self.person or (self.is_wizard and (owner in self.inside or self.facts.value(f"valid(#{owner})") == 1)):
             return owner
         is_there = self.facts.value(f"valid(#{owner})") == 1
         self.leave_out(f"{what} belongs to {self.named(owner) if is_there else f'#{owner}, which is gone'}: it becomes yours")
@@ -176,16 +200,17 @@ class Export:
         calls = [*self.created(), *self.marked(), *self.added(), *self.inherited(), *self.verbs(), *self.placed()]
         count = len(self.order)
         self.leave_out_unread()
+        how = "moo-shell -f FILE world.db makes the same again, and so does the page 'Batch' of a front."
+        if len(calls) > MOST_CALLS:
+            how = f"moo-shell -f FILE world.db makes the same again. The page 'Batch' takes {MOST_CALLS:,} calls at most, and this has {len(calls):,}."
         lines = [
-            f"// {self.named(self.first)} and {WITH[self.what][1]}: {count} object{'' if count == 1 else 's'}{told}.", "//",
-            "// moo-shell -f FILE world.db makes the same again, and so does the page 'Batch' of a front"
-            f"{'' if len(calls) <= MOST_CALLS else f', if it has at most {MOST_CALLS:,} calls, which this has not'}. $me is who does it.",
-            *(("// Not in it:", *(f"//   {why}" for why in self.left_out)) if self.left_out else ()),
+            f"// {self.named(self.first)} and {WITH[self.what][1]}: {count} object{'' if count == 1 else 's'}{told}.",
+            f"// {how} $me is who does it.",
+            *(("// What differs, or isn't in it:", *(f"//   {why}" for why in self.left_out)) if self.left_out else ()),
         ]  # fmt: skip
         if self.names.outside:
             lines += ["// These objects have to be there, with the properties that are set below. If they have other numbers, write those here."]
-            self.facts.read(call for number in self.names.outside for call in (MARKS["name"].format(number),))
-            lines += [f"{name} = #{number}  // {self.mark(number, 'name') or 'unnamed'}" for number, name in self.names.outside.items()]
+            lines += [f"{name} = #{number}  // {self.known_as(number)}" for number, name in self.names.outside.items()]
         return Exported("\n".join([*lines, "", *calls_in_batches(calls)]) + "\n", count, len(calls), list(self.left_out))
 
     def leave_out_unread(self) -> None:
@@ -202,7 +227,7 @@ class Export:
         late = []
         for number in self.order:
             owner = self.owner_of(number)
-            is_late = owner in self.order and owner not in self.given and owner != number
+            is_late = owner in self.inside and owner not in self.given and owner != number
             late += [(number, owner)] if is_late else []
             self.given[number], self.owners[number] = owner, self.person if is_late else owner
             given = {self.person: "", number: ", #-1"}.get(self.owners[number], f", {self.it(self.owners[number])}")
@@ -257,13 +282,13 @@ class Export:
             for definer, name in self.properties(number):
                 if definer != number:
                     yield from self.slot(number, definer, name, fresh)
-        for one in dict.fromkeys(above for number in self.order for above in self.above[number] if above not in self.order):
+        for one in dict.fromkeys(above for number in self.order for above in self.above[number] if above not in self.inside):
             if self.defined[one] is None:
                 self.leave_out(f"what {self.named(one)} defines: you may not list it, so values of that aren't here")
 
     def slot(self, number: int, definer: int, name: str, fresh: dict[tuple[int, str], Optional[Rights]]) -> Iterator[str]:
         """What an object has of a property. `fresh` gets what it would have without more calls."""
-        is_defined = self.rights(definer, name) is not None if definer in self.order else True
+        is_defined = self.rights(definer, name) is not None if definer in self.inside else True
         before = fresh[(number, name)] = self.fresh(number, definer, name, fresh)
         rights, clear, value = self.rights(number, name), *(self.facts.value(call) for call in slot_calls(number, name)[1:])
         if rights is None or not is_defined or (clear == 0 and value is None):
@@ -284,12 +309,12 @@ class Export:
 
     def fresh(self, number: int, definer: int, name: str, known: dict[tuple[int, str], Optional[Rights]]) -> Optional[Rights]:
         """What an object has of a property before the script changes it; None, if that can't be known."""
-        if definer in self.order:
+        if definer in self.inside:
             rights = self.rights(definer, name)
             owner = self.may_give(rights.owner, f"{name} of {self.named(definer)}") if rights else NOTHING
             return rights and Rights(self.given[number] if "c" in rights.letters else owner, rights.letters)
         parent = self.linked(number, "parent")
-        above = known.get((parent, name)) if parent in self.order else self.rights(parent, name)
+        above = known.get((parent, name)) if parent in self.inside else self.rights(parent, name)
         return above and Rights(self.owners[number] if "c" in above.letters else above.owner, above.letters)
 
     def verbs(self) -> Iterator[str]:
@@ -298,7 +323,6 @@ class Export:
             names = self.facts.value(f"verbs(#{number})")
             if names is None:
                 self.leave_out(f"the verbs of {self.named(number)}: you may not list them")
-            self.facts.read(f"{call}(#{number}, {place})" for place in range(1, len(names or ()) + 1) for call in ("verb_info", "verb_args"))
             for place, each in enumerate(names or (), 1):
                 info, args = (self.facts.value(f"{call}(#{number}, {place})") for call in ("verb_info", "verb_args"))
                 if info is None or args is None:

@@ -1,15 +1,17 @@
 """The text of a script for moo-shell: objects that it makes and that it only names, each by a name, and its calls in batches.
 
-    names = ObjectNames(5)
-    names.add(26, "generic apple")      "$generic_apple"
-    names.text([Obj(26), "x"])          '{$generic_apple, "x"}'
+    names = ObjectNames(5, {26: "generic apple", 1: "Root Class"}.get)
+    names.add(26)                       "$generic_apple"
+    names.text([Obj(26), Obj(1)])       "{$generic_apple, $root_class}"
+    names.outside                       {1: "$root_class"}
     calls_in_batches(["$generic_apple = create($root)"])
 """
 
 from __future__ import annotations
 
 import re
-from collections.abc import Iterable, Iterator
+from collections.abc import Callable, Iterable, Iterator
+from typing import Optional
 
 from moolib.values import Name, Obj, Value, written
 
@@ -21,18 +23,17 @@ MOST_CALLS, MOST_LETTERS = 1000, 600_000
 
 
 class ObjectNames:
-    """The names of objects in a script. `person` is who exports it: there that is who runs it, `$me`."""
+    """The names of objects in a script. `person` is who exports it: there that is who runs it, `$me`. `name_of` gives an object's own name."""
 
-    def __init__(self, person: int) -> None:
-        self.known = {person: "$me"}
+    def __init__(self, person: int, name_of: Callable[[int], Optional[str]]) -> None:
+        self.known, self.name_of = {person: "$me"}, name_of
         self.used = set(TAKEN)
         # The objects that the script names and doesn't make, in the order in which they come.
         self.outside: dict[int, str] = {}
 
-    def add(self, number: int, name: str) -> str:
-        """The name of an object, which it gets if it has none."""
-        if number not in self.known:
-            self.known[number] = f"${self.free(number, name)}"
+    def add(self, number: int) -> str:
+        """The name of an object that the script makes."""
+        self.known[number] = f"${self.free(number, self.name_of(number) or '')}"
         return self.known[number]
 
     def free(self, number: int, name: str) -> str:
@@ -50,7 +51,7 @@ class ObjectNames:
         if number < 0:
             return f"#{number}"
         if number not in self.known:
-            self.outside[number] = self.add(number, f"object {number}")
+            self.outside[number] = self.add(number)
         return self.known[number]
 
     def text(self, value: Value) -> str:

@@ -8,6 +8,7 @@ from __future__ import annotations
 
 import argparse
 import contextlib
+import json
 import os
 import secrets
 import signal
@@ -61,6 +62,8 @@ FIRST: tuple[tuple[str, tuple[str, ...]], ...] = (
     ("ben", ('petition({{"move", #21, #10}, {"set", #19, "ownership_quota", 3}})',)),
     ("cleo", ('petition({{"move", #17, #11}})',)),
 )
+# Why Ben and Cleo ask.
+REASONS = {"ben": "It would be better there, and I need a few more objects for the oars.", "cleo": "I would like to have it near me."}
 # The objects of the people in the village, once all that was done.
 GUESTS = (("wizard", "a wizard, who may do everything", 3), ("ada", "a builder", 18), ("ben", "a builder", 19), ("cleo", "a resident", 23))
 
@@ -123,7 +126,7 @@ class Demo:
             front = [str(WEB / "moo-web"), str(self.folder / "front"), "--moo-port", str(self.moo_port), "--port", str(self.port)]
             self.launched(front)
             for name, calls in FIRST:
-                self.send(tokens[name], calls)
+                self.send(tokens[name], calls, REASONS.get(name, "") if calls[0].startswith("petition") else "")
             for name in tokens:
                 people.end_tokens(name)
         finally:
@@ -138,10 +141,10 @@ class Demo:
         if not running.stdout.readline().startswith("listening"):
             raise Failed(f"{Path(words[0]).name} doesn't start: {(self.folder / 'told').read_text().strip()}")
 
-    def send(self, token: str, calls: tuple[str, ...]) -> None:
-        """Sends a batch through the front."""
+    def send(self, token: str, calls: tuple[str, ...], words: str) -> None:
+        """Sends a batch with these words through the front."""
         front = FrontService(f"http://127.0.0.1:{self.port}", token)
-        answer = front.sent("POST", "/batch", front.body(None, list(calls)))
+        answer = front.sent("POST", "/batch", json.dumps({"calls": calls, "words": words}).encode())
         if not answer.is_good:
             raise Failed(f"the village is another one than this program knows: {answer.text}")
 

@@ -68,13 +68,13 @@ module _ (p : ObjNo) (w v : World) (alike : LookAlike p w v) where
   verbs_same : directory_of v ≡ directory_of w
   verbs_same = (λ i x. unwrap_or (sym (bare_verbs (v.object x)) i) []) ∙ ap directory_of (sym alike.rest) ∙ (λ i x. unwrap_or (bare_verbs (w.object x) i) [])
 
-  there : is_object v ≡ is_object w
+  pub there : is_object v ≡ is_object w
   there = (λ i x. sym (bare_some (v.object x)) i) ∙ ap is_object (sym alike.rest) ∙ (λ i x. bare_some (w.object x) i)
 
   top : v.top ≡ w.top
   top = ap (λ (k : World). k.top) (sym alike.rest)
 
-  passes : (test : ObjRow → Bool) → row_passes test v ≡ row_passes test w
+  pub passes : (test : ObjRow → Bool) → row_passes test v ≡ row_passes test w
   passes test = λ i x. unwrap_or (option_map test (rows i x)) false
 
   all : objects_of v ≡ objects_of w
@@ -141,7 +141,7 @@ module _ (p : ObjNo) (w v : World) (alike : LookAlike p w v) where
 
   -- ---- by name
 
-  asked : (name : CallName) (values : List Value) → is_question name ≡ true → SameAnswer (named_call w p name values) (named_call v p name values)
+  pub asked : (name : CallName) (values : List Value) → is_question name ≡ true → SameAnswer (named_call w p name values) (named_call v p name values)
   asked Valid values h = both_given (one_object values) _ _ (λ x i. flag (there i x))
   asked Parent values h = both_given (one_object values) _ _ (λ x. object_checked x _ _ _ (λ i. Obj (unwrap_or (parents i x) nothing)))
   asked Children values h = both_given (one_object values) _ _ (λ x. object_checked x _ _ _ (λ i. object_list (filter (passes (λ row. same_object x row.parent) i) (all i))))

@@ -1,3 +1,4 @@
+pub mod Agreeing
 pub mod NobodyRises
 pub mod ObjectNumbers
 pub mod Reading

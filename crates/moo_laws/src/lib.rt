@@ -3,10 +3,12 @@
 //! No crate uses these laws, so a new one costs the check of this crate alone.
 #![tactic(auto)]
 
+mod batches;
 mod numbers;
 mod questions;
 mod rights;
 
+pub use batches::reading_batches_tell_no_more;
 pub use numbers::object_numbers_stay;
 pub use questions::questions_tell_no_more;
 pub use rights::nobody_rises;

@@ -1,13 +1,23 @@
 -- What passes between a peer and the service through a desk.
-use Rattle.std.specs.Prelude.{◌≡◌, ◌⊎◌, ℕ, zero, suc, List, [], drop, Ok, Err}
-use Rattle.std.specs.Io.KnownBytes.{Keeps, Appends}
+use Rattle.std.specs.Prelude.{◌≡◌, ◌⊎◌, ℕ, ℤ, List, length, Ok, Err}
+use Rattle.std.specs.Io.KnownBytes.{Appends}
 use Rattle.std.specs.declared.io.Read as Reading
 use Rattle.std.specs.declared.io.Write as Writing
+use Rattle.moo_arrivals.specs.declared.arrivals.Closing.{Closing}
 use Rattle.moo_arrivals.specs.declared.arrivals.Connection.{Connection}
+use Rattle.moo_arrivals.specs.declared.route.Route.{Route}
 use Rattle.moo_http_request.specs.Given.{HasFailed}
+use Rattle.moo_http_request.specs.declared.incoming.Incoming as Incoming
+use Rattle.moo_desk.specs.declared.gate.Inward as Inward
+use Rattle.moo_desk.specs.declared.gate.Outward as Outward
 use Rattle.moo_desk.specs.declared.gathered.Coming.TheVariants.{Unread}
 use Rattle.moo_desk.specs.declared.gathered.Gathered.{Gathered}
+use Rattle.moo_desk.specs.declared.leaving.Leaving.{Leaving}
 use Rattle.moo_desk.specs.declared.outgoing.Outgoing.{Outgoing}
+use Rattle.moo_desk.specs.declared.slot.Slot.{Slot}
+use Rattle.moo_desk.specs.Deeds.{IsFresh}
+use Rattle.moo_desk.specs.Exchange.{Begins, IsHandedOut}
+use Rattle.moo_desk.specs.Later.{IsGathered, IsLater}
 use Rattle.moo_store.specs.Stand.{Stand}
 use Rattle.moo_http.specs.Traffic.{Traffic, traffic_of}
 use Rattle.moo_http.specs.Ledger.{Ledger}
@@ -16,60 +26,65 @@ use Rattle.moo_http.specs.Through.{FailedThrough}
 use Rattle.moo_http.specs.declared.fault.ServeFault.{ServeFault}
 use Rattle.moo_http.specs.declared.fault.ServeFault.TheVariants.{Write}
 
--- a reader and a writer of a peer, and what a desk makes of them
-module _ {R W : Type 0} (reader : Reading.Ghosts R) (gathered : Reading.Ghosts (Gathered R))
-    (writer : Writing.Ghosts W) (outgoing : Writing.Ghosts (Outgoing W)) where
-  -- So many steps that gather. Whoever reads sees none of them (`invisible` of `Gathered::fill`).
-  abbrev pub Gathers : ℕ → Gathered R → Gathered R → Type 0
-  Gathers zero old new = new ≡ old
-  Gathers (suc n) old new = (between : Gathered R) × Gathers n old between × Keeps (gathered.remaining between) (gathered.remaining new)
+-- A connection as it came to a desk, and was gathered; as it was handed out and given back; and as it is held after that, and later. These
+-- are the steps that `accept`, `close` and `settle` of a desk allow (`Hands`, `GetsBack`, `TellsNext`).
+pub record PassesDesk {R W : Type 0}
+    {inward : Inward.Ghosts R} {incoming : Incoming.Ghosts R} {reader : Reading.Ghosts R} {outward : Outward.Ghosts W}
+    {writer : Writing.Ghosts W}
+    (came slot : Slot R W inward incoming reader outward writer) (opened closed : Connection (Gathered R) (Outgoing W))
+    (back last : Leaving R W) : Type 0 where
+  pub fresh : IsFresh came
+  pub gathers : IsGathered came slot
+  pub handed : IsHandedOut slot opened
+  pub given : (closing : Closing) × (route : Route) × Begins closed closing route back
+  pub sends : IsLater writer outward.peer back last
+  -- the service gives back the writer that it was given, and a writer only takes more
+  pub kept : outward.peer closed.writer.writer ≡ outward.peer opened.writer.writer
+  pub front : (bytes : List ℕ) × Appends (writer.contents came.writer.writer) (writer.contents last.writer.writer) bytes
 
-  -- So many steps that send. Whoever writes sees none of them (`invisible` of `Outgoing::send`).
-  abbrev pub Sends : ℕ → Outgoing W → Outgoing W → Type 0
-  Sends zero old new = new ≡ old
-  Sends (suc n) old new = (between : Outgoing W) × Sends n old between × Keeps (outgoing.contents between) (outgoing.contents new)
+module _ {R W : Type 0}
+    {inward : Inward.Ghosts R} {incoming : Incoming.Ghosts R} {reader : Reading.Ghosts R} {outward : Outward.Ghosts W}
+    {writer : Writing.Ghosts W} where
+  -- whoever gets the answer is who asked
+  abbrev pub IsAsker : Slot R W inward incoming reader outward writer → Leaving R W → Type 0
+  IsAsker came last = outward.peer last.writer.writer ≡ inward.peer came.reader.reader
 
-  -- A connection came with this reader and this writer. The desk gathered and handed it out; it was given back, and the desk sent.
-  pub record PassesDesk (from : R) (to : W) (opened closed : Connection (Gathered R) (Outgoing W)) (last : Outgoing W) : Type 0 where
-    -- at first nothing was gathered, and nothing was to be sent
-    pub first : Gathered R
-    pub fresh : (first.reader ≡ from) × (drop first.at first.bytes.items ≡ [])
-    pub unwritten : (opened.writer.writer ≡ to) × (drop opened.writer.sent opened.writer.text.items ≡ [])
-    pub fills : ℕ
-    pub gathers : Gathers fills first opened.reader
-    pub pieces : ℕ
-    pub sends : Sends pieces closed.writer last
-    -- a writer only takes more
-    pub front : (bytes : List ℕ) × Appends (writer.contents to) (writer.contents last.writer) bytes
-
-  -- what its peer sees
-  abbrev pub peer_of : R → W → Connection (Gathered R) (Outgoing W) → Outgoing W → Traffic
-  peer_of from to closed last = record {
-    left = reader.remaining from;
+  -- what the peer of the connection that came sees of it
+  abbrev pub peer_of : Reading.Ghosts (Gathered R) → Slot R W inward incoming reader outward writer → Connection (Gathered R)
+      (Outgoing W) → Leaving R W → Traffic
+  peer_of gathered came closed last = record {
+    left = reader.remaining came.reader.reader;
     rest = gathered.remaining closed.reader;
-    before = writer.contents to;
-    after = writer.contents last.writer;
+    before = writer.contents came.writer.writer;
+    after = writer.contents last.writer.writer;
   }
 
-  -- An answer of which nothing is left to be sent is the peer's answer.
-  abbrev pub DeskAnswers : Type 0
-  DeskAnswers = (old new : Stand) (ledger : Ledger) (from : R) (to : W) (opened closed : Connection (Gathered R) (Outgoing W)) →
-      (last : Outgoing W) → PassesDesk from to opened closed last → drop last.sent last.text.items ≡ [] →
-      Exchanged (Ok tt) old new (traffic_of gathered outgoing opened closed) ledger →
-      Exchanged (Ok tt) old new (peer_of from to closed last) ledger
+-- a reader and a writer of a peer, by whose they are, and what a desk makes of them
+module _ {R W : Type 0} (from : R → ℤ) (fails : R → R → Type 0) (reader : Reading.Ghosts R) (gathered : Reading.Ghosts (Gathered R))
+    (to : W → ℤ) (writer : Writing.Ghosts W) (outgoing : Writing.Ghosts (Outgoing W)) where
+  -- a connection whose request is gathered, with these words for its reader and its writer
+  abbrev pub PeerSlot : Type 0
+  PeerSlot = Slot R W (record { peer = from }) (record { fails = fails }) reader (record { peer = to }) writer
 
-  -- Of another the peer has a front.
-  abbrev pub DeskFronts : Type 0
-  DeskFronts = (old new : Stand) (ledger : Ledger) (from : R) (to : W) (opened closed : Connection (Gathered R) (Outgoing W)) →
-      (last : Outgoing W) → PassesDesk from to opened closed last →
+  -- An answer that was sent whole is the answer to what its peer asked.
+  abbrev pub DeskAnswers : Type 0
+  DeskAnswers = (old new : Stand) (ledger : Ledger) (came slot : PeerSlot) (opened closed : Connection (Gathered R) (Outgoing W)) →
+      (back last : Leaving R W) → PassesDesk came slot opened closed back last → last.writer.sent ≡ length last.writer.text.items →
       Exchanged (Ok tt) old new (traffic_of gathered outgoing opened closed) ledger →
-      Exchanged (Err Write) old new (peer_of from to closed last) ledger
+      Exchanged (Ok tt) old new (peer_of gathered came closed last) ledger × IsAsker came last
+
+  -- Of another its peer has a front.
+  abbrev pub DeskFronts : Type 0
+  DeskFronts = (old new : Stand) (ledger : Ledger) (came slot : PeerSlot) (opened closed : Connection (Gathered R) (Outgoing W)) →
+      (back last : Leaving R W) → PassesDesk came slot opened closed back last →
+      Exchanged (Ok tt) old new (traffic_of gathered outgoing opened closed) ledger →
+      Exchanged (Err Write) old new (peer_of gathered came closed last) ledger × IsAsker came last
 
   abbrev pub DeskFaults : Type 0
-  DeskFaults = (fault : ServeFault) (old new : Stand) (ledger : Ledger) (from : R) (to : W) →
-      (opened closed : Connection (Gathered R) (Outgoing W)) (last : Outgoing W) → PassesDesk from to opened closed last →
+  DeskFaults = (fault : ServeFault) (old new : Stand) (ledger : Ledger) (came slot : PeerSlot) →
+      (opened closed : Connection (Gathered R) (Outgoing W)) (back last : Leaving R W) → PassesDesk came slot opened closed back last →
       Exchanged (Err fault) old new (traffic_of gathered outgoing opened closed) ledger →
-      FailedThrough fault old new (peer_of from to closed last) ledger
+      FailedThrough fault old new (peer_of gathered came closed last) ledger × IsAsker came last
 
 -- If the reader of a desk failed, that of its peer failed in it, or what comes of the peer isn't read any more.
 abbrev pub DeskCauses : {R : Type 0} → (R → R → Type 0) → (Gathered R → Gathered R → Type 0) → Type 0

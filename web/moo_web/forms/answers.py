@@ -9,7 +9,7 @@ from moo_web.forms.inbox import PetitionPages, Row, items_of
 from moo_web.forms.input import Mistyped
 from moo_web.forms.petitions import petition_item
 from moo_web.forms.previews import Done
-from moo_web.journal.notes import Note, Unfit, words_in
+from moo_web.journal.notes import Note, Unfit, fit_of, words_in
 from moo_web.journal.recent import Seen
 from moo_web.pages.pages import Visit
 from moo_web.pages.sign import sentence
@@ -35,7 +35,7 @@ class AnswerPages:
         try:
             words = words_in(typed)
         except Unfit as unfit:
-            return self.again(visit, row, sentence(str(unfit)), 422, typed)
+            return self.again(visit, row, sentence(str(unfit)), 422, fit_of(typed))
         says = visit.form.get("go", "")
         if says == "again" and row.petition.who == visit.number:
             return self.ask_again(visit, row, words)

@@ -25,7 +25,7 @@ from moo_web.forms.previewing import Change, Preview
 from moo_web.forms.previews import Done, Previews
 from moo_web.forms.untouched import is_untouched
 from moo_web.forms.views import NamesOf, Offer, chosen_of, known_values, reads_at_first, typed_at_first, view_of
-from moo_web.journal.notes import LONGEST_WORDS, NO_NOTE, Note, Unfit, words_in
+from moo_web.journal.notes import LONGEST_WORDS, NO_NOTE, Note, Unfit, fit_of, words_in
 from moo_web.journal.recent import Recent, Seen
 from moo_web.journal.segments import Accepted
 from moo_web.journal.jobs import Busy, Stopped, TooMuch, Unknown
@@ -260,6 +260,7 @@ def note_typed(found: FormResult) -> Note:
         return Note(words_in(found.words))
     except Unfit as unfit:
         found.wrong_words, found.status = f"{str(unfit)[:1].upper()}{str(unfit)[1:]}.", 422
+        found.words = fit_of(found.words)
         return NO_NOTE
 
 

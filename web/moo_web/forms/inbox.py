@@ -169,8 +169,9 @@ class PetitionPages:
 def row_of(visit: Visit, petition: Petition, talk: Optional[Talk], outcome: Outcome) -> Row:
     """A petition with what the person could do about it."""
     seen, grant = visible(visit, petition), outcome.grant
-    if talk is not None and (talk.asked.programmer, list(map(str, talk.calls))) != (petition.who, petition.calls):
-        # The world was loaded from a dump, and the number was given again.
+    is_same = talk is not None and (talk.asked.programmer, list(map(str, talk.calls))) == (petition.who, petition.calls)
+    # After a world was loaded from a dump a number may be given again. Who may read none of the calls reads no word about them either.
+    if not is_same or not seen.calls:
         talk = None
     row = Row(petition, seen, talk, [] if seen.hidden else owners_asked(visit, petition.calls, petition.who), outcome.decline, grant)
     if grant is None:

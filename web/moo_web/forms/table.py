@@ -27,7 +27,7 @@ ROWS, NEW_ROWS, MOST_NEW = 40, 10, 100
 COLUMNS, MOST_COLUMNS, MOST_OFFERED = 5, 8, 60
 # How an empty text is typed, since an empty cell has what its class has.
 EMPTY = '""'
-ABOUT = "An empty cell has what its class has, in grey. What you leave as it is stays as it is. All that you change is one batch."
+ABOUT = "An empty cell has what its class has, in grey. What you leave as it is stays as it is. All that you change is done together, or nothing of it."
 
 
 @dataclasses.dataclass(frozen=True)

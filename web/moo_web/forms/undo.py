@@ -26,7 +26,7 @@ from moo_web.pages.pages import Visit
 from moo_web.world.asking import Moved
 from moo_web.world.door import Unreachable
 
-UNDO = Form("undo", "Undo a batch", "What it replaced is put back, in the world as it is now.", BATCH.fields, ())
+UNDO = Form("undo", "Undo a batch", "A batch is some changes that were done together. What it replaced is put back, in the world as it is now.", BATCH.fields, ())
 # So many calls are left out one by one.
 MOST_LEFT_OUT = 200
 TRIES = 5

@@ -80,6 +80,11 @@ class Decided(NamedTuple):
         return self.ended.note.words
 
     @property
+    def is_asked_again(self) -> bool:
+        """Whether who made it took it back and asked once more, in one batch."""
+        return any(call_name(call) == "petition" for call in self.ended.calls)
+
+    @property
     def is_granted(self) -> bool:
         """Whether it was granted."""
         return any(call.name == "grant" and call.petition == self.number for call in map(Call.read, self.ended.calls))

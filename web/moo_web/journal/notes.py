@@ -54,6 +54,11 @@ def words_in(text: str) -> str:
     return words
 
 
+def fit_of(text: str) -> str:
+    """A text without the letters that can't be kept."""
+    return "".join(letter for letter in text if letter in "\r\n" or is_fit(letter))
+
+
 def is_fit(letter: str) -> bool:
     """Whether a page and a feed can show a letter: it isn't a control, a half of a pair, or no letter at all."""
     return unicodedata.category(letter) not in ("Cc", "Cs") and ord(letter) & 0xFFFE != 0xFFFE

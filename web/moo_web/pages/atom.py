@@ -14,7 +14,7 @@ from typing import NamedTuple
 from xml.sax.saxutils import escape, quoteattr
 
 KIND = "application/atom+xml; charset=utf-8"
-# What XML can't have, and what stands in its place.
+# What XML can't have, and what is written in its place.
 NO_LETTER = re.compile("[^\t\n\r -\ud7ff\ue000-\ufffd\U00010000-\U0010ffff]")
 UNKNOWN = "\ufffd"
 NAMESPACE = uuid.UUID("5c9d1d2e-6f6b-4b0e-9f0a-6a8f3a1c4d57")

@@ -64,7 +64,7 @@ def anchor_of(word: str) -> str:
 
 
 def term(word: str, shown: str = "") -> Markup:
-    """A word as a link to what it means, which is its title too. `shown` is how it stands here, if not as it is."""
+    """A word as a link to what it means, which is its title too. `shown` is how it is written here, if not as it is."""
     address = f"{url_for('about')}#{anchor_of(word)}"
     return Markup('<a class="term" href="{}" title="{}">{}</a>').format(address, title_of(word), shown or word)
 

@@ -13,6 +13,8 @@ from moo_web.journal.history import Batches, History
 from moo_web.journal.segments import Accepted
 from moo_web.pages.batches import Telling, concerns, told, without_unreadable
 from moo_web.pages.pages import Visit
+from moo_web.paths import url_for
+from moo_web.people.person import PERSON_NAME
 
 PAGE = 50
 # So many objects are offered for a name that several have.
@@ -33,8 +35,15 @@ def batches(visit: Visit, history: History) -> Reply:
         found = seen_by(visit, history, who, number, from_place, moment_in(visit, since), moment_in(visit, until, DAY))
     return visit.page(
         "pages/history.html", found=found, number=number, asked=asked, numbers=numbers[:MOST_OFFERED], who=who, since=since, until=until,
-        is_first=not before, line=lambda batch: Telling(visit, history, batch).line(number),
+        is_first=not before, feed=feed_of(number, who), line=lambda batch: Telling(visit, history, batch).line(number),
     )  # fmt: skip
+
+
+def feed_of(number: Optional[int], who: str) -> str:
+    """The address of the feed of an object, or else of a person; empty if it is of neither."""
+    if number is not None:
+        return url_for("feed_object", number=number)
+    return url_for("feed_person", name=who) if PERSON_NAME.fullmatch(who) else ""
 
 
 def seen_by(

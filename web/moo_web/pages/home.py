@@ -23,13 +23,12 @@ def home(visit: Visit, history: History, names: SightNames) -> Reply:
     """The first page of somebody who is signed in."""
     seen = visit.world
     here = seen.things[visit.number].location
-    calls = [f'get(#{visit.number}, "ownership_quota")', "petitions()"]
     # All that the page asks for is asked in one request.
-    quota, petitions, *_ = visit.answers([*calls, *(sight_calls(names, here) if here in seen.things else ())])
+    quota, *_ = visit.answers([f'get(#{visit.number}, "ownership_quota")', *(sight_calls(names, here) if here in seen.things else ())])
     yours, found = seen.owned.get(visit.number, ()), lately(visit, history)
     return visit.page(
         "pages/home.html", here=here, sight=sight_of(visit, names, here) if here in seen.things else None,
-        waiting=len(petitions) if isinstance(petitions, list) else None, lately=found, others=by_others(visit, found),
+        waiting=visit.waiting, lately=found, others=by_others(visit, found),
         newest=list(itertools.islice(reversed(seen.things), NEWEST)), yours=yours[-YOURS:][::-1], yours_count=len(yours),
         quota=quota if isinstance(quota, int) else None, parents=parents_of(seen), places=places_of(seen),
         nowhere=len(seen.contents.get(NOTHING, ())), roots=len(seen.children.get(NOTHING, ())), players=len(seen.with_bit("player")),

@@ -196,8 +196,6 @@ class Pages:
         self.rate = Rate(2 * rate, BURST_SECONDS * 2 * rate)
         self.kept_forms: list[tuple[paths.Path, PageHandler]] = []
         self.names: set[str] = set()
-        # What else is read before it is asked for.
-        self.warming: list[Callable[[], None]] = []
         # The addresses of the forms that change a property or a verb, by `property` and `verb`.
         self.changes = {"property": url_for("form", key="set"), "verb": url_for("form", key="verb-rights")}
         # The properties that say what is seen at a place.
@@ -221,8 +219,6 @@ class Pages:
         with contextlib.suppress(Unreachable):
             self.index.world()
         self.history.found(None, None, 0)
-        for warm in self.warming:
-            warm()
 
     def add_file(self, name: str, kind: str) -> None:
         """A file of `static/`, for everybody."""

@@ -45,7 +45,6 @@ def make_pages(
     # What is found is of the world that the index knows, so the values are told first.
     writer.listeners += [holdings.take, index.take]
     pages = Pages(app, people, index, asker, history, rate)
-    pages.warming.append(holdings.warm)
     pages.sight_names = names
     pages.open("GET", "programs", lambda request: programs.page(pages, request))
     text = About(about, app.tell)

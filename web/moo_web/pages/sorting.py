@@ -2,6 +2,7 @@
 
 from __future__ import annotations
 
+import functools
 from collections.abc import Iterable, Iterator, Mapping, Sequence
 from typing import Any, Callable, NamedTuple
 
@@ -12,7 +13,7 @@ from moo_web.world.things import Thing, World
 
 LONGEST = 256
 # The orders of a list, each with its word. The first is that of a list that says none.
-ORDERS = {"number": "Number", "name": "Name", "kind": "Kind", "place": "Place", "owner": "Owner"}
+ORDERS = {"number": "Number", "name": "Name", "kind": "Kind", "where": "Where", "owner": "Owner"}
 # The fields by which objects are left out.
 FILTERS = ("name", "owner", "kind")
 
@@ -63,9 +64,9 @@ def sorted_list(visit: Visit, numbers: Sequence[int], wanted: Wanted) -> Sorted:
     world, unknown = visit.world, list[str]()
     if wanted.is_filtered:
         tests = tests_of(visit, wanted, unknown)
-        numbers = [number for number in numbers if number in world.things and all(test(world.things[number]) for test in tests)]
+        numbers = [number for number in numbers if all(test(world.things[number]) for test in tests)]
     if wanted.order != "number":
-        numbers = sorted((number for number in numbers if number in world.things), key=key_of(world, wanted.order))
+        numbers = sorted(numbers, key=key_of(world, wanted.order))
     return Sorted(numbers[::-1] if wanted.is_down else numbers, unknown)
 
 
@@ -105,15 +106,20 @@ class Kinds:
 
 def key_of(world: World, order: str) -> Callable[[int], Any]:
     """What a list in this order is sorted by: names in any case of letters, the same ones by number."""
-    def name(number: int) -> str:
-        return world.things[number].name.lower() if number in world.things else ""
-
+    things = world.things
     if order == "name":
-        return lambda number: (name(number), number)
+        return lambda number: (things[number].name.lower(), number)
     of: Callable[[Thing], int] = {
-        "kind": lambda thing: thing.parent, "place": lambda thing: thing.location, "owner": lambda thing: thing.owner
+        "kind": lambda thing: thing.parent, "where": lambda thing: thing.location, "owner": lambda thing: thing.owner
     }[order]
-    return lambda number: (name(of(world.things[number])), of(world.things[number]), number)
+    # Many objects have the same owner, parent or place.
+    name = functools.lru_cache(None)(lambda number: things[number].name.lower() if number in things else "")
+
+    def key(number: int) -> tuple[str, int, int]:
+        other = of(things[number])
+        return name(other), other, number
+
+    return key
 
 
 def orders(wanted: Wanted) -> Iterator[tuple[str, str, str]]:

@@ -29,8 +29,10 @@ def is_about(world: World, number: int, one: OpenPetition) -> bool:
 
 def answers_to(index: Index, history: History, petition: int) -> dict[str, str]:
     """What was answered to an open petition, by the names of who did, in small letters."""
-    told = {reply.who: reply.says for reply in history.ledger.last_replies(petition)}
-    return told | index.opened.said.get(petition, {})
+    told, said = history.ledger.replies, index.opened.said
+    if petition not in told and petition not in said:
+        return {}
+    return {reply.who: reply.says for reply in history.ledger.last_replies(petition)} | said.get(petition, {})
 
 
 def waiting(index: Index, history: History, name: str, number: int, world: Optional[World]) -> Optional[Waiting]:
@@ -43,11 +45,10 @@ def waiting(index: Index, history: History, name: str, number: int, world: Optio
         return None
     count = own = 0
     for petition, one in index.opened.all.items():
-        own += one.who == number
-        if one.who != number:
-            answers = answers_to(index, history, petition)
-            if world.is_wizard(number):
-                count += not {"done", "no"} & set(answers.values())
-            else:
-                count += name.lower() not in answers and is_about(world, number, one)
+        if one.who == number:
+            own += 1
+        elif world.is_wizard(number):
+            count += not {"done", "no"} & set(answers_to(index, history, petition).values())
+        elif is_about(world, number, one):
+            count += name.lower() not in answers_to(index, history, petition)
     return Waiting(count, own)

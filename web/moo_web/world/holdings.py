@@ -10,7 +10,6 @@ last search. Who has found something is told it by moo anew, with their own numb
 
 from __future__ import annotations
 
-import contextlib
 import threading
 import time
 from typing import IO, Any, NamedTuple, Optional, cast
@@ -33,8 +32,12 @@ READING = 10.0
 MOST_LETTERS = 1 << 24
 
 
+# After a dump wasn't given, none is asked for within so many seconds.
+PAUSE = 60.0
+
+
 class NoDump(Exception):
-    """This moo gives no dump, so that its values can't be searched."""
+    """This moo gives no dump, or has no memory for one, so that its values can't be searched."""
 
 
 class Learned(NamedTuple):
@@ -52,6 +55,8 @@ class Holdings:
         self.index, self.door, self.asker = index, door, Asker(door)
         self.turn = threading.Lock()
         self.learned: Optional[Learned] = None
+        # The moment of the monotonic clock from which on a dump may be asked for.
+        self.asking = 0.0
         # What follows is the writer's and the searches', and `told` guards it.
         self.told = threading.Condition()
         # The batches since the number `begin`, one after another; None: they aren't all kept.
@@ -106,11 +111,6 @@ class Holdings:
         finally:
             self.turn.release()
 
-    def warm(self) -> None:
-        """Reads the values, so that the first search needn't wait for them."""
-        with contextlib.suppress(Unreachable, NoDump, Moved):
-            self.literals(self.index.world())
-
     def brought_up(self, world: World) -> Learned:
         """What is known, after what may have changed up to this world was read."""
         learned = self.learned
@@ -142,13 +142,16 @@ class Holdings:
     def read_whole(self, world: World) -> Learned:
         """Reads all values by a dump. It may be of a later world: what has changed since this one is read again at the next search."""
         self.learned = None
+        if time.monotonic() < self.asking:
+            raise NoDump
         if self.batches is None or self.begin > world.seq:
             self.record()
         if self.begin > world.seq:
             raise Moved
         kept = Kept()
         refusal = self.door.copied("/dump", cast(IO[bytes], kept), time.monotonic() + READING)
-        if refusal is not None and refusal.is_missing:
+        if refusal is not None:
+            self.asking = time.monotonic() + PAUSE
             raise NoDump
         try:
             dumped = Dumped.of(kept)

@@ -11,13 +11,14 @@ import threading
 from collections.abc import Iterable
 from typing import Any, NamedTuple
 
-from moolib.calls import Call, calls_in, read_or_none
+from moolib.calls import Call, call_name, calls_in, read_or_none
 from moolib.values import Obj
 
 from moo_web.journal.segments import Accepted
 
 # Calls that are about a second object too: where something is to go, and what it is to inherit from.
 OF_TWO = ("move", "chparent")
+ABOUT_PETITIONS = ("petition", "grant", "decline")
 
 
 class OpenPetition(NamedTuple):
@@ -70,7 +71,7 @@ class OpenPetitions:
             if note.says:
                 self.said.setdefault(note.petition, {})[accepted.who.lower()] = note.says
             for place, text in enumerate(accepted.calls):
-                call = read_or_none(text)
+                call = read_or_none(text) if call_name(text) in ABOUT_PETITIONS else None
                 if call and call.petition is not None:
                     self.end(call.petition)
                 elif call and call.makes == "petition" and place < len(answers) and answers[place].isdigit():

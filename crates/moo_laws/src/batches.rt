@@ -1,0 +1,37 @@
+//! What somebody learns by batches that only read.
+
+ghost use Rattle.std.specs.Prelude.{◌≡◌, List, true, false};
+ghost use Rattle.std.specs.List.{list_all};
+ghost use Rattle.moo_value.specs.declared.value.ObjNo.{ObjNo};
+ghost use Rattle.moo_value.specs.declared.value.Value.{Value};
+ghost use Rattle.moo_world.specs.declared.call.Batch.{Batch};
+ghost use Rattle.moo_world.specs.Judge.{State, judge, left_by};
+ghost use Rattle.moo_world.specs.Objects.{Name};
+ghost use Rattle.moo_world.specs.Rights.{is_wizard};
+ghost use Rattle.moo_world.specs.World.{IsWellFormed};
+ghost use Rattle.moo_laws.specs.Agreeing.{AgreeFor, SameVerdict, TellTheSame, SameOwnPetitions, only_asks, with_value};
+ghost use Rattle.moo_laws.specs.Reading.{IsHidden, LookAlike};
+
+/// What batches of calls that only read tell their programmer depends on no value and on no petition that the programmer may not see: from
+/// two states that agree for the programmer they have the same verdicts, one after another. What batches that change something tell isn't
+/// said here.
+///
+/// LambdaMOO Programmer's Manual, 'Properties on Objects' in the chapter on the database. Petitions are this server's own.
+pub fn reading_batches_tell_no_more()
+    ensures batch { (programmer : ObjNo) (state other : State) (batch : Batch) → AgreeFor programmer state other →
+        only_asks programmer batch ≡ true → SameVerdict (judge state batch) (judge other batch) }
+    // The states agree after it too.
+    ensures after { (programmer : ObjNo) (state other : State) (batch : Batch) → AgreeFor programmer state other →
+        only_asks programmer batch ≡ true →
+        AgreeFor programmer (left_by state (judge state batch)) (left_by other (judge other batch)) }
+    ensures batches { (programmer : ObjNo) (state other : State) (batches : List Batch) → AgreeFor programmer state other →
+        list_all (only_asks programmer) batches ≡ true → TellTheSame batches state other }
+    // Whoever may not read a value learns nothing of it: with another value there, each verdict is the same.
+    ensures values { (programmer object : ObjNo) (name : Name) (value : Value) (state : State) (batches : List Batch) →
+        IsWellFormed state.world → IsHidden state.world programmer object name → list_all (only_asks programmer) batches ≡ true →
+        TellTheSame batches state (with_value state object name value) }
+    // Of somebody who isn't a wizard only their own petitions have to be the same, whatever the others are.
+    ensures petitions { (programmer : ObjNo) (state other : State) → is_wizard state.world programmer ≡ false →
+        LookAlike programmer state.world other.world → other.seq ≡ state.seq → SameOwnPetitions programmer state other →
+        AgreeFor programmer state other }
+{}
