@@ -119,7 +119,7 @@ def literal(random: Random, plot: Plot) -> str:
 
 
 def quota(random: Random) -> str:
-    """A quota: none is left, or many are, or it is no integer."""
+    """A quota: none is left, or many are, or it is another value than an integer."""
     return random.choice([str(-1000 - random.randrange(100)), str(1000 + random.randrange(100)), '"none"', "{3}", "2"])
 
 

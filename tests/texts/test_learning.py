@@ -104,7 +104,7 @@ TOLD = [
         ["create(#1)", "recycle(#8)"], NOTHING, [], [["max_object()"]], ("#8", "#7"),
     ),
 ]  # fmt: skip
-# How a programmer comes to read what they may not read as it stands.
+# How a programmer comes to read what they may not read at first.
 COMES = [
     Teller(
         "a value with c, by a child of one's own",
