@@ -74,6 +74,10 @@ class Alike(ProgramTest):
         if one != other:
             self.case(name, other, one)
 
+    def tell(self, what):
+        """Prints where chance began, how often each kind of difference was there, and what was answered how often."""
+        print(f"requests.alike: SEED={SEED} {what}, {dict(self.kinds)}, {self.hidden} lines differ afterwards, {dict(self.answered)}")
+
     def texts(self, run, count):
         """So many pairs in two texts."""
         sides = TextSide("one.db"), TextSide("other.db")
@@ -114,7 +118,7 @@ class Alike(ProgramTest):
         for run in range(0, pairs, PAIRS_OF_A_TEXT):
             with self.subTest(f"pairs {run} and on, SEED={SEED}"):
                 self.texts(run, min(PAIRS_OF_A_TEXT, pairs - run))
-        print(f"requests.alike: SEED={SEED} {pairs} pairs by texts, hidden {dict(self.kinds)}, afterwards {self.hidden} lines, {dict(self.answered)}")
+        self.tell(f"{pairs} pairs by texts")
         self.case("something is hidden of each kind", {*self.kinds} >= {"value", "clear", "owner", "verb", "petition"}, True)
         self.case("and differs in the worlds afterwards", self.hidden > pairs, True)
         self.case("some are accepted and some refused", {"accepted ", "refused E_PERM"} <= {*self.answered}, True)
@@ -132,7 +136,8 @@ class Alike(ProgramTest):
         caller = Caller(random, pair.one)
         asked = [("/each?why", random.sample(caller.reads(), 60))]
         for _ in range(4):
-            asked += [("/each?why", [caller.call() for _ in range(20)]), ("/ask?why", caller.batch()), *(("/batch?why", caller.batch()) for _ in range(3))]
+            asked += [("/each?why", [caller.call() for _ in range(20)]), ("/ask?why", caller.batch())]
+            asked += [("/batch?why", caller.batch()) for _ in range(3)]
         for path, calls in [*asked, ("/each?why", caller.reads())]:
             one, other = [side.ask(path, pair.one.programmer, calls) for side in sides]
             self.answered[one.split()[1].decode()] += 1
@@ -150,7 +155,7 @@ class Alike(ProgramTest):
                     self.web_pair(number, sides)
             for side in sides:
                 side.service.kill()
-        print(f"requests.alike: SEED={SEED} {pairs} pairs over HTTP, hidden {dict(self.kinds)}, afterwards {self.hidden} lines, {dict(self.answered)}")
+        self.tell(f"{pairs} pairs over HTTP")
         self.case("something differs in the worlds afterwards", self.hidden > pairs, True)
         self.case("some are accepted and some refused", {"200", "409"} <= {*self.answered}, True)
 

@@ -119,7 +119,7 @@ def literal(random: Random, plot: Plot) -> str:
 
 
 def quota(random: Random) -> str:
-    """A quota: none is left, or many are, or it is no integer."""
+    """A quota: none is left, or many are, or it is another value than an integer."""
     return random.choice([str(-1000 - random.randrange(100)), str(1000 + random.randrange(100)), '"none"', "{3}", "2"])
 
 
@@ -218,7 +218,8 @@ def feeds_quota(plot: Plot, found: Definition, number: int) -> bool:
 
 def other_than(random: Random, plot: Plot) -> tuple[Plot, list[str]]:
     """A plot that is alike to the programmer, and of what kind each difference is."""
-    other, kinds = plot.twin(), []
+    other = plot.twin()
+    kinds: list[str] = []
     other.gone = random.choice([0, 1, GONE])
     for found, twin in zip(plot.definitions, other.definitions):
         for number, slot in found.slots.items():

@@ -51,7 +51,10 @@ TOLD = [
     ),
     Teller(
         "E_QUOTA: whether the value of a property that one may rename is an integer above 0",
-        *values("chparent(#4, #7)", 'add_property(#7, "secret", 0, {#3, "w"})', 'set(#4, "secret", VALUE)', 'set_property_info(#4, "secret", {#3, ""})'),
+        *values(
+            "chparent(#4, #7)", 'add_property(#7, "secret", 0, {#3, "w"})', 'set(#4, "secret", VALUE)',
+            'set_property_info(#4, "secret", {#3, ""})',
+        ),
         hides(f"#4, {SECRET}"),
         [['set_property_info(#7, "secret", {#3, "w", "ownership_quota"})'], ["create(#1)"]], ("refused E_QUOTA", "#8"),
     ),
@@ -91,11 +94,17 @@ TOLD = [
         NOTHING, ['add_verb(#5, {#5, "", "look"}, {"any", "any", "any"})'],
         UNLISTED, [["verb_args(#5, 1)"]], ("refused E_VERBNF", "refused E_PERM"),
     ),
-    Teller("E_INVARG of decline: whether a petition of a number is there", [ASKED, "decline(1)"], [ASKED], [], [["decline(1)"]], ("refused E_INVARG", "refused E_PERM")),
+    Teller(
+        "E_INVARG of decline: whether a petition of a number is there",
+        [ASKED, "decline(1)"], [ASKED], [], [["decline(1)"]], ("refused E_INVARG", "refused E_PERM"),
+    ),
     Teller("petition: how many petitions were made", [ASKED, "decline(1)"], NOTHING, [], [[ASKED]], ("2", "1")),
-    Teller("max_object: how many objects were made, also if they are recycled", ["create(#1)", "recycle(#8)"], NOTHING, [], [["max_object()"]], ("#8", "#7")),
-]
-# How a programmer comes to read what they may not read as it stands.
+    Teller(
+        "max_object: how many objects were made, also if they are recycled",
+        ["create(#1)", "recycle(#8)"], NOTHING, [], [["max_object()"]], ("#8", "#7"),
+    ),
+]  # fmt: skip
+# How a programmer comes to read what they may not read at first.
 COMES = [
     Teller(
         "a value with c, by a child of one's own",
@@ -114,13 +123,17 @@ COMES = [
     ),
     Teller(
         "a value above a slot that one may write, by clearing that",
-        *values("chparent(#5, #7)", 'add_property(#7, "secret", VALUE, {#3, ""})', 'set(#5, "secret", 5)', 'set_property_info(#5, "secret", {#3, "rw"})'),
+        *values(
+            "chparent(#5, #7)", 'add_property(#7, "secret", VALUE, {#3, ""})', 'set(#5, "secret", 5)',
+            'set_property_info(#5, "secret", {#3, "rw"})',
+        ),
         hides(f"#7, {SECRET}"), [['clear_property(#5, "secret")'], ['get(#5, "secret")']], ("0", "1000"),
     ),
     Teller(
         "a value above an object of one's own, by recycling that",
         *values(
-            "create(#7, #4)", "create(#8)", 'add_property(#7, "secret", VALUE, {#3, ""})', 'set(#8, "secret", 5)', 'set_property_info(#9, "secret", {#3, "r"})',
+            "create(#7, #4)", "create(#8)", 'add_property(#7, "secret", VALUE, {#3, ""})', 'set(#8, "secret", 5)',
+            'set_property_info(#9, "secret", {#3, "r"})',
         ),
         hides(f"#7, {SECRET}", f"#8, {SECRET}"), [["recycle(#8)"], ['get(#9, "secret")']], ("0", "1000"),
     ),
