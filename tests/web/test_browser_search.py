@@ -92,7 +92,7 @@ class Walks(SearchTest):
             ada.fill("name", "candle")
             ada.fill("owner", "Ada")
             ada.reach(ada.driver.find_element("id", "sort"))
-            ada.driver.find_element("id", "sort").send_keys("n", "n")
+            ada.driver.find_element("id", "sort").send_keys("na")
             ada.press("Show")
             ada.sees("2 of 3.")
             text = ada.text()

@@ -107,7 +107,7 @@ def named(visit: Visit, holdings: Holdings, number: int) -> Reply:
     part = part_of(found.places if found else [], visit.fields.get("page", ""))
     return visit.page(
         "pages/named.html", number=number, thing=world.things.get(number), found=found, part=part,
-        named=sorted_out(visit, finding.shown(visit, part.items), number),
+        names_it=sorted_out(visit, finding.shown(visit, part.items), number),
         owned=len(world.owned.get(number, ())), children=len(world.children.get(number, ())), contents=len(world.contents.get(number, ())),
     )  # fmt: skip
 
