@@ -243,6 +243,8 @@ class Parts(ProgramTest):
             (":x", "a name is written $x, and nobody plays at this prompt"),
             ("/* words */", "a comment begins with // and ends with its line"),
             ("select", f"moo has no SQL; {elsewhere.SQL['select']}"),
+            ("drop table inn", f"moo has no SQL; {elsewhere.KINDS['drop']}"),
+            ("drop lamp", elsewhere.PLAYED),
             (".tables", f"moo has no SQL; {elsewhere.SQL['.tables']}"),
             ("create table inn (a int)", f"moo has no SQL; {elsewhere.KINDS['create']}"),
             ("nothing", ""),

@@ -21,11 +21,13 @@ class Known(NamedTuple):
     """What the session knows.
 
     `thing` is an object, as people name it, as calls name it; `read` is what a reading call answers, and `new` the name for what is made.
+    `is_shown` is whether the lines are shown, so that what they leave out is told; a script leaves nothing out.
     """
 
     thing: Callable[[str], str]
     read: Callable[[str], str]
     new: str = "$new"
+    is_shown: bool = True
 
     def value(self, call: str) -> list[Value]:
         """The list that a reading call answers."""
@@ -88,7 +90,7 @@ def name_lines(thing: str, names: list[str], kind: str, known: Known) -> list[st
     lines = [f"{thing}.name = {written(names[0])}"] if names else []
     if len(names) < 2:
         return lines
-    if lacks(known, kind, "aliases"):
+    if known.is_shown and lacks(known, kind, "aliases"):
         return [f"{lines[0]} {NO_ALIASES.format(kind)}"]
     return [*lines, f"{thing}.aliases = {written(names)}"]
 

@@ -42,7 +42,6 @@ SQL = {
     "insert": "$thing = create(#1) makes an object",
     "update": '#5.name = "Inn" sets a property',
     "delete": "recycle(#5) takes an object away",
-    "drop": "recycle(#5) takes an object away",
     "truncate": "recycle(#5) takes an object away",
     "alter": 'add_property(#5, "light", 0, {#3, "rc"}) adds a property',
     "explain": "\\ask CALL tells what a call would answer",
@@ -61,8 +60,9 @@ SQL = {
     ".schema": "\\show #5 shows an object with its properties",
 }
 # Words that are SQL only with one of these after them.
-WITH_KIND = re.compile(r"(create|grant|table|set|show)\s+(?:table|view|index|schema|database|role|user|select|insert|update|all|\w+\s+to)\b.*", re.I | re.S)
+WITH_KIND = re.compile(r"(create|drop|grant|table|set|show)\s+(?:table|view|index|schema|database|role|user|select|insert|update|all|\w+\s+to)\b.*", re.I | re.S)
 KINDS = {
+    "drop": "recycle(#5) takes an object away",
     "create": "an object made under another is what a row of a table is: $thing = create(#1)",
     "grant": 'set_property_info(#5, "light", {#3, "r"}) says who may read a property',
 }
@@ -143,7 +143,7 @@ def of_lambdamoo(text: str) -> str:
     """What to write for a command of LambdaMOO, or a line of who plays. Another line gives an empty text."""
     word, _ = command_of(text)
     if not word:
-        return PLAYED if PLAYING.fullmatch(text.strip()) else ""
+        return PLAYED if PLAYING.fullmatch(text.strip()) and not WITH_KIND.fullmatch(text) else ""
     told = SENTENCES.get(SAME.get(word, word))
     if told:
         return f"@{word} is LambdaMOO's; here {told}"

@@ -96,7 +96,7 @@ class Session:
     def do_part(self, text: str) -> None:
         """Does a call or a word."""
         self.made = {}
-        same = building_lines(text, Known(self.named, self.read, new_name(self.given)))
+        same = building_lines(text, Known(self.named, self.read, new_name(self.given), not self.is_script))
         if same:
             self.do_same([with_made(line, self.made) for line in same])
             return
