@@ -18,9 +18,9 @@ from typing import Any, BinaryIO, Callable, Collection, Iterator, NamedTuple, Se
 from moolib.calls import Call, call_name
 
 from moo_web.journal.ledger import Ledger
-from moo_web.journal.prefixes import is_as_it_was, put_prefix, read_prefix
+from moo_web.journal.prefixes import is_as_it_was, put_prefix
 from moo_web.journal.segments import LONGEST_LINE, SUM_LENGTH, Accepted, Damaged, Segment, accepted_of, segments_of
-from moo_web.journal.tables import Growing, Kept, named_in, numbers_in, sum_of_calls
+from moo_web.journal.tables import Growing, Kept, kept_beside, kept_of, named_in, numbers_in, sum_of_calls
 
 READING = 10.0
 LOOK_EVERY = 60.0
@@ -304,15 +304,17 @@ class History:
         except (Damaged, OSError):
             return
         known = {part.path for part in self.parts[:-1]}
+        read = {part.path for part in self.parts}
+        kept = kept_beside([segment for segment in segments if segment.path not in read])
         for segment in segments:
             if segment.path not in known:
-                self.read_on(segment, segment is segments[-1])
+                self.read_on(segment, kept.get(segment.path), segment is segments[-1])
 
-    def read_on(self, segment: Segment, is_last: bool) -> None:
+    def read_on(self, segment: Segment, kept: Kept | None, is_last: bool) -> None:
         """Reads a segment up to its last whole line: of one that wasn't read yet, what the file beside it doesn't say."""
         if not self.parts or self.parts[-1].path != segment.path:
             self.kept = self.noted = 0
-            self.parts.append(SegmentBatches(self.begun(segment, is_last), self.parts[-1].end if self.parts else 0))
+            self.parts.append(SegmentBatches(self.begun(segment, kept, is_last), self.parts[-1].end if self.parts else 0))
         part = self.parts[-1]
         self.note(part)
         if isinstance(part.batches, Growing):
@@ -324,13 +326,11 @@ class History:
         if isinstance(part.batches, Growing):
             self.put(part, part.batches, is_last)
 
-    def begun(self, segment: Segment, is_last: bool) -> Growing | Kept:
+    def begun(self, segment: Segment, kept: Kept | None, is_last: bool) -> Growing | Kept:
         """What the file beside a segment says; nothing, if there is none that is right."""
-        found = read_prefix(segment)
         try:
-            kept = Kept(segment, found) if found else None
-            is_whole = found is not None and found.prefix.end == segment.path.stat().st_size
-        except (OSError, ValueError, KeyError, TypeError):
+            is_whole = kept is not None and kept.prefix.end == segment.path.stat().st_size
+        except OSError:
             kept, is_whole = None, False
         if kept is None:
             return Growing(segment, self.ledger.named)
@@ -346,8 +346,8 @@ class History:
         self.kept = batches.end
         with contextlib.suppress(OSError, ValueError):
             self.put_files(batches)
-            if not is_last and (found := read_prefix(batches.segment)):
-                self.parts[-1] = part._replace(batches=Kept(batches.segment, found))
+            if not is_last and (kept := kept_of(batches.segment)):
+                self.parts[-1] = part._replace(batches=kept)
 
     def put_files(self, batches: Growing) -> None:
         """Writes the file beside a segment, in each folder that has the segment."""

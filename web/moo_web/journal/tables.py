@@ -13,12 +13,14 @@ import hashlib
 import json
 import mmap
 import re
+from concurrent.futures import ThreadPoolExecutor
 from itertools import accumulate
+from pathlib import Path
 from typing import Any, Iterator, NamedTuple, Sequence
 
 from moolib.calls import Call, call_name
 
-from moo_web.journal.prefixes import NAMED_LINES, LinePlace, Prefix, PrefixFile, index_path
+from moo_web.journal.prefixes import NAMED_LINES, LinePlace, Prefix, PrefixFile, index_path, read_prefix
 from moo_web.journal.segments import SUM_LENGTH, Accepted, Segment, accepted_of, sum_after
 
 # An object that is named, in a text too.
@@ -26,6 +28,8 @@ OBJECT_NUMBER = re.compile(r"#\s*([-+]?\d{1,10})")
 NUMBERS, PLACES = "Q", "I"
 NUMBER_BYTES, PLACE_BYTES = array.array(NUMBERS).itemsize, array.array(PLACES).itemsize
 NOTHING: Sequence[int] = ()
+# So many files beside segments are read side by side.
+AT_ONCE = 4
 IN_JSON = json.JSONEncoder(separators=(",", ":"))
 
 
@@ -279,3 +283,23 @@ def places_with(wanted: int, sums: array.array[int], at: int) -> Iterator[int]:
             return
         yield at
         at += 1
+
+
+def kept_beside(segments: Sequence[Segment]) -> dict[Path, Kept]:
+    """What the files beside these segments say, by the segments' paths: of each that has one which is right.
+
+    A first look at a long journal takes the sums of all of them, side by side.
+    """
+    if len(segments) < 2:
+        return {segment.path: kept for segment in segments if (kept := kept_of(segment))}
+    with ThreadPoolExecutor(AT_ONCE) as pool:
+        return {segment.path: kept for segment, kept in zip(segments, pool.map(kept_of, segments)) if kept}
+
+
+def kept_of(segment: Segment) -> Kept | None:
+    """What the file beside a segment says. None: there is none, or it isn't right."""
+    found = read_prefix(segment)
+    try:
+        return Kept(segment, found) if found else None
+    except (OSError, ValueError, KeyError, TypeError):
+        return None
