@@ -62,7 +62,7 @@ class Forms(Scene):
             bram.follow("Petitions")
             bram.sees("petition 1", "petition 2")
         with self.at("wizard") as (wizard,):
-            wizard.follow("Petitions")
+            wizard.follow("Petitions 2 wait for you")
             wizard.sees("Bram #5 asks for 1 change", "It can be granted whole.", 'name now: "Lamp"')
             wizard.press("Grant petition 1")
             wizard.sees("The petition is granted: all of it was done.")
