@@ -10,6 +10,8 @@
 from __future__ import annotations
 
 import contextlib
+import os
+import pathlib
 import unittest
 from typing import Any, Callable, Iterator, Optional
 
@@ -19,6 +21,10 @@ from tests.support.web import PASSWORD
 from tests.support.with_front import WithFront
 
 MOST_TABS = 200
+# What can be pressed is at least so many pixels high.
+LEAST_HEIGHT = 24
+# A folder for a picture of each page that a scene shows, or none.
+PICTURES = os.environ.get("PICTURES")
 
 
 class Person:
@@ -139,6 +145,8 @@ class Scene(WithFront):
     """What people do at their browsers, on a world with a front. It is played for each kind of browser that `kinds_of` is given."""
 
     width, by_keys = 1000, False
+    # The selector of what can be pressed on the pages of the scene.
+    pressed = ""
 
     @classmethod
     def setUpClass(cls) -> None:
@@ -156,6 +164,15 @@ class Scene(WithFront):
         finally:
             for person in people:
                 person.driver.quit()
+
+    def shown(self, person: Person, name: str) -> None:
+        """Sees that the page fits, and that each thing that can be pressed is high enough; takes a picture if these are wanted."""
+        person.fits()
+        for element in person.driver.find_elements("css selector", self.pressed):
+            if element.is_displayed():
+                self.assertGreaterEqual(element.size["height"], LEAST_HEIGHT, f"{name}: {element.get_attribute('outerHTML')[:120]}")
+        if PICTURES:
+            browser.picture(person.driver, pathlib.Path(PICTURES) / f"{self.width}-{name}.png")
 
     def play(self, scene: Callable[[], None]) -> None:
         """Plays a scene on a new world; once more, if the driver of the browser fails and not the page."""

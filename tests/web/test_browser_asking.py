@@ -1,30 +1,16 @@
 """A newcomer asks in a real browser without scripts, with the mouse and with the keyboard alone at 320 pixels: why, of whom, what was said, and
 again. `PICTURES` in the environment is a folder for a picture of each page."""
 
-import os
-import pathlib
-
-from tests.support import browser
 from tests.support.scenes import Scene, WithTheKeyboard, WithTheMouse, kinds_of
 
-PICTURES = os.environ.get("PICTURES")
 WHY = "I would like to read in the evening. Größe: klein."
 NOT_NOW = "Not before the fair."
-LEAST_HEIGHT = 24
-PRESSED = "main button:not(.hidden), main a.press, main textarea, header nav a"
 
 
 class Asking(Scene):
     """The scene."""
 
-    def shown(self, person, name):
-        """Each thing that can be pressed is high enough; a picture of the page is taken."""
-        person.fits()
-        for element in person.driver.find_elements("css selector", PRESSED):
-            if element.is_displayed():
-                self.assertGreaterEqual(element.size["height"], LEAST_HEIGHT, f"{name}: {element.get_attribute('outerHTML')[:120]}")
-        if PICTURES:
-            browser.picture(person.driver, pathlib.Path(PICTURES) / f"{self.width}-{name}.png")
+    pressed = "main button:not(.hidden), main a.press, main textarea, header nav a"
 
     def asks(self, bram):
         """Who asks comes from the page of the thing."""

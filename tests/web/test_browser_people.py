@@ -2,18 +2,11 @@
 password, makes a token and ends it; then somebody is kept out, gets another object and is removed. `PICTURES` in the environment is a folder
 for a picture of each page."""
 
-import os
-import pathlib
-
 from tests.support import browser
 from tests.support.scenes import Person, Scene, WithTheKeyboard, WithTheMouse, kinds_of
 from tests.support.web import PASSWORD
 
-PICTURES = os.environ.get("PICTURES")
 NEW = "a new password"
-# What can be pressed is at least so many pixels high.
-LEAST_HEIGHT = 24
-PRESSED = "main button:not(.hidden), main a.press, main summary, main input:not([type=hidden]):not([type=checkbox]), main select"
 
 
 class Newcomer(Person):
@@ -28,14 +21,7 @@ class Newcomer(Person):
 class OfPeople(Scene):
     """The scenes."""
 
-    def shown(self, person, name):
-        """Each thing that can be pressed is high enough; a picture of the page is taken."""
-        person.fits()
-        for element in person.driver.find_elements("css selector", PRESSED):
-            if element.is_displayed():
-                self.assertGreaterEqual(element.size["height"], LEAST_HEIGHT, f"{name}: {element.get_attribute('outerHTML')[:120]}")
-        if PICTURES:
-            browser.picture(person.driver, pathlib.Path(PICTURES) / f"{self.width}-{name}.png")
+    pressed = "main button:not(.hidden), main a.press, main summary, main input:not([type=hidden]):not([type=checkbox]), main select"
 
     def somebody_new(self):
         with self.at("wizard") as (wizard,):
